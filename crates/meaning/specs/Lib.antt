@@ -1,0 +1,10 @@
+pub mod Matching
+pub mod Answers
+pub mod Access
+pub mod Plans
+pub mod Claims
+pub mod Runs
+pub mod Conjunctive
+pub mod Extract
+pub mod Judge
+pub mod Search

@@ -1,0 +1,5 @@
+use Rattle.meaning_laws.proofs.Conjoining.{select_complete}
+use Rattle.meaning_laws.proofs.laws.select_complete.Goals as goal
+
+pub returns : goal.returns
+returns c = select_complete
