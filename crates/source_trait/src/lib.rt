@@ -13,7 +13,7 @@ mod source;
 
 pub use files::{FileFault, Files};
 pub use holding::{Attachment, Holding};
-pub use lanes::{Boxed, Kind, Lane, attach_at, attach_on, call_at, call_on, place};
+pub use lanes::{Boxed, Kind, Lane, attach_on, call_on};
 pub use meaning::types::{Request, Requests};
 pub use sink::{Sink, SinkFault};
 pub use source::{AttachFault, CallFault, Source};
