@@ -111,7 +111,7 @@ module _ {S : Type 0} where
   -- what the source of a name is after a kind was put in the place of one of its name
   source-put : (q : ℕ) (kinds : List (Kind S)) (k after : Kind S) (other : List ℕ) → slice_get kinds q ≡ Some k → after.name ≡ k.name
       → (source_of (slice_set kinds q after) other ≡ source_of kinds other)
-        ⊎ ((k.name ≡ other) × (source_of kinds other ≡ Some k.object) × (source_of (slice_set kinds q after) other ≡ Some after.object))
+      ⊎ ((k.name ≡ other) × (source_of kinds other ≡ Some k.object) × (source_of (slice_set kinds q after) other ≡ Some after.object))
   source-put q [] k after other at name = absurd (cc)
   source-put zero (x ∷ xs) k after other at name =
       let e : k ≡ x = cc in
@@ -119,19 +119,21 @@ module _ {S : Type 0} where
     where
       go : (b : Bool) → pointwise nat_eq x.name other ≡ b → Decides (pointwise nat_eq x.name other) (x.name ≡ other) → pointwise nat_eq after.name other ≡ pointwise nat_eq x.name other → k ≡ x
           → (cond (pointwise nat_eq after.name other) (Some after.object) (source_of xs other) ≡ cond (pointwise nat_eq x.name other) (Some x.object) (source_of xs other))
-            ⊎ ((k.name ≡ other) × (cond (pointwise nat_eq x.name other) (Some x.object) (source_of xs other) ≡ Some k.object)
-              × (cond (pointwise nat_eq after.name other) (Some after.object) (source_of xs other) ≡ Some after.object))
-      go true is says same e = inr (ap (λ (y : Kind S). y.name) e ∙ says.0 is,
-          ap (λ b. cond b (Some x.object) (source_of xs other)) is ∙ ap (λ (y : Kind S). Some y.object) (sym e),
-          ap (λ b. cond b (Some after.object) (source_of xs other)) (same ∙ is))
+          ⊎ ((k.name ≡ other) × (cond (pointwise nat_eq x.name other) (Some x.object) (source_of xs other) ≡ Some k.object)
+          × (cond (pointwise nat_eq after.name other) (Some after.object) (source_of xs other) ≡ Some after.object))
+      go true is says same e = inr (
+        ap (λ (y : Kind S). y.name) e ∙ says.0 is,
+        ap (λ b. cond b (Some x.object) (source_of xs other)) is ∙ ap (λ (y : Kind S). Some y.object) (sym e),
+        ap (λ b. cond b (Some after.object) (source_of xs other)) (same ∙ is),
+      )
       go false is says same e = inl (ap (λ b. cond b (Some after.object) (source_of xs other)) (same ∙ is) ∙ ap (λ b. cond b (Some x.object) (source_of xs other)) (sym is))
   source-put (suc q) (x ∷ xs) k after other at name = go (pointwise nat_eq x.name other) (source-put q xs k after other at name)
     where
       go : (b : Bool)
           → ((source_of (slice_set xs q after) other ≡ source_of xs other)
-            ⊎ ((k.name ≡ other) × (source_of xs other ≡ Some k.object) × (source_of (slice_set xs q after) other ≡ Some after.object)))
+          ⊎ ((k.name ≡ other) × (source_of xs other ≡ Some k.object) × (source_of (slice_set xs q after) other ≡ Some after.object)))
           → (cond b (Some x.object) (source_of (slice_set xs q after) other) ≡ cond b (Some x.object) (source_of xs other))
-            ⊎ ((k.name ≡ other) × (cond b (Some x.object) (source_of xs other) ≡ Some k.object) × (cond b (Some x.object) (source_of (slice_set xs q after) other) ≡ Some after.object))
+          ⊎ ((k.name ≡ other) × (cond b (Some x.object) (source_of xs other) ≡ Some k.object) × (cond b (Some x.object) (source_of (slice_set xs q after) other) ≡ Some after.object))
       go true later = inl refl
       go false later = later
 
@@ -177,8 +179,13 @@ module _ {S : Type 0} where
     pub StepsAt-source : (place : ℕ) (other : List ℕ) → StepsAt old new place step → (source_of new other ≡ source_of old other) ⊎ SourceSteps old new other step
     StepsAt-source place other h = elim (source-put place old h.before h.after other h.there h.name) [
       | inl same ↦ inl (ap (λ (l : List (Kind S)). source_of l other) h.now ∙ same)
-      | inr moved ↦ inr (record { before = h.before.object; after = h.after.object; was = moved.1;
-          now = ap (λ (l : List (Kind S)). source_of l other) h.now ∙ moved.2; steps = h.steps })
+      | inr moved ↦ inr (record {
+        before = h.before.object;
+        after = h.after.object;
+        was = moved.1;
+        now = ap (λ (l : List (Kind S)). source_of l other) h.now ∙ moved.2;
+        steps = h.steps;
+      })
     ]
 
     -- what the step keeps holds of the source of each name after it
