@@ -1,0 +1,3 @@
+pub mod Flexible
+pub mod Orders
+pub mod Texts
