@@ -1,5 +1,5 @@
 // The text of rows.
-ghost use Rattle.std.specs.Prelude.{◌≡◌, ◌++◌, IfOk, OnOk, Contains, flat_map, map, take};
+ghost use Rattle.std.specs.Prelude.{◌≡◌, ◌++◌, IfOk, OnOk, Contains, flat_map};
 ghost use Rattle.csv.specs.Writing.{default_writer, row_text, writer_pending, writer_under};
 ghost use Rattle.row_text.specs.RowText.{IsRowText};
 ghost use Rattle.row_text.specs.Writer.{IsReady};
