@@ -1,10 +1,11 @@
 // A source over the CSV files of a folder.
-ghost use Rattle.std.specs.Prelude.{◌≡◌, ◌≤◌, ◌+◌, [], Some, None, false, length, option_map, IfOk};
+ghost use Rattle.std.specs.Prelude.{◌≡◌, ◌≤◌, ◌+◌, [], Some, None, false, length, option_map, IfOk, IsErrOf};
 ghost use Rattle.source_trait.specs.Causes.{Rose};
-ghost use Rattle.source_trait.specs.Asking.{Seen};
+ghost use Rattle.source_trait.specs.Asking.{AttachGives, CallGives};
 ghost use Rattle.source_trait.specs.Holding.{facts_held, attached_in};
 ghost use Rattle.source_trait.specs.Outside.{bytes_of};
 ghost use Rattle.csv_sources.specs.FirstForm.{offered};
+ghost use Rattle.csv_sources.specs.Folder.{CountsData, IsFresh, offers};
 ghost use Rattle.csv_sources.specs.Loading.{LoadGives};
 
 use crate::first_form::read_rows;
@@ -16,6 +17,9 @@ use std::alloc::Global;
 pub const FILE_LIMIT: u64 = 8388608;
 
 /// A source that takes a locator as the name of a data file, and keeps the rows of what is attached.
+///
+/// A file of at most `FILE_LIMIT` bytes is taken where its header is the relation's columns in order, each of its rows has
+/// as many fields and every field is UTF-8; otherwise it is a bad header.
 #[derive(Drop)]
 pub struct CsvFolder<F> {
     files: F,
@@ -26,7 +30,9 @@ pub struct CsvFolder<F> {
 
 impl<F: Files + Send + Drop> CsvFolder<F> {
     /// A folder of these files to which nothing is attached yet.
-    pub fn new(alloc: Global, files: F) -> CsvFolder<F> {
+    pub fn new(alloc: Global, files: F) -> CsvFolder<F>
+        ensures { IsFresh (⟦<CsvFolder<F> as Source>⟧.seen result) (F.contents files) (F.faults files) }
+    {
         CsvFolder {
             files,
             holding: Holding::new(alloc),
@@ -39,7 +45,7 @@ impl<F: Files + Send + Drop> CsvFolder<F> {
 impl<F: Files + Send + Drop> Source for CsvFolder<F> {
     ghost seen = { λ c. record {
       held = Some (facts_held c.holding);
-      offer = λ rel columns locator. option_map (λ files. offered (bytes_of files locator) columns) (F.contents c.files);
+      offer = offers (F.contents c.files);
       passes = λ rel locator. false;
       asked = Some c.asked;
       attached = attached_in c.holding;
@@ -52,7 +58,11 @@ impl<F: Files + Send + Drop> Source for CsvFolder<F> {
         rel: u32,
         columns: &Texts,
         locator: &Text,
-    ) -> Result<(), AttachFault> {
+    ) -> Result<(), AttachFault>
+        requires { 1 ≤ length columns.now }
+        ensures gives { AttachGives (⟦<CsvFolder<F> as Source>⟧.seen self.old) (⟦<CsvFolder<F> as Source>⟧.seen self.new) rel columns.now locator.now result }
+        ensures counts { CountsData result self.old.data_faults self.new.data_faults }
+    {
         self.holding.detach(rel);
         match load(alloc, &mut self.files, columns, locator) {
             Ok(rows) => match self.holding.take(alloc, rel, columns, locator, rows) {
@@ -76,7 +86,11 @@ impl<F: Files + Send + Drop> Source for CsvFolder<F> {
         rel: u32,
         positions: &Places,
         values: &Row,
-    ) -> Result<Rows, CallFault> {
+    ) -> Result<Rows, CallFault>
+        ensures gives { CallGives (⟦<CsvFolder<F> as Source>⟧.seen self.old) (⟦<CsvFolder<F> as Source>⟧.seen self.new) rel positions.now values.now result }
+        ensures works { ¬ (IsErrOf result CallFault.Failed) }
+        ensures faults { (⟦<CsvFolder<F> as Source>⟧.seen self.new).faults ≡ (⟦<CsvFolder<F> as Source>⟧.seen self.old).faults }
+    {
         let request = match copy_request(alloc, rel, positions, values) {
             Ok(request) => request,
             Err(_) => return Err(CallFault::NoMemory),

@@ -9,3 +9,6 @@ mod folder;
 mod records;
 
 pub use folder::{CsvFolder, FILE_LIMIT};
+
+#[cfg(test)]
+mod tests;
