@@ -1,0 +1,8 @@
+//! The first forms of a schema text and of a query text, read exactly.
+#![tactic(auto)]
+
+mod fault;
+mod names;
+mod scanner;
+
+pub use fault::FormFault;
