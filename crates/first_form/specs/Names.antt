@@ -35,10 +35,6 @@ value_from n (d ∷ ds) = value_from (n * 10 + (d - 48)) ds
 abbrev pub value_of : List ℕ → ℕ
 value_of digits = value_from 0 digits
 
--- the highest cost
-abbrev pub MOST_VALUE : ℕ
-MOST_VALUE = 1000000
-
 -- the texts with a comma and a blank between two
 abbrev pub comma_listed : List (List ℕ) → List ℕ
 comma_listed [] = []

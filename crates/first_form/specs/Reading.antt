@@ -6,7 +6,8 @@ use Rattle.first_form.specs.declared.fault.FormFault.{FormFault}
 use Rattle.first_form.specs.declared.fault.FormFault.TheVariants.{NoMemory, NoForm}
 use Rattle.first_form.specs.declared.scanner.Run.{Run}
 use Rattle.first_form.specs.declared.scanner.Run.TheVariants.{Name, Digits, Plain}
-use Rattle.first_form.specs.Names.{is_name_byte, is_name, is_digit, are_digits, is_plain, value_of, MOST_VALUE}
+use Rattle.first_form.specs.declared.limits.TheConstants.{MOST_COST}
+use Rattle.first_form.specs.Names.{is_letter, is_name_byte, is_digit, is_plain, value_of}
 
 infixl 10 ◌>>=◌
 abbrev pub ◌>>=◌ : {A B : Type 0} → Option A → (A → Option B) → Option B
@@ -28,11 +29,27 @@ literal_at (c ∷ cs) (b ∷ bs) = if nat_eq b c then literal_at cs bs else None
 abbrev pub run_at : Run → (List ℕ → Bool) → List ℕ → Option (List ℕ × List ℕ)
 run_at run test bytes = if test (take (prefix_len (belongs run) bytes) bytes) then Some (take (prefix_len (belongs run) bytes) bytes, drop (prefix_len (belongs run) bytes) bytes) else None
 
+abbrev pub starts_name : List ℕ → Bool
+starts_name [] = false
+starts_name (b ∷ bs) = is_letter b
+
 abbrev pub name_at : List ℕ → Option (List ℕ × List ℕ)
-name_at bytes = run_at Name (λ run. is_name run && is_utf8 run) bytes
+name_at bytes = run_at Name (λ run. starts_name run && is_utf8 run) bytes
 
 abbrev pub locator_at : List ℕ → Option (List ℕ × List ℕ)
 locator_at bytes = run_at Plain is_utf8 bytes
+
+-- the number of one or more digits, within the limit
+abbrev pub cost_of : List ℕ → Option ℕ
+cost_of [] = None
+cost_of (d ∷ ds) = if nat_le (value_of (d ∷ ds)) MOST_COST then Some (value_of (d ∷ ds)) else None
+
+abbrev pub with_rest : {X : Type 0} → Option X → List ℕ → Option (X × List ℕ)
+with_rest None rest = None
+with_rest (Some x) rest = Some (x, rest)
+
+abbrev pub cost_at : List ℕ → Option (ℕ × List ℕ)
+cost_at bytes = with_rest (cost_of (take (prefix_len is_digit bytes) bytes)) (drop (prefix_len is_digit bytes) bytes)
 
 abbrev pub end_at : List ℕ → Option (List ℕ)
 end_at [] = Some []
@@ -48,6 +65,3 @@ abbrev pub GivesRest : {X : Type 0} → List ℕ → Result X FormFault → Opti
 GivesRest rest (Ok x) read = read ≡ Some rest
 GivesRest rest (Err NoForm) read = read ≡ None
 GivesRest rest (Err NoMemory) read = Unit {0}
-
-abbrev pub cost_at : List ℕ → Option (ℕ × List ℕ)
-cost_at bytes = run_at Digits (λ run. are_digits run && nat_le (value_of run) MOST_VALUE) bytes >>= λ x. Some (value_of x.0, x.1)

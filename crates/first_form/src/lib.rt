@@ -2,6 +2,7 @@
 #![tactic(auto)]
 
 mod fault;
+mod limits;
 mod names;
 mod scanner;
 

@@ -1,10 +1,13 @@
 // The bytes of a text that are left to read.
-ghost use Rattle.std.specs.Prelude.{◌≡◌, ◌<◌, ◌≤◌, ℕ, List, true, false, IsTrue, IsErrOf, None, Some, MatchOption, length, take, drop};
-ghost use Rattle.std.specs.List.{prefix_len, take_while};
-ghost use Rattle.first_form.specs.Names.{is_letter, is_digit, is_name_byte, is_name, is_plain, value_from, MOST_VALUE};
-ghost use Rattle.first_form.specs.Reading.{literal_at, belongs, run_at, name_at, cost_at, locator_at, end_at, Gives, GivesRest};
+ghost use Rattle.std.specs.Prelude.{◌≡◌, ◌<◌, ◌≤◌, ℕ, List, true, false, IsTrue, IsErrOf, IfOk, OnOk, None, Some, MatchOption, length, take, drop};
+ghost use Rattle.std.specs.List.{prefix_len};
+ghost use Rattle.std.specs.Str.{is_utf8};
+ghost use Rattle.first_form.specs.declared.fault.FormFault.TheVariants as FormFault;
+ghost use Rattle.first_form.specs.Names.{is_letter, is_digit};
+ghost use Rattle.first_form.specs.Reading.{literal_at, belongs, starts_name, cost_of, name_at, cost_at, locator_at, end_at, Gives, GivesRest};
 
 use crate::fault::FormFault;
+use crate::limits::MOST_COST;
 use lists::Text;
 use std::alloc::Global;
 use std::marker::Model;
@@ -75,6 +78,46 @@ fn behind<'a>(bytes: &'a [u8], text: &[u8]) -> Option<&'a [u8]>
     Some(left)
 }
 
+fn starts_name(bytes: &[u8]) -> bool
+    ensures { result ≡ starts_name bytes.now }
+{
+    match bytes {
+        [] => false,
+        [first, ..] => is_letter(*first),
+    }
+}
+
+// The bytes as a text, where they are UTF-8.
+fn text_of(alloc: Global, bytes: &[u8]) -> Result<Text, FormFault>
+    ensures text { IfOk result (λ text. text ≡ bytes.now) }
+    ensures utf8 { OnOk result (is_utf8 bytes.now ≡ true) }
+    ensures none { IsErrOf result FormFault.NoForm → is_utf8 bytes.now ≡ false }
+{
+    match str::from_utf8(bytes) {
+        Ok(text) => Ok(Text::from_str(alloc, text)?),
+        Err(_) => Err(FormFault::NoForm),
+    }
+}
+
+// The number that one or more digits write, where it is within the limit.
+fn cost_of(digits: &[u8]) -> Option<u32>
+    ensures { result ≡ cost_of digits.now }
+{
+    if digits.is_empty() {
+        return None;
+    }
+    let mut left = digits;
+    let mut value = 0;
+    while let [digit, after @ ..] = left {
+        value = value * 10 + u32::from(digit.saturating_sub(b'0'));
+        if value > MOST_COST {
+            return None;
+        }
+        left = after;
+    }
+    Some(value)
+}
+
 /// The bytes that are left.
 #[derive(Drop)]
 pub struct Scanner<'a> {
@@ -132,6 +175,36 @@ impl<'a> Scanner<'a> {
         let (run, after) = self.rest.split_at(run_length(run, self.rest));
         self.rest = after;
         run
+    }
+
+    /// Takes a name.
+    pub fn name(&mut self, alloc: Global) -> Result<Text, FormFault>
+        ensures { Gives self.new result (name_at self.old) }
+    {
+        let run = self.run(Run::Name);
+        if !starts_name(run) {
+            return Err(FormFault::NoForm);
+        }
+        text_of(alloc, run)
+    }
+
+    /// Takes the text up to the next quote or line feed.
+    pub fn locator(&mut self, alloc: Global) -> Result<Text, FormFault>
+        ensures { Gives self.new result (locator_at self.old) }
+    {
+        let run = self.run(Run::Plain);
+        text_of(alloc, run)
+    }
+
+    /// Takes digits that write a cost within the limit.
+    pub fn cost(&mut self) -> Result<u32, FormFault>
+        ensures { Gives self.new result (cost_at self.old) }
+    {
+        let run = self.run(Run::Digits);
+        match cost_of(run) {
+            Some(cost) => Ok(cost),
+            None => Err(FormFault::NoForm),
+        }
     }
 
     /// Nothing is left.
