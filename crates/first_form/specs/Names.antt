@@ -1,6 +1,7 @@
 -- Names, and what else stands between the fixed words of a first form.
 use Rattle.std.specs.Prelude.{◌≡◌, ◌+◌, ◌-◌, ◌*◌, ◌++◌, ℕ, Bool, true, false, ◌&&◌, ◌||◌, not, List, [], ◌∷◌, codes, nat_eq, nat_le, flat_map}
-use Rattle.std.specs.List.{list_all}
+use Rattle.std.specs.List.{list_all, list_any}
+use Rattle.std.specs.Cmp.Lexicographic.{pointwise}
 
 -- a small ASCII letter, or _
 abbrev pub is_letter : ℕ → Bool
@@ -39,3 +40,12 @@ value_of digits = value_from 0 digits
 abbrev pub comma_listed : List (List ℕ) → List ℕ
 comma_listed [] = []
 comma_listed (x ∷ xs) = x ++ flat_map (λ y. codes ", " ++ y) xs
+
+-- the name is one of these
+abbrev pub is_among : List (List ℕ) → List ℕ → Bool
+is_among names name = list_any (λ other. pointwise nat_eq other name) names
+
+-- no name stands twice
+abbrev pub all_differ : List (List ℕ) → Bool
+all_differ [] = true
+all_differ (x ∷ xs) = not (is_among xs x) && all_differ xs

@@ -51,6 +51,18 @@ with_rest (Some x) rest = Some (x, rest)
 abbrev pub cost_at : List ℕ → Option (ℕ × List ℕ)
 cost_at bytes = with_rest (cost_of (take (prefix_len is_digit bytes) bytes)) (drop (prefix_len is_digit bytes) bytes)
 
+abbrev pub next_name : (List ℕ → Option (List (List ℕ) × List ℕ)) → List (List ℕ) → List ℕ → Option (List ℕ) → Option (List (List ℕ) × List ℕ)
+next_name go names rest None = Some (names, rest)
+next_name go names rest (Some after) = go after
+
+-- names behind those that are done, as long as a comma and a blank follow; in at most so many turns
+unfoldable pub names_from : ℕ → List (List ℕ) → List ℕ → Option (List (List ℕ) × List ℕ)
+names_from zero done bytes = None
+names_from (suc turns) done bytes = name_at bytes >>= λ x. next_name (names_from turns (done ++ x.0 ∷ [])) (done ++ x.0 ∷ []) x.1 (literal_at (codes ", ") x.1)
+
+abbrev pub names_at : ℕ → List ℕ → Option (List (List ℕ) × List ℕ)
+names_at most bytes = names_from most [] bytes
+
 abbrev pub end_at : List ℕ → Option (List ℕ)
 end_at [] = Some []
 end_at (b ∷ bs) = None
