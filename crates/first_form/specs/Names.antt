@@ -49,3 +49,6 @@ is_among names name = list_any (λ other. pointwise nat_eq other name) names
 abbrev pub all_differ : List (List ℕ) → Bool
 all_differ [] = true
 all_differ (x ∷ xs) = not (is_among xs x) && all_differ xs
+
+abbrev pub feed : List ℕ
+feed = 10 ∷ []

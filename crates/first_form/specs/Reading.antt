@@ -6,8 +6,12 @@ use Rattle.first_form.specs.declared.fault.FormFault.{FormFault}
 use Rattle.first_form.specs.declared.fault.FormFault.TheVariants.{NoMemory, NoForm}
 use Rattle.first_form.specs.declared.scanner.Run.{Run}
 use Rattle.first_form.specs.declared.scanner.Run.TheVariants.{Name, Digits, Plain}
-use Rattle.first_form.specs.declared.limits.TheConstants.{MOST_COST}
-use Rattle.first_form.specs.Names.{is_letter, is_name_byte, is_digit, is_plain, value_of}
+use Rattle.first_form.specs.declared.limits.TheConstants.{MOST_COST, MOST_COLUMNS}
+use Rattle.first_form.specs.declared.schema_form.MethodLine.{MethodLine}
+use Rattle.first_form.specs.declared.schema_form.HeldLine.{HeldLine}
+use Rattle.first_form.specs.declared.schema_form.FirstForm.{FirstForm}
+use Rattle.meaning.specs.declared.types.Relation.{Relation}
+use Rattle.first_form.specs.Names.{is_letter, is_name_byte, is_digit, is_plain, value_of, feed, all_differ}
 
 infixl 10 ◌>>=◌
 abbrev pub ◌>>=◌ : {A B : Type 0} → Option A → (A → Option B) → Option B
@@ -63,6 +67,7 @@ names_from (suc turns) done bytes = name_at bytes >>= λ x. next_name (names_fro
 abbrev pub names_at : ℕ → List ℕ → Option (List (List ℕ) × List ℕ)
 names_at most bytes = names_from most [] bytes
 
+-- nothing
 abbrev pub end_at : List ℕ → Option (List ℕ)
 end_at [] = Some []
 end_at (b ∷ bs) = None
@@ -77,3 +82,67 @@ abbrev pub GivesRest : {X : Type 0} → List ℕ → Result X FormFault → Opti
 GivesRest rest (Ok x) read = read ≡ Some rest
 GivesRest rest (Err NoForm) read = read ≡ None
 GivesRest rest (Err NoMemory) read = Unit {0}
+
+-- a call gave what reading gives
+abbrev pub Answers : {X : Type 0} → Result X FormFault → Option X → Type 0
+Answers (Ok x) read = read ≡ Some x
+Answers (Err NoForm) read = read ≡ None
+Answers (Err NoMemory) read = Unit {0}
+
+-- ---- the three lines of a schema
+
+abbrev pub relation_at : List ℕ → Option (Relation × List ℕ)
+relation_at bytes =
+    literal_at (codes "relation ") bytes >>= λ a.
+    name_at a >>= λ name.
+    literal_at (codes "(") name.1 >>= λ b.
+    names_at MOST_COLUMNS b >>= λ columns.
+    literal_at (codes ")" ++ feed) columns.1 >>= λ c.
+    Some (record { name = name.0; columns = columns.0 }, c)
+
+-- what stands behind `on` in a method line
+abbrev pub priced_at : List ℕ → List ℕ → Option (ℕ × List ℕ)
+priced_at relation bytes =
+    literal_at relation bytes >>= λ a.
+    literal_at (codes "() cost ") a >>= λ b.
+    cost_at b >>= λ cost.
+    literal_at feed cost.1 >>= λ c.
+    Some (cost.0, c)
+
+abbrev pub method_at : List ℕ → List ℕ → Option (MethodLine × List ℕ)
+method_at relation bytes =
+    literal_at (codes "method ") bytes >>= λ a.
+    name_at a >>= λ name.
+    literal_at (codes " on ") name.1 >>= λ b.
+    priced_at relation b >>= λ cost.
+    Some (record { name = name.0; cost = cost.0 }, cost.1)
+
+-- a locator in quotes, at the end of a line
+abbrev pub quoted_at : List ℕ → Option (List ℕ × List ℕ)
+quoted_at bytes =
+    literal_at (codes " '") bytes >>= λ a.
+    locator_at a >>= λ locator.
+    literal_at (codes "'" ++ feed) locator.1 >>= λ b.
+    Some (locator.0, b)
+
+abbrev pub held_at : List ℕ → List ℕ → Option (HeldLine × List ℕ)
+held_at relation bytes =
+    literal_at (codes "source ") bytes >>= λ a.
+    literal_at relation a >>= λ b.
+    literal_at (codes " ") b >>= λ c.
+    name_at c >>= λ kind.
+    quoted_at kind.1 >>= λ locator.
+    Some (record { kind = kind.0; locator = locator.0 }, locator.1)
+
+abbrev pub form_at : List ℕ → Option (FirstForm × List ℕ)
+form_at bytes =
+    relation_at bytes >>= λ relation.
+    method_at relation.0.name relation.1 >>= λ method.
+    held_at relation.0.name method.1 >>= λ held.
+    Some (record { relation = relation.0; method = method.0; held = held.0 }, held.1)
+
+abbrev pub form_of : List ℕ → Option FirstForm
+form_of bytes =
+    form_at bytes >>= λ form.
+    end_at form.1 >>= λ _.
+    if all_differ form.0.relation.columns then Some form.0 else None

@@ -5,5 +5,6 @@ mod fault;
 mod limits;
 mod names;
 mod scanner;
+mod schema_form;
 
 pub use fault::FormFault;
