@@ -6,7 +6,7 @@ use Rattle.std.specs.List.{prefix_len, list_all}
 use Rattle.std.proofs.lemmas.Str.{is_utf8-from_IsUtf8, IsUtf8-from_is_utf8, IsUtf8-from_ascii}
 use Rattle.std.proofs.lemmas.Bool.{lt-leb, le-leb, leb-true, eqb-true, eq-eqb, and_parts, and_from, or_cases, cases_Bool, cond-true}
 use Rattle.std.proofs.lemmas.List.{take-append-drop, take_at, drop_at}
-use Rattle.first_form.specs.declared.limits.TheConstants.{MOST_COST}
+use Rattle.access_schema.specs.declared.limits.TheConstants.{MOST_COST}
 use Rattle.first_form.specs.declared.scanner.Run.{Run}
 use Rattle.first_form.specs.declared.scanner.Run.TheVariants.{Name, Digits, Plain}
 use Rattle.first_form.specs.Names.{is_letter, is_digit, is_name_byte, is_name, are_digits, is_plain, value_of}

@@ -4,7 +4,7 @@ use Rattle.std.specs.Prelude.{IsUtf8, nat_le}
 use Rattle.std.specs.Str.{is_utf8}
 use Rattle.std.proofs.lemmas.Str.{is_utf8-from_IsUtf8, IsUtf8-from_is_utf8}
 use Rattle.std.proofs.lemmas.Bool.{lt-leb}
-use Rattle.first_form.specs.declared.limits.TheConstants.{MOST_COST}
+use Rattle.access_schema.specs.declared.limits.TheConstants.{MOST_COST}
 use Rattle.first_form.specs.Names.{value_from}
 use Rattle.first_form.specs.Reading.{cost_of}
 

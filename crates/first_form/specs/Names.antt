@@ -1,5 +1,5 @@
 -- Names, and what else stands between the fixed words of a first form.
-use Rattle.std.specs.Prelude.{◌≡◌, ◌+◌, ◌-◌, ◌*◌, ◌++◌, ℕ, Bool, true, false, ◌&&◌, ◌||◌, not, List, [], ◌∷◌, codes, nat_eq, nat_le, flat_map, slice_get, Some}
+use Rattle.std.specs.Prelude.{◌≡◌, ◌+◌, ◌-◌, ◌*◌, ◌++◌, ℕ, Bool, true, false, ◌&&◌, ◌||◌, not, List, [], ◌∷◌, codes, nat_eq, nat_le, flat_map}
 use Rattle.std.specs.List.{list_all, list_any}
 use Rattle.std.specs.Cmp.Lexicographic.{pointwise}
 
@@ -45,11 +45,7 @@ comma_listed (x ∷ xs) = x ++ flat_map (λ y. codes ", " ++ y) xs
 abbrev pub is_among : List (List ℕ) → List ℕ → Bool
 is_among names name = list_any (λ other. pointwise nat_eq other name) names
 
--- no name stands at two places
-abbrev pub AllDiffer : List (List ℕ) → Type 0
-AllDiffer names = (i j : ℕ) (name : List ℕ) → slice_get names i ≡ Some name → slice_get names j ≡ Some name → i ≡ j
-
--- the test for it
+-- no name stands twice
 abbrev pub all_differ : List (List ℕ) → Bool
 all_differ [] = true
 all_differ (x ∷ xs) = not (is_among xs x) && all_differ xs

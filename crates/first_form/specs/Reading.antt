@@ -6,7 +6,7 @@ use Rattle.first_form.specs.declared.fault.FormFault.{FormFault}
 use Rattle.first_form.specs.declared.fault.FormFault.TheVariants.{NoMemory, NoForm}
 use Rattle.first_form.specs.declared.scanner.Run.{Run}
 use Rattle.first_form.specs.declared.scanner.Run.TheVariants.{Name, Digits, Plain}
-use Rattle.first_form.specs.declared.limits.TheConstants.{MOST_COST, MOST_COLUMNS}
+use Rattle.access_schema.specs.declared.limits.TheConstants.{MOST_COST, MOST_COLUMNS}
 use Rattle.first_form.specs.declared.schema_form.MethodLine.{MethodLine}
 use Rattle.first_form.specs.declared.schema_form.HeldLine.{HeldLine}
 use Rattle.first_form.specs.declared.schema_form.FirstForm.{FirstForm}

@@ -2,8 +2,9 @@
 use Rattle.std.specs.Prelude.{◌≡◌, ◌≤◌, ℕ, List, [], ◌∷◌, IsTrue, IsUtf8, codes, length}
 use Rattle.std.specs.List.{concat, list_all}
 use Rattle.first_form.specs.declared.schema_form.FirstForm.{FirstForm}
-use Rattle.first_form.specs.declared.limits.TheConstants.{MOST_COLUMNS, MOST_COST}
-use Rattle.first_form.specs.Names.{is_name, are_digits, is_plain, value_of, comma_listed, feed, AllDiffer}
+use Rattle.access_schema.specs.declared.limits.TheConstants.{MOST_COLUMNS, MOST_COST}
+use Rattle.access_schema.specs.Names.{AllDiffer}
+use Rattle.first_form.specs.Names.{is_name, are_digits, is_plain, value_of, comma_listed, feed}
 
 -- relation NAME(COLUMN, ..)
 -- method NAME on RELATION() cost DIGITS

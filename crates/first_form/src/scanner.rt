@@ -7,7 +7,7 @@ ghost use Rattle.first_form.specs.Names.{is_letter, is_digit};
 ghost use Rattle.first_form.specs.Reading.{literal_at, belongs, starts_name, cost_of, name_at, cost_at, locator_at, end_at, Gives, GivesRest};
 
 use crate::fault::FormFault;
-use crate::limits::MOST_COST;
+use access_schema::MOST_COST;
 use lists::Text;
 use std::alloc::Global;
 use std::marker::Model;

@@ -3,9 +3,9 @@ ghost use Rattle.std.specs.Prelude.{◌≡◌, None, Some, MatchResult};
 ghost use Rattle.first_form.specs.Reading.{relation_at, priced_at, method_at, quoted_at, held_at, form_at, form_of, Gives, Answers};
 
 use crate::fault::FormFault;
-use crate::limits::MOST_COLUMNS;
 use crate::names::{all_differ, names};
 use crate::scanner::Scanner;
+use access_schema::MOST_COLUMNS;
 use lists::Text;
 use meaning::types::Relation;
 use std::alloc::Global;

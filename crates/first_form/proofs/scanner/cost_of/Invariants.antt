@@ -1,6 +1,6 @@
 use Rattle.std.proofs.Common.{◌≡◌, ◌≤◌, length}
 use Rattle.first_form.specs.Names.{value_from}
-use Rattle.first_form.specs.declared.limits.TheConstants.{MOST_COST}
+use Rattle.access_schema.specs.declared.limits.TheConstants.{MOST_COST}
 use Rattle.first_form.proofs.scanner.cost_of.Given as goal
 
 -- the digits so far write the value
