@@ -16,6 +16,11 @@ pub bind_some : {A B : Type 0} (r : Option A) (f : A → Option B) (y : B) → (
 bind_some None f y e = absurd cc
 bind_some (Some x) f y e = (x, refl, e)
 
+-- the same, with what it gives as variables
+pub bind_found : {A B G : Type 0} (r : Option A) (f : A → Option B) (y : B) → (r >>= f) ≡ Some y → ((x : A) → r ≡ Some x → f x ≡ Some y → G) → G
+bind_found None f y e go = absurd cc
+bind_found (Some x) f y e go = go x refl e
+
 pub some_if : {A : Type 0} (b : Bool) (x y : A) → cond b (Some x) None ≡ Some y → (b ≡ true) × (x ≡ y)
 some_if true x y e = (refl, cc)
 some_if false x y e = absurd cc
