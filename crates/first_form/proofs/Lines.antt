@@ -9,6 +9,9 @@ use Rattle.first_form.specs.declared.schema_form.HeldLine.{HeldLine}
 use Rattle.first_form.specs.declared.schema_form.FirstForm.{FirstForm}
 use Rattle.first_form.specs.Names.{is_name, are_digits, is_plain, value_of, comma_listed, feed, all_differ}
 use Rattle.first_form.specs.Reading.{◌>>=◌, literal_at, name_at, names_at, cost_at, locator_at, end_at, relation_at, priced_at, method_at, quoted_at, held_at, form_at, form_of}
+use Rattle.access_schema.specs.Names.{AllDiffer}
+use Rattle.first_form.specs.ThreeLines.{three_lines, AreThreeLines}
+use Rattle.first_form.proofs.Differ.{AllDiffer-from_test, AllDiffer-test}
 use Rattle.first_form.proofs.Rows.{bind_found, some_is, some_if, literal_found, literal_again, Ends, name_found, name_again, locator_found, locator_again, cost_found, cost_again}
 use Rattle.first_form.proofs.ListRows.{IsList, names_found, names_again}
 
@@ -162,3 +165,53 @@ held_again relation bytes rest held line =
     let n = name_again held.kind quoted line.kind refl in
     let q = quoted_again quoted rest held.locator (record { text = refl; plain = line.plain; utf8 = line.utf8 }) in
     rw (line.text, h, n, q) refl
+
+-- ---- the three lines
+
+end_found : (bytes rest : List ℕ) → end_at bytes ≡ Some rest → bytes ≡ []
+end_found [] rest e = refl
+end_found (b ∷ bs) rest e = absurd cc
+
+three_found : (bytes rest : List ℕ) (form : FirstForm) → form_at bytes ≡ Some (form, rest) → rest ≡ [] → AllDiffer form.relation.columns → AreThreeLines bytes form
+three_found bytes rest form e ends =
+    bind_found (relation_at bytes) _ (form, rest) e (λ relation is_relation e1.
+    bind_found (method_at relation.0.name relation.1) _ (form, rest) e1 (λ method is_method e2.
+    bind_found (held_at relation.0.name method.1) _ (form, rest) e2 (λ held is_held e3.
+    let made : FirstForm = record { relation = relation.0; method = method.0; held = held.0 } in
+    let p = some_is (made, held.1) (form, rest) e3 in
+    let r = relation_found bytes relation.1 relation.0 is_relation in
+    let m = method_found relation.0.name relation.1 method.1 method.0 is_method in
+    let h = held_found relation.0.name method.1 held.1 held.0 is_held in
+    let done : held.1 ≡ [] = ap (λ (q : FirstForm × List ℕ). q.1) p ∙ ends in
+    let name = relation.0.name in
+    let here : method.1 ≡ codes "source " ++ (name ++ (codes " " ++ (held.0.kind ++ (codes " '" ++ (held.0.locator ++ (codes "'" ++ feed)))))) =
+        h.text ∙ ap (λ (x : List ℕ). codes "source " ++ (name ++ (codes " " ++ (held.0.kind ++ (codes " '" ++ (held.0.locator ++ (codes "'" ++ (feed ++ x)))))))) done in
+    let before : relation.1 ≡ codes "method " ++ (method.0.name ++ (codes " on " ++ (name ++ (codes "() cost " ++ (m.digits ++ (feed ++ (codes "source " ++ (name ++ (codes " " ++ (held.0.kind ++ (codes " '" ++ (held.0.locator ++ (codes "'" ++ feed))))))))))))) =
+        m.text ∙ ap (λ (x : List ℕ). codes "method " ++ (method.0.name ++ (codes " on " ++ (name ++ (codes "() cost " ++ (m.digits ++ (feed ++ x))))))) here in
+    let text : bytes ≡ three_lines made m.digits =
+        r.text ∙ ap (λ (x : List ℕ). codes "relation " ++ (name ++ (codes "(" ++ (comma_listed relation.0.columns ++ (codes ")" ++ (feed ++ x)))))) before in
+    let P : FirstForm × List ℕ → Type 0 = λ q. AllDiffer q.0.relation.columns → AreThreeLines bytes q.0 in
+    subst P p (λ differ. record {
+      digits = m.digits; text = text; relation = r.name; columns = r.columns; some = r.some; few = r.few; differ = differ;
+      method = m.name; numeral = m.numeral; cost = m.cost_is; limit = m.limit; kind = h.kind; locator = h.plain; utf8 = h.utf8 }))))
+
+-- what is read is three lines
+pub lines_found : (bytes : List ℕ) (form : FirstForm) → form_of bytes ≡ Some form → AreThreeLines bytes form
+lines_found bytes form e =
+    bind_found (form_at bytes) _ form e (λ read is_read e1.
+    bind_found (end_at read.1) _ form e1 (λ rest is_rest e2.
+    let g = some_if (all_differ read.0.relation.columns) read.0 form e2 in
+    let h = three_found bytes read.1 read.0 is_read (end_found read.1 rest is_rest) (AllDiffer-from_test read.0.relation.columns g.0) in
+    subst (λ (f : FirstForm). AreThreeLines bytes f) g.1 h))
+
+-- three lines are read
+pub lines_again : (bytes : List ℕ) (form : FirstForm) → AreThreeLines bytes form → form_of bytes ≡ Some form
+lines_again bytes form lines =
+    let name = form.relation.name in
+    let third : List ℕ = codes "source " ++ (name ++ (codes " " ++ (form.held.kind ++ (codes " '" ++ (form.held.locator ++ (codes "'" ++ (feed ++ []))))))) in
+    let second : List ℕ = codes "method " ++ (form.method.name ++ (codes " on " ++ (name ++ (codes "() cost " ++ (lines.digits ++ (feed ++ third)))))) in
+    let first : List ℕ = codes "relation " ++ (name ++ (codes "(" ++ (comma_listed form.relation.columns ++ (codes ")" ++ (feed ++ second))))) in
+    let r = relation_again first second form.relation (record { text = refl; name = lines.relation; columns = lines.columns; some = lines.some; few = lines.few }) in
+    let m = method_again name second third form.method (record { digits = lines.digits; text = refl; name = lines.method; numeral = lines.numeral; cost_is = lines.cost; limit = lines.limit }) in
+    let h = held_again name third [] form.held (record { text = refl; kind = lines.kind; plain = lines.locator; utf8 = lines.utf8 }) in
+    rw (lines.text, r, m, h, AllDiffer-test form.relation.columns lines.differ) refl
