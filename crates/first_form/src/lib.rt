@@ -4,7 +4,9 @@
 mod fault;
 mod limits;
 mod names;
+mod schema_read;
 mod scanner;
 mod schema_form;
 
 pub use fault::FormFault;
+pub use schema_read::read_schema;
