@@ -2,3 +2,4 @@ pub mod Names
 pub mod Reading
 pub mod ThreeLines
 pub mod FirstSchema
+pub mod Reserved
