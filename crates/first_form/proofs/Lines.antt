@@ -12,7 +12,7 @@ use Rattle.first_form.specs.Reading.{◌>>=◌, literal_at, name_at, names_at, c
 use Rattle.access_schema.specs.Names.{AllDiffer}
 use Rattle.first_form.specs.ThreeLines.{three_lines, AreThreeLines}
 use Rattle.first_form.proofs.Differ.{AllDiffer-from_test, AllDiffer-test}
-use Rattle.first_form.proofs.Rows.{bind_found, some_is, some_if, literal_found, literal_again, Ends, name_found, name_again, locator_found, locator_again, cost_found, cost_again}
+use Rattle.first_form.proofs.Rows.{bind_found, some_is, some_if, literal_found, literal_again, Ends, name_found, name_again, locator_found, locator_again, cost_found, cost_again, end_found}
 use Rattle.first_form.proofs.ListRows.{IsList, names_found, names_again}
 
 onto : (front : List ℕ) {a b : List ℕ} → a ≡ b → front ++ a ≡ front ++ b
@@ -167,10 +167,6 @@ held_again relation bytes rest held line =
     rw (line.text, h, n, q) refl
 
 -- ---- the three lines
-
-end_found : (bytes rest : List ℕ) → end_at bytes ≡ Some rest → bytes ≡ []
-end_found [] rest e = refl
-end_found (b ∷ bs) rest e = absurd cc
 
 three_found : (bytes rest : List ℕ) (form : FirstForm) → form_at bytes ≡ Some (form, rest) → rest ≡ [] → AllDiffer form.relation.columns → AreThreeLines bytes form
 three_found bytes rest form e ends =

@@ -10,7 +10,7 @@ use Rattle.access_schema.specs.declared.limits.TheConstants.{MOST_COST}
 use Rattle.first_form.specs.declared.scanner.Run.{Run}
 use Rattle.first_form.specs.declared.scanner.Run.TheVariants.{Name, Digits, Plain}
 use Rattle.first_form.specs.Names.{is_letter, is_digit, is_name_byte, is_name, are_digits, is_plain, value_of}
-use Rattle.first_form.specs.Reading.{◌>>=◌, belongs, literal_at, run_at, starts_name, name_at, locator_at, cost_of, with_rest, cost_at}
+use Rattle.first_form.specs.Reading.{◌>>=◌, belongs, literal_at, run_at, starts_name, name_at, locator_at, cost_of, with_rest, cost_at, end_at}
 
 pub bind_some : {A B : Type 0} (r : Option A) (f : A → Option B) (y : B) → (r >>= f) ≡ Some y → (x : A) × (r ≡ Some x) × (f x ≡ Some y)
 bind_some None f y e = absurd cc
@@ -45,6 +45,10 @@ literal_found (c ∷ cs) (b ∷ bs) rest e = literal_case (nat_eq b c) b c cs bs
 pub literal_again : (text rest : List ℕ) → literal_at text (text ++ rest) ≡ Some rest
 literal_again [] rest = refl
 literal_again (c ∷ cs) rest = rw (eq-eqb c c refl) (literal_again cs rest)
+
+pub end_found : (bytes rest : List ℕ) → end_at bytes ≡ Some rest → bytes ≡ []
+end_found [] rest e = refl
+end_found (b ∷ bs) rest e = absurd cc
 
 -- ---- a row of bytes of one kind
 

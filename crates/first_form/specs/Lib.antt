@@ -3,3 +3,4 @@ pub mod Reading
 pub mod ThreeLines
 pub mod FirstSchema
 pub mod Reserved
+pub mod FirstQuery

@@ -1,6 +1,6 @@
 -- What stands at the front of bytes, and the bytes behind it.
 use Rattle.std.specs.Prelude.{◌≡◌, ◌++◌, ℕ, zero, suc, Bool, true, false, ◌&&◌, List, [], ◌∷◌, Option, None, Some, Result, Ok, Err, codes, length, take, drop, nat_eq, nat_le, if◌then◌else◌}
-use Rattle.std.specs.List.{prefix_len}
+use Rattle.std.specs.List.{prefix_len, list_all}
 use Rattle.std.specs.Str.{is_utf8}
 use Rattle.first_form.specs.declared.fault.FormFault.{FormFault}
 use Rattle.first_form.specs.declared.fault.FormFault.TheVariants.{NoMemory, NoForm}
@@ -10,6 +10,9 @@ use Rattle.access_schema.specs.declared.limits.TheConstants.{MOST_COST, MOST_COL
 use Rattle.first_form.specs.declared.schema_form.MethodLine.{MethodLine}
 use Rattle.first_form.specs.declared.schema_form.HeldLine.{HeldLine}
 use Rattle.first_form.specs.declared.schema_form.FirstForm.{FirstForm}
+use Rattle.first_form.specs.declared.query_form.Asked.{Asked}
+use Rattle.first_form.specs.declared.limits.TheConstants.{MOST_ITEMS}
+use Rattle.first_form.specs.Reserved.{is_free}
 use Rattle.meaning.specs.declared.types.Relation.{Relation}
 use Rattle.first_form.specs.Names.{is_letter, is_name_byte, is_digit, is_plain, value_of, feed, all_differ}
 
@@ -146,3 +149,18 @@ form_of bytes =
     form_at bytes >>= λ form.
     end_at form.1 >>= λ _.
     if all_differ form.0.relation.columns then Some form.0 else None
+
+-- ---- the line of a query
+
+abbrev pub past_feed : List ℕ → Option (List ℕ) → List ℕ
+past_feed bytes None = bytes
+past_feed bytes (Some after) = after
+
+abbrev pub asked_of : List ℕ → Option Asked
+asked_of bytes =
+    literal_at (codes "SELECT DISTINCT ") bytes >>= λ a.
+    names_at MOST_ITEMS a >>= λ names.
+    literal_at (codes " FROM ") names.1 >>= λ b.
+    name_at b >>= λ relation.
+    end_at (past_feed relation.1 (literal_at feed relation.1)) >>= λ _.
+    if list_all is_free names.0 && is_free relation.0 then Some (record { names = names.0; relation = relation.0 }) else None

@@ -5,6 +5,7 @@ mod fault;
 mod limits;
 mod names;
 mod schema_read;
+mod query_form;
 mod reserved;
 mod scanner;
 mod schema_form;

@@ -1,7 +1,8 @@
 // Words of queries that are no names.
 ghost use Rattle.std.specs.Prelude.{◌≡◌, map};
 ghost use Rattle.first_form.specs.Names.{is_among};
-ghost use Rattle.first_form.specs.Reserved.{reserved_words};
+ghost use Rattle.std.specs.List.{list_all};
+ghost use Rattle.first_form.specs.Reserved.{is_reserved, is_free};
 
 use lists::Text;
 
@@ -14,8 +15,9 @@ pub const RESERVED: [&str; 36] = [
 ];
 
 /// Whether the name is one of the reserved words.
+#[tactic(auto, unfolding(crate::specs::Reserved::is_reserved))]
 pub fn is_reserved(name: &Text) -> bool
-    ensures { result ≡ is_among reserved_words name.now }
+    ensures { result ≡ is_reserved name.now }
 {
     let words: [&str; 36] = RESERVED;
     is_word(&words, name.as_str())
@@ -33,4 +35,18 @@ fn is_word(words: &[&str], name: &str) -> bool
         left = others;
     }
     false
+}
+
+/// Whether none of the names is a reserved word.
+pub fn all_free(names: &[Text]) -> bool
+    ensures { result ≡ list_all is_free names.now }
+{
+    let mut left = names;
+    while let [name, others @ ..] = left {
+        if is_reserved(name) {
+            return false;
+        }
+        left = others;
+    }
+    true
 }

@@ -97,7 +97,7 @@ fn three_lines(alloc: Global, scanner: &mut Scanner<'_>) -> Result<FirstForm, Fo
     })
 }
 
-pub fn form(alloc: Global, bytes: &[u8]) -> Result<FirstForm, FormFault>
+pub fn schema_lines(alloc: Global, bytes: &[u8]) -> Result<FirstForm, FormFault>
     ensures { Answers result (form_of bytes.now) }
 {
     let mut scanner = Scanner::new(bytes);

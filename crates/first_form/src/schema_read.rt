@@ -8,7 +8,7 @@ ghost use Rattle.first_form.specs.declared.fault.FormFault.TheVariants as FormFa
 ghost use Rattle.first_form.specs.FirstSchema.{IsFirstSchema, HasForm};
 
 use crate::fault::FormFault;
-use crate::schema_form::{FirstForm, form};
+use crate::schema_form::{FirstForm, schema_lines};
 use access_schema::{Copies, NoMemory, Part, Parts, Schema, Seq};
 use std::alloc::Global;
 
@@ -17,7 +17,7 @@ pub fn read_schema(alloc: Global, bytes: &[u8]) -> Result<Schema, FormFault>
     ensures found { IfOk result (λ schema. IsFirstSchema bytes.now schema) }
     ensures none { IsErrOf result FormFault.NoForm → (schema : Schema) → IsFirstSchema bytes.now schema → ⊥ }
 {
-    let form = form(alloc, bytes)?;
+    let form = schema_lines(alloc, bytes)?;
     schema_of(alloc, form)
 }
 
