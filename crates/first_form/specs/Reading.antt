@@ -1,5 +1,5 @@
 -- What stands at the front of bytes, and the bytes behind it.
-use Rattle.std.specs.Prelude.{◌≡◌, ◌++◌, ℕ, zero, suc, Bool, true, false, ◌&&◌, List, [], ◌∷◌, Option, None, Some, Result, Ok, Err, codes, length, take, drop, nat_eq, nat_le, if◌then◌else◌}
+use Rattle.std.specs.Prelude.{◌≡◌, ◌+◌, ◌++◌, ℕ, zero, suc, Bool, true, false, ◌&&◌, List, [], ◌∷◌, Option, None, Some, Result, Ok, Err, codes, length, take, drop, nat_eq, nat_le, if◌then◌else◌}
 use Rattle.std.specs.List.{prefix_len, list_all}
 use Rattle.std.specs.Str.{is_utf8}
 use Rattle.first_form.specs.declared.fault.FormFault.{FormFault}
@@ -14,6 +14,9 @@ use Rattle.first_form.specs.declared.query_form.Asked.{Asked}
 use Rattle.first_form.specs.declared.limits.TheConstants.{MOST_ITEMS}
 use Rattle.first_form.specs.Reserved.{is_free}
 use Rattle.meaning.specs.declared.types.Relation.{Relation}
+use Rattle.meaning.specs.declared.types.Operand.{Operand}
+use Rattle.meaning.specs.declared.types.Operand.TheVariants.{Column}
+use Rattle.std.specs.Cmp.Lexicographic.{pointwise}
 use Rattle.first_form.specs.Names.{is_letter, is_name_byte, is_digit, is_plain, value_of, feed, all_differ}
 
 infixl 10 ◌>>=◌
@@ -164,3 +167,15 @@ asked_of bytes =
     name_at b >>= λ relation.
     end_at (past_feed relation.1 (literal_at feed relation.1)) >>= λ _.
     if list_all is_free names.0 && is_free relation.0 then Some (record { names = names.0; relation = relation.0 }) else None
+
+-- ---- what a query's names stand for
+
+-- the first place of the name, counted from n
+abbrev pub place_from : ℕ → List ℕ → List (List ℕ) → Option ℕ
+place_from n name [] = None
+place_from n name (x ∷ xs) = if pointwise nat_eq x name then Some n else place_from (n + 1) name xs
+
+-- the items of the names behind those that are done
+abbrev pub items_from : List (List ℕ) → List Operand → List (List ℕ) → Option (List Operand)
+items_from columns done [] = Some done
+items_from columns done (name ∷ names) = place_from 0 name columns >>= λ column. items_from columns (done ++ Column 0 column ∷ []) names
