@@ -18,8 +18,10 @@ use Rattle.meaning.specs.declared.types.Rule.{Rule}
 use Rattle.meaning.specs.declared.types.Fact.{Fact}
 use Rattle.meaning.specs.declared.types.Ground.{Ground}
 use Rattle.meaning.specs.declared.types.Trigger.{Trigger}
-use Rattle.meaning.specs.Matching.{value_of, AreFacts, OccursIn, Extends, MeetsAll, itself, FactsOf, joined}
-use Rattle.meaning.specs.Runs.{image, Carries, terms_bound, bound, IsNumbered, AreNumbered, State, LabelsBelow, assigned, ground, IsTrigger, fired, IsBaseRun, IsFiringRun}
+use Rattle.meaning.specs.Matching.{value_of, AreFacts, OccursIn, Extends, MeetsAll, itself, FactsOf}
+use Rattle.meaning.specs.Homomorphisms.{image, Carries}
+use Rattle.meaning.specs.Triggers.{joined, terms_bound, bound, IsNumbered, AreNumbered, State, LabelsBelow, assigned, ground, IsTrigger, fired, IsFiringRun}
+use Rattle.meaning.specs.Runs.{IsBaseRun}
 
 -- the image of an atom's values is the atom under the mapped assignment
 pub image_values : (h : ℕ → List ℕ) (a : ℕ → Val) (terms : List Term) → map (image h) (map (value_of Const a) terms) ≡ map (value_of itself (λ x. image h (a x))) terms

@@ -2,13 +2,15 @@
 use Rattle.std.proofs.Common.{◌≡◌, ℕ, zero, suc, ◌<◌, ◌≤◌, List, [], ◌∷◌, length, Some, refl, sym, ap, ◌∙◌, subst, ⊎_elim, arith}
 use Rattle.std.specs.Prelude.{slice_index_or, Contains, slice_get, map}
 use Rattle.meaning_laws.proofs.Lists.{contains_here, contains_there, contains_cases, some_injective}
-use Rattle.meaning_laws.proofs.Kept.{run_refutes}
+use Rattle.meaning_laws.proofs.Kept.{ordered_is_run, run_refutes}
 use Rattle.meaning_laws.proofs.Decided.{read_from_run}
 use Rattle.meaning_laws.proofs.Closing.{plan_from_branches}
 use Rattle.meaning.specs.declared.types.Branch.{Branch}
+use Rattle.meaning.specs.declared.types.Fact.{Fact}
+use Rattle.meaning.specs.Instances.{IsInstance}
 use Rattle.meaning_laws.proofs.Monotone.{no_plan_lem}
 use Rattle.meaning_laws.proofs.Renaming.{naming_exists}
-use Rattle.meaning_laws.proofs.Conjoining.{select_sound, select_complete}
+use Rattle.meaning_laws.proofs.Choosing.{select_sound, select_complete}
 use Rattle.meaning.specs.declared.types.Term.{Term}
 use Rattle.meaning.specs.declared.types.Term.TheVariants.{Var, Const as Said}
 use Rattle.meaning.specs.declared.types.Val.{Val}
@@ -30,9 +32,14 @@ use Rattle.meaning.specs.declared.types.Firing.TheVariants.{Base, Expose}
 use Rattle.meaning.specs.Matching.{GroundsOf, IsQueryAnswer, AnswersQuery, OccursIn}
 use Rattle.meaning.specs.Answers.{AnswersSelect}
 use Rattle.meaning.specs.Plans.{IsWellFormed, IsLawful}
-use Rattle.meaning.specs.Claims.{IsEquivalent, Refutes, StandFor}
-use Rattle.meaning.specs.Conjunctive.{AreJoined, alike, IsConjunctive, SelectFits, OperandFits}
-use Rattle.meaning.specs.Runs.{HasGoal, ground, IsNaming, IsNumbered, HaveConstants, assigned, IsActive, IsFirstActive, StandsBefore, Proof, base_state, copy_state, IsBaseQuiet, NoExposure, IsOrderedRun, IsStuck, opening, frozen_head, RulesFit, QueryFits, QueryHasConstants, renamed, image}
+use Rattle.meaning.specs.Claims.{IsEquivalent, Refutes}
+use Rattle.meaning.specs.Homomorphisms.{renamed, image}
+use Rattle.meaning.specs.Triggers.{ground, IsNumbered, assigned, IsActive}
+use Rattle.meaning.specs.RuleOrder.{StandsBefore}
+use Rattle.meaning.specs.Runs.{HasGoal, IsFirstActive, Proof, base_state, copy_state, IsBaseQuiet, NoExposure, IsOrderedRun, IsStuck, opening, frozen_head}
+use Rattle.meaning.specs.Naming.{IsNaming}
+use Rattle.meaning.specs.Fitting.{HaveConstants, RulesFit, QueryFits, QueryHasConstants}
+use Rattle.meaning.specs.Conjunctive.{StandFor, AreJoined, alike, IsConjunctive, SelectFits, OperandFits, term_of}
 
 only : {X : Type 0} (x y : X) → Contains (x ∷ []) y → x ≡ y
 only x y c = ⊎_elim (λ e. e) (λ h. absurd (none h)) (contains_cases x [] y c)
@@ -81,7 +88,7 @@ rules_fit : RulesFit the_schema []
 rules_fit = record {
   numbered = λ rule c. subst (λ r. IsNumbered r) (only the_rule rule c) the_rule_numbered;
   have = λ rule c. subst (λ (r : Rule). HaveConstants [] r.body × HaveConstants [] r.head) (only the_rule rule c) (none r_atom, none s_atom);
-  heads = λ rule atom c d. (s_relation, at rule atom c d, long rule atom c d);
+  heads = λ rule atom c d. record { relation = s_relation; there = at rule atom c d; width = long rule atom c d };
 }
   where
     the_rule_numbered : IsNumbered the_rule
@@ -101,7 +108,7 @@ rules_fit = record {
 
 query_fits : QueryFits the_schema the_query
 query_fits = record {
-  arity = λ atom c. (r_relation, subst (λ (a : Atom). slice_get the_schema.relations a.rel ≡ Some r_relation) (only r_atom atom c) refl, ap (λ (a : Atom). length a.terms) (sym (only r_atom atom c)));
+  arity = λ atom c. record { relation = r_relation; there = subst (λ (a : Atom). slice_get the_schema.relations a.rel ≡ Some r_relation) (only r_atom atom c) refl; width = ap (λ (a : Atom). length a.terms) (sym (only r_atom atom c)) };
   variables = omega arith;
   head = λ x c. let e : 0 ≡ x = zero_is x (only (Var 0) (Var x) c) in subst (λ y. OccursIn (r_atom ∷ []) y) e (r_atom, contains_here r_atom [], contains_here (Var 0) []);
 }
@@ -112,41 +119,45 @@ query_fits = record {
 query_constants : QueryHasConstants [] the_query
 query_constants = record { atoms = λ atom c d i. let f : Var 0 ≡ Said c = only (Var 0) (Said c) (subst (λ (x : Atom). Contains x.terms (Said c)) (sym (only r_atom atom d)) i) in absurd (cc); head = λ c i. let f : Var 0 ≡ Said c = only (Var 0) (Said c) i in absurd (cc) }
 
-the_term : Operand → Term
-the_term (Column from column) = Var 0
-the_term (Literal text) = Said text
-
-conjunctive : IsConjunctive the_schema the_select the_query the_term (λ k. Column 0 0)
-unfolding the_term
+conjunctive : IsConjunctive the_schema the_select the_query
 conjunctive = record {
-  literal = λ text. refl;
+  atoms = ((refl, record { relation = r_relation; there = refl; width = refl }), tt);
   joined = λ condition c. absurd (no_element c);
-  constant = constant;
-  variable = variable;
-  atoms = ((r_relation, refl, refl), tt);
+  only = only_one;
   head = refl;
 }
   where
-    constant : (o : Operand) (text : List ℕ) → OperandFits the_schema the_select o → the_term o ≡ Said text → AreJoined [] o (Literal text)
-    constant (Column from column) text fits e = absurd (cc)
-    constant (Literal other) text fits e = let same' : other ≡ text = cc in subst (λ t. AreJoined [] (Literal other) (Literal t)) same' (alike (Literal other))
-
-    variable : (o : Operand) (k : ℕ) → OperandFits the_schema the_select o → the_term o ≡ Var k → AreJoined [] o (Column 0 0)
-    variable (Literal other) k fits e = absurd (cc)
-    variable (Column from column) k (rel, relation, got, got', l) e =
+    column_zero : (from column : ℕ) → OperandFits the_schema the_select (Column from column) → (0 ≡ from) × (0 ≡ column)
+    column_zero from column (rel, relation, got, got', l) =
         let (first, is_rel) = got_only 0 rel from got in
         let its : r_relation ≡ relation = some_injective r_relation relation (subst (λ n. slice_get the_schema.relations n ≡ Some relation) (sym is_rel) got') in
         let long : column < 1 = subst (λ (x : Relation). column < length x.columns) (sym its) l in
         let zeroth : 0 ≡ column = omega arith in
-        subst (λ c. AreJoined [] (Column from c) (Column 0 0)) zeroth (subst (λ f. AreJoined [] (Column f 0) (Column 0 0)) (sym first) (alike (Column 0 0)))
+        (sym first, zeroth)
+
+    term_zero : (from column : ℕ) → OperandFits the_schema the_select (Column from column) → term_of (r_atom ∷ []) (Column from column) ≡ Var 0
+    term_zero from column fits = let (f, c) = column_zero from column fits in sym (λ i. term_of (r_atom ∷ []) (Column (f i) (c i)))
+
+    only_one : (o p : Operand) → OperandFits the_schema the_select o → OperandFits the_schema the_select p → term_of (r_atom ∷ []) o ≡ term_of (r_atom ∷ []) p → AreJoined [] o p
+    only_one (Literal text) (Literal other) fits fits' e = let same : text ≡ other = cc in subst (λ t. AreJoined [] (Literal text) (Literal t)) same (alike (Literal text))
+    only_one (Literal text) (Column from column) fits fits' e = let clash : Said text ≡ Var 0 = e ∙ term_zero from column fits' in absurd (cc)
+    only_one (Column from column) (Literal text) fits fits' e = let clash : Said text ≡ Var 0 = sym e ∙ term_zero from column fits in absurd (cc)
+    only_one (Column from column) (Column from' column') fits fits' e =
+        let (f, c) = column_zero from column fits in
+        let (f', c') = column_zero from' column' fits' in
+        subst (λ o. AreJoined [] (Column from column) o) (λ i. Column (f' i) (c' i)) (subst (λ o. AreJoined [] o (Column 0 0)) (λ i. Column (f i) (c i)) (alike (Column 0 0)))
 
 select_fits : SelectFits the_schema the_select
-select_fits = record { conditions = λ condition c. absurd (no_element c); items = λ item c. subst (λ o. OperandFits the_schema the_select o) (only (Column 0 0) item c) (0, r_relation, refl, refl, omega arith) }
+select_fits = record {
+  froms = λ rel c. (r_relation, ap (slice_get the_schema.relations) (sym (only 0 rel c)));
+  conditions = λ condition c. absurd (no_element c);
+  items = λ item c. subst (λ o. OperandFits the_schema the_select o) (only (Column 0 0) item c) (0, r_relation, refl, refl, omega arith);
+}
 
 stand : StandFor the_schema (the_query ∷ []) the_statement
 stand = record {
-  sound = λ facts row query fits c answer. (the_select, contains_here the_select [], select_sound the_schema the_select the_query the_term (λ k. Column 0 0) conjunctive facts row select_fits (subst (λ q. AnswersQuery q facts row) (sym (only the_query query c)) answer));
-  complete = λ facts row fits (select, c, answer). (the_query, contains_here the_query [], select_complete the_schema the_select the_query the_term (λ k. Column 0 0) conjunctive facts row select_fits fits (subst (λ s. AnswersSelect s facts row) (sym (only the_select select c)) answer));
+  sound = λ facts row query fits c answer. (the_select, contains_here the_select [], select_sound the_schema the_select the_query conjunctive facts row select_fits (subst (λ q. AnswersQuery q facts row) (sym (only the_query query c)) answer));
+  complete = λ facts row fits (select, c, answer). (the_query, contains_here the_query [], select_complete the_schema the_select the_query conjunctive facts row select_fits fits (subst (λ s. AnswersSelect s facts row) (sym (only the_select select c)) answer));
 }
 
 abbrev r_fact : Ground
@@ -194,7 +205,8 @@ first_active : IsFirstActive the_schema.rules (base_state (opening the_query)) t
 first_active = record { active = r_only_active; first = λ other its active before. not_before other.rule before }
   where
     not_before : (i : ℕ) → StandsBefore the_schema.rules i 0 → ⊥
-    not_before i (one, two, m, n, g, g', level, level', order) =
+    not_before i stands =
+        let record { first = one; second = two; low = m; high = n; first_is = g; second_is = g'; first_level = level; second_level = level'; before = order } = stands in
         let one_is : the_rule ≡ one = (got_only the_rule one i g).1 in
         let two_is : the_rule ≡ two = (got_only the_rule two 0 g').1 in
         let (atom, among, its) = level'.reached in
@@ -256,7 +268,7 @@ stuck = record {
 pub example_refutes : (h : ℕ → List ℕ) → IsNaming [] 1 h → Refutes the_schema [] the_statement (renamed h the_end.base) (renamed h the_end.copy) (map (image h) (frozen_head the_query))
 example_refutes h naming =
     run_refutes the_schema [] the_statement (the_query ∷ []) the_query (Base the_trigger ∷ Expose 0 s_fact ∷ []) the_end h rules_fit stand (contains_here the_query [])
-    (λ q c. subst (λ x. QueryHasConstants [] x) (only the_query q c) query_constants) query_fits the_run stuck naming
+    (λ q c. subst (λ x. QueryHasConstants [] x) (only the_query q c) query_constants) query_fits (ordered_is_run the_schema [] 0 (opening the_query) (Base the_trigger ∷ Expose 0 s_fact ∷ []) the_end the_run) stuck naming
 
 well_formed : IsWellFormed the_schema
 well_formed = record {
@@ -281,10 +293,14 @@ abbrev open_end : Proof
 open_end = record { base = r_fact ∷ s_fact ∷ []; exposed = r_fact ∷ []; copy = r_fact ∷ []; next = 1 }
 
 open_fits : RulesFit open_schema []
-open_fits = record { numbered = rules_fit.numbered; have = rules_fit.have; heads = rules_fit.heads }
+open_fits = record {
+  numbered = rules_fit.numbered;
+  have = rules_fit.have;
+  heads = λ rule atom c d. let fit = rules_fit.heads rule atom c d in record { relation = fit.relation; there = fit.there; width = fit.width };
+}
 
 open_query_fits : QueryFits open_schema the_query
-open_query_fits = record { arity = query_fits.arity; variables = query_fits.variables; head = query_fits.head }
+open_query_fits = record { arity = λ atom c. let fit = query_fits.arity atom c in record { relation = fit.relation; there = fit.there; width = fit.width }; variables = query_fits.variables; head = query_fits.head }
 
 open_run : IsOrderedRun open_schema [] 0 (opening the_query) (Base the_trigger ∷ Expose 1 r_fact ∷ []) open_end
 open_run = (
@@ -330,12 +346,15 @@ open_well = record {
     differ e = let heads : ◌≡◌ {A = ℕ} 109 110 = ap (λ (l : List ℕ). slice_index_or l 0 0) e in omega arith
 
 open_stand : StandFor open_schema (the_query ∷ []) the_statement
-open_stand = record { sound = λ facts row query fits c answer. stand.sound facts row query fits c answer; complete = λ facts row fits answer. stand.complete facts row fits answer }
+open_stand = record { sound = λ facts row query fits c answer. stand.sound facts row query (closed facts fits) c answer; complete = λ facts row fits answer. stand.complete facts row (closed facts fits) answer }
+  where
+    closed : (facts : List Fact) → IsInstance open_schema facts → IsInstance the_schema facts
+    closed facts fits fact c = let fit = fits fact c in record { relation = fit.relation; there = fit.there; width = fit.width }
 
 pub example_plan : (plan : Plan) × IsLawful plan open_schema [] × IsEquivalent plan the_statement open_schema
 example_plan =
     let (branch, is, long) = read_from_run open_schema [] (the_query ∷ []) the_query (Base the_trigger ∷ Expose 1 r_fact ∷ []) open_end open_well open_fits open_query_fits
-    (λ q c. subst (λ x. QueryFits open_schema x) (only the_query q c) open_query_fits) query_constants open_run open_goal in
+    (λ q c. subst (λ x. QueryFits open_schema x) (only the_query q c) open_query_fits) query_constants (ordered_is_run open_schema [] 0 (opening the_query) (Base the_trigger ∷ Expose 1 r_fact ∷ []) open_end open_run) open_goal in
     let plan : Plan = record { width = 1; branches = branch ∷ [] } in
     let both = plan_from_branches open_schema [] the_statement (the_query ∷ []) plan open_stand (is, tt) (λ other c. ap (λ (b : Branch). length b.output) (sym (only branch other c)) ∙ long) in
     (plan, both.0, both.1)

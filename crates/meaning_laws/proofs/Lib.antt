@@ -1,4 +1,5 @@
 pub mod Lists
+pub mod Fits
 pub mod Monotone
 pub mod Carrying
 pub mod Keeping
@@ -14,6 +15,7 @@ pub mod Decided
 pub mod Judging
 pub mod Searching
 pub mod Conjoining
+pub mod Choosing
 pub mod Example
 pub mod Closing
 pub mod SameSets

@@ -17,16 +17,23 @@ ghost use Rattle.meaning.specs.declared.types.Operand.{Operand};
 ghost use Rattle.meaning.specs.declared.types.Term.{Term};
 ghost use Rattle.meaning.specs.declared.types.Val.TheVariants.{Const, Label};
 ghost use Rattle.std.specs.List.{AllZip};
-ghost use Rattle.meaning.specs.Access.{IsAccessible, CanAccess, IsAccessPath};
-ghost use Rattle.meaning.specs.Answers.{IsInstance, IsWithin, AnswersSelect};
+ghost use Rattle.meaning.specs.Instances.{IsInstance, IsWithin};
 ghost use Rattle.meaning.specs.Matching.{itself, FactsOf, GroundsOf, MeetsAll, Meets, IsQueryAnswer, AnswersQuery};
-ghost use Rattle.meaning.specs.Plans.{IsWellFormed, IsLawful, IsLawfulBranch, IsRow, IsBranchRow};
-ghost use Rattle.meaning.specs.Claims.{IsModel, IsEquivalent, Refutes, StandFor, IsCost, IsLeast};
-ghost use Rattle.meaning.specs.Runs.{State, Proof, LabelsBelow, AreNumbered, IsActive, IsFiringRun, Carries, RulesFit, QueryHasConstants, QueryFits, IsOrderedRun, HasGoal, opening, IsKept, IsStuck, IsNaming, frozen_head, renamed, image};
-ghost use Rattle.meaning.specs.Extract.{Exposure, IsDerivation, IsHeadKnown, branch_of, IsBase, IsQueryRival, IsExposing, exposures_cost, exposed_facts, HasGoalAfter, opening_state, IsReadFor};
+ghost use Rattle.meaning.specs.Answers.{AnswersSelect};
+ghost use Rattle.meaning.specs.Access.{IsAccessible, CanAccess, IsAccessPath};
+ghost use Rattle.meaning.specs.Plans.{IsWellFormed, IsLawful, IsLawfulBranch};
+ghost use Rattle.meaning.specs.Rows.{IsRow, IsBranchRow};
+ghost use Rattle.meaning.specs.Claims.{IsModel, IsEquivalent, Refutes};
+ghost use Rattle.meaning.specs.Costs.{IsCost, IsLeast};
+ghost use Rattle.meaning.specs.Homomorphisms.{Carries, renamed, image};
+ghost use Rattle.meaning.specs.Triggers.{State, LabelsBelow, AreNumbered, IsQuiet, IsFiringRun};
+ghost use Rattle.meaning.specs.Runs.{Proof, IsRun, IsOrderedRun, HasGoal, opening, IsStuck, frozen_head, opening_state};
+ghost use Rattle.meaning.specs.Naming.{IsNaming};
+ghost use Rattle.meaning.specs.Fitting.{RulesFit, QueryHasConstants, QueryFits, IsKept};
+ghost use Rattle.meaning.specs.Conjunctive.{StandFor, SelectFits, IsConjunctive};
+ghost use Rattle.meaning.specs.Extract.{Exposure, IsDerivation, IsHeadKnown, branch_of, IsBase, IsQueryRival, IsExposing, exposures_cost, exposed_facts, HasGoalAfter};
 ghost use Rattle.meaning.specs.Judge.{IsBranchQuery};
 ghost use Rattle.meaning.specs.Search.{AreSets, AreDistinct};
-ghost use Rattle.meaning.specs.Conjunctive.{SelectFits, IsConjunctive};
 
 /// The rows of a lawful plan depend on the accessible part alone, and grow with it.
 pub fn rows_grow()
@@ -62,7 +69,7 @@ pub fn extend_list()
 /// A state in which no trigger is active, with labels as values, meets the rules.
 pub fn quiet_meets()
     ensures { (rules : List Rule) (state : State) → AreNumbered rules →
-        ((trigger : Trigger) (rule : Rule) → IsActive rules state trigger rule → ⊥) →
+        IsQuiet rules state →
         MeetsAll Const (GroundsOf state.facts) rules }
 {}
 
@@ -101,7 +108,7 @@ pub fn run_refutes()
     ensures { (schema : SchemaParts) (constants : List (List ℕ)) (statement : Statement) (queries : List Query) (query : Query) (log : List Firing) (proof : Proof) (h : ℕ → List ℕ) →
         RulesFit schema constants → StandFor schema queries statement → Contains queries query →
         ((q : Query) → Contains queries q → QueryHasConstants constants q) → QueryFits schema query →
-        IsOrderedRun schema constants 0 (opening query) log proof →
+        IsRun schema constants 0 (opening query) log proof →
         IsStuck schema constants queries proof (frozen_head query) → IsNaming constants proof.next h →
         Refutes schema constants statement (renamed h proof.base) (renamed h proof.copy) (map (image h) (frozen_head query)) }
 {}
@@ -110,7 +117,7 @@ pub fn run_refutes()
 pub fn run_extracts()
     ensures { (schema : SchemaParts) (constants : List (List ℕ)) (query goal : Query) (log : List Firing) (proof : Proof) →
         IsWellFormed schema → RulesFit schema constants → QueryFits schema query → QueryFits schema goal → QueryHasConstants constants query →
-        IsOrderedRun schema constants 0 (opening query) log proof → IsQueryAnswer Const (GroundsOf proof.copy) goal (frozen_head query) →
+        IsRun schema constants 0 (opening query) log proof → IsQueryAnswer Const (GroundsOf proof.copy) goal (frozen_head query) →
         (branch : Branch) × IsLawfulBranch schema constants branch
         × ((instance : List Fact) (row : List (List ℕ)) → Meets instance schema → IsBranchRow schema branch instance row → AnswersQuery goal instance row)
         × ((instance : List Fact) (row : List (List ℕ)) → Meets instance schema → AnswersQuery query instance row → IsBranchRow schema branch instance row)
@@ -131,7 +138,7 @@ pub fn naming_exists()
 {}
 
 /// Where no exposures with a goal cost less than the branch, no rival does.
-pub fn leastwise()
+pub fn least_by_exposures()
     ensures { (schema : SchemaParts) (constants : List (List ℕ)) (statement : Statement) (select : Select) (queries : List Query) (query : Query) (base : State) (head : List Val) (branch : Branch) (best : ℕ) →
         IsWellFormed schema → RulesFit schema constants → ((q : Query) → Contains queries q → QueryHasConstants constants q) → StandFor schema queries statement →
         ((facts : List Fact) (row : List (List ℕ)) → IsInstance schema facts → AnswersQuery query facts row → AnswersSelect select facts row) →
@@ -164,7 +171,7 @@ pub fn contained()
 pub fn separated()
     ensures { (schema : SchemaParts) (constants : List (List ℕ)) (query : Query) (others : List Query) (log : List Trigger) (end : State) (h : ℕ → List ℕ) →
         RulesFit schema constants → QueryFits schema query → QueryHasConstants constants query → ((q : Query) → Contains others q → QueryHasConstants constants q) →
-        IsFiringRun schema.rules (opening_state query) log end → ((trigger : Trigger) (rule : Rule) → IsActive schema.rules end trigger rule → ⊥) →
+        IsFiringRun schema.rules (opening_state query) log end → IsQuiet schema.rules end →
         ((q : Query) → Contains others q → IsQueryAnswer Const (GroundsOf end.facts) q (frozen_head query) → ⊥) → IsNaming constants end.next h →
         IsModel schema (renamed h end.facts) × AnswersQuery query (renamed h end.facts) (map (image h) (frozen_head query))
         × ((q : Query) → Contains others q → AnswersQuery q (renamed h end.facts) (map (image h) (frozen_head query)) → ⊥) }
@@ -172,13 +179,13 @@ pub fn separated()
 
 /// The answers of the conjunctive query are the select's.
 pub fn select_sound()
-    ensures { (schema : SchemaParts) (select : Select) (query : Query) (term : Operand → Term) (first : ℕ → Operand) → IsConjunctive schema select query term first →
+    ensures { (schema : SchemaParts) (select : Select) (query : Query) → IsConjunctive schema select query →
         (facts : List Fact) (row : List (List ℕ)) → SelectFits schema select → AnswersQuery query facts row → AnswersSelect select facts row }
 {}
 
 /// The select's answers are those of the conjunctive query.
 pub fn select_complete()
-    ensures { (schema : SchemaParts) (select : Select) (query : Query) (term : Operand → Term) (first : ℕ → Operand) → IsConjunctive schema select query term first →
+    ensures { (schema : SchemaParts) (select : Select) (query : Query) → IsConjunctive schema select query →
         (facts : List Fact) (row : List (List ℕ)) → SelectFits schema select → IsInstance schema facts → AnswersSelect select facts row → AnswersQuery query facts row }
 {}
 
@@ -186,19 +193,19 @@ pub fn select_complete()
 pub fn read_from_run()
     ensures { (schema : SchemaParts) (constants : List (List ℕ)) (queries : List Query) (query : Query) (log : List Firing) (proof : Proof) →
         IsWellFormed schema → RulesFit schema constants → QueryFits schema query → ((q : Query) → Contains queries q → QueryFits schema q) → QueryHasConstants constants query →
-        IsOrderedRun schema constants 0 (opening query) log proof → HasGoal queries proof (frozen_head query) →
-        (branch : Branch) × IsReadFor schema constants queries query branch × (length branch.output ≡ length query.head) }
+        IsRun schema constants 0 (opening query) log proof → HasGoal queries proof (frozen_head query) →
+        (branch : Branch) × IsQueryRival schema constants queries query branch × (length branch.output ≡ length query.head) }
 {}
 
 /// A branch that is read for each query makes a plan that is lawful and equivalent to the statement.
 pub fn plan_from_branches()
     ensures { (schema : SchemaParts) (constants : List (List ℕ)) (statement : Statement) (queries : List Query) (plan : Plan) → StandFor schema queries statement →
-        AllZip (IsReadFor schema constants queries) queries plan.branches → ((branch : Branch) → Contains plan.branches branch → length branch.output ≡ plan.width) →
+        AllZip (IsQueryRival schema constants queries) queries plan.branches → ((branch : Branch) → Contains plan.branches branch → length branch.output ≡ plan.width) →
         IsLawful plan schema constants × IsEquivalent plan statement schema }
 {}
 
 /// A closed set of facts has every accessible fact.
-pub fn acc_closed()
+pub fn accessible_closed()
     ensures { (schema : SchemaParts) (constants : List (List ℕ)) (facts closed : List Fact) →
         ((fact : Fact) → Contains facts fact → CanAccess schema constants closed fact → Contains closed fact) →
         (trail : List Fact) → IsAccessPath schema constants facts trail → (fact : Fact) → Contains trail fact → Contains closed fact }
