@@ -146,6 +146,11 @@ module _ (rules : List Rule) (state : State) (trigger : Trigger) (rule : Rule) (
       let found = meets rule (contains_got rules trigger.rule rule is.numbered) (λ x. image h (assigned trigger x)) body in
       extend_by instance h found.0 found.1 carries
 
+-- the same, with the premises in the order of the law
+pub firing_extends : (rules : List Rule) (state : State) (trigger : Trigger) (rule : Rule) (instance : List Fact) (h : ℕ → List ℕ) → AreNumbered rules → MeetsAll itself (FactsOf instance) rules → LabelsBelow state.facts state.next → IsTrigger rules state trigger rule → Carries h state.facts instance → (g : ℕ → List ℕ) × ((k : ℕ) → k < state.next → g k ≡ h k) × Carries g (fired state trigger rule).facts instance
+firing_extends rules state trigger rule instance h numbered meets below is carries =
+    extend_firing rules state trigger rule is (numbered rule (contains_got rules trigger.rule rule is.numbered)) below instance h meets carries
+
 -- a whole run
 pub extend_run : (rules : List Rule) (log : List Trigger) (state end : State) (instance : List Fact) (h : ℕ → List ℕ) → AreNumbered rules → MeetsAll itself (FactsOf instance) rules → LabelsBelow state.facts state.next → IsFiringRun rules state log end → Carries h state.facts instance → (g : ℕ → List ℕ) × ((k : ℕ) → k < state.next → g k ≡ h k) × Carries g end.facts instance
 extend_run rules [] state end instance h numbered meets below run carries = (h, (λ k l. refl), subst (λ (s : State). Carries h s.facts instance) (sym run) carries)

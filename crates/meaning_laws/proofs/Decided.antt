@@ -33,6 +33,11 @@ use Rattle.meaning.specs.Fitting.{IsKept, RulesFit, QueryFits, QueryHasConstants
 use Rattle.meaning.specs.Extract.{all_columns, out_of, Exposure, exposed_facts, IsExposing, AreInOrder, IsInput, columns_after, branch_of, IsQueryRival, IsDerivation, IsHeadKnown}
 use Rattle.meaning.specs.declared.types.Branch.{Branch}
 use Rattle.meaning.specs.declared.types.Fact.{Fact}
+use Rattle.meaning.specs.declared.types.Select.{Select}
+use Rattle.meaning.specs.declared.types.Statement.{Statement}
+use Rattle.meaning.specs.Costs.{IsRival}
+use Rattle.meaning.specs.Conjunctive.{SelectFits, term_of, IsConjunctive, StandFor}
+use Rattle.meaning_laws.proofs.Choosing.{select_complete}
 
 -- the copy firings of a run
 pub copy_part : (schema : SchemaParts) (constants : List (List ℕ)) (proof : Proof) (log : List Firing) (end : Proof) → IsRun schema constants 2 proof log end → (copy : List Trigger) × IsFiringRun schema.rules (copy_state proof) copy (copy_state end) × (end.exposed ≡ proof.exposed)
@@ -248,4 +253,21 @@ read_from_run schema constants queries query log proof well rules fits all have 
         complete = λ facts row model answer. complete facts row model.meets answer;
       },
       long,
+    )
+
+-- The same, said of the statement and the select.
+pub branch_from_run : (schema : SchemaParts) (constants : List (List ℕ)) (statement : Statement) (queries : List Query) (select : Select) (query : Query) (log : List Firing) (proof : Proof) →
+    IsWellFormed schema → RulesFit schema constants → QueryFits schema query → ((q : Query) → Contains queries q → QueryFits schema q) → QueryHasConstants constants query →
+    StandFor schema queries statement → SelectFits schema select → IsConjunctive schema select query →
+    IsRun schema constants 0 (opening query) log proof → HasGoal queries proof (frozen_head query) →
+    (branch : Branch) × IsRival schema constants statement select branch × (length branch.output ≡ length select.items)
+branch_from_run schema constants statement queries select query log proof well rules fits all have stand select_fits is run goal =
+    let (branch, its, long) = read_from_run schema constants queries query log proof well rules fits all have run goal in (
+      branch,
+      record {
+        lawful = its.lawful;
+        sound = λ facts row model rows. let (found, among, answer) = its.sound facts row model rows in stand.sound facts row found model.fits among answer;
+        complete = λ facts row model answer. its.complete facts row model (select_complete schema select query is facts row select_fits model.fits answer);
+      },
+      long ∙ ap length is.head ∙ length-map select.items (term_of query.atoms),
     )

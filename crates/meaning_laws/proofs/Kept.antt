@@ -41,7 +41,7 @@ frozen_named constants n terms below have v c =
 
 pub kept_opening : (schema : SchemaParts) (constants : List (List ℕ)) (query : Query) → QueryFits schema query → QueryHasConstants constants query → IsKept schema constants query (opening query)
 kept_opening schema constants query fits have = record {
-  base_fits = λ fact c. let (atom, among, e) = contains_mapped (ground Label) query.atoms fact c in 
+  base_fits = λ fact c. let (atom, among, e) = contains_mapped (ground Label) query.atoms fact c in
       fits_alike schema atom.rel fact.rel atom.terms fact.vals (ap (λ (f : Ground). f.rel) e) (ap (λ (f : Ground). length f.vals) (sym e) ∙ length-map atom.terms (value_of Const Label)) (fits.arity atom among);
   copy_fits = λ fact c. absurd (none fact c);
   base_named = λ fact v c i. let (atom, among, e) = contains_mapped (ground Label) query.atoms fact c in

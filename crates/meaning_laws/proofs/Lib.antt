@@ -13,6 +13,7 @@ pub mod Rivals
 pub mod Kept
 pub mod Decided
 pub mod Judging
+pub mod Frozen
 pub mod Searching
 pub mod Conjoining
 pub mod Choosing
