@@ -18,6 +18,7 @@ pub mod Searching
 pub mod Conjoining
 pub mod Choosing
 pub mod Example
+pub mod Employees
 pub mod Closing
 pub mod SameSets
 pub mod Members
