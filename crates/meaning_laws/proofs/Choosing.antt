@@ -6,7 +6,7 @@ use Rattle.std.proofs.Math.Decide.{ℕ_discrete}
 use Rattle.std.proofs.lemmas.Option.{slice_get-get_or, slice_get_within}
 use Rattle.std.proofs.lemmas.List.{same_lists, length_push}
 use Rattle.std.proofs.lemmas.List.FromFn.{length-map-range_with_len, get_or-map-range_with_len}
-use Rattle.meaning_laws.proofs.Lists.{contains_got, got_below, some_injective}
+use Rattle.lists.proofs.Members.{contains_got, got_below, some_injective}
 use Rattle.meaning_laws.proofs.Deciding.{dec_some}
 use Rattle.meaning_laws.proofs.Conjoining.{AtomsFrom, IsTermed, termed_sound, termed_complete, in_range, range_at}
 use Rattle.meaning.specs.declared.types.Term.{Term}

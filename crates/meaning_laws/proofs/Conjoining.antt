@@ -5,7 +5,7 @@ use Rattle.std.specs.List.{range_with_len}
 use Rattle.std.proofs.lemmas.Option.{get_or_from_slice_get, slice_get-get_or}
 use Rattle.std.proofs.lemmas.List.{get_or_default, get_or_at, same_lists, length_push}
 use Rattle.std.proofs.lemmas.List.FromFn.{length-range_with_len, get_or-range_with_len, length-map-range_with_len, get_or-map-range_with_len}
-use Rattle.meaning_laws.proofs.Lists.{contains_here, contains_there, contains_cases, map_same, map_got, some_injective}
+use Rattle.lists.proofs.Members.{contains_here, contains_there, contains_cases, map_same, map_got, some_injective}
 use Rattle.meaning.specs.declared.types.Term.{Term}
 use Rattle.meaning.specs.declared.types.Term.TheVariants.{Var, Const}
 use Rattle.meaning.specs.declared.types.Atom.{Atom}

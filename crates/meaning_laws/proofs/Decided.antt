@@ -4,7 +4,7 @@ use Rattle.std.specs.Prelude.{Contains, slice_get, map}
 use Rattle.std.proofs.lemmas.Bool.{cases_lt}
 use Rattle.std.proofs.lemmas.List.{append-nil, length-map}
 use Rattle.std.proofs.lemmas.List.Elements.{Contains-append_cases, Contains-push_cases}
-use Rattle.meaning_laws.proofs.Lists.{contains_cases, contains_got, contains_map, contains_mapped, some_injective}
+use Rattle.lists.proofs.Members.{contains_cases, contains_got, contains_map, contains_mapped, some_injective}
 use Rattle.meaning_laws.proofs.Fits.{fits_alike}
 use Rattle.meaning_laws.proofs.Carrying.{fresh_is}
 use Rattle.meaning_laws.proofs.Extracting.{columns_kept, columns_have}

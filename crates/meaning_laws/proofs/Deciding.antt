@@ -8,7 +8,8 @@ use Rattle.std.proofs.lemmas.Bool.{cases_lt}
 use Rattle.std.proofs.lemmas.Option.{slice_get-get_or}
 use Rattle.std.proofs.lemmas.List.Elements.{Contains-append_left, Contains-append_right}
 use Rattle.std.proofs.lemmas.List.FromFn.{length-map-range_with_len, get_or-map-range_with_len}
-use Rattle.meaning_laws.proofs.Lists.{contains_here, contains_there, contains_cases, contains_map, joined_below, joined_above}
+use Rattle.lists.proofs.Members.{contains_here, contains_there, contains_cases, contains_map}
+use Rattle.meaning_laws.proofs.Joined.{joined_below, joined_above}
 use Rattle.meaning_laws.proofs.Carrying.{occurs_below}
 use Rattle.meaning.specs.declared.types.Term.{Term}
 use Rattle.meaning.specs.declared.types.Term.TheVariants.{Var, Const as Said}

@@ -2,7 +2,7 @@
 use Rattle.std.proofs.Common.{◌≡◌, ◌⊎◌, ℕ, zero, suc, ◌+◌, ◌<◌, List, [], ◌∷◌, ◌++◌, length, Some, refl, sym, ap, ◌∙◌, subst, inl, inr, ⊎_elim, arith}
 use Rattle.std.specs.Prelude.{Contains, slice_get, slice_index_or, map, codes}
 use Rattle.std.specs.List.{AllZip}
-use Rattle.meaning_laws.proofs.Lists.{contains_here, contains_there, contains_cases, some_injective}
+use Rattle.lists.proofs.Members.{contains_here, contains_there, contains_cases, some_injective}
 use Rattle.meaning_laws.proofs.Example.{only, got_only, no_element, alone_first}
 use Rattle.meaning_laws.proofs.Closing.{accessible_closed}
 use Rattle.meaning_laws.proofs.Choosing.{select_sound, select_complete}

@@ -1,7 +1,7 @@
 -- The premises of the laws can be met: r(a), s(a), a method on s alone, the rule r(x) -> s(x), and the query r(x).
 use Rattle.std.proofs.Common.{◌≡◌, ℕ, zero, suc, ◌<◌, ◌≤◌, List, [], ◌∷◌, ◌++◌, length, Some, refl, sym, ap, ◌∙◌, subst, ⊎_elim, arith}
 use Rattle.std.specs.Prelude.{slice_index_or, Contains, slice_get, map}
-use Rattle.meaning_laws.proofs.Lists.{contains_here, contains_there, contains_cases, some_injective}
+use Rattle.lists.proofs.Members.{contains_here, contains_there, contains_cases, some_injective}
 use Rattle.meaning_laws.proofs.Kept.{ordered_is_run, run_refutes}
 use Rattle.meaning_laws.proofs.Decided.{read_from_run}
 use Rattle.meaning_laws.proofs.Closing.{plan_from_branches}

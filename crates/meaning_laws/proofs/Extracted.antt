@@ -2,7 +2,7 @@
 use Rattle.std.proofs.Common.{◌≡◌, ℕ, ◌<◌, ◌≤◌, List, [], ◌∷◌, sym, ap, ◌∙◌, subst, ⊎_elim, arith}
 use Rattle.std.specs.Prelude.{Contains, map}
 use Rattle.std.specs.List.{AllZip}
-use Rattle.meaning_laws.proofs.Lists.{contains_cases, contains_map, contains_mapped}
+use Rattle.lists.proofs.Members.{contains_cases, contains_map, contains_mapped}
 use Rattle.meaning_laws.proofs.Carrying.{image_values, extend_run, run_below, occurs_below}
 use Rattle.meaning_laws.proofs.Extracting.{steps_image, steps_map, outs_image, outs_row, columns_have, columns_kept, same_vals}
 use Rattle.meaning.specs.declared.types.Term.{Term}

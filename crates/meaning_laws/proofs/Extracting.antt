@@ -6,7 +6,7 @@ use Rattle.std.proofs.lemmas.Bool.Decides.{nat_tests}
 use Rattle.std.proofs.lemmas.Bool.{cases_eq}
 use Rattle.std.proofs.lemmas.List.{map_push}
 use Rattle.std.proofs.lemmas.List.Elements.{Contains-append_left, Contains-push}
-use Rattle.meaning_laws.proofs.Lists.{contains_here, contains_there, contains_cases, contains_got, map_got, map_same, some_injective}
+use Rattle.lists.proofs.Members.{contains_here, contains_there, contains_cases, contains_got, map_got, map_same, some_injective}
 use Rattle.meaning.specs.declared.types.Val.{Val}
 use Rattle.meaning.specs.declared.types.Val.TheVariants.{Const as Known, Label}
 use Rattle.meaning.specs.declared.types.Fact.{Fact}

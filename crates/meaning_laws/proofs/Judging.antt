@@ -5,7 +5,7 @@ use Rattle.std.specs.List.{AllZip, range_with_len}
 use Rattle.std.proofs.lemmas.Option.{get_or_from_slice_get, slice_get_within, slice_get-get_or}
 use Rattle.std.proofs.lemmas.List.{length_push}
 use Rattle.std.proofs.lemmas.List.FromFn.{length-map-range_with_len, get_or-map-range_with_len, map-range_with_len_more}
-use Rattle.meaning_laws.proofs.Lists.{contains_here, contains_there, contains_cases, contains_mapped, got_push, got_before, map_same}
+use Rattle.lists.proofs.Members.{contains_here, contains_there, contains_cases, contains_mapped, got_push, got_before, map_same}
 use Rattle.meaning_laws.proofs.Monotone.{joins_length}
 use Rattle.meaning.specs.declared.types.Atom.{Atom}
 use Rattle.meaning.specs.declared.types.Place.{Place}

@@ -4,7 +4,7 @@ use Rattle.std.specs.Prelude.{Contains, slice_get, map}
 use Rattle.std.proofs.lemmas.Bool.{cases_lt}
 use Rattle.std.proofs.lemmas.List.{length-map}
 use Rattle.std.proofs.lemmas.List.Elements.{Contains-append_cases, Contains-append_left}
-use Rattle.meaning_laws.proofs.Lists.{contains_got, contains_map, contains_mapped}
+use Rattle.lists.proofs.Members.{contains_got, contains_map, contains_mapped}
 use Rattle.meaning_laws.proofs.Carrying.{occurs_below, fresh_is}
 use Rattle.meaning.specs.declared.types.Term.{Term}
 use Rattle.meaning.specs.declared.types.Term.TheVariants.{Var, Const as Said}

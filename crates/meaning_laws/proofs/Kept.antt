@@ -3,7 +3,7 @@ use Rattle.std.proofs.Common.{◌≡◌, ℕ, ◌<◌, List, [], ◌∷◌, ◌+
 use Rattle.std.specs.Prelude.{Contains, slice_get, map}
 use Rattle.std.proofs.lemmas.List.{length-map}
 use Rattle.std.proofs.lemmas.List.Elements.{Contains-append_left, Contains-push, Contains-push_cases}
-use Rattle.meaning_laws.proofs.Lists.{contains_map, contains_mapped}
+use Rattle.lists.proofs.Members.{contains_map, contains_mapped}
 use Rattle.meaning_laws.proofs.Carrying.{occurs_below}
 use Rattle.meaning_laws.proofs.Keeping.{Keeps, named_more, run_keeps}
 use Rattle.meaning_laws.proofs.Witness.{witness_refutes}

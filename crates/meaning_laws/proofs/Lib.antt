@@ -1,4 +1,4 @@
-pub mod Lists
+pub mod Joined
 pub mod Fits
 pub mod Monotone
 pub mod Carrying

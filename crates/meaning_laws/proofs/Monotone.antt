@@ -3,7 +3,7 @@ use Rattle.std.proofs.Common.{◌≡◌, ◌⊎◌, ℕ, zero, suc, ◌+◌, ◌
 use Rattle.std.specs.Prelude.{Contains, slice_get}
 use Rattle.std.proofs.lemmas.List.{length_push}
 use Rattle.std.proofs.lemmas.List.Elements.{Contains-push_cases}
-use Rattle.meaning_laws.proofs.Lists.{contains_here, contains_there, contains_got, got_before}
+use Rattle.lists.proofs.Members.{contains_here, contains_there, contains_got, got_before}
 use Rattle.meaning.specs.declared.types.Fact.{Fact}
 use Rattle.meaning.specs.declared.types.Method.{Method}
 use Rattle.meaning.specs.declared.types.SchemaParts.{SchemaParts}

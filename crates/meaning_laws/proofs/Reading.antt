@@ -4,7 +4,7 @@ use Rattle.std.specs.Prelude.{Contains, slice_get, map}
 use Rattle.std.proofs.lemmas.Option.{slice_get_within}
 use Rattle.std.proofs.lemmas.List.{length_push, append-nil}
 use Rattle.std.proofs.lemmas.List.Elements.{Contains-append_left}
-use Rattle.meaning_laws.proofs.Lists.{contains_here, contains_there, contains_cases, contains_mapped}
+use Rattle.lists.proofs.Members.{contains_here, contains_there, contains_cases, contains_mapped}
 use Rattle.meaning_laws.proofs.Extracting.{column_found, column_none, column_here, column_later}
 use Rattle.std.proofs.lemmas.Bool.{cases_eq}
 use Rattle.meaning.specs.declared.types.Val.{Val}

@@ -4,7 +4,7 @@ use mathlib.Core.List.{List-discrete}
 use Rattle.std.proofs.Math.Decide.{ℕ_discrete}
 use Rattle.std.specs.Prelude.{Contains, map, replicate}
 use Rattle.std.proofs.lemmas.List.{length-replicate}
-use Rattle.meaning_laws.proofs.Lists.{contains_here, contains_there, contains_cases, contains_map, contains_mapped}
+use Rattle.lists.proofs.Members.{contains_here, contains_there, contains_cases, contains_map, contains_mapped}
 use Rattle.meaning_laws.proofs.Carrying.{image_values}
 use Rattle.meaning.specs.declared.types.Term.{Term}
 use Rattle.meaning.specs.declared.types.Term.TheVariants.{Var, Const as Said}

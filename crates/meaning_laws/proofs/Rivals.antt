@@ -2,7 +2,7 @@
 use Rattle.std.proofs.Common.{◌≡◌, ℕ, ◌+◌, ◌<◌, ◌≤◌, List, [], ◌∷◌, ◌++◌, length, Some, sym, ap, ◌∙◌, subst, inl, inr, ⊎_elim, arith, append_assoc}
 use Rattle.std.specs.Prelude.{Contains, slice_get, map}
 use Rattle.std.proofs.lemmas.List.Elements.{Contains-append_left, Contains-append_right, Contains-append_cases, Contains-push}
-use Rattle.meaning_laws.proofs.Lists.{contains_here, contains_cases, contains_got, contains_map, contains_mapped, got_mapped}
+use Rattle.lists.proofs.Members.{contains_here, contains_cases, contains_got, contains_map, contains_mapped, got_mapped}
 use Rattle.meaning_laws.proofs.Monotone.{joins_inputs, joins_values, joins_length}
 use Rattle.meaning_laws.proofs.Deciding.{dec_contains, quiet_meets}
 use Rattle.meaning_laws.proofs.Renaming.{naming_exists, back, back_named, renamed_meets, answer_renamed, answer_back}

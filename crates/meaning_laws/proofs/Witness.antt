@@ -3,7 +3,7 @@ use Rattle.std.proofs.Common.{◌≡◌, ℕ, List, [], ◌∷◌, length, Some,
 use Rattle.std.proofs.lemmas.List.{length-map}
 use Rattle.std.specs.Prelude.{Contains, slice_get, map}
 use Rattle.std.proofs.lemmas.Option.{slice_get-get_or}
-use Rattle.meaning_laws.proofs.Lists.{contains_cases, contains_got, contains_map, contains_mapped, got_mapped}
+use Rattle.lists.proofs.Members.{contains_cases, contains_got, contains_map, contains_mapped, got_mapped}
 use Rattle.meaning_laws.proofs.Fits.{fits_alike}
 use Rattle.meaning_laws.proofs.Deciding.{dec_contains, quiet_meets}
 use Rattle.meaning_laws.proofs.Renaming.{back, back_named, renamed_meets, answer_renamed, answer_back}
