@@ -10,3 +10,6 @@ mod text;
 
 pub use order::ascending_distinct;
 pub use text::csv_text;
+
+#[cfg(test)]
+mod tests;
