@@ -6,6 +6,7 @@
 
 pub mod laws;
 mod order;
+mod started;
 mod text;
 
 pub use order::ascending_distinct;
