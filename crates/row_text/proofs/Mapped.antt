@@ -1,8 +1,7 @@
 -- Values that are ordered by their rows: what sorting and dropping doubles leaves, by the rows.
-use Rattle.std.proofs.Common.{◌≡◌, ◌↔◌, ℕ, List, [], ◌∷◌, map, length, Bool, true, sym, ◌∙◌, ap, subst}
+use Rattle.std.proofs.Common.{◌≡◌, ◌↔◌, ℕ, List, [], ◌∷◌, map, Bool, sym, ◌∙◌, subst}
 use Rattle.std.specs.Prelude.{Contains}
-use Rattle.std.specs.List.{AllByRecursion}
-use Rattle.std.specs.List.Retain.{dedup}
+use Rattle.std.specs.List.{AllByRecursion, dedup}
 use Rattle.std.specs.List.Sorted.{IsPermutation, IsSorted, IsStrictlySortedBy}
 use Rattle.std.specs.Cmp.{on_equiv, on_total}
 use Rattle.std.specs.declared.cmp.Ordering.TheVariants.{Less}
@@ -31,10 +30,10 @@ module _ {X : Type 0} (row : X → List (List ℕ)) where
   pub same-mapped : (xs ys : List X) → IsPermutation xs ys → (one : List (List ℕ)) → Contains (map row (dedup by_row ys)) one ↔ Contains (map row xs) one
   same-mapped xs ys moved one = (
     (λ c.
-      let (x, among, e) = contains_mapped row (dedup by_row ys) one c in
-      subst (Contains (map row xs)) e (contains_map row xs x (Contains-permutation ys xs x (IsPermutation-sym xs ys moved) (Contains-from_dedup by_row ys x among)))),
+        let (x, among, e) = contains_mapped row (dedup by_row ys) one c in
+        subst (Contains (map row xs)) e (contains_map row xs x (Contains-permutation ys xs x (IsPermutation-sym xs ys moved) (Contains-from_dedup by_row ys x among)))),
     (λ c.
-      let (x, among, e) = contains_mapped row xs one c in
-      let kept = Any-dedup (on_equiv row rows_equiv) ys x (Contains-permutation xs ys x moved among) in
-      subst (Contains (map row (dedup by_row ys))) (sym (rows_same_equal (row x) (row kept.1) kept.4) ∙ e) (contains_map row (dedup by_row ys) kept.1 (kept.0, kept.2, kept.3))),
+        let (x, among, e) = contains_mapped row xs one c in
+        let kept = Any-dedup (on_equiv row rows_equiv) ys x (Contains-permutation xs ys x moved among) in
+        subst (Contains (map row (dedup by_row ys))) (sym (rows_same_equal (row x) (row kept.1) kept.4) ∙ e) (contains_map row (dedup by_row ys) kept.1 (kept.0, kept.2, kept.3))),
   )

@@ -1,14 +1,13 @@
 -- Rows whose starts differ compare as their starts do.
-use Rattle.std.proofs.Common.{◌≡◌, ◌<◌, ℕ, zero, suc, List, [], ◌∷◌, drop, Bool, true, false, refl, sym, ◌∙◌, ap, subst, arith}
-use Rattle.std.specs.Prelude.{nat_eq, slice_index}
+use Rattle.std.proofs.Common.{◌≡◌, ◌<◌, ℕ, zero, suc, List, [], ◌∷◌, refl, sym, ◌∙◌, ap, subst, arith}
 use Rattle.std.specs.Ordering.{nat_cmp, ordering_then, ordering_reverse, MatchOrdering}
-use Rattle.std.specs.Cmp.Lexicographic.{slice_cmp, pointwise}
+use Rattle.std.specs.Cmp.Lexicographic.{slice_cmp}
 use Rattle.std.specs.declared.cmp.Ordering.{Ordering}
 use Rattle.std.specs.declared.cmp.Ordering.TheVariants.{Less, Equal, Greater}
 use Rattle.std.proofs.lemmas.Cmp.{ranked, nat_cmp_total, lists_total}
-use Rattle.row_text.specs.RowText.{row_cmp, row_eq}
-use Rattle.row_text.specs.Starts.{first_of, row_start, start_of}
-use Rattle.row_text.proofs.Orders.{rows_same_equal, rows_total}
+use Rattle.row_text.specs.RowText.{row_cmp}
+use Rattle.row_text.specs.Starts.{row_start, start_of}
+use Rattle.row_text.proofs.Orders.{rows_total}
 
 -- so many bytes of a value, with zeros behind a shorter one
 padded : ℕ → List ℕ → List ℕ
@@ -56,7 +55,9 @@ padded_less (suc n) (x ∷ xs) [] h = absurd (by (nat_cmp x 0) refl h (padded_le
 padded_less (suc n) (x ∷ xs) (y ∷ ys) h = then_less (nat_cmp x y) (slice_cmp nat_cmp (padded n xs) (padded n ys)) (slice_cmp nat_cmp xs ys) h (padded_less n xs ys)
 
 start_less : (xs ys : List ℕ) → slice_cmp nat_cmp (start_of xs) (start_of ys) ≡ Less → slice_cmp nat_cmp xs ys ≡ Less
-start_less xs ys h = padded_less 8 xs ys (rw (start-padded xs, start-padded ys) at h)
+start_less xs ys h = padded_less 8 xs ys
+    (subst (λ (s : List ℕ). slice_cmp nat_cmp s (padded 8 ys) ≡ Less) (start-padded xs)
+    (subst (λ (s : List ℕ). slice_cmp nat_cmp (start_of xs) s ≡ Less) (start-padded ys) h))
 
 row_start-less : (a b : List (List ℕ)) → slice_cmp nat_cmp (row_start a) (row_start b) ≡ Less → row_cmp a b ≡ Less
 row_start-less [] [] h = absurd (cc)
