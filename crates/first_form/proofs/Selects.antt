@@ -80,7 +80,7 @@ items_some columns done (name ∷ names) (item ∷ items) zip =
 
 -- ---- the relation
 
-contains-at : {X : Type 0} (xs : List X) (k : ℕ) (x : X) → slice_get xs k ≡ Some x → Contains xs x
+pub contains-at : {X : Type 0} (xs : List X) (k : ℕ) (x : X) → slice_get xs k ≡ Some x → Contains xs x
 contains-at xs k x at = (k, slice_get_within xs k x at, get_or_from_slice_get xs k x x at)
 
 -- the relation at a place has its name there
@@ -89,7 +89,7 @@ name_there schema number relation there =
     slice_get-map (λ (r : Relation). r.name) schema.relations number ∙ ap (option_map (λ (r : Relation). r.name)) there
 
 -- the relation with a name stands at one place
-same_relation : (schema : Schema) (name : List ℕ) (m n : ℕ) (r s : Relation) → slice_get schema.relations m ≡ Some r → slice_get schema.relations n ≡ Some s → r.name ≡ name → s.name ≡ name → (m ≡ n) × (r ≡ s)
+pub same_relation : (schema : Schema) (name : List ℕ) (m n : ℕ) (r s : Relation) → slice_get schema.relations m ≡ Some r → slice_get schema.relations n ≡ Some s → r.name ≡ name → s.name ≡ name → (m ≡ n) × (r ≡ s)
 same_relation schema name m n r s at_m at_n named_r named_s =
     let p = name_there schema m r at_m ∙ ap (λ (x : List ℕ). Some x) named_r in
     let q = name_there schema n s at_n ∙ ap (λ (x : List ℕ). Some x) named_s in

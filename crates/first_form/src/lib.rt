@@ -2,6 +2,7 @@
 #![tactic(auto)]
 
 mod fault;
+mod laws;
 mod limits;
 mod names;
 mod schema_read;
@@ -12,5 +13,6 @@ mod scanner;
 mod schema_form;
 
 pub use fault::FormFault;
+pub use laws::{one_schema, one_statement};
 pub use query_read::read_query;
 pub use schema_read::read_schema;
