@@ -50,7 +50,14 @@ line_found bytes asked e =
     let text : bytes ≡ line_with made relation.1 = rw (h0, l.text, h1, n.0) refl in
     let ends = ending_case (literal_at feed relation.1) relation.1 rest refl is_rest in
     subst (λ (x : Asked). IsQueryLine bytes x) g.1 (record {
-      text = text_cases made bytes relation.1 text ends; names = l.names_are; names_free = free.0; some = l.some; few = l.few; relation = n.1; relation_free = free.1 }))))))
+      text = text_cases made bytes relation.1 text ends;
+      names = l.names_are;
+      names_free = free.0;
+      some = l.some;
+      few = l.few;
+      relation = n.1;
+      relation_free = free.1;
+    }))))))
 
 ending_again : (ending : List ℕ) → (ending ≡ []) ⊎ (ending ≡ feed) → end_at (past_feed ending (literal_at feed ending)) ≡ Some []
 ending_again ending (inl none) = rw none refl

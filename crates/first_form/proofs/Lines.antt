@@ -181,15 +181,28 @@ three_found bytes rest form e ends =
     let done : source.1 ≡ [] = ap (λ (q : FirstForm × List ℕ). q.1) p ∙ ends in
     let name = relation.0.name in
     let here : method.1 ≡ codes "source " ++ (name ++ (codes " " ++ (source.0.kind ++ (codes " '" ++ (source.0.locator ++ (codes "'" ++ feed)))))) =
-        h.text ∙ ap (λ (x : List ℕ). codes "source " ++ (name ++ (codes " " ++ (source.0.kind ++ (codes " '" ++ (source.0.locator ++ (codes "'" ++ (feed ++ x)))))))) done in
+    h.text ∙ ap (λ (x : List ℕ). codes "source " ++ (name ++ (codes " " ++ (source.0.kind ++ (codes " '" ++ (source.0.locator ++ (codes "'" ++ (feed ++ x)))))))) done in
     let before : relation.1 ≡ codes "method " ++ (method.0.name ++ (codes " on " ++ (name ++ (codes "() cost " ++ (m.digits ++ (feed ++ (codes "source " ++ (name ++ (codes " " ++ (source.0.kind ++ (codes " '" ++ (source.0.locator ++ (codes "'" ++ feed))))))))))))) =
-        m.text ∙ ap (λ (x : List ℕ). codes "method " ++ (method.0.name ++ (codes " on " ++ (name ++ (codes "() cost " ++ (m.digits ++ (feed ++ x))))))) here in
+    m.text ∙ ap (λ (x : List ℕ). codes "method " ++ (method.0.name ++ (codes " on " ++ (name ++ (codes "() cost " ++ (m.digits ++ (feed ++ x))))))) here in
     let text : bytes ≡ three_lines made m.digits =
-        r.text ∙ ap (λ (x : List ℕ). codes "relation " ++ (name ++ (codes "(" ++ (comma_listed relation.0.columns ++ (codes ")" ++ (feed ++ x)))))) before in
+    r.text ∙ ap (λ (x : List ℕ). codes "relation " ++ (name ++ (codes "(" ++ (comma_listed relation.0.columns ++ (codes ")" ++ (feed ++ x)))))) before in
     let P : FirstForm × List ℕ → Type 0 = λ q. AllDiffer q.0.relation.columns → AreThreeLines bytes q.0 in
     subst P p (λ differ. record {
-      digits = m.digits; text = text; relation = r.name; columns = r.columns; some = r.some; few = r.few; differ = differ;
-      method = m.name; numeral = m.numeral; cost = m.cost_is; limit = m.limit; kind = h.kind; locator = h.plain; utf8 = h.utf8 }))))
+      digits = m.digits;
+      text = text;
+      relation = r.name;
+      columns = r.columns;
+      some = r.some;
+      few = r.few;
+      differ = differ;
+      method = m.name;
+      numeral = m.numeral;
+      cost = m.cost_is;
+      limit = m.limit;
+      kind = h.kind;
+      locator = h.plain;
+      utf8 = h.utf8;
+    }))))
 
 -- what is read is three lines
 pub lines_found : (bytes : List ℕ) (form : FirstForm) → form_of bytes ≡ Some form → AreThreeLines bytes form

@@ -29,8 +29,12 @@ name-some (b ∷ bs) e same = absurd cc
 pub columns_are : (form : FirstForm) (bytes : List ℕ) → AreThreeLines bytes form → AreColumns form.relation.columns
 columns_are form bytes lines =
     let each = AllPass-from_list_all is_name form.relation.columns lines.columns in
-    record { some = lines.some; few = lines.few; differ = lines.differ;
-      named = λ column there. name-some column (subst (λ (x : List ℕ). is_name x ≡ true) there.2 (each there.0 column there.1)) }
+    record {
+      some = lines.some;
+      few = lines.few;
+      differ = lines.differ;
+      named = λ column there. name-some column (subst (λ (x : List ℕ). is_name x ≡ true) there.2 (each there.0 column there.1));
+    }
 
 pub no_schema : (e : FormFault) (bytes : List ℕ) → Answers {X = FirstForm} (Err e) (form_of bytes) → IsErrOf {T = Schema} (Err e) fault.NoForm → (schema : Schema) → IsFirstSchema bytes schema → ⊥
 no_schema e bytes answers none schema first =

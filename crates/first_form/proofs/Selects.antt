@@ -125,8 +125,16 @@ no_place schema asked number none named =
 pub selected : (schema : Schema) (asked : Asked) (number : ℕ) (relation : Relation) (items : List Operand) → slice_get schema.relations number ≡ Some relation → slice_get (relation_names schema.relations) number ≡ Some asked.relation →
     items_from relation.columns [] asked.names ≡ Some items → IsSelect schema asked (record { froms = number ∷ []; conditions = []; items = items; names = asked.names })
 selected schema asked number relation items there named read =
-    record { number = number; relation = relation; there = there; named = some_is relation.name asked.relation (sym (name_there schema number relation there) ∙ named);
-      froms = refl; conditions = refl; items = items_found relation.columns asked.names items read; names = refl }
+    record {
+      number = number;
+      relation = relation;
+      there = there;
+      named = some_is relation.name asked.relation (sym (name_there schema number relation there) ∙ named);
+      froms = refl;
+      conditions = refl;
+      items = items_found relation.columns asked.names items read;
+      names = refl;
+    }
 
 -- ---- what the calls gave
 

@@ -48,7 +48,7 @@ same_parts : (s t : Select) → s.froms ≡ t.froms → s.conditions ≡ t.condi
 same_parts s t froms conditions items names =
     let make : List ℕ → List Condition → List Operand → List (List ℕ) → Select = λ f c i n. record { froms = f; conditions = c; items = i; names = n } in
     ap (λ (f : List ℕ). make f s.conditions s.items s.names) froms ∙ ap (λ (c : List Condition). make t.froms c s.items s.names) conditions
-      ∙ ap (λ (i : List Operand). make t.froms t.conditions i s.names) items ∙ ap (λ (n : List (List ℕ)). make t.froms t.conditions t.items n) names
+    ∙ ap (λ (i : List Operand). make t.froms t.conditions i s.names) items ∙ ap (λ (n : List (List ℕ)). make t.froms t.conditions t.items n) names
 
 selects_same : (schema : Schema) (asked : Asked) (s t : Select) → IsSelect schema asked s → IsSelect schema asked t → s ≡ t
 selects_same schema asked s t p q =
@@ -56,7 +56,7 @@ selects_same schema asked s t p q =
     let differ = (schema.valid.relations_are.columns q.relation (contains-at schema.relations q.number q.relation q.there)).differ in
     let items : AllZip (IsItem q.relation.columns) asked.names s.items = subst (λ (r : Relation). AllZip (IsItem r.columns) asked.names s.items) same.1 p.items in
     same_parts s t (p.froms ∙ ap (λ (n : ℕ). n ∷ []) same.0 ∙ sym q.froms) (p.conditions ∙ sym q.conditions)
-      (items_same q.relation.columns asked.names s.items t.items differ items q.items) (p.names ∙ sym q.names)
+    (items_same q.relation.columns asked.names s.items t.items differ items q.items) (p.names ∙ sym q.names)
 
 pub statements_same : (schema : Schema) (bytes : List ℕ) (s t : Statement) → IsFirstQuery schema bytes s → IsFirstQuery schema bytes t → s ≡ t
 statements_same schema bytes s t p q =

@@ -5,14 +5,17 @@ mod fault;
 mod laws;
 mod limits;
 mod names;
-mod schema_read;
 mod query_form;
 mod query_read;
 mod reserved;
 mod scanner;
 mod schema_form;
+mod schema_read;
 
 pub use fault::FormFault;
 pub use laws::{one_schema, one_statement};
 pub use query_read::read_query;
 pub use schema_read::read_schema;
+
+#[cfg(test)]
+mod tests;

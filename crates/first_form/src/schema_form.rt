@@ -54,7 +54,11 @@ fn priced(scanner: &mut Scanner<'_>, relation: &Text) -> Result<u32, FormFault>
     Ok(cost)
 }
 
-fn method_line(alloc: Global, scanner: &mut Scanner<'_>, relation: &Text) -> Result<MethodLine, FormFault>
+fn method_line(
+    alloc: Global,
+    scanner: &mut Scanner<'_>,
+    relation: &Text,
+) -> Result<MethodLine, FormFault>
     ensures { Gives scanner.new result (method_at relation.now scanner.old) }
 {
     scanner.literal(b"method ")?;
@@ -73,7 +77,11 @@ fn quoted(alloc: Global, scanner: &mut Scanner<'_>) -> Result<Text, FormFault>
     Ok(locator)
 }
 
-fn source_line(alloc: Global, scanner: &mut Scanner<'_>, relation: &Text) -> Result<SourceLine, FormFault>
+fn source_line(
+    alloc: Global,
+    scanner: &mut Scanner<'_>,
+    relation: &Text,
+) -> Result<SourceLine, FormFault>
     ensures { Gives scanner.new result (source_at relation.now scanner.old) }
 {
     scanner.literal(b"source ")?;

@@ -38,11 +38,9 @@ fn schema_of(alloc: Global, form: FirstForm) -> Result<Schema, FormFault>
 }
 
 fn parts(alloc: Global, form: FirstForm) -> Result<Parts, NoMemory>
-    ensures {
-        IfOk result (λ parts. parts ≡ Part.Relation form.relation.name form.relation.columns
-            ∷ Part.Method form.method.name form.relation.name [] form.method.cost
-            ∷ Part.Source form.relation.name form.source.kind form.source.locator ∷ [])
-    }
+    ensures { IfOk result (λ parts. parts ≡ Part.Relation form.relation.name form.relation.columns
+        ∷ Part.Method form.method.name form.relation.name [] form.method.cost
+        ∷ Part.Source form.relation.name form.source.kind form.source.locator ∷ []) }
 {
     let mut parts = Seq::new(alloc);
     let accessed = form.relation.name.copy(alloc)?;

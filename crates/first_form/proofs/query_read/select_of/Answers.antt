@@ -18,7 +18,7 @@ pub returns-in_err-items-clause-none : goal.returns-in_err-items-clause-none
 returns-in_err-items-clause-none c =
     let p = err_from_is_err_and c.from_residual.result c.from_residual.ensures.1 in
     rw (p.1, p.2) (no_items c.in_err-items.field-0.0 c.args.schema.now c.args.asked c.in-Some.number c.in-Some-get.relation.now c.as_slice.result.now c.as_slice-2.result.now
-      c.as_slice.ensures c.as_slice-2.ensures (sym c.in-Some-get.ensures) c.in-Some.ensures c.in_err-items.ensures)
+    c.as_slice.ensures c.as_slice-2.ensures (sym c.in-Some-get.ensures) c.in-Some.ensures c.in_err-items.ensures)
 
 pub returns-clause-found : goal.returns-clause-found
 returns-clause-found c =
