@@ -1,6 +1,6 @@
 -- The three lines: what is read has its text, and the text is read.
-use Rattle.std.proofs.Common.{◌≡◌, ℕ, zero, suc, ◌+◌, ◌<◌, ◌≤◌, Bool, true, false, cond, List, [], ◌∷◌, ◌++◌, length, Option, None, Some, refl, sym, ap, ◌∙◌, subst, arith, append_assoc}
-use Rattle.std.specs.Prelude.{codes, IsUtf8, IsTrue}
+use Rattle.std.proofs.Common.{◌≡◌, ℕ, ◌≤◌, true, List, [], ◌++◌, length, Some, refl, ap, ◌∙◌, subst}
+use Rattle.std.specs.Prelude.{codes, IsUtf8}
 use Rattle.std.specs.List.{list_all}
 use Rattle.meaning.specs.declared.types.Relation.{Relation}
 use Rattle.access_schema.specs.declared.limits.TheConstants.{MOST_COLUMNS, MOST_COST}
@@ -8,12 +8,12 @@ use Rattle.first_form.specs.declared.schema_form.MethodLine.{MethodLine}
 use Rattle.first_form.specs.declared.schema_form.SourceLine.{SourceLine}
 use Rattle.first_form.specs.declared.schema_form.FirstForm.{FirstForm}
 use Rattle.first_form.specs.Names.{is_name, are_digits, is_plain, value_of, comma_listed, feed, all_differ}
-use Rattle.first_form.specs.Reading.{◌>>=◌, literal_at, name_at, names_at, cost_at, locator_at, end_at, relation_at, priced_at, method_at, quoted_at, source_at, form_at, form_of}
+use Rattle.first_form.specs.Reading.{literal_at, name_at, names_at, cost_at, locator_at, end_at, relation_at, priced_at, method_at, quoted_at, source_at, form_at, form_of}
 use Rattle.access_schema.specs.Names.{AllDiffer}
 use Rattle.first_form.specs.ThreeLines.{three_lines, AreThreeLines}
 use Rattle.first_form.proofs.Differ.{AllDiffer-from_test, AllDiffer-test}
-use Rattle.first_form.proofs.Rows.{bind_found, some_is, some_if, literal_found, literal_again, Ends, name_found, name_again, locator_found, locator_again, cost_found, cost_again, end_found}
-use Rattle.first_form.proofs.ListRows.{IsList, names_found, names_again}
+use Rattle.first_form.proofs.Rows.{bind_found, some_is, some_if, literal_found, literal_again, name_found, name_again, locator_found, locator_again, cost_found, cost_again, end_found}
+use Rattle.first_form.proofs.ListRows.{names_found, names_again}
 
 onto : (front : List ℕ) {a b : List ℕ} → a ≡ b → front ++ a ≡ front ++ b
 onto front e = ap (λ (x : List ℕ). front ++ x) e

@@ -1,10 +1,10 @@
 -- Lists of names: what is read is a list, and a list is read.
-use Rattle.std.proofs.Common.{◌≡◌, ℕ, zero, suc, ◌+◌, ◌-◌, ◌<◌, ◌≤◌, Bool, true, false, cond, List, [], ◌∷◌, ◌++◌, length, Option, None, Some, refl, sym, ap, ◌∙◌, arith, append_assoc}
-use Rattle.std.specs.Prelude.{◌&&◌, codes, flat_map}
+use Rattle.std.proofs.Common.{◌≡◌, ℕ, zero, suc, ◌<◌, ◌≤◌, true, List, [], ◌∷◌, ◌++◌, length, Option, None, Some, refl, sym, ap, ◌∙◌, arith, append_assoc}
+use Rattle.std.specs.Prelude.{codes, flat_map}
 use Rattle.std.specs.List.{list_all}
 use Rattle.std.proofs.lemmas.Bool.{and_parts, and_from}
 use Rattle.first_form.specs.Names.{is_name, is_name_byte, comma_listed}
-use Rattle.first_form.specs.Reading.{◌>>=◌, literal_at, name_at, next_name, names_from, names_at}
+use Rattle.first_form.specs.Reading.{literal_at, name_at, next_name, names_from, names_at}
 use Rattle.first_form.proofs.Rows.{bind_some, some_is, literal_found, Ends, name_found, name_again}
 
 -- the further names of a list

@@ -1,10 +1,9 @@
 -- The select that a line says over a schema.
-use Rattle.std.proofs.Common.{◌≡◌, ◌≢◌, ℕ, zero, suc, ◌+◌, ◌<◌, ◌≤◌, ◌^◌, Bool, true, false, cond, List, [], ◌∷◌, ◌++◌, length, map, get_or, Option, None, Some, option_map, Result, Ok, Err, refl, sym, ap, ◌∙◌, subst, inl, inr, arith, append_assoc}
-use Rattle.std.specs.Prelude.{Contains, IsErrOf, IfOk, nat_eq, slice_get}
+use Rattle.std.proofs.Common.{◌≡◌, ◌≢◌, ℕ, zero, suc, ◌+◌, ◌<◌, ◌^◌, Bool, true, false, cond, List, [], ◌∷◌, ◌++◌, length, Option, None, Some, option_map, Result, Err, refl, sym, ap, ◌∙◌, subst, arith, append_assoc}
+use Rattle.std.specs.Prelude.{Contains, IsErrOf, nat_eq, slice_get}
 use Rattle.std.specs.List.{AllZip}
 use Rattle.std.specs.Cmp.Lexicographic.{pointwise}
 use Rattle.std.proofs.lemmas.Option.{slice_get-map, slice_get_within, get_or_from_slice_get}
-use Rattle.std.proofs.lemmas.Bool.{cases_Bool}
 use Rattle.std.proofs.lemmas.List.{append-nil}
 use Rattle.meaning.specs.declared.types.Relation.{Relation}
 use Rattle.meaning.specs.declared.types.Operand.{Operand}
@@ -16,7 +15,7 @@ use Rattle.access_schema.specs.declared.schema.Schema.{Schema}
 use Rattle.first_form.specs.declared.fault.FormFault.{FormFault}
 use Rattle.first_form.specs.declared.fault.FormFault.TheVariants as fault
 use Rattle.first_form.specs.declared.query_form.Asked.{Asked}
-use Rattle.first_form.specs.Reading.{◌>>=◌, place_from, items_from, Answers, asked_of}
+use Rattle.first_form.specs.Reading.{place_from, items_from, Answers, asked_of}
 use Rattle.first_form.specs.FirstQuery.{IsItem, IsSelect, IsFirstQuery}
 use Rattle.first_form.proofs.Rows.{some_is, bind_found}
 use Rattle.first_form.proofs.Differ.{same_text, text_itself}

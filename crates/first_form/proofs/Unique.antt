@@ -1,16 +1,13 @@
 -- One text says one thing.
-use Rattle.std.proofs.Common.{◌≡◌, ℕ, List, [], ◌∷◌, Some, refl, sym, ap, ◌∙◌, subst}
-use Rattle.std.specs.Prelude.{slice_get}
+use Rattle.std.proofs.Common.{◌≡◌, ℕ, List, [], ◌∷◌, refl, sym, ap, ◌∙◌, subst}
 use Rattle.std.specs.List.{AllZip}
 use Rattle.meaning.specs.declared.types.Relation.{Relation}
-use Rattle.meaning.specs.declared.types.Method.{Method}
 use Rattle.meaning.specs.declared.types.Operand.{Operand}
 use Rattle.meaning.specs.declared.types.Operand.TheVariants.{Column}
 use Rattle.meaning.specs.declared.types.Condition.{Condition}
 use Rattle.meaning.specs.declared.types.Select.{Select}
 use Rattle.meaning.specs.declared.types.Statement.{Statement}
 use Rattle.access_schema.specs.Names.{AllDiffer}
-use Rattle.access_schema.specs.declared.schema.SourceLine.{SourceLine}
 use Rattle.access_schema.specs.declared.schema.Schema.{Schema}
 use Rattle.first_form.specs.declared.schema_form.FirstForm.{FirstForm}
 use Rattle.first_form.specs.declared.query_form.Asked.{Asked}

@@ -1,5 +1,5 @@
--- What stands at the front of bytes, and the bytes behind it.
-use Rattle.std.specs.Prelude.{◌≡◌, ◌+◌, ◌++◌, ℕ, zero, suc, Bool, true, false, ◌&&◌, List, [], ◌∷◌, Option, None, Some, Result, Ok, Err, codes, length, take, drop, nat_eq, nat_le, if◌then◌else◌}
+-- What the private readers compute: what stands at the front of bytes, and the bytes behind it. No public clause names this file.
+use Rattle.std.specs.Prelude.{◌≡◌, ◌+◌, ◌++◌, ℕ, zero, suc, Bool, false, ◌&&◌, List, [], ◌∷◌, Option, None, Some, Result, Ok, Err, codes, take, drop, nat_eq, nat_le, if◌then◌else◌}
 use Rattle.std.specs.List.{prefix_len, list_all}
 use Rattle.std.specs.Str.{is_utf8}
 use Rattle.first_form.specs.declared.fault.FormFault.{FormFault}

@@ -1,4 +1,7 @@
 //! The first forms of a schema text and of a query text, read exactly.
+//!
+//! Crates above use this: `read_schema` gives the schema that three lines say, and `read_query` the statement that one line says over a
+//! schema; each answers `NoForm` only where the text says none. Begin at `specs/ThreeLines.antt` and `specs/FirstQuery.antt`.
 #![tactic(auto)]
 
 mod fault;

@@ -1,4 +1,4 @@
-use Rattle.std.proofs.Common.{sym, ◌∙◌, subst, ◌<◌, ◌^◌, ℕ, List, length}
+use Rattle.std.proofs.Common.{sym, subst, ◌<◌, ◌^◌, ℕ, List, length}
 use Rattle.std.proofs.lemmas.Result.{err_from_is_err_and}
 use Rattle.first_form.proofs.Selects.{few_columns, no_relation, no_place, no_items, read_items, selected}
 use Rattle.first_form.proofs.query_read.select_of.Goals as goal
