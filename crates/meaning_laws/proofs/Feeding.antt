@@ -12,13 +12,10 @@ use Rattle.meaning.specs.declared.types.Trigger.{Trigger}
 use Rattle.meaning.specs.Triggers.{State, assigned, ground, IsTrigger, IsActive}
 use Rattle.meaning.specs.RuleOrder.{IsFed, IsLevel, IsRuleLevel, StandsBefore}
 use Rattle.meaning.specs.Runs.{IsFirstActive, IsBaseRun}
-use Rattle.meaning_laws.specs.Small.{r_atom, s_atom, t_atom, r_to_s, s_to_t, fed_first, r_fact, s_fact, both_active, t_trigger, s_trigger, fed}
+use Rattle.meaning_laws.specs.Small.{r_atom, s_atom, t_atom, r_to_s, s_to_t, fed_first, r_fact, s_fact, r_one, s_one, both_active, t_trigger, s_trigger, fed}
 
 abbrev r_rule : Rule
 r_rule = record r_to_s { line = 5 }
-
-abbrev s_one : Ground
-s_one = record { rel = 1; vals = Label 1 ∷ [] }
 
 rules_are : (P : Rule → Type 0) → P s_to_t → P r_rule → (rule : Rule) → Contains fed_first rule → P rule
 rules_are P p q rule c = ⊎_elim (λ e. subst P e p) (λ c. subst P (only r_rule rule c) q) (contains_cases s_to_t (r_rule ∷ []) rule c)
@@ -62,8 +59,9 @@ r_rule_level = record {
 
 s_rule_level : IsRuleLevel fed_first s_to_t 1
 s_rule_level = record {
-  reached = (s_atom, contains_here s_atom [], s_level);
-  greatest = λ atom n c level. s_is_fed_once n (subst (λ m. IsFed fed_first m n) (sym (ap (λ (a : Atom). a.rel) (only s_atom atom c))) level.reached);
+  reached = (s_atom, (1, omega arith, refl), s_level);
+  greatest = λ atom n c level. ⊎_elim (λ e. let none : n ≤ 0 = r_is_not_fed n (subst (λ m. IsFed fed_first m n) (sym (ap (λ (a : Atom). a.rel) e)) level.reached) in omega arith)
+      (λ c. s_is_fed_once n (subst (λ m. IsFed fed_first m n) (sym (ap (λ (a : Atom). a.rel) (only s_atom atom c))) level.reached)) (contains_cases r_atom (s_atom ∷ []) atom c);
 }
 
 feeder_stands_before : StandsBefore fed_first 1 0
@@ -79,8 +77,8 @@ feeder_stands_before = record {
   before = inl (omega arith);
 }
 
-facts_are : (P : Ground → Type 0) → P r_fact → P s_one → (f : Ground) → Contains both_active.facts f → P f
-facts_are P p q f c = ⊎_elim (λ e. subst P e p) (λ c. subst P (only s_one f c) q) (contains_cases r_fact (s_one ∷ []) f c)
+facts_are : (P : Ground → Type 0) → P r_fact → P r_one → P s_one → (f : Ground) → Contains both_active.facts f → P f
+facts_are P p q r f c = ⊎_elim (λ e. subst P e p) (λ c. ⊎_elim (λ e. subst P e q) (λ c. subst P (only s_one f c) r) (contains_cases r_one (s_one ∷ []) f c)) (contains_cases r_fact (r_one ∷ s_one ∷ []) f c)
 
 -- the trigger of r(x) -> s(x) is active, since s(#0) is not there
 s_active : IsActive fed_first both_active s_trigger r_rule
@@ -88,7 +86,7 @@ s_active = record {
   trigger_is = record { numbered = refl; width = refl; fresh = omega arith; body = λ atom c. subst (λ (a : Atom). Contains both_active.facts (ground (assigned s_trigger) a)) (only r_atom atom c) (0, omega arith, refl) };
   next = refl;
   unmet = λ b ext. let agrees : b 0 ≡ Label 0 = ext.agrees 0 (r_atom, contains_here r_atom [], (0, omega arith, refl)) in
-      facts_are (λ f. f ≡ record { rel = 1; vals = b 0 ∷ [] } → ⊥) (λ e. zero_one (ap (λ (f : Ground). f.rel) e))
+      facts_are (λ f. f ≡ record { rel = 1; vals = b 0 ∷ [] } → ⊥) (λ e. zero_one (ap (λ (f : Ground). f.rel) e)) (λ e. zero_one (ap (λ (f : Ground). f.rel) e))
       (λ e. let same : Label 1 ≡ b 0 = ap (λ (f : Ground). first_of f.vals) e in labels (same ∙ agrees)) (record { rel = 1; vals = b 0 ∷ [] }) (ext.head s_atom (contains_here s_atom [])) refl;
 }
   where
@@ -112,7 +110,7 @@ none_before i stands =
     ⊎_elim (λ less. omega arith) (λ (same, less). before i less stands.first_is (λ e. high_first stands.first e stands.low stands.first_level same low)) stands.before
   where
     high_first : (first : Rule) → s_to_t ≡ first → (level : ℕ) → IsRuleLevel fed_first first level → level ≡ stands.high → stands.high ≤ 0 → ⊥
-    high_first first e level is same low = let top : 1 ≤ level = is.greatest s_atom 1 (subst (λ (r : Rule). Contains r.body s_atom) e (contains_here s_atom [])) s_level in omega arith
+    high_first first e level is same low = let top : 1 ≤ level = is.greatest s_atom 1 (subst (λ (r : Rule). Contains r.body s_atom) e (1, omega arith, refl)) s_level in omega arith
 
     before : (i : ℕ) → i < 1 → slice_get fed_first i ≡ Some stands.first → (s_to_t ≡ stands.first → ⊥) → ⊥
     before zero l e differ = differ (some_injective s_to_t stands.first e)
