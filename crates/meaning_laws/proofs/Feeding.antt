@@ -23,10 +23,10 @@ rules_are P p q rule c = ⊎_elim (λ e. subst P e p) (λ c. subst P (only r_rul
 -- no rule feeds r, and only r(x) -> s(x) feeds s
 r_is_not_fed : (n : ℕ) → IsFed fed_first 0 n → n ≤ 0
 r_is_not_fed zero fed = omega arith
-r_is_not_fed (suc n) (rule, from, to, among, in_body, in_head, rel, more) = absurd (rules_are (λ r. Contains r.head to → ⊥) (λ c. clash t_atom c (λ e. two e)) (λ c. clash s_atom c (λ e. one e)) rule among in_head)
+r_is_not_fed (suc n) (source, feeds, more) = absurd (rules_are (λ r. Contains r.head feeds.head → ⊥) (λ c. clash t_atom c (λ e. two e)) (λ c. clash s_atom c (λ e. one e)) feeds.rule feeds.of_rules feeds.in_head)
   where
-    clash : (atom : Atom) → Contains (atom ∷ []) to → (atom.rel ≡ 0 → ⊥) → ⊥
-    clash atom c differ = differ (ap (λ (a : Atom). a.rel) (only atom to c) ∙ rel)
+    clash : (atom : Atom) → Contains (atom ∷ []) feeds.head → (atom.rel ≡ 0 → ⊥) → ⊥
+    clash atom c differ = differ (ap (λ (a : Atom). a.rel) (only atom feeds.head c) ∙ feeds.makes)
 
     two : ◌≡◌ {A = ℕ} 2 0 → ⊥
     two e = omega arith
@@ -36,10 +36,10 @@ r_is_not_fed (suc n) (rule, from, to, among, in_body, in_head, rel, more) = absu
 
 s_is_fed_once : (n : ℕ) → IsFed fed_first 1 n → n ≤ 1
 s_is_fed_once zero fed = omega arith
-s_is_fed_once (suc n) (rule, from, to, among, in_body, in_head, rel, more) =
-    let low : n ≤ 0 = rules_are (λ r. Contains r.body from → Contains r.head to → n ≤ 0)
-    (λ b c. absurd (two (ap (λ (a : Atom). a.rel) (only t_atom to c) ∙ rel)))
-    (λ b c. r_is_not_fed n (subst (λ m. IsFed fed_first m n) (sym (ap (λ (a : Atom). a.rel) (only r_atom from b))) more)) rule among in_body in_head in
+s_is_fed_once (suc n) (source, feeds, more) =
+    let low : n ≤ 0 = rules_are (λ r. Contains r.body feeds.body → Contains r.head feeds.head → n ≤ 0)
+    (λ b c. absurd (two (ap (λ (a : Atom). a.rel) (only t_atom feeds.head c) ∙ feeds.makes)))
+    (λ b c. r_is_not_fed n (subst (λ m. IsFed fed_first m n) (sym (ap (λ (a : Atom). a.rel) (only r_atom feeds.body b) ∙ feeds.reads)) more)) feeds.rule feeds.of_rules feeds.in_body feeds.in_head in
     omega arith
   where
     two : ◌≡◌ {A = ℕ} 2 1 → ⊥
@@ -49,7 +49,7 @@ r_level : IsLevel fed_first 0 0
 r_level = record { reached = tt; greatest = r_is_not_fed }
 
 s_level : IsLevel fed_first 1 1
-s_level = record { reached = (r_rule, r_atom, s_atom, (1, omega arith, refl), contains_here r_atom [], contains_here s_atom [], refl, tt); greatest = s_is_fed_once }
+s_level = record { reached = (0, record { rule = r_rule; body = r_atom; head = s_atom; of_rules = (1, omega arith, refl); in_body = contains_here r_atom []; in_head = contains_here s_atom []; reads = refl; makes = refl }, tt); greatest = s_is_fed_once }
 
 r_rule_level : IsRuleLevel fed_first r_rule 0
 r_rule_level = record {
