@@ -3,12 +3,21 @@ use Rattle.std.specs.Prelude.{◌≡◌, ◌⊎◌, ℕ, ◌<◌, ◌≤◌, suc
 use Rattle.meaning.specs.declared.types.Atom.{Atom}
 use Rattle.meaning.specs.declared.types.Rule.{Rule}
 
--- A relation is fed over n steps where a chain of n rules, each from a body relation to a head relation, ends at it.
+-- A relation feeds another where some rule has the one in its body and the other in its head.
+pub record Feeds (rules : List Rule) (source target : ℕ) : Type 0 where
+  pub rule : Rule
+  pub body : Atom
+  pub head : Atom
+  pub of_rules : Contains rules rule
+  pub in_body : Contains rule.body body
+  pub in_head : Contains rule.head head
+  pub reads : body.rel ≡ source
+  pub makes : head.rel ≡ target
+
+-- A relation is fed over n steps where a chain of n feeding steps ends at it.
 abbrev pub IsFed : List Rule → ℕ → ℕ → Type 0
 IsFed rules rel zero = Unit {0}
-IsFed rules rel (suc n) =
-    (rule : Rule) × (from to : Atom) × Contains rules rule × Contains rule.body from × Contains rule.head to
-    × (to.rel ≡ rel) × IsFed rules from.rel n
+IsFed rules rel (suc n) = (source : ℕ) × Feeds rules source rel × IsFed rules source n
 
 -- The level of a relation is the greatest number of feeding steps that end at it.
 pub record IsLevel (rules : List Rule) (rel level : ℕ) : Type 0 where

@@ -48,7 +48,7 @@ use Rattle.meaning.specs.Runs.{IsFirstActive, Proof, base_state, IsKnownValue, I
 use Rattle.meaning.specs.Fitting.{HaveConstants, RulesFit, QueryFits, QueryHasConstants}
 use Rattle.meaning.specs.Conjunctive.{AreJoined, given, alike, turned, chained, OperandFits, SelectFits, term_of, IsConjunctive}
 use Rattle.meaning.specs.Extract.{Exposure, exposed_facts, IsExposing}
-use Rattle.meaning_laws.specs.Staff.{profinfo, udirect, prof_by_eid, all_direct, in_directory, staff, ruleless, smith, jones, smiths, smiths_statement, smiths_query, known, profile, entry, office, unlisted, ask_directory, ask_profile, smiths_branch, smiths_plan, guessing_plan, careless_plan, adding, smiths_requests, smith_profile, smith_entry, smiths_trigger, smiths_log, smiths_end, unreachable, unreachable_answer}
+use Rattle.meaning_laws.specs.Staff.{profinfo, udirect, prof_by_eid, all_direct, in_directory, staff, ruleless, smith, jones, smiths, smiths_statement, smiths_query, known, profile, entry, office, unlisted, ask_directory, ask_profile, smiths_branch, smiths_plan, guessing_plan, careless_plan, adding, profile_request, smiths_requests, smith_profile, smith_entry, smiths_trigger, smiths_log, smiths_end, unreachable, unreachable_answer}
 
 -- Something of each member of a list, and the members as alternatives.
 abbrev AllOf : {X : Type 0} → (X → Type 0) → List X → Type 0
@@ -503,9 +503,6 @@ unreachable_refutes = record {
 abbrev direct_request : Request
 direct_request = record { rel = 1; positions = []; values = [] }
 
-abbrev profile_request : Value → Request
-profile_request v = record { rel = 0; positions = 0 ∷ []; values = v ∷ [] }
-
 abbrev no_values : List ℕ → List Value → Type 0
 no_values positions values = positions ≡ [] → values ≡ []
 
@@ -777,3 +774,25 @@ smiths_plan_is_equivalent =
       sound = λ facts row model (branch, c, rows). (smiths, contains_here smiths [], select_sound staff smiths smiths_query smiths_form facts row select_fits (sound facts row model.meets (subst (λ b. IsBranchRow staff b facts row) (sym (only smiths_branch branch c)) rows)));
       complete = λ facts row model (select, c, answer). (smiths_branch, contains_here smiths_branch [], complete facts row model.meets (select_complete staff smiths smiths_query smiths_form facts row select_fits model.fits (subst (λ s. AnswersSelect s facts row) (sym (only smiths select c)) answer)));
     }
+
+-- a request that stands out of order, or twice
+pub profile_before_is_no_round : IsRound staff office (ask_directory ∷ []) ask_profile (profile_request three ∷ profile_request one ∷ []) → ⊥
+profile_before_is_no_round round = let less : rows_cmp (three ∷ []) (one ∷ []) ≡ Less = round.ascending 0 (profile_request three) (profile_request one) refl refl in absurd (cc)
+
+pub profile_twice_is_no_round : IsRound staff office (ask_directory ∷ []) ask_profile (profile_request one ∷ profile_request one ∷ profile_request three ∷ []) → ⊥
+profile_twice_is_no_round round = let less : rows_cmp (one ∷ []) (one ∷ []) ≡ Less = round.ascending 0 (profile_request one) (profile_request one) refl refl in absurd (cc)
+
+pub profiles_are_a_round : IsRound staff office (ask_directory ∷ []) ask_profile (profile_request one ∷ profile_request three ∷ [])
+profiles_are_a_round = profile_round
+
+-- a plan that is wider than its branch, and a fact that is shorter than its relation
+pub wide_is_not_lawful : IsLawful (record { width = 3; branches = smiths_branch ∷ [] }) staff known → ⊥
+wide_is_not_lawful lawful = let two_three : ◌≡◌ {A = ℕ} 2 3 = (lawful smiths_branch (contains_here smiths_branch [])).0 in omega arith
+
+pub short_is_no_instance : IsInstance staff (record { rel = 0; row = one ∷ [] } ∷ []) → ⊥
+short_is_no_instance fits =
+    let its = fits (record { rel = 0; row = one ∷ [] }) (0, omega arith, refl) in
+    let same : profinfo ≡ its.relation = some_injective profinfo its.relation its.there in
+    let long : 1 ≡ length its.relation.columns = its.width in
+    let three_columns : length profinfo.columns ≡ length its.relation.columns = ap (λ (r : Relation). length r.columns) same in
+    let clash : ◌≡◌ {A = ℕ} 1 3 = long ∙ sym three_columns in omega arith

@@ -29,6 +29,7 @@ use Rattle.meaning.specs.declared.types.Query.{Query}
 use Rattle.meaning.specs.declared.types.Ground.{Ground}
 use Rattle.meaning.specs.declared.types.Plan.{Plan}
 use Rattle.meaning.specs.declared.types.Trigger.{Trigger}
+use Rattle.meaning.specs.declared.types.Firing.{Firing}
 use Rattle.meaning.specs.declared.types.Firing.TheVariants.{Base, Copy, Expose}
 use Rattle.meaning.specs.Matching.{GroundsOf, IsQueryAnswer, AnswersQuery, OccursIn}
 use Rattle.meaning.specs.Answers.{AnswersSelect}
@@ -351,3 +352,7 @@ hasty_is_not_ordered (order, waits, (first, (rule, active, e), (order', waits', 
 
     s_is_new : Contains (r_fact ∷ []) s_fact → ⊥
     s_is_new c = let rel : ◌≡◌ {A = ℕ} 0 1 = ap (λ (f : Ground). f.rel) (only r_fact s_fact c) in omega arith
+
+-- no exposure follows a copy firing
+pub parts_stand_in_order : (schema : SchemaParts) (constants : List (List ℕ)) (proof end : Proof) (method : ℕ) (fact : Ground) (log : List Firing) → IsRun schema constants 2 proof (Expose method fact ∷ log) end → ⊥
+parts_stand_in_order schema constants proof end method fact log (order, rest) = omega arith

@@ -19,6 +19,7 @@ pub mod Conjoining
 pub mod Choosing
 pub mod Example
 pub mod Employees
+pub mod Feeding
 pub mod Closing
 pub mod SameSets
 pub mod Members

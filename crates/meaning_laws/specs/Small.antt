@@ -15,6 +15,7 @@ use Rattle.meaning.specs.declared.types.Term.TheVariants.{Var}
 use Rattle.meaning.specs.declared.types.Val.TheVariants.{Label}
 use Rattle.meaning.specs.declared.types.Operand.TheVariants.{Column}
 use Rattle.meaning.specs.declared.types.Firing.TheVariants.{Base, Copy, Expose}
+use Rattle.meaning.specs.Triggers.{State}
 use Rattle.meaning.specs.Runs.{Proof}
 
 -- relation r(a)
@@ -97,3 +98,34 @@ hasty_log = Base r_trigger ∷ Expose 1 r_fact ∷ Copy r_trigger ∷ []
 
 abbrev pub hasty_end : Proof
 hasty_end = record { base = r_fact ∷ s_fact ∷ []; exposed = r_fact ∷ []; copy = r_fact ∷ s_fact ∷ []; next = 1 }
+
+-- Two rules whose order is not that of their numbers: r(x), s(x) -> t(x) is rule 0, and r(x) -> s(x), which feeds it,
+-- is rule 1.
+abbrev pub t_atom : Atom
+t_atom = record { rel = 2; terms = Var 0 ∷ [] }
+
+abbrev pub s_to_t : Rule
+s_to_t = record { line = 4; body = r_atom ∷ s_atom ∷ []; head = t_atom ∷ [] }
+
+abbrev pub fed_first : List Rule
+fed_first = s_to_t ∷ record r_to_s { line = 5 } ∷ []
+
+-- Both rules have an active trigger on r(#0), r(#1) and s(#1).
+abbrev pub r_one : Ground
+r_one = record { rel = 0; vals = Label 1 ∷ [] }
+
+abbrev pub s_one : Ground
+s_one = record { rel = 1; vals = Label 1 ∷ [] }
+
+abbrev pub both_active : State
+both_active = record { facts = r_fact ∷ r_one ∷ s_one ∷ []; next = 2 }
+
+abbrev pub t_trigger : Trigger
+t_trigger = record { rule = 0; values = Label 1 ∷ []; fresh = 2 }
+
+abbrev pub s_trigger : Trigger
+s_trigger = record { rule = 1; values = Label 0 ∷ []; fresh = 2 }
+
+-- The state after the rule r(x) -> s(x).
+abbrev pub fed : State
+fed = record { facts = r_fact ∷ r_one ∷ s_one ∷ s_fact ∷ []; next = 2 }

@@ -146,12 +146,15 @@ adding =
     profile (codes "_1") (codes "_3") (codes "_4") ∷ entry (codes "_1") (codes "_2")
     ∷ entry (codes "_1") (codes "_4") ∷ []
 
+-- The request for the profile with a number.
+abbrev pub profile_request : Value → Request
+profile_request eid = record { rel = 0; positions = 0 ∷ []; values = eid ∷ [] }
+
 -- The requests of the plan on the instance.
 abbrev pub smiths_requests : List Request
 smiths_requests =
     record { rel = 1; positions = []; values = [] }
-    ∷ record { rel = 0; positions = 0 ∷ []; values = codes "1" ∷ [] }
-    ∷ record { rel = 0; positions = 0 ∷ []; values = codes "3" ∷ [] } ∷ []
+    ∷ profile_request (codes "1") ∷ profile_request (codes "3") ∷ []
 
 -- The run that finds the plan: the rule fires, and the directory and then the profile are exposed.
 abbrev pub smith_profile : Ground

@@ -1,21 +1,28 @@
 // Worked examples of the definitions, with values that were computed by hand: what each notion says of a small schema,
 // and what it does not say. A definition that is changed by a mistake is refused here, or by a law.
 
-ghost use Rattle.std.specs.Prelude.{◌≡◌, [], ◌∷◌, codes};
+ghost use Rattle.std.specs.Prelude.{◌≡◌, ℕ, List, [], ◌∷◌, codes};
 ghost use Rattle.meaning.specs.declared.types.Fact.{Fact};
 ghost use Rattle.meaning.specs.declared.types.Plan.{Plan};
+ghost use Rattle.meaning.specs.declared.types.SchemaParts.{SchemaParts};
+ghost use Rattle.meaning.specs.declared.types.Ground.{Ground};
+ghost use Rattle.meaning.specs.declared.types.Firing.{Firing};
+ghost use Rattle.meaning.specs.declared.types.Firing.TheVariants.{Expose};
+ghost use Rattle.meaning.specs.Values.{Value};
+ghost use Rattle.meaning.specs.Instances.{IsInstance};
 ghost use Rattle.meaning.specs.Matching.{Meets};
 ghost use Rattle.meaning.specs.Answers.{Answers};
 ghost use Rattle.meaning.specs.Access.{IsAccessible};
 ghost use Rattle.meaning.specs.Plans.{IsLawful};
 ghost use Rattle.meaning.specs.Rows.{IsRow};
-ghost use Rattle.meaning.specs.Requests.{AreRequests};
+ghost use Rattle.meaning.specs.Requests.{IsRound, AreRequests};
 ghost use Rattle.meaning.specs.Claims.{IsModel, IsEquivalent, Refutes};
 ghost use Rattle.meaning.specs.Costs.{IsCost};
-ghost use Rattle.meaning.specs.Runs.{IsRun, IsOrderedRun, HasGoal, opening, frozen_head};
+ghost use Rattle.meaning.specs.Triggers.{State};
+ghost use Rattle.meaning.specs.Runs.{IsBaseRun, Proof, IsRun, IsOrderedRun, HasGoal, opening, frozen_head};
 ghost use Rattle.meaning.specs.Conjunctive.{IsConjunctive};
-ghost use Rattle.meaning_laws.specs.Small.{closed_schema, open_schema, r_statement, r_query, hasty_log, hasty_end};
-ghost use Rattle.meaning_laws.specs.Staff.{staff, ruleless, smith, smiths, smiths_statement, smiths_query, known, profile, office, unlisted, smiths_branch, smiths_plan, guessing_plan, careless_plan, adding, smiths_requests, smiths_log, smiths_end, unreachable, unreachable_answer};
+ghost use Rattle.meaning_laws.specs.Small.{closed_schema, open_schema, r_statement, r_query, hasty_log, hasty_end, fed_first, both_active, s_trigger, t_trigger, fed};
+ghost use Rattle.meaning_laws.specs.Staff.{staff, ruleless, smith, smiths, smiths_statement, smiths_query, known, profile, office, unlisted, ask_directory, ask_profile, profile_request, smiths_branch, smiths_plan, guessing_plan, careless_plan, adding, smiths_requests, smiths_log, smiths_end, unreachable, unreachable_answer};
 
 /// The office is an instance of the staff schema and meets its rule.
 pub fn office_is_a_model()
@@ -115,4 +122,36 @@ pub fn open_schema_has_a_plan()
 pub fn hasty_run_is_not_ordered()
     ensures run { IsRun open_schema [] 0 (opening r_query) hasty_log hasty_end }
     ensures not_ordered { IsOrderedRun open_schema [] 0 (opening r_query) hasty_log hasty_end → ⊥ }
+{}
+
+/// A run never goes back to an earlier part.
+pub fn parts_stand_in_order()
+    ensures { (schema : SchemaParts) (constants : List Value) (proof end : Proof) (method : ℕ) (fact : Ground)
+        (log : List Firing) → IsRun schema constants 2 proof (Expose method fact ∷ log) end → ⊥ }
+{}
+
+/// Of two rules the one that feeds the other fires first, whatever their numbers.
+pub fn feeder_fires_first()
+    ensures feeder { IsBaseRun fed_first both_active (s_trigger ∷ []) fed }
+    ensures fed { (end : State) → IsBaseRun fed_first both_active (t_trigger ∷ []) end → ⊥ }
+{}
+
+/// The requests of a round stand in ascending order, and each once.
+pub fn rounds_ascend()
+    ensures round { IsRound staff office (ask_directory ∷ []) ask_profile
+        (profile_request (codes "1") ∷ profile_request (codes "3") ∷ []) }
+    ensures turned { IsRound staff office (ask_directory ∷ []) ask_profile
+        (profile_request (codes "3") ∷ profile_request (codes "1") ∷ []) → ⊥ }
+    ensures twice { IsRound staff office (ask_directory ∷ []) ask_profile
+        (profile_request (codes "1") ∷ profile_request (codes "1") ∷ profile_request (codes "3") ∷ []) → ⊥ }
+{}
+
+/// A plan that is wider than its branch is not lawful.
+pub fn wide_plan_is_not_lawful()
+    ensures { IsLawful (record { width = 3; branches = smiths_branch ∷ [] }) staff known → ⊥ }
+{}
+
+/// A fact with fewer values than its relation has columns is in no instance.
+pub fn short_fact_is_in_no_instance()
+    ensures { IsInstance staff (record { rel = 0; row = codes "1" ∷ [] } ∷ []) → ⊥ }
 {}
