@@ -220,3 +220,18 @@ impl Exact for Ground {
         self.rel == other.rel && self.vals.same(&other.vals)
     }
 }
+
+impl Copies for Fact {
+    fn copy(&self, alloc: Global) -> Result<Fact, AllocError> {
+        Ok(Fact {
+            rel: self.rel,
+            row: self.row.copy(alloc)?,
+        })
+    }
+}
+
+impl Exact for Fact {
+    fn same(&self, other: &Fact) -> bool {
+        self.rel == other.rel && self.row.same(&other.row)
+    }
+}
