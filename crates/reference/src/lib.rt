@@ -1,0 +1,10 @@
+//! Plain slow programs whose contract is the definition, for small inputs.
+//!
+//! Crates above compare their own results with these: the accessible part, the answers of a query, whether rules are
+//! met, and the rows and the requests of a plan. Nothing here has an index. Begin at `src/accessible.rt`.
+#![tactic(auto)]
+
+mod accessible;
+mod members;
+
+pub use accessible::accessible_part;
