@@ -1,2 +1,5 @@
 pub mod Turns
 pub mod Gathers
+pub mod Exact
+pub mod Zips
+pub mod Stepping

@@ -1,5 +1,5 @@
 -- The turns of a loop over the members of a list.
-use Rattle.std.proofs.Common.{◌≡◌, ◌↔◌, ◌⊎◌, ℕ, ◌+◌, ◌<◌, ◌≤◌, suc, Bool, true, false, IsTrue, List, [], ◌∷◌, ◌++◌, length, refl, sym, ap, ◌∙◌, subst, inl, inr, ⊎_elim, arith, Contains, take, drop, slice_index_or, get_or}
+use Rattle.std.proofs.Common.{◌≡◌, ◌↔◌, ◌⊎◌, ℕ, ◌+◌, ◌-◌, ◌<◌, ◌≤◌, suc, Bool, true, false, IsTrue, List, [], ◌∷◌, ◌++◌, length, refl, sym, ap, ◌∙◌, subst, inl, inr, ⊎_elim, arith, Contains, take, drop, slice_index_or, get_or}
 use Rattle.std.proofs.lemmas.List.{take_more, take_all, get_or_default}
 use Rattle.std.proofs.lemmas.List.Elements.{Contains-append_left, Contains-append_right, Contains-append_cases, Contains-push, Contains-push_cases}
 use Rattle.meaning_laws.proofs.Lists.{contains_here, contains_there, contains_cases}
@@ -21,7 +21,7 @@ turn xs i x l e = take_more xs i x l ∙ ap (λ y. take i xs ++ y ∷ []) (sym e
 pub number_is : (xs : List ℕ) (i : ℕ) → i < length xs → get_or xs i 0 ≡ get_or xs i (get_or xs i 0)
 number_is xs i l = get_or_default xs i 0 (get_or xs i 0) l
 
-turn_cases : {X : Type 0} (xs : List X) (i : ℕ) (x y : X) → i < length xs → x ≡ slice_index_or xs i x → Contains (take (i + 1) xs) y → Contains (take i xs) y ⊎ (x ≡ y)
+pub turn_cases : {X : Type 0} (xs : List X) (i : ℕ) (x y : X) → i < length xs → x ≡ slice_index_or xs i x → Contains (take (i + 1) xs) y → Contains (take i xs) y ⊎ (x ≡ y)
 turn_cases xs i x y l e c = Contains-push_cases (take i xs) x y (subst (λ zs. Contains zs y) (turn xs i x l e) c)
 
 pub each_none : {X : Type 0} (P : X → Type 0) → EachOf P []
@@ -45,3 +45,14 @@ is_true p = ((λ t. p), (λ q. refl))
 
 pub is_false : {P : Type 0} → (P → ⊥) → IsTrue false ↔ P
 is_false not = ((λ t. absurd (cc)), (λ p. absurd (not p)))
+
+-- a list taken apart by a pattern
+pub none_left : {X : Type 0} (xs : List X) → length xs < 1 → xs ≡ []
+none_left [] l = refl
+none_left (x ∷ xs) l = absurd (omega arith)
+
+pub first_left : {X : Type 0} (xs : List X) (x : X) → 1 ≤ length xs → x ≡ slice_index_or xs 0 x → xs ≡ x ∷ take (length xs - 1) (drop 1 xs)
+first_left [] x l e = absurd (omega arith)
+first_left (y ∷ ys) x l e =
+    let n : suc (length ys) - 1 ≡ length ys = omega arith in
+    ap (λ z. z ∷ ys) (sym e) ∙ ap (λ zs. x ∷ zs) (sym (ap (λ m. take m ys) n ∙ take_all (length ys) ys (omega arith)))

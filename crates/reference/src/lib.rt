@@ -6,5 +6,7 @@
 
 mod accessible;
 mod members;
+mod rows;
 
 pub use accessible::accessible_part;
+pub use rows::{branch_rows, plan_rows};
