@@ -52,3 +52,7 @@ module _ {X Y : Type 0} (R : X → Y → Type 0) (xs : List X) (i : ℕ) (x : X)
 -- the end
 pub exactly_end : {X Y : Type 0} (R : X → Y → Type 0) (xs : List X) (i : ℕ) (found : List Y) → length xs ≤ i → Exactly (FromOne R (take i xs)) found → Exactly (FromOne R xs) found
 exactly_end R xs i found l is = subst (λ ys. Exactly (FromOne R ys) found) (take_all i xs l) is
+
+-- another list with the same members
+pub exactly_moved : {X : Type 0} (P : X → Type 0) (xs ys : List X) → ((x : X) → Contains ys x ↔ Contains xs x) → Exactly P xs → Exactly P ys
+exactly_moved P xs ys same is x = ((λ c. (is x).0 ((same x).0 c)), (λ p. (same x).1 ((is x).1 p)))

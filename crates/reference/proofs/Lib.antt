@@ -3,3 +3,5 @@ pub mod Gathers
 pub mod Exact
 pub mod Zips
 pub mod Stepping
+pub mod Orders
+pub mod Rounds

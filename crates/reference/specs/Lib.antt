@@ -1,3 +1,4 @@
 pub mod Exactly
 pub mod Gathering
 pub mod Joining
+pub mod Requesting

@@ -6,7 +6,9 @@
 
 mod accessible;
 mod members;
+mod requests;
 mod rows;
 
 pub use accessible::accessible_part;
+pub use requests::plan_requests;
 pub use rows::{branch_rows, plan_rows};
