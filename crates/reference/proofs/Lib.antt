@@ -5,3 +5,4 @@ pub mod Zips
 pub mod Stepping
 pub mod Orders
 pub mod Rounds
+pub mod Choices

@@ -2,3 +2,4 @@ pub mod Exactly
 pub mod Gathering
 pub mod Joining
 pub mod Requesting
+pub mod Choosing

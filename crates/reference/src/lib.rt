@@ -8,7 +8,9 @@ mod accessible;
 mod members;
 mod requests;
 mod rows;
+mod selects;
 
 pub use accessible::accessible_part;
 pub use requests::plan_requests;
 pub use rows::{branch_rows, plan_rows};
+pub use selects::{select_answers, statement_answers};
