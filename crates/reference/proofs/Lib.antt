@@ -6,3 +6,6 @@ pub mod Stepping
 pub mod Orders
 pub mod Rounds
 pub mod Choices
+pub mod Narrowing
+pub mod Ways
+pub mod Heads

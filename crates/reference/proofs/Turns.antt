@@ -1,6 +1,6 @@
 -- The turns of a loop over the members of a list.
-use Rattle.std.proofs.Common.{◌≡◌, ◌↔◌, ◌⊎◌, ℕ, ◌+◌, ◌-◌, ◌<◌, ◌≤◌, suc, Bool, true, false, IsTrue, List, [], ◌∷◌, ◌++◌, length, refl, sym, ap, ◌∙◌, subst, inl, inr, ⊎_elim, arith, Contains, take, drop, slice_index_or, get_or}
-use Rattle.std.proofs.lemmas.List.{take_more, take_all, get_or_default}
+use Rattle.std.proofs.Common.{◌≡◌, ◌↔◌, ◌⊎◌, ℕ, ◌+◌, ◌-◌, ◌<◌, ◌≤◌, suc, Bool, true, false, IsTrue, List, [], ◌∷◌, ◌++◌, length, refl, sym, ap, ◌∙◌, subst, inl, inr, ⊎_elim, arith, Contains, take, drop, map, slice_index_or, get_or}
+use Rattle.std.proofs.lemmas.List.{map_more, take_more, take_all, get_or_default}
 use Rattle.std.proofs.lemmas.List.Elements.{Contains-append_left, Contains-append_right, Contains-append_cases, Contains-push, Contains-push_cases}
 use Rattle.meaning_laws.proofs.Lists.{contains_here, contains_there, contains_cases}
 
@@ -56,3 +56,19 @@ first_left [] x l e = absurd (omega arith)
 first_left (y ∷ ys) x l e =
     let n : suc (length ys) - 1 ≡ length ys = omega arith in
     ap (λ z. z ∷ ys) (sym e) ∙ ap (λ zs. x ∷ zs) (sym (ap (λ m. take m ys) n ∙ take_all (length ys) ys (omega arith)))
+
+pub some_left : {X : Type 0} (xs : List X) → 1 ≤ length xs → (x : X) × Contains xs x
+some_left [] l = absurd (omega arith)
+some_left (x ∷ xs) l = (x, contains_here x xs)
+
+-- a list that a loop makes by a function
+pub map_turn : {X Y : Type 0} (f : X → Y) (xs : List X) (i : ℕ) (x : X) (ys : List Y) (y : Y) → i < length xs → x ≡ slice_index_or xs i x → ys ≡ map f (take i xs) → y ≡ f x → ys ++ y ∷ [] ≡ map f (take (i + 1) xs)
+map_turn f xs i x ys y l e so_far here =
+    ap (λ zs. zs ++ y ∷ []) so_far ∙ ap (λ z. map f (take i xs) ++ z ∷ []) (here ∙ ap f e) ∙ sym (map_more f xs i x l)
+
+-- a test that is held
+pub says_true : {P : Type 0} (b : Bool) → b ≡ true → (IsTrue b ↔ P) → P
+says_true b e is = is.0 e
+
+pub says_false : {P : Type 0} (b : Bool) → b ≡ false → (IsTrue b ↔ P) → P → ⊥
+says_false b e is p = let t : b ≡ true = is.1 p in absurd (cc)

@@ -3,3 +3,4 @@ pub mod Gathering
 pub mod Joining
 pub mod Requesting
 pub mod Choosing
+pub mod Bindings

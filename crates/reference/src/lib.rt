@@ -5,12 +5,15 @@
 #![tactic(auto)]
 
 mod accessible;
+mod bindings;
+mod matching;
 mod members;
 mod requests;
 mod rows;
 mod selects;
 
 pub use accessible::accessible_part;
+pub use matching::{meets_rules, query_answers};
 pub use requests::plan_requests;
 pub use rows::{branch_rows, plan_rows};
 pub use selects::{select_answers, statement_answers};
