@@ -9,3 +9,4 @@ pub mod Choices
 pub mod Narrowing
 pub mod Ways
 pub mod Heads
+pub mod Fitting

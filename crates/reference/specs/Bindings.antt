@@ -57,6 +57,10 @@ pub record AreMatches (facts : List Fact) (atoms : List Atom) (given : List Bind
 abbrev pub HasMatch : List Fact → List Atom → List Binding → Type 0
 HasMatch facts atoms given = (a : ℕ → List ℕ) × Agrees given a × AreFacts itself (FactsOf facts) a atoms
 
+-- a constant, or a variable of the atoms
+abbrev pub IsTermSafe : List Atom → Term → Type 0
+IsTermSafe atoms term = (x : ℕ) → term ≡ Var x → OccursIn atoms x
+
 -- each variable of the head occurs in an atom
 abbrev pub IsSafe : Query → Type 0
 IsSafe query = (x : ℕ) → Contains query.head (Var x) → OccursIn query.atoms x

@@ -4,3 +4,4 @@ pub mod Joining
 pub mod Requesting
 pub mod Choosing
 pub mod Bindings
+pub mod Premises

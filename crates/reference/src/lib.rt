@@ -8,12 +8,17 @@ mod accessible;
 mod bindings;
 mod matching;
 mod members;
+mod premises;
 mod requests;
 mod rows;
 mod selects;
 
 pub use accessible::accessible_part;
 pub use matching::{meets_rules, query_answers};
+pub use premises::{is_safe, is_well_formed};
 pub use requests::plan_requests;
 pub use rows::{branch_rows, plan_rows};
 pub use selects::{select_answers, statement_answers};
+
+#[cfg(test)]
+mod tests;
