@@ -37,7 +37,7 @@ pub starting : (facts : List Fact) (rel : ℕ) (froms : List ℕ) (fact : Fact) 
     Exactly (StartsWith facts rel froms fact) more
 starting facts rel froms fact later more of_rel exact is choice = (
   (λ c. let (rows, among, same) = contains_mapped (λ rows. fact.row ∷ rows) later choice (subst (λ zs. Contains zs choice) is c) in (of_rel, (rows, (exact rows).0 among, sym same))),
-  (λ (r, (rows, z, same)). subst (λ zs. Contains zs choice) (sym is) (subst (λ y. Contains (map (λ rows. fact.row ∷ rows) later) y) (sym same) (contains_map (λ rows. fact.row ∷ rows) later rows ((exact rows).1 z))))
+  (λ (r, (rows, z, same)). subst (λ zs. Contains zs choice) (sym is) (subst (λ y. Contains (map (λ rows. fact.row ∷ rows) later) y) (sym same) (contains_map (λ rows. fact.row ∷ rows) later rows ((exact rows).1 z)))),
 )
 
 pub more_choices : (facts : List Fact) (rel : ℕ) (rest froms : List ℕ) (found : List (List (List (List ℕ)))) → froms ≡ rel ∷ rest → Exactly (FromOne (StartsWith facts rel rest) facts) found → Exactly (IsChoice facts froms) found

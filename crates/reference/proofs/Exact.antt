@@ -31,13 +31,13 @@ module _ {X Y : Type 0} (R : X → Y → Type 0) (xs : List X) (i : ℕ) (x : X)
   pub exactly_more : (more : List Y) → Exactly (R x) more → Exactly (FromOne R (take (i + 1) xs)) (found ++ more)
   exactly_more more here y = (
     (λ c. subst (λ ys. FromOne R ys y) (sym (turn xs i x l is)) (⊎_elim
-      (λ h. let (z, among, r) = (so_far y).0 h in (z, Contains-append_left (take i xs) (x ∷ []) z among, r))
-      (λ h. (x, Contains-push (take i xs) x, (here y).0 h))
-      (Contains-append_cases found more y c))),
+        (λ h. let (z, among, r) = (so_far y).0 h in (z, Contains-append_left (take i xs) (x ∷ []) z among, r))
+        (λ h. (x, Contains-push (take i xs) x, (here y).0 h))
+        (Contains-append_cases found more y c))),
     (λ (z, among, r). ⊎_elim
-      (λ h. Contains-append_left found more y ((so_far y).1 (z, h, r)))
-      (λ e. Contains-append_right found more y ((here y).1 (subst (λ w. R w y) (sym e) r)))
-      (turn_cases xs i x z l is among))
+        (λ h. Contains-append_left found more y ((so_far y).1 (z, h, r)))
+        (λ e. Contains-append_right found more y ((here y).1 (subst (λ w. R w y) (sym e) r)))
+        (turn_cases xs i x z l is among)),
   )
 
   pub exactly_push : (y : Y) → Only (R x) (Some y) → Exactly (FromOne R (take (i + 1) xs)) (found ++ y ∷ [])
@@ -46,7 +46,7 @@ module _ {X Y : Type 0} (R : X → Y → Type 0) (xs : List X) (i : ℕ) (x : X)
   pub exactly_skip : ((y : Y) → R x y → ⊥) → Exactly (FromOne R (take (i + 1) xs)) found
   exactly_skip none y = (
     (λ c. let (z, among, r) = (so_far y).0 c in (z, subst (λ ys. Contains ys z) (sym (turn xs i x l is)) (Contains-append_left (take i xs) (x ∷ []) z among), r)),
-    (λ (z, among, r). ⊎_elim (λ h. (so_far y).1 (z, h, r)) (λ e. absurd (none y (subst (λ w. R w y) (sym e) r))) (turn_cases xs i x z l is among))
+    (λ (z, among, r). ⊎_elim (λ h. (so_far y).1 (z, h, r)) (λ e. absurd (none y (subst (λ w. R w y) (sym e) r))) (turn_cases xs i x z l is among)),
   )
 
 -- the end

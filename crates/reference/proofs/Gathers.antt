@@ -33,7 +33,7 @@ removed_cases xs i x y l e c = ⊎_elim
 
 -- nothing is taken
 pub gathered_none : (schema : SchemaParts) (constants : List (List ℕ)) (facts : List Fact) → Gathered schema constants facts facts []
-gathered_none schema constants facts = record { path = tt; once = tt; waits = λ fact c. c; each = λ fact c. inl c; }
+gathered_none schema constants facts = record { path = tt; once = tt; waits = λ fact c. c; each = λ fact c. inl c }
 
 -- a fact of an access path is accessible
 accessible : (schema : SchemaParts) (constants : List (List ℕ)) (facts path : List Fact) (fact : Fact) → IsAccessPath schema constants facts path → Contains path fact → IsAccessible schema constants facts fact
@@ -68,6 +68,7 @@ module _ (schema : SchemaParts) (constants : List (List ℕ)) (facts waiting par
 pub gathered_all : (schema : SchemaParts) (constants : List (List ℕ)) (facts waiting part : List Fact) →
     (((fact : Fact) → Contains facts fact → CanAccess schema constants part fact → Contains part fact) → (path : List Fact) → IsAccessPath schema constants facts path → (fact : Fact) → Contains path fact → Contains part fact) →
     Gathered schema constants facts waiting part → ((fact : Fact) → Contains waiting fact → CanAccess schema constants part fact → ⊥) → Exactly (IsAccessible schema constants facts) part
-gathered_all schema constants facts waiting part closed g none fact =
-    ((λ c. accessible schema constants facts part fact g.path c),
-    (λ (earlier, path). closed (λ f c can. ⊎_elim (λ w. absurd (none f w can)) (λ h. h) (g.each f c)) (fact ∷ earlier) path fact (contains_here fact earlier)))
+gathered_all schema constants facts waiting part closed g none fact = (
+  (λ c. accessible schema constants facts part fact g.path c),
+  (λ (earlier, path). closed (λ f c can. ⊎_elim (λ w. absurd (none f w can)) (λ h. h) (g.each f c)) (fact ∷ earlier) path fact (contains_here fact earlier)),
+)

@@ -31,8 +31,8 @@ pub query_exactly : (facts : List Fact) (query : Query) (ways : List (List Bindi
 query_exactly facts query ways safe m row = (
   (λ c. let (way, among, is) = contains_mapped heads ways row c in (at way, (m.sound way (at way) among (at_agrees way)).1, sym is)),
   (λ (a, are, is). let (way, among, agrees) = m.complete a (all_agree a) are in
-    subst (Contains (map heads ways)) (sym (is ∙ map_same (value_of itself a) (value_of itself (at way)) query.head (λ term c. same_term way a agrees term (λ x e. (m.bound way x among).1 (inr (safe x (subst (Contains query.head) e c)))))))
-    (contains_map heads ways way among))
+      subst (Contains (map heads ways)) (sym (is ∙ map_same (value_of itself a) (value_of itself (at way)) query.head (λ term c. same_term way a agrees term (λ x e. (m.bound way x among).1 (inr (safe x (subst (Contains query.head) e c)))))))
+      (contains_map heads ways way among)),
 )
   where
     heads : List Binding → List (List ℕ)
@@ -49,11 +49,13 @@ no_match facts atoms given m (a, agrees, are) = let (way, c, ag) = m.complete a 
 pub rule_met : (facts : List Fact) (rule : Rule) (ways : List (List Binding)) → AreMatches facts rule.body [] ways → ((way : List Binding) → Contains ways way → HasMatch facts rule.head way) → MeetsRule itself (FactsOf facts) rule
 rule_met facts rule ways m each a are =
     let (way, c, agrees) = m.complete a (all_agree a) are in
-    let (b, agrees_too, heads) = each way c in
-    (b, record {
-      agrees = λ x occurs. let (value, got) = (m.bound way x c).1 (inr occurs) in agrees_too x value got ∙ sym (agrees x value got);
-      head = heads;
-    })
+    let (b, agrees_too, heads) = each way c in (
+      b,
+      record {
+        agrees = λ x occurs. let (value, got) = (m.bound way x c).1 (inr occurs) in agrees_too x value got ∙ sym (agrees x value got);
+        head = heads;
+      },
+    )
 
 -- some match of the body does not
 pub rule_unmet : (facts : List Fact) (rule : Rule) (ways : List (List Binding)) (way : List Binding) → AreMatches facts rule.body [] ways → Contains ways way → (HasMatch facts rule.head way → ⊥) → MeetsRule itself (FactsOf facts) rule → ⊥

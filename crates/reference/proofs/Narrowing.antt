@@ -84,8 +84,8 @@ module _ (given : List Binding) (x : ℕ) (value : List ℕ) (free : bound_value
     bound = λ y. (
       (λ (v, got). elim (cases_eq x y) [ inl e ↦ inr (subst (λ z. Contains (Var x ∷ []) (Var z)) e (contains_here (Var x) [])) | inr differ ↦ inl (v, sym (other y differ) ∙ got) ]),
       (λ b. ⊎_elim
-        (λ (v, got). elim (cases_eq x y) [ inl e ↦ absurd (clash y v e got) | inr differ ↦ (v, other y differ ∙ got) ])
-        (λ c. ⊎_elim (λ f. subst (IsBound more) (var_is x y f) (value, here)) (λ h. absurd (contains_none (Var y) h)) (contains_cases (Var x) [] (Var y) c)) b)
+          (λ (v, got). elim (cases_eq x y) [ inl e ↦ absurd (clash y v e got) | inr differ ↦ (v, other y differ ∙ got) ])
+          (λ c. ⊎_elim (λ f. subst (IsBound more) (var_is x y f) (value, here)) (λ h. absurd (contains_none (Var y) h)) (contains_cases (Var x) [] (Var y) c)) b),
     );
   }
 
@@ -94,20 +94,20 @@ module _ (term : Term) (terms : List Term) (value : List ℕ) (values : List (Li
   pub narrows_more : (middle narrow : List Binding) → Narrows (term ∷ []) (value ∷ []) given middle → Narrows terms values middle narrow → Narrows (term ∷ terms) (value ∷ values) given narrow
   narrows_more middle narrow first rest = record {
     sound = λ a agrees.
-      let (in_middle, others) = rest.sound a agrees in
-      let (in_given, one) = first.sound a in_middle in
-      let same : value_of itself a term ≡ value = one_is (value_of itself a term) value one in
-      (in_given, ap (λ t. t ∷ map (value_of itself a) terms) same ∙ ap (λ ts. value ∷ ts) others);
+        let (in_middle, others) = rest.sound a agrees in
+        let (in_given, one) = first.sound a in_middle in
+        let same : value_of itself a term ≡ value = one_is (value_of itself a term) value one in
+        (in_given, ap (λ t. t ∷ map (value_of itself a) terms) same ∙ ap (λ ts. value ∷ ts) others);
     complete = λ a agrees e. rest.complete a
-      (first.complete a agrees (ap (λ t. t ∷ []) (head_is (value_of itself a term) value (map (value_of itself a) terms) values e)))
-      (tail_is (value_of itself a term) value (map (value_of itself a) terms) values e);
+        (first.complete a agrees (ap (λ t. t ∷ []) (head_is (value_of itself a term) value (map (value_of itself a) terms) values e)))
+        (tail_is (value_of itself a term) value (map (value_of itself a) terms) values e);
     bound = λ x. (
       (λ b. ⊎_elim
-        (λ m. ⊎_elim (λ h. inl h) (λ c. inr (⊎_elim (λ f. subst (Contains (term ∷ terms)) f (contains_here term terms)) (λ h. absurd (contains_none (Var x) h)) (contains_cases term [] (Var x) c))) ((first.bound x).0 m))
-        (λ c. inr (contains_there term terms (Var x) c)) ((rest.bound x).0 b)),
+          (λ m. ⊎_elim (λ h. inl h) (λ c. inr (⊎_elim (λ f. subst (Contains (term ∷ terms)) f (contains_here term terms)) (λ h. absurd (contains_none (Var x) h)) (contains_cases term [] (Var x) c))) ((first.bound x).0 m))
+          (λ c. inr (contains_there term terms (Var x) c)) ((rest.bound x).0 b)),
       (λ b. (rest.bound x).1 (⊎_elim
-        (λ h. inl ((first.bound x).1 (inl h)))
-        (λ c. ⊎_elim (λ f. inl ((first.bound x).1 (inr (subst (Contains (term ∷ [])) f (contains_here term []))))) (λ h. inr h) (contains_cases term terms (Var x) c)) b))
+          (λ h. inl ((first.bound x).1 (inl h)))
+          (λ c. ⊎_elim (λ f. inl ((first.bound x).1 (inr (subst (Contains (term ∷ [])) f (contains_here term []))))) (λ h. inr h) (contains_cases term terms (Var x) c)) b)),
     );
   }
 
@@ -116,8 +116,8 @@ module _ (term : Term) (terms : List Term) (value : List ℕ) (values : List (Li
 
   pub differs_rest : (middle : List Binding) → Narrows (term ∷ []) (value ∷ []) given middle → Differs terms values middle → Differs (term ∷ terms) (value ∷ values) given
   differs_rest middle first differs a agrees e = differs a
-    (first.complete a agrees (ap (λ t. t ∷ []) (head_is (value_of itself a term) value (map (value_of itself a) terms) values e)))
-    (tail_is (value_of itself a term) value (map (value_of itself a) terms) values e)
+      (first.complete a agrees (ap (λ t. t ∷ []) (head_is (value_of itself a term) value (map (value_of itself a) terms) values e)))
+      (tail_is (value_of itself a term) value (map (value_of itself a) terms) values e)
 
   pub narrows_if_more : (middle : List Binding) (found : Option (List Binding)) → Narrows (term ∷ []) (value ∷ []) given middle → NarrowsIf terms values middle found → NarrowsIf (term ∷ terms) (value ∷ values) given found
   narrows_if_more middle None first rest = differs_rest middle first rest

@@ -50,19 +50,19 @@ module _ (schema : SchemaParts) (well : IsWellFormed schema) (facts : List Fact)
   pub round_some : IsStrictlySortedBy rows_cmp rows → Exactly (IsInputRow schema facts before step.places method.inputs) rows → IsRound schema facts before step (map (request_with method.rel method.inputs) rows)
   round_some sorted exact = record {
     ascending = λ i first second e f.
-      let (x, got, same) = got_mapped (request_with method.rel method.inputs) rows i first e in
-      let next : i + 1 ≡ suc i = omega arith in
-      let (y, got_next, same_next) = got_mapped (request_with method.rel method.inputs) rows (i + 1) second f in
-      subst (λ (q : Request). rows_cmp q.values second.values ≡ Less) same (subst (λ (q : Request). rows_cmp x q.values ≡ Less) same_next (adjacent rows i x y sorted got (subst (λ n. slice_get rows n ≡ Some y) next got_next)));
+        let (x, got, same) = got_mapped (request_with method.rel method.inputs) rows i first e in
+        let next : i + 1 ≡ suc i = omega arith in
+        let (y, got_next, same_next) = got_mapped (request_with method.rel method.inputs) rows (i + 1) second f in
+        subst (λ (q : Request). rows_cmp q.values second.values ≡ Less) same (subst (λ (q : Request). rows_cmp x q.values ≡ Less) same_next (adjacent rows i x y sorted got (subst (λ n. slice_get rows n ≡ Some y) next got_next)));
     exactly = λ request. (
       (λ c. let (values, among, same) = contains_mapped (request_with method.rel method.inputs) rows request c in
-        let (row, leads, gives) = (exact values).0 among in
-        subst (Wants schema facts before step) same (row, method, leads, is_method, refl, refl, gives)),
+          let (row, leads, gives) = (exact values).0 among in
+          subst (Wants schema facts before step) same (row, method, leads, is_method, refl, refl, gives)),
       (λ (row, other, leads, is, rel, positions, gives).
-        let same : other ≡ method = well.once other method is.0 is_method.0 (is.1 ∙ sym is_method.1) in
-        let gives_method : AllZip (GivesInput row step.places) method.inputs request.values = subst (λ inputs. AllZip (GivesInput row step.places) inputs request.values) (positions ∙ ap (λ (m : Method). m.inputs) same) gives in
-        let among : Contains rows request.values = (exact request.values).1 (row, leads, gives_method) in
-        asked request among (sym (rel ∙ ap (λ (m : Method). m.rel) same)) (sym (positions ∙ ap (λ (m : Method). m.inputs) same)))
+          let same : other ≡ method = well.once other method is.0 is_method.0 (is.1 ∙ sym is_method.1) in
+          let gives_method : AllZip (GivesInput row step.places) method.inputs request.values = subst (λ inputs. AllZip (GivesInput row step.places) inputs request.values) (positions ∙ ap (λ (m : Method). m.inputs) same) gives in
+          let among : Contains rows request.values = (exact request.values).1 (row, leads, gives_method) in
+          asked request among (sym (rel ∙ ap (λ (m : Method). m.rel) same)) (sym (positions ∙ ap (λ (m : Method). m.inputs) same))),
     );
   }
 

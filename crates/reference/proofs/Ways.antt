@@ -28,8 +28,8 @@ matches_none facts atoms given way none same = subst (λ zs. AreMatches facts zs
       sound = λ w a c agrees. (⊎_elim (λ e. subst (λ z. Agrees z a) (sym e) agrees) (λ h. absurd (contains_none w h)) (contains_cases given [] w c), λ atom h. absurd (contains_none atom h));
       complete = λ a agrees are. (given, contains_here given [], agrees);
       bound = λ w x c. ⊎_elim
-        (λ e. ((λ b. inl (subst (λ z. IsBound z x) (sym e) b)), (λ b. ⊎_elim (λ h. subst (λ z. IsBound z x) e h) (λ (atom, h, o). absurd (contains_none atom h)) b)))
-        (λ h. absurd (contains_none w h)) (contains_cases given [] w c);
+          (λ e. ((λ b. inl (subst (λ z. IsBound z x) (sym e) b)), (λ b. ⊎_elim (λ h. subst (λ z. IsBound z x) e h) (λ (atom, h, o). absurd (contains_none atom h)) b)))
+          (λ h. absurd (contains_none w h)) (contains_cases given [] w c);
     }
 
 occurs_cases : (atom : Atom) (rest : List Atom) (x : ℕ) → OccursIn (atom ∷ rest) x → Contains atom.terms (Var x) ⊎ OccursIn rest x
@@ -70,22 +70,22 @@ module _ (facts : List Fact) (atom : Atom) (rest : List Atom) (given : List Bind
       pub collected_more : Collected facts (take (i + 1) gone) atom rest given (found ++ more)
       collected_more = record {
         sound = λ w a c agrees. ⊎_elim
-          (λ h. let (ag, among, are) = so_far.sound w a h agrees in (ag, gone_on (fact_of a atom) among, are))
-          (λ h. let (on_way, are) = matches.sound w a h agrees in
+            (λ h. let (ag, among, are) = so_far.sound w a h agrees in (ag, gone_on (fact_of a atom) among, are))
+            (λ h. let (on_way, are) = matches.sound w a h agrees in
             let (ag, values) = is_way.1.sound a on_way in
             (ag, subst (Contains (take (i + 1) gone)) (made a values) (subst (λ zs. Contains zs fact) (sym (turn gone i fact l is)) (Contains-push (take i gone) fact)), are))
-          (Contains-append_cases found more w c);
+            (Contains-append_cases found more w c);
         complete = λ a agrees c are. ⊎_elim
-          (λ h. let (w, among, ag) = so_far.complete a agrees h are in (w, Contains-append_left found more w among, ag))
-          (λ e. let (w, among, ag) = matches.complete a (is_way.1.complete a agrees (sym (ap (λ (f : Fact). f.row) e))) are in (w, Contains-append_right found more w among, ag))
-          (turn_cases gone i fact (fact_of a atom) l is c);
+            (λ h. let (w, among, ag) = so_far.complete a agrees h are in (w, Contains-append_left found more w among, ag))
+            (λ e. let (w, among, ag) = matches.complete a (is_way.1.complete a agrees (sym (ap (λ (f : Fact). f.row) e))) are in (w, Contains-append_right found more w among, ag))
+            (turn_cases gone i fact (fact_of a atom) l is c);
         bound = λ w x c. ⊎_elim (λ h. so_far.bound w x h) (λ h. (
           (λ b. ⊎_elim
-            (λ m. ⊎_elim (λ g. inl g) (λ o. inr (atom, contains_here atom rest, o)) ((is_way.1.bound x).0 m))
-            (λ (other, among, o). inr (other, contains_there atom rest other among, o)) ((matches.bound w x h).0 b)),
+              (λ m. ⊎_elim (λ g. inl g) (λ o. inr (atom, contains_here atom rest, o)) ((is_way.1.bound x).0 m))
+              (λ (other, among, o). inr (other, contains_there atom rest other among, o)) ((matches.bound w x h).0 b)),
           (λ b. (matches.bound w x h).1 (⊎_elim
-            (λ g. inl ((is_way.1.bound x).1 (inl g)))
-            (λ o. ⊎_elim (λ here. inl ((is_way.1.bound x).1 (inr here))) (λ there. inr there) (occurs_cases atom rest x o)) b))
+              (λ g. inl ((is_way.1.bound x).1 (inl g)))
+              (λ o. ⊎_elim (λ here. inl ((is_way.1.bound x).1 (inr here))) (λ there. inr there) (occurs_cases atom rest x o)) b)),
         )) (Contains-append_cases found more w c);
       }
 
@@ -103,7 +103,7 @@ collected_all facts atoms atom given i found l is end z = subst (λ zs. AreMatch
     whole : AreMatches facts (atom ∷ rest) given found
     whole = record {
       sound = λ way a c agrees. let (ag, here, are) = all.sound way a c agrees in
-        (ag, λ other among. ⊎_elim (λ e. subst (λ (t : Atom). Contains facts (fact_of a t)) e here) (λ h. are other h) (contains_cases atom rest other among));
+          (ag, λ other among. ⊎_elim (λ e. subst (λ (t : Atom). Contains facts (fact_of a t)) e here) (λ h. are other h) (contains_cases atom rest other among));
       complete = λ a agrees are. all.complete a agrees (are atom (contains_here atom rest)) (λ other among. are other (contains_there atom rest other among));
       bound = all.bound;
     }

@@ -25,8 +25,12 @@ pub fn accessible_part(
 {
     let mut waiting = facts.copy(alloc)?.into_vec();
     let mut part = Vec::new(alloc);
-    while let Some(place) = first_accessible(schema, constants, part.as_slice(), waiting.as_slice())
-    {
+    while let Some(place) = first_accessible(
+        schema,
+        constants,
+        part.as_slice(),
+        waiting.as_slice(),
+    ) {
         let fact = waiting.remove(place);
         if !has(part.as_slice(), &fact) {
             part.insert(0, fact)?;

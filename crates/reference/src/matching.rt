@@ -32,11 +32,7 @@ fn head_rows(alloc: Global, query: &Query, found: &[Bindings]) -> Result<Rows, N
 }
 
 /// Whether the facts meet the rules of the schema.
-pub fn meets_rules(
-    alloc: Global,
-    schema: &SchemaParts,
-    facts: &Instance,
-) -> Result<bool, NoMemory>
+pub fn meets_rules(alloc: Global, schema: &SchemaParts, facts: &Instance) -> Result<bool, NoMemory>
     ensures { IfOk result (λ met. IsTrue met ↔ Meets facts.now schema.now) }
 {
     for rule in schema.rules.as_slice() {

@@ -147,11 +147,7 @@ fn sort_distinct(rows: &mut Vec<Row>)
 }
 
 /// One request to the method with each of the rows.
-fn requests_with(
-    alloc: Global,
-    method: &Method,
-    rows: &[Row],
-) -> Result<Vec<Request>, NoMemory>
+fn requests_with(alloc: Global, method: &Method, rows: &[Row]) -> Result<Vec<Request>, NoMemory>
     ensures { IfOk result (λ requests. requests.items ≡ map (request_with method.now.rel method.now.inputs) rows.now) }
 {
     let mut requests = Vec::new(alloc);

@@ -37,7 +37,13 @@ pub fn branch_rows(
 {
     let mut rows = Vec::new(alloc);
     let start = Row::new(alloc);
-    let lasts = rows_after(alloc, schema, facts.as_slice(), branch.steps.as_slice(), &start)?;
+    let lasts = rows_after(
+        alloc,
+        schema,
+        facts.as_slice(),
+        branch.steps.as_slice(),
+        &start,
+    )?;
     for last in &lasts {
         match output_row(alloc, branch.output.as_slice(), last)? {
             Some(row) => rows.push(row)?,
