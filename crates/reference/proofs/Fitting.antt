@@ -1,5 +1,5 @@
 -- Inputs of a method against the columns of its relation.
-use Rattle.std.proofs.Common.{◌≡◌, ◌↔◌, ◌<◌, ℕ, Bool, IsTrue, length, sym, ◌∙◌, subst, Contains, Some}
+use Rattle.std.proofs.Common.{◌≡◌, ◌↔◌, Bool, IsTrue, length, sym, ◌∙◌, subst, Some}
 use Rattle.std.specs.Prelude.{slice_get}
 use Rattle.meaning_laws.proofs.Lists.{some_injective}
 use Rattle.meaning.specs.declared.types.Method.{Method}

@@ -1,13 +1,12 @@
 -- An access path that takes one fact after another, until no other fact can be accessed.
-use Rattle.std.proofs.Common.{◌≡◌, ◌↔◌, ◌⊎◌, ℕ, zero, ◌+◌, ◌<◌, ◌≤◌, suc, List, [], ◌∷◌, ◌++◌, length, refl, sym, ap, ◌∙◌, subst, inl, inr, ⊎_elim, arith, Contains, take, drop, slice_index_or}
-use Rattle.std.specs.List.{HoldsAt, remove, insert}
+use Rattle.std.proofs.Common.{◌≡◌, ◌⊎◌, ℕ, ◌+◌, ◌<◌, suc, List, [], ◌∷◌, ◌++◌, length, sym, ap, ◌∙◌, subst, inl, inr, ⊎_elim, arith, Contains, take, drop, slice_index_or}
+use Rattle.std.specs.List.{HoldsAt, remove}
 use Rattle.std.proofs.lemmas.List.{take-append-drop, drop_more}
 use Rattle.std.proofs.lemmas.List.Elements.{Contains-append_left, Contains-append_right, Contains-append_cases}
 use Rattle.meaning_laws.proofs.Lists.{contains_here, contains_there, contains_cases}
 use Rattle.meaning.specs.declared.types.Fact.{Fact}
 use Rattle.meaning.specs.declared.types.SchemaParts.{SchemaParts}
 use Rattle.meaning.specs.Access.{CanAccess, IsAccessPath, IsAccessible}
-use Rattle.meaning.specs.Search.{AreDistinct}
 use Rattle.reference.specs.Exactly.{Exactly}
 use Rattle.reference.specs.Gathering.{Gathered}
 use Rattle.reference.proofs.Turns.{contains_none}

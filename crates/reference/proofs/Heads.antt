@@ -1,13 +1,13 @@
 -- The answers of a query from the ways to make its atoms facts, and rules that are met.
-use Rattle.std.proofs.Common.{◌≡◌, ◌↔◌, ◌⊎◌, ℕ, List, [], ◌∷◌, refl, sym, ap, ◌∙◌, subst, inl, inr, ⊎_elim, Contains, map, Option, Some, None}
-use Rattle.meaning_laws.proofs.Lists.{contains_here, contains_map, contains_mapped, map_same}
+use Rattle.std.proofs.Common.{◌≡◌, ℕ, List, [], refl, sym, ◌∙◌, subst, inr, ⊎_elim, Contains, map, Some}
+use Rattle.meaning_laws.proofs.Lists.{contains_map, contains_mapped, map_same}
 use Rattle.meaning.specs.declared.types.Atom.{Atom}
 use Rattle.meaning.specs.declared.types.Fact.{Fact}
 use Rattle.meaning.specs.declared.types.Query.{Query}
 use Rattle.meaning.specs.declared.types.Rule.{Rule}
 use Rattle.meaning.specs.declared.types.Term.{Term}
 use Rattle.meaning.specs.declared.types.Term.TheVariants.{Var, Const}
-use Rattle.meaning.specs.Matching.{AnswersQuery, AreFacts, Extends, FactsOf, MeetsRule, OccursIn, itself, value_of}
+use Rattle.meaning.specs.Matching.{AnswersQuery, FactsOf, MeetsRule, OccursIn, itself, value_of}
 use Rattle.reference.specs.declared.bindings.Binding.{Binding}
 use Rattle.reference.specs.Bindings.{Agrees, AreMatches, HasMatch, IsBound, IsSafe, at, bound_value}
 use Rattle.reference.specs.Exactly.{Exactly}

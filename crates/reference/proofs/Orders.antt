@@ -1,18 +1,13 @@
 -- The order of rows, in which equal rows are the same.
-use Rattle.std.proofs.Common.{◌≡◌, ◌<◌, ◌≤◌, ◌+◌, ◌⊎◌, ℕ, zero, suc, List, [], ◌∷◌, length, map, get_or, Some, Bool, true, false, inl, inr, refl, sym, ◌∙◌, ap, subst, arith}
-use Rattle.std.specs.Prelude.{Contains, slice_get, nat_eq}
-use Rattle.std.specs.List.{HoldsAt}
-use Rattle.std.specs.List.Sorted.{IsStrictlySortedBy, IsSortedBy, IsSorted, IsBinarySearchResult}
-use Rattle.std.specs.Ordering.{nat_cmp, ordering_then, MatchOrdering, is_lt, is_eq, eq_by_cmp, ordering_reverse}
+use Rattle.std.proofs.Common.{◌≡◌, ◌<◌, ℕ, zero, suc, List, [], ◌∷◌, Some, Bool, true, refl, sym, ◌∙◌, subst}
+use Rattle.std.specs.Prelude.{slice_get, nat_eq}
+use Rattle.std.specs.List.Sorted.{IsStrictlySortedBy}
+use Rattle.std.specs.Ordering.{nat_cmp, ordering_then, MatchOrdering, is_eq, eq_by_cmp}
 use Rattle.std.specs.Cmp.{IsTotalOrder, IsEquivalence}
 use Rattle.std.specs.Cmp.Lexicographic.{slice_cmp, pointwise, texts_ties, lists_ties, nat_list_eq_equiv, lists_equiv}
 use Rattle.std.specs.declared.cmp.Ordering.{Ordering}
 use Rattle.std.specs.declared.cmp.Ordering.TheVariants.{Less, Equal, Greater}
-use Rattle.std.specs.Prelude.{Result, Ok, Err}
-use Rattle.std.proofs.lemmas.Cmp.{ranked, tied_itself, lists_total, nat_cmp_total}
-use Rattle.std.proofs.lemmas.List.Sorted.{searchable_from_sorted}
-use Rattle.std.proofs.lemmas.Option.{slice_get-get_or}
-use Rattle.std.proofs.lemmas.Bool.{cases_lt}
+use Rattle.std.proofs.lemmas.Cmp.{ranked, lists_total, nat_cmp_total}
 use Rattle.meaning.specs.Plans.{rows_cmp}
 
 then_equal : (o p : Ordering) → ordering_then o p ≡ Equal → (o ≡ Equal) × (p ≡ Equal)

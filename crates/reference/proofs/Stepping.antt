@@ -1,10 +1,9 @@
 -- The rows of methods, steps, branches and plans from those of their parts.
-use Rattle.std.proofs.Common.{◌≡◌, ◌-◌, ◌≤◌, ℕ, List, [], ◌∷◌, length, refl, sym, ◌∙◌, subst, Contains, take, drop, slice_index_or, Some}
+use Rattle.std.proofs.Common.{◌≡◌, ◌-◌, ◌≤◌, ℕ, List, [], ◌∷◌, length, sym, ◌∙◌, subst, take, drop, slice_index_or, Some}
 use Rattle.std.specs.List.{AllZip}
 use Rattle.meaning.specs.declared.types.Fact.{Fact}
 use Rattle.meaning.specs.declared.types.Method.{Method}
 use Rattle.meaning.specs.declared.types.SchemaParts.{SchemaParts}
-use Rattle.meaning.specs.declared.types.Out.{Out}
 use Rattle.meaning.specs.declared.types.Out.TheVariants.{Const, Col}
 use Rattle.meaning.specs.declared.types.Step.{Step}
 use Rattle.meaning.specs.declared.types.Branch.{Branch}
@@ -13,7 +12,7 @@ use Rattle.meaning.specs.Plans.{IsRow, IsBranchRow, IsOut, LeadsTo, StepsTo}
 use Rattle.reference.specs.Exactly.{Exactly, FromOne}
 use Rattle.reference.specs.Joining.{JoinsFact, JoinsMethod}
 use Rattle.reference.proofs.Exact.{exactly_same, exactly_one}
-use Rattle.reference.proofs.Turns.{none_left, first_left}
+use Rattle.reference.proofs.Turns.{first_left}
 use Rattle.reference.proofs.Zips.{IsFunctional}
 
 pub method_rows : (facts : List Fact) (step : Step) (row : List (List ℕ)) (method : Method) (found : List (List (List ℕ))) → method.name ≡ step.method →

@@ -1,5 +1,5 @@
 -- The ways to make atoms facts, one atom after another.
-use Rattle.std.proofs.Common.{◌≡◌, ◌↔◌, ◌⊎◌, ℕ, ◌+◌, ◌-◌, ◌<◌, ◌≤◌, List, [], ◌∷◌, ◌++◌, length, refl, sym, ap, ◌∙◌, subst, inl, inr, ⊎_elim, arith, Contains, map, take, drop, slice_index_or, Option, Some, None}
+use Rattle.std.proofs.Common.{◌≡◌, ◌↔◌, ◌⊎◌, ℕ, ◌+◌, ◌-◌, ◌<◌, ◌≤◌, List, [], ◌∷◌, ◌++◌, length, sym, ap, subst, inl, inr, ⊎_elim, Contains, map, take, drop, slice_index_or, Option, Some, None}
 use Rattle.std.proofs.lemmas.List.{take_all}
 use Rattle.std.proofs.lemmas.List.Elements.{Contains-append_left, Contains-append_right, Contains-append_cases, Contains-push}
 use Rattle.meaning_laws.proofs.Lists.{contains_here, contains_there, contains_cases}
@@ -8,7 +8,7 @@ use Rattle.meaning.specs.declared.types.Fact.{Fact}
 use Rattle.meaning.specs.declared.types.Term.TheVariants.{Var}
 use Rattle.meaning.specs.Matching.{AreFacts, FactsOf, OccursIn, itself, value_of}
 use Rattle.reference.specs.declared.bindings.Binding.{Binding}
-use Rattle.reference.specs.Bindings.{Agrees, AreMatches, Differs, IsBound, IsWay, Narrows, NarrowsIf, fact_of}
+use Rattle.reference.specs.Bindings.{Agrees, AreMatches, IsBound, IsWay, NarrowsIf, fact_of}
 use Rattle.reference.proofs.Turns.{contains_none, first_left, turn, turn_cases}
 
 -- one atom and one fact

@@ -1,5 +1,5 @@
 -- Choices of one row per FROM item, one item after another.
-use Rattle.std.specs.Prelude.{◌≡◌, ℕ, List, [], ◌∷◌, Contains, map}
+use Rattle.std.specs.Prelude.{◌≡◌, ℕ, List, ◌∷◌, Contains, map}
 use Rattle.meaning.specs.declared.types.Condition.{Condition}
 use Rattle.meaning.specs.declared.types.Fact.{Fact}
 use Rattle.meaning.specs.declared.types.Select.{Select}

@@ -1,8 +1,8 @@
 -- Facts that are taken one after another.
-use Rattle.std.specs.Prelude.{◌≡◌, ◌⊎◌, ◌<◌, ℕ, List, Contains, length, slice_get, Some}
+use Rattle.std.specs.Prelude.{◌≡◌, ◌⊎◌, ℕ, List, Contains, slice_get, Some}
 use Rattle.meaning.specs.declared.types.Fact.{Fact}
 use Rattle.meaning.specs.declared.types.SchemaParts.{SchemaParts}
-use Rattle.meaning.specs.Access.{CanAccess, IsAccessPath, IsKnown}
+use Rattle.meaning.specs.Access.{IsAccessPath, IsKnown}
 use Rattle.meaning.specs.Search.{AreDistinct}
 
 -- the row has a known value at the position

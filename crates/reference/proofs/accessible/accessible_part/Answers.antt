@@ -3,7 +3,7 @@ use Rattle.std.proofs.Common.{◌<◌, length, Contains}
 use Rattle.meaning.specs.Access.{CanAccess}
 use Rattle.meaning.specs.declared.types.Fact.{Fact}
 use Rattle.reference.proofs.Turns.{true_says, false_says}
-use Rattle.reference.proofs.Gathers.{gathered_none, gathered_skip, gathered_more, gathered_all}
+use Rattle.reference.proofs.Gathers.{gathered_skip, gathered_more, gathered_all}
 use Rattle.reference.proofs.accessible.accessible_part.Goals as goal
 
 pub loop-place-preserved-in_ok-insert : goal.loop-place-preserved-in_ok-insert

@@ -1,4 +1,3 @@
-use Rattle.std.proofs.Common.{subst}
 use Rattle.std.proofs.lemmas.List.Elements.{at_read}
 use Rattle.meaning.specs.Access.{CanAccess}
 use Rattle.reference.proofs.Turns.{each_more, each_all, true_says, false_says}

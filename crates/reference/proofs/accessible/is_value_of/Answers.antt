@@ -1,6 +1,6 @@
 use Rattle.std.proofs.Common.{Contains}
 use Rattle.meaning.specs.declared.types.Fact.{Fact}
-use Rattle.reference.proofs.Turns.{each_more, each_all, is_among, is_true, is_false, true_says, false_says}
+use Rattle.reference.proofs.Turns.{each_more, each_all, is_false, false_says}
 use Rattle.reference.proofs.accessible.is_value_of.Goals as goal
 
 pub loop-fact-preserved : goal.loop-fact-preserved

@@ -1,5 +1,5 @@
 use Rattle.reference.specs.Gathering.{KnowsAt}
-use Rattle.reference.proofs.Turns.{each_more, each_all, is_among, number_is, is_true, is_false, true_says, false_says}
+use Rattle.reference.proofs.Turns.{each_more, is_among, number_is, is_false, true_says, false_says}
 use Rattle.reference.proofs.accessible.knows_inputs.Goals as goal
 
 pub returns-then-not-knows_at : goal.returns-then-not-knows_at

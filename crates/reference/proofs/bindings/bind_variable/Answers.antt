@@ -1,4 +1,4 @@
-use Rattle.std.proofs.Common.{◌≡◌, ◌∙◌, sym, Some, None}
+use Rattle.std.proofs.Common.{◌≡◌, sym, Some, None}
 use Rattle.reference.specs.Bindings.{bound_value}
 use Rattle.reference.proofs.Turns.{true_says}
 use Rattle.reference.proofs.Narrowing.{narrows_known, narrows_free}

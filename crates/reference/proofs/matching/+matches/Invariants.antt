@@ -1,4 +1,4 @@
-use Rattle.std.proofs.Common.{◌-◌, length, take, drop}
+use Rattle.std.proofs.Common.{length, take}
 use Rattle.reference.proofs.Ways.{Collected}
 use Rattle.reference.proofs.matching.+matches.Given as goal
 

@@ -1,4 +1,4 @@
-use Rattle.std.proofs.Common.{◌≡◌, Contains, refl, sym, subst}
+use Rattle.std.proofs.Common.{Contains, refl, subst}
 use Rattle.meaning.specs.declared.types.Term.TheVariants.{Var}
 use Rattle.reference.specs.Bindings.{IsTermSafe}
 use Rattle.reference.proofs.Turns.{each_more, each_all, is_among, is_true, is_false, true_says, false_says}

@@ -1,4 +1,4 @@
-use Rattle.std.proofs.Common.{◌≡◌, ◌∙◌, ℕ, List, sym, Option, Some, None}
+use Rattle.std.proofs.Common.{◌≡◌, ◌∙◌, ℕ, List, sym, Some, None}
 use Rattle.reference.specs.Requesting.{GivesInput}
 use Rattle.reference.proofs.Turns.{is_among, number_is}
 use Rattle.reference.proofs.Zips.{zip_more, zip_end, zip_no}

@@ -1,6 +1,5 @@
 use Rattle.std.proofs.Common.{subst, sym, [], ◌∷◌, ◌-◌, length, take, drop}
-use Rattle.std.proofs.lemmas.Grind.{common_steps}
-use Rattle.meaning.specs.Plans.{LeadsTo, StepsTo}
+use Rattle.meaning.specs.Plans.{LeadsTo}
 use Rattle.reference.specs.Exactly.{Exactly}
 use Rattle.reference.proofs.Exact.{exactly_more, exactly_end}
 use Rattle.reference.proofs.Turns.{none_left}

@@ -1,4 +1,4 @@
-use Rattle.std.proofs.Common.{subst, List, ℕ, []}
+use Rattle.std.proofs.Common.{subst, []}
 use Rattle.std.specs.List.{AllZip}
 use Rattle.meaning.specs.Plans.{IsOut, LeadsTo}
 use Rattle.reference.specs.Exactly.{Exactly, Only}

@@ -1,6 +1,5 @@
-use Rattle.std.proofs.Common.{◌≡◌, map}
-use Rattle.meaning.specs.Answers.{IsChoice, operand_value}
-use Rattle.reference.specs.Choosing.{MeetsConditions, Selects}
+use Rattle.meaning.specs.Answers.{IsChoice}
+use Rattle.reference.specs.Choosing.{Selects}
 use Rattle.reference.specs.Exactly.{Exactly}
 use Rattle.reference.proofs.Exact.{exactly_more, exactly_skip, exactly_end}
 use Rattle.reference.proofs.Turns.{true_says, false_says}
