@@ -1,0 +1,5 @@
+pub mod Lexing
+pub mod Members
+pub mod Forms
+pub mod Printed
+pub mod Pieces
