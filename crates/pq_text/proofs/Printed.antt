@@ -9,7 +9,8 @@ use Rattle.pq_text.specs.declared.token.TokenKind.TheVariants.{Word, Quoted, Tex
 use Rattle.pq_text.specs.declared.scan.Found.{Found}
 use Rattle.pq_text.specs.declared.scan.Found.TheVariants.{Begins, Bad, Open}
 use Rattle.pq_text.specs.Tokens.{is_letter, is_digit, is_word_byte, run_from, end_from, text_found, quoted_found, token_at}
-use Rattle.pq_text.specs.Printing.{is_small, all_small, is_bare, doubled, between, printed_name, printed_value, single, inside, lowered, stands_for}
+use Rattle.pq_text.specs.Printing.{is_small, all_small, is_bare, doubled, between, printed_name, printed_value}
+use Rattle.pq_text.specs.Standing.{single, inside, lowered, stands_for}
 
 -- the bytes begin with none of these
 abbrev pub Stops : (ℕ → Bool) → List ℕ → Type 0

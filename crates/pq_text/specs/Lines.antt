@@ -1,30 +1,50 @@
--- The lines of a text: its tokens between two ends of lines, with what they stand for.
-use Rattle.std.specs.Prelude.{◌≡◌, ◌<◌, ◌≤◌, ◌+◌, ◌++◌, ℕ, Bool, true, false, List, [], ◌∷◌, length, take, count_by, slice_range, nat_eq, if◌then◌else◌}
+-- The lines of a text in the style Lines: the tokens between two ends of lines, with what they stand for.
+use Rattle.std.specs.Prelude.{◌≡◌, ◌+◌, ◌++◌, ℕ, Bool, true, false, List, [], ◌∷◌, Option, None, Some, length, take, count_by, nat_eq, if◌then◌else◌}
+use Rattle.pq_text.specs.declared.token.Style.TheVariants.{Lines}
 use Rattle.pq_text.specs.declared.token.TokenKind.{TokenKind}
 use Rattle.pq_text.specs.declared.token.TokenKind.TheVariants.{Word, Quoted, Text, Number, Symbol, Eol}
 use Rattle.pq_text.specs.declared.token.Token.{Token}
+use Rattle.pq_text.specs.declared.token.Stop.{Stop}
+use Rattle.pq_text.specs.declared.token.Stop.TheVariants.{End, BadByte, OpenQuote}
+use Rattle.pq_text.specs.declared.token.Lexed.{Lexed}
 use Rattle.pq_text.specs.declared.lexeme.Lexeme.{Lexeme}
 use Rattle.pq_text.specs.declared.lexeme.Line.{Line}
-use Rattle.pq_text.specs.Printing.{stands_for}
+use Rattle.pq_text.specs.declared.lexeme.TextLines.{TextLines}
+use Rattle.pq_text.specs.Tokens.{IsFront}
+use Rattle.pq_text.specs.Standing.{lexeme_for}
 
 abbrev pub kind_is_eol : TokenKind → Bool
 kind_is_eol Eol = true
 kind_is_eol _ = false
 
--- some bytes of the text
-abbrev pub IsSpan : ℕ → Token → Type 0
-IsSpan limit t = (t.start < t.end) × (t.end ≤ limit)
+-- how many line feeds the bytes have
+abbrev pub feeds : List ℕ → ℕ
+feeds bytes = count_by (λ b. nat_eq b 10) bytes
 
-abbrev pub lexeme_for : List ℕ → Token → Lexeme
-lexeme_for text t = record { kind = t.kind; text = stands_for t.kind (slice_range text t.start t.end) }
-
--- the number of the line in which the byte at a place stands
+-- the number of the line in which the byte at a place stands: line feeds in quotes count too
 abbrev pub number_at : List ℕ → ℕ → ℕ
-number_at text place = 1 + count_by (λ b. nat_eq b 10) (take place text)
+number_at text place = 1 + feeds (take place text)
 
--- The lines behind those that are done; the line that was begun has a number and some tokens.
-abbrev pub cut_from : List ℕ → List Line → ℕ → List Lexeme → List Token → List Line
-cut_from text done number current [] = done ++ record { number = number; tokens = current } ∷ []
-cut_from text done number current (t ∷ ts) =
-    if kind_is_eol t.kind then cut_from text (done ++ record { number = number; tokens = current } ∷ []) (number_at text t.end) [] ts
-    else cut_from text done number (current ++ lexeme_for text t ∷ []) ts
+-- the lines with one token more in front
+abbrev pub into_first : Lexeme → List Line → List Line
+into_first l [] = []
+into_first l (line ∷ lines) = record { number = line.number; tokens = l ∷ line.tokens } ∷ lines
+
+-- The lines of these tokens, where a line of this number begins with them.
+abbrev pub cut : List ℕ → ℕ → List Token → List Line
+cut text number [] = record { number = number; tokens = [] } ∷ []
+cut text number (t ∷ ts) =
+    if kind_is_eol t.kind then record { number = number; tokens = [] } ∷ cut text (number_at text t.end) ts
+    else into_first (lexeme_for text t) (cut text number ts)
+
+-- Behind a lexical fault the last of the lines is the one that holds the fault, and only its number is told.
+abbrev pub Tells : Stop → List Line → TextLines → Type 0
+Tells End all told = (told.whole ≡ all) × (told.broken ≡ None)
+Tells (BadByte offset) all told = (last : Line) × (all ≡ told.whole ++ last ∷ []) × (told.broken ≡ Some last.number)
+Tells (OpenQuote offset) all told = (last : Line) × (all ≡ told.whole ++ last ∷ []) × (told.broken ≡ Some last.number)
+
+-- The lines of a text up to its end or its first lexical fault.
+pub record AreLines (text : List ℕ) (told : TextLines) : Type 0 where
+  pub lexed : Lexed
+  pub front : IsFront Lines text lexed
+  pub tells : Tells lexed.stop (cut text 1 lexed.tokens) told

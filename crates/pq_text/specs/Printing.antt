@@ -34,28 +34,6 @@ printed_name name = if is_bare name then name else between 34 name
 abbrev pub printed_value : List ℕ → List ℕ
 printed_value value = between 39 value
 
--- doubled quotes made single, and the closing quote left out, of the bytes behind an opening quote
-abbrev pub single : ℕ → Bool → List ℕ → List ℕ
-single quote behind [] = []
-single quote true (b ∷ bs) = b ∷ single quote false bs
-single quote false (b ∷ bs) = if nat_eq b quote then single quote true bs else b ∷ single quote false bs
-
-abbrev pub inside : ℕ → List ℕ → List ℕ
-inside quote [] = []
-inside quote (b ∷ bs) = single quote false bs
-
-abbrev pub lowered : ℕ → ℕ
-lowered b = if nat_le 65 b && nat_le b 90 then b + 32 else b
-
--- what the bytes of a token stand for
-abbrev pub stands_for : TokenKind → List ℕ → List ℕ
-stands_for Word bytes = map lowered bytes
-stands_for Quoted bytes = inside 34 bytes
-stands_for Text bytes = inside 39 bytes
-stands_for Number bytes = bytes
-stands_for Symbol bytes = bytes
-stands_for Eol bytes = bytes
-
 -- ---- a printed line: pieces, each a token's bytes, some behind a blank
 
 pub record Piece : Type 0 where

@@ -6,7 +6,12 @@ use Rattle.pq_text.specs.declared.token.TokenKind.{TokenKind}
 use Rattle.pq_text.specs.declared.token.TokenKind.TheVariants.{Word, Quoted, Text, Number, Symbol, Eol}
 use Rattle.pq_text.specs.declared.token.Token.{Token}
 use Rattle.pq_text.specs.declared.token.LexFault.{LexFault}
-use Rattle.pq_text.specs.declared.token.LexFault.TheVariants.{NoMemory, BadByte, OpenQuote}
+use Rattle.pq_text.specs.declared.token.LexFault.TheVariants as fault
+use Rattle.pq_text.specs.declared.token.LexFault.TheVariants.{NoMemory}
+use Rattle.pq_text.specs.declared.token.Stop.{Stop}
+use Rattle.pq_text.specs.declared.token.Stop.TheVariants as stop
+use Rattle.pq_text.specs.declared.token.Stop.TheVariants.{End}
+use Rattle.pq_text.specs.declared.token.Lexed.{Lexed}
 use Rattle.pq_text.specs.declared.scan.Found.{Found}
 use Rattle.pq_text.specs.declared.scan.Found.TheVariants.{Begins, Bad, Open}
 
@@ -109,8 +114,25 @@ Lexes style text from [] to = to ≡ gap_from from style false (drop from text)
 Lexes style text from (t ∷ ts) to =
     (t.start ≡ gap_from from style false (drop from text)) × (token_at style t.start (drop t.start text) ≡ Begins t.kind t.end) × Lexes style text t.end ts to
 
+-- where the tokens end
+abbrev pub stop_place : List ℕ → Stop → ℕ
+stop_place text End = length text
+stop_place text (stop.BadByte offset) = offset
+stop_place text (stop.OpenQuote offset) = offset
+
+-- No token begins there.
+abbrev pub StopsAt : Style → List ℕ → Stop → Type 0
+StopsAt style text End = Unit {0}
+StopsAt style text (stop.BadByte offset) = (offset < length text) × (token_at style offset (drop offset text) ≡ Bad)
+StopsAt style text (stop.OpenQuote offset) = (offset < length text) × (token_at style offset (drop offset text) ≡ Open)
+
+-- The tokens stand from the beginning of the text up to its end, or up to the first place that begins none.
+pub record IsFront (style : Style) (text : List ℕ) (lexed : Lexed) : Type 0 where
+  pub lexes : Lexes style text 0 lexed.tokens (stop_place text lexed.stop)
+  pub stops : StopsAt style text lexed.stop
+
 -- Tokens stand up to the place, and none begins there.
 abbrev pub HasFault : Style → List ℕ → LexFault → Type 0
 HasFault style text NoMemory = Unit {0}
-HasFault style text (BadByte offset) = (offset < length text) × (token_at style offset (drop offset text) ≡ Bad) × (ts : List Token) × Lexes style text 0 ts offset
-HasFault style text (OpenQuote offset) = (offset < length text) × (token_at style offset (drop offset text) ≡ Open) × (ts : List Token) × Lexes style text 0 ts offset
+HasFault style text (fault.BadByte offset) = (offset < length text) × (token_at style offset (drop offset text) ≡ Bad) × (ts : List Token) × Lexes style text 0 ts offset
+HasFault style text (fault.OpenQuote offset) = (offset < length text) × (token_at style offset (drop offset text) ≡ Open) × (ts : List Token) × Lexes style text 0 ts offset

@@ -1,10 +1,10 @@
-// The tokens that are left of a line.
+// A reader over the tokens that are left of a line.
 ghost use Rattle.std.specs.Prelude.{◌≡◌, true, false, IsTrue, None, Some, length};
 ghost use Rattle.pq_text.specs.Lexemes.{word_at, symbol_at, name_at, value_at, number_at, name_next, word_next, end_at, Gives, GivesRest};
 ghost use Rattle.pq_text.specs.declared.cursor.Misfit.TheVariants.{NoMemory};
 
 use crate::lexeme::Lexeme;
-use lists::{Copies, Seq};
+use lists::{Copies, Text};
 use std::alloc::{AllocError, AllocFailed, Global};
 use std::marker::Model;
 
@@ -95,7 +95,7 @@ impl<'a> Cursor<'a> {
     }
 
     /// Takes a name.
-    pub fn name(&mut self, alloc: Global) -> Result<Seq<u8>, Misfit>
+    pub fn name(&mut self, alloc: Global) -> Result<Text, Misfit>
         ensures { Gives self.new result (name_at self.old) }
     {
         match self.rest {
@@ -108,7 +108,7 @@ impl<'a> Cursor<'a> {
     }
 
     /// Takes a value.
-    pub fn value(&mut self, alloc: Global) -> Result<Seq<u8>, Misfit>
+    pub fn value(&mut self, alloc: Global) -> Result<Text, Misfit>
         ensures { Gives self.new result (value_at self.old) }
     {
         match self.rest {
@@ -121,7 +121,7 @@ impl<'a> Cursor<'a> {
     }
 
     /// Takes a number, as digits.
-    pub fn number(&mut self, alloc: Global) -> Result<Seq<u8>, Misfit>
+    pub fn number(&mut self, alloc: Global) -> Result<Text, Misfit>
         ensures { Gives self.new result (number_at self.old) }
     {
         match self.rest {

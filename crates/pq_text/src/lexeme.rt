@@ -1,28 +1,34 @@
-// A token with what it stands for.
+// Tokens with what they stand for, and lines of them.
 ghost use Rattle.std.specs.Prelude.{◌≡◌};
 ghost use Rattle.pq_text.specs.Lexemes.{is_word, is_symbol, is_name, is_value, is_number};
 
 use crate::token::TokenKind;
-use lists::Seq;
+use lists::{Seq, Text};
 
-/// A token with what it stands for.
+/// The tokens of a line, or of a text.
+pub type Lexemes = Seq<Lexeme>;
+
+/// Lines in order.
+pub type Lines = Seq<Line>;
+
+/// Tokens with what they stand for, and lines of them.
 #[derive(Drop)]
 pub struct Lexeme {
     pub kind: TokenKind,
-    pub text: Seq<u8>,
+    pub text: Text,
 }
 
 impl Lexeme {
     pub fn is_word(&self, text: &[u8]) -> bool
         ensures { result ≡ is_word text.now self.now }
     {
-        matches!(self.kind, TokenKind::Word) && self.text.as_slice() == text
+        matches!(self.kind, TokenKind::Word) && self.text.as_bytes() == text
     }
 
     pub fn is_symbol(&self, text: &[u8]) -> bool
         ensures { result ≡ is_symbol text.now self.now }
     {
-        matches!(self.kind, TokenKind::Symbol) && self.text.as_slice() == text
+        matches!(self.kind, TokenKind::Symbol) && self.text.as_bytes() == text
     }
 
     pub fn is_name(&self) -> bool
@@ -44,9 +50,17 @@ impl Lexeme {
     }
 }
 
-/// A line without its line feed, and the number of the line in which its first byte stands.
+/// A line without its line feed, and the number of the line in which its first byte stands. It counts from 1.
 #[derive(Drop)]
 pub struct Line {
     pub number: u32,
-    pub tokens: Seq<Lexeme>,
+    pub tokens: Lexemes,
+}
+
+/// The lines of a text. Where the text has a lexical fault, `whole` are the lines before the one that holds the fault,
+/// and `broken` is that line's number.
+#[derive(Drop)]
+pub struct TextLines {
+    pub whole: Lines,
+    pub broken: Option<u32>,
 }

@@ -1,4 +1,7 @@
-//! Tokens of a text, what they stand for, and the printing of names and values.
+//! Tokens of a text, what they stand for, its lines, the reader over them, and the printing of names and values.
+//!
+//! Crates above use this: the tokens of a text are exactly those of its grammar, with the fault at the first place that
+//! begins none, and a printed name or value is lexed as itself. Begin at `specs/Tokens.antt`.
 #![tactic(auto)]
 
 mod cursor;
@@ -10,12 +13,12 @@ mod stand;
 mod token;
 
 pub use cursor::{Cursor, Misfit};
-pub use cut::lines;
-pub use lexeme::{Lexeme, Line};
+pub use cut::{next_line, text_lines};
+pub use lexeme::{Lexeme, Lexemes, Line, Lines, TextLines};
 pub use print::{print_name, print_value};
-pub use scan::{tokens, Found};
-pub use stand::lexeme_of;
-pub use token::{LexFault, Style, Token, TokenKind};
+pub use scan::{Found, front_tokens, tokens};
+pub use stand::{lexeme_of, lexemes, written};
+pub use token::{LexFault, Lexed, Stop, Style, Token, TokenKind, Tokens};
 
 #[cfg(test)]
 mod tests;

@@ -3,11 +3,12 @@ ghost use Rattle.std.specs.Prelude.{◌≡◌, ◌<◌, ◌≤◌, ◌^◌, ◌-
 ghost use Rattle.pq_text.specs.declared.token.Token.{Token};
 ghost use Rattle.pq_text.specs.declared.token.LexFault.TheVariants.{NoMemory};
 ghost use Rattle.std.specs.List.{AllByRecursion};
-ghost use Rattle.pq_text.specs.Lines.{IsSpan};
-ghost use Rattle.pq_text.specs.Tokens.{is_letter, is_digit, is_word_byte, is_blank, opens_comment, gap_from, run_from, end_from, symbol_end, first, token_at, IsWithin, Lexes, HasFault};
+ghost use Rattle.pq_text.specs.Spans.{IsSpan, InOrder};
+ghost use Rattle.pq_text.specs.Tokens.{is_letter, is_digit, is_word_byte, is_blank, opens_comment, gap_from, run_from, end_from, symbol_end, first, token_at, IsWithin, Lexes, IsFront, HasFault};
 
-use crate::token::{LexFault, Style, Token, TokenKind};
-use std::alloc::Global;
+use crate::token::{LexFault, Lexed, Stop, Style, Token, TokenKind, Tokens};
+use lists::Seq;
+use std::alloc::{AllocError, Global};
 
 /// What stands at a place: a token up to an end, or none.
 #[derive(Clone, Copy, Debug, PartialEq, Eq)]
@@ -224,38 +225,71 @@ fn rest_of(bytes: &[u8], at: usize) -> &[u8]
 }
 
 /// The tokens of a text, or the first place that begins none.
-pub fn tokens(alloc: Global, text: &str, style: Style) -> Result<Vec<Token>, LexFault>
+pub fn tokens(alloc: Global, text: &str, style: Style) -> Result<Tokens, LexFault>
     requires { length text.now ≤ 2 ^ 30 }
-    ensures found { IfOk result (λ list. Lexes style text.now 0 list.items (length text.now)) }
-    ensures spans { IfOk result (λ list. AllByRecursion (IsSpan (length text.now)) list.items) }
-    ensures only { (ts : List Token) → Lexes style text.now 0 ts (length text.now) → MatchResult result (λ list. list.items ≡ ts) (λ fault. fault ≡ NoMemory) }
+
+    // The tokens follow each other through the whole text, each the longest that fits, with blanks and comments alone
+    // between them. Their spans stand in order, and the text may be sliced at each.
+    ensures found { IfOk result (λ tokens. Lexes style text.now 0 tokens (length text.now)) }
+    ensures spans { IfOk result (λ tokens. AllByRecursion (IsSpan text.now) tokens) }
+    ensures order { IfOk result (λ tokens. InOrder 0 tokens) }
+
+    // A text that has tokens is not refused, unless memory runs out, and has these alone.
+    ensures only { (ts : List Token) → Lexes style text.now 0 ts (length text.now) → MatchResult result (λ tokens. tokens ≡ ts) (λ fault. fault ≡ NoMemory) }
+
+    // A fault stands at the first place that begins no token: tokens stand up to it.
     ensures fault { IfErr result (λ fault. HasFault style text.now fault) }
 {
     all_tokens(alloc, text, style)
 }
 
-fn all_tokens(alloc: Global, text: &str, style: Style) -> Result<Vec<Token>, LexFault>
+fn all_tokens(alloc: Global, text: &str, style: Style) -> Result<Tokens, LexFault>
     requires { length text.now ≤ 2 ^ 30 }
-    ensures found { IfOk result (λ list. Lexes style text.now 0 list.items (length text.now)) }
-    ensures spans { IfOk result (λ list. AllByRecursion (IsSpan (length text.now)) list.items) }
+    ensures found { IfOk result (λ tokens. Lexes style text.now 0 tokens (length text.now)) }
+    ensures spans { IfOk result (λ tokens. AllByRecursion (IsSpan text.now) tokens) }
+    ensures order { IfOk result (λ tokens. InOrder 0 tokens) }
     ensures fault { IfErr result (λ fault. HasFault style text.now fault) }
 {
+    let lexed = front_tokens(alloc, text, style)?;
+    match lexed.stop {
+        Stop::End => Ok(lexed.tokens),
+        Stop::BadByte { offset } => Err(LexFault::BadByte { offset }),
+        Stop::OpenQuote { offset } => Err(LexFault::OpenQuote { offset }),
+    }
+}
+
+/// The tokens of a text up to its end or its first lexical fault.
+pub fn front_tokens(alloc: Global, text: &str, style: Style) -> Result<Lexed, AllocError>
+    requires { length text.now ≤ 2 ^ 30 }
+    ensures front { IfOk result (λ lexed. IsFront style text.now lexed) }
+    ensures spans { IfOk result (λ lexed. AllByRecursion (IsSpan text.now) lexed.tokens) }
+    ensures order { IfOk result (λ lexed. InOrder 0 lexed.tokens) }
+{
     let bytes = text.as_bytes();
-    let mut list = Vec::new(alloc);
+    let mut tokens = Seq::new(alloc);
     let mut at = gap_end(style, bytes, 0);
     while at < bytes.len() {
         match token_at(style, rest_of(bytes, at), at) {
             Found::Begins { kind, end } => {
-                list.push(Token {
+                tokens.push(Token {
                     kind,
                     start: at as u32,
                     end: end as u32,
                 })?;
                 at = gap_end(style, rest_of(bytes, end), end);
             }
-            Found::Bad => return Err(LexFault::BadByte { offset: at as u32 }),
-            Found::Open => return Err(LexFault::OpenQuote { offset: at as u32 }),
+            Found::Bad => {
+                let stop = Stop::BadByte { offset: at as u32 };
+                return Ok(Lexed { tokens, stop });
+            }
+            Found::Open => {
+                let stop = Stop::OpenQuote { offset: at as u32 };
+                return Ok(Lexed { tokens, stop });
+            }
         }
     }
-    Ok(list)
+    Ok(Lexed {
+        tokens,
+        stop: Stop::End,
+    })
 }

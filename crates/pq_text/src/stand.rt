@@ -1,11 +1,13 @@
 // What a token stands for.
-ghost use Rattle.std.specs.Prelude.{◌≡◌, ◌≤◌, length, map, false, IfOk};
-ghost use Rattle.pq_text.specs.Lines.{lexeme_for};
-ghost use Rattle.pq_text.specs.Printing.{lowered, single, inside, stands_for};
+ghost use Rattle.std.specs.Prelude.{◌≡◌, ◌≤◌, length, map, false, IfOk, slice_range};
+ghost use Rattle.std.specs.Str.{IsUtf8};
+ghost use Rattle.std.specs.List.{AllByRecursion};
+ghost use Rattle.pq_text.specs.Spans.{IsSpan};
+ghost use Rattle.pq_text.specs.Standing.{lowered, single, inside, stands_for, lexeme_for};
 
-use crate::lexeme::Lexeme;
+use crate::lexeme::{Lexeme, Lexemes};
 use crate::token::{Token, TokenKind};
-use lists::Seq;
+use lists::{Seq, Text};
 use std::alloc::{AllocError, Global};
 
 fn lowered(b: u8) -> u8
@@ -64,15 +66,44 @@ fn stands_for(alloc: Global, kind: TokenKind, bytes: &[u8]) -> Result<Vec<u8>, A
     }
 }
 
+// The bytes as a text, which they are.
+fn text_of(bytes: Vec<u8>) -> Text
+    requires { IsUtf8 bytes.items }
+    ensures { result ≡ bytes.items }
+{
+    Text::new(String::from_utf8(bytes).unwrap())
+}
+
+/// A token as it is written.
+pub fn written(text: &str, token: Token) -> &str
+    requires { IsSpan text.now token }
+    ensures { result.now ≡ slice_range text.now token.start token.end }
+{
+    &text[token.start as usize..token.end as usize]
+}
+
 /// A token of a text with what it stands for.
-pub fn lexeme_of(alloc: Global, text: &[u8], token: Token) -> Result<Lexeme, AllocError>
-    requires start { token.start ≤ token.end }
-    requires within { token.end ≤ length text.now }
+pub fn lexeme_of(alloc: Global, text: &str, token: Token) -> Result<Lexeme, AllocError>
+    requires { IsSpan text.now token }
     ensures { IfOk result (λ l. l ≡ lexeme_for text.now token) }
 {
-    let bytes = &text[token.start as usize..token.end as usize];
+    let bytes = written(text, token).as_bytes();
     Ok(Lexeme {
         kind: token.kind,
-        text: Seq::from_vec(stands_for(alloc, token.kind, bytes)?),
+        text: text_of(stands_for(alloc, token.kind, bytes)?),
     })
+}
+
+/// The tokens of a text, each with what it stands for.
+pub fn lexemes(alloc: Global, text: &str, tokens: &[Token]) -> Result<Lexemes, AllocError>
+    requires { AllByRecursion (IsSpan text.now) tokens.now }
+    ensures { IfOk result (λ ls. ls ≡ map (lexeme_for text.now) tokens.now) }
+{
+    let mut list = Seq::new(alloc);
+    let mut left = tokens;
+    while let [token, after @ ..] = left {
+        list.push(lexeme_of(alloc, text, *token)?)?;
+        left = after;
+    }
+    Ok(list)
 }
