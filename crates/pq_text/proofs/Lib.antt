@@ -1,3 +1,5 @@
+pub mod Offsets
+pub mod Digits
 pub mod Lexing
 pub mod Spans
 pub mod Standing

@@ -7,18 +7,22 @@
 mod cursor;
 mod cut;
 mod lexeme;
+mod number;
 mod print;
 mod scan;
 mod stand;
 mod token;
+mod utf8;
 
 pub use cursor::{Cursor, Misfit};
 pub use cut::{next_line, text_lines};
 pub use lexeme::{Lexeme, Lexemes, Line, Lines, TextLines};
+pub use number::{plain_number, print_number, value_up_to};
 pub use print::{print_name, print_value};
 pub use scan::{Found, front_tokens, tokens};
 pub use stand::{lexeme_of, lexemes, written};
 pub use token::{LexFault, Lexed, Stop, Style, Token, TokenKind, Tokens};
+pub use utf8::read_utf8;
 
 #[cfg(test)]
 mod tests;
