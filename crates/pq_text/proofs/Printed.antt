@@ -9,13 +9,8 @@ use Rattle.pq_text.specs.declared.token.TokenKind.TheVariants.{Word, Quoted, Tex
 use Rattle.pq_text.specs.declared.scan.Found.{Found}
 use Rattle.pq_text.specs.declared.scan.Found.TheVariants.{Begins, Bad, Open}
 use Rattle.pq_text.specs.Tokens.{is_letter, is_digit, is_word_byte, run_from, end_from, text_found, quoted_found, token_at}
-use Rattle.pq_text.specs.Printing.{is_small, all_small, is_bare, doubled, between, printed_name, printed_value}
+use Rattle.pq_text.specs.Printing.{is_small, all_small, is_bare, doubled, between, printed_name, printed_value, printed_kind, Stops, follows_name, follows_value}
 use Rattle.pq_text.specs.Standing.{single, inside, lowered, stands_for}
-
--- the bytes begin with none of these
-abbrev pub Stops : (ℕ → Bool) → List ℕ → Type 0
-Stops p [] = Unit {0}
-Stops p (b ∷ bs) = p b ≡ false
 
 -- ---- quoted texts
 
@@ -48,7 +43,7 @@ between-length : (quote : ℕ) (bytes : List ℕ) → length (between quote byte
 between-length quote bytes = omega (arith, length-append (doubled quote bytes) (quote ∷ []))
 
 -- A printed value is one Text that stands for the value, whatever follows but another quote.
-pub value_lexed : (style : Style) (n : ℕ) (value rest : List ℕ) → Stops (λ b. nat_eq b 39) rest → token_at style n (printed_value value ++ rest) ≡ Begins Text (n + length (printed_value value))
+pub value_lexed : (style : Style) (n : ℕ) (value rest : List ℕ) → Stops follows_value rest → token_at style n (printed_value value ++ rest) ≡ Begins Text (n + length (printed_value value))
 value_lexed style n value rest stops =
     let closed = end-doubled 39 (n + 1) None value rest refl stops in
     let len = between-length 39 value in
@@ -111,14 +106,6 @@ lowered-small (b ∷ bs) e =
     let one : lowered b ≡ b = rw (no_capital b g.0) refl in
     let more = lowered-small bs g.1 in
     cc
-
--- the kind of a printed name
-abbrev pub printed_kind : List ℕ → TokenKind
-printed_kind name = cond (is_bare name) Word Quoted
-
--- what may follow a printed name
-abbrev pub follows_name : ℕ → Bool
-follows_name b = is_word_byte b || nat_eq b 34
 
 or-none-2 : (x y : Bool) → (x || y) ≡ false → y ≡ false
 or-none-2 true y e = absurd cc

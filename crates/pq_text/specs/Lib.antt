@@ -7,3 +7,4 @@ pub mod Lines
 pub mod Numbers
 pub mod Forms
 pub mod Printing
+pub mod Pieces

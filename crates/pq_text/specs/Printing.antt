@@ -1,11 +1,8 @@
--- How names and values are printed, and what a token's bytes stand for.
-use Rattle.std.specs.Prelude.{◌≡◌, ◌&&◌, ◌||◌, ◌++◌, ◌+◌, ℕ, Bool, true, false, not, List, [], ◌∷◌, map, length, nat_eq, nat_le, if◌then◌else◌}
+-- How names and values are printed.
+use Rattle.std.specs.Prelude.{◌≡◌, ◌&&◌, ◌||◌, ◌++◌, ℕ, Bool, true, false, List, [], ◌∷◌, nat_eq, nat_le, cond, if◌then◌else◌}
 use Rattle.pq_text.specs.declared.token.TokenKind.{TokenKind}
-use Rattle.pq_text.specs.declared.token.TokenKind.TheVariants.{Word, Quoted, Text, Number, Symbol, Eol}
-use Rattle.pq_text.specs.Tokens.{is_digit, gap_from, token_at}
-use Rattle.pq_text.specs.declared.token.Style.{Style}
-use Rattle.pq_text.specs.declared.token.Token.{Token}
-use Rattle.pq_text.specs.declared.scan.Found.TheVariants.{Begins}
+use Rattle.pq_text.specs.declared.token.TokenKind.TheVariants.{Word, Quoted}
+use Rattle.pq_text.specs.Tokens.{is_digit, is_word_byte}
 
 -- a letter that is no capital, or _
 abbrev pub is_small : ℕ → Bool
@@ -28,41 +25,26 @@ doubled quote (b ∷ bs) = if nat_eq b quote then quote ∷ quote ∷ doubled qu
 abbrev pub between : ℕ → List ℕ → List ℕ
 between quote bytes = quote ∷ (doubled quote bytes ++ quote ∷ [])
 
+-- bare where that is a Word, and in double quotes otherwise
 abbrev pub printed_name : List ℕ → List ℕ
 printed_name name = if is_bare name then name else between 34 name
+
+-- the kind of the token that a printed name is
+abbrev pub printed_kind : List ℕ → TokenKind
+printed_kind name = cond (is_bare name) Word Quoted
 
 abbrev pub printed_value : List ℕ → List ℕ
 printed_value value = between 39 value
 
--- ---- a printed line: pieces, each a token's bytes, some behind a blank
+-- the bytes begin with none of these
+abbrev pub Stops : (ℕ → Bool) → List ℕ → Type 0
+Stops p [] = Unit {0}
+Stops p (b ∷ bs) = p b ≡ false
 
-pub record Piece : Type 0 where
-  pub spaced : Bool
-  pub kind : TokenKind
-  pub bytes : List ℕ
+-- what may not follow a printed name, lest it goes on
+abbrev pub follows_name : ℕ → Bool
+follows_name b = is_word_byte b || nat_eq b 34
 
-abbrev pub behind_blank : Bool → List ℕ → List ℕ
-behind_blank true bytes = 32 ∷ bytes
-behind_blank false bytes = bytes
-
-abbrev pub text_of : List Piece → List ℕ
-text_of [] = []
-text_of (x ∷ xs) = behind_blank x.spaced (x.bytes ++ text_of xs)
-
-abbrev pub start_of : Bool → ℕ → ℕ
-start_of true n = n + 1
-start_of false n = n
-
--- the tokens of the pieces, where the first begins at a place
-abbrev pub tokens_of : ℕ → List Piece → List Token
-tokens_of n [] = []
-tokens_of n (x ∷ xs) = record { kind = x.kind; start = start_of x.spaced n; «end» = start_of x.spaced n + length x.bytes } ∷ tokens_of (start_of x.spaced n + length x.bytes) xs
-
--- a piece is lexed as its token, with what follows it
-pub record IsLexed (style : Style) (x : Piece) (rest : List ℕ) : Type 0 where
-  pub token : (n : ℕ) → token_at style n (x.bytes ++ rest) ≡ Begins x.kind (n + length x.bytes)
-  pub no_gap : (n : ℕ) → gap_from n style false (x.bytes ++ rest) ≡ n
-
-abbrev pub AreLexed : Style → List Piece → Type 0
-AreLexed style [] = Unit {0}
-AreLexed style (x ∷ xs) = IsLexed style x (text_of xs) × AreLexed style xs
+-- what may not follow a printed value
+abbrev pub follows_value : ℕ → Bool
+follows_value b = nat_eq b 39

@@ -6,6 +6,7 @@
 
 mod cursor;
 mod cut;
+mod laws;
 mod lexeme;
 mod number;
 mod print;
@@ -16,6 +17,7 @@ mod utf8;
 
 pub use cursor::{Cursor, Misfit};
 pub use cut::{next_line, text_lines};
+pub use laws::{printed_lines_are_read, printed_names_are_read, printed_values_are_read};
 pub use lexeme::{Lexeme, Lexemes, Line, Lines, TextLines};
 pub use number::{plain_number, print_number, value_up_to};
 pub use print::{print_name, print_value};

@@ -3,6 +3,7 @@ ghost use Rattle.std.specs.Prelude.{◌≡◌, ◌++◌, OnOk};
 ghost use Rattle.pq_text.specs.Tokens.{is_digit};
 ghost use Rattle.pq_text.specs.Printing.{is_small, all_small, is_bare, doubled, between, printed_name, printed_value};
 
+use lists::Text;
 use std::alloc::AllocError;
 
 fn is_small(b: u8) -> bool
@@ -62,21 +63,22 @@ fn push_between(out: &mut Vec<u8>, quote: u8, bytes: &[u8]) -> Result<(), AllocE
     Ok(())
 }
 
-/// Writes a name: bare where it has the form of a word without capitals, and in quotes otherwise.
-pub fn print_name(out: &mut Vec<u8>, name: &[u8]) -> Result<(), AllocError>
+/// Writes a name: bare where it has the form of a word without capitals, and in double quotes otherwise.
+pub fn print_name(out: &mut Vec<u8>, name: &Text) -> Result<(), AllocError>
     ensures { OnOk result (out.new.items ≡ out.old.items ++ printed_name name.now) }
 {
-    if is_bare(name) {
-        out.extend_from_slice(name)?;
+    let bytes = name.as_bytes();
+    if is_bare(bytes) {
+        out.extend_from_slice(bytes)?;
         Ok(())
     } else {
-        push_between(out, b'"', name)
+        push_between(out, b'"', bytes)
     }
 }
 
-/// Writes a value in quotes.
-pub fn print_value(out: &mut Vec<u8>, value: &[u8]) -> Result<(), AllocError>
+/// Writes a value in single quotes.
+pub fn print_value(out: &mut Vec<u8>, value: &Text) -> Result<(), AllocError>
     ensures { OnOk result (out.new.items ≡ out.old.items ++ printed_value value.now) }
 {
-    push_between(out, b'\'', value)
+    push_between(out, b'\'', value.as_bytes())
 }
