@@ -1,13 +1,13 @@
 -- What is read has its form, and what has a form is read.
 use Rattle.std.proofs.Common.{◌≡◌, ℕ, zero, suc, ◌+◌, ◌<◌, ◌≤◌, Bool, true, false, cond, List, [], ◌∷◌, ◌++◌, length, Option, None, Some, refl, sym, ap, subst, ◌∙◌, append_assoc, arith}
-use Rattle.std.specs.Prelude.{◌&&◌, nat_eq}
+use Rattle.std.specs.Prelude.{◌&&◌, ◌==◌, not, nat_eq}
 use Rattle.std.specs.Cmp.Lexicographic.{pointwise}
 use Rattle.std.proofs.lemmas.Bool.{eqb-true}
 use Rattle.std.specs.List.{AllByRecursion}
 use Rattle.std.proofs.lemmas.List.{length-append}
 use Rattle.pq_text.specs.declared.lexeme.Lexeme.{Lexeme}
-use Rattle.pq_text.specs.Lexemes.{◌>>=◌, comma, kind_is_symbol, kind_is_word, word_next, is_word, is_symbol, is_name, is_value, is_number, symbol_at, word_at, name_at, value_at, number_at, next_member, members}
-use Rattle.pq_text.specs.Forms.{Slot, Key, Mark, Name, Value, Digits, Fits, Takes, further_form, list_form}
+use Rattle.pq_text.specs.Lexemes.{◌>>=◌, comma, kind_is_symbol, kind_is_word, kind_names, word_next, is_word, is_symbol, is_name, is_value, is_number, symbol_at, word_at, name_at, value_at, number_at, next_member, members}
+use Rattle.pq_text.specs.Forms.{Slot, Key, Mark, Name, Value, Digits, Takes, further_form, list_form}
 
 pub bind_some : {A B : Type 0} (r : Option A) (f : A → Option B) (y : B) → (r >>= f) ≡ Some y → (x : A) × (r ≡ Some x) × (f x ≡ Some y)
 bind_some None f y e = absurd cc
@@ -63,6 +63,24 @@ pub name_again : (ls : List Lexeme) (n : List ℕ) (ss : List Slot) (rest : List
 name_again [] n ss rest t = absurd t
 name_again (l ∷ ls) n ss rest t = (ls, rw (t.0.0, t.0.1) refl, t.1)
 
+pub value_found : (ls : List Lexeme) (v : List ℕ) (rest : List Lexeme) → value_at ls ≡ Some (v, rest) → Takes ls (Value v ∷ []) rest
+value_found [] v rest e = absurd cc
+value_found (l ∷ ls) v rest e = let g = some_if (is_value l) (l.text, ls) (v, rest) e in ((g.0, ap (λ (p : List ℕ × List Lexeme). p.0) g.1), ap (λ (p : List ℕ × List Lexeme). p.1) g.1)
+
+pub value_again : (ls : List Lexeme) (v : List ℕ) (ss : List Slot) (rest : List Lexeme) → Takes ls (Value v ∷ ss) rest → (mid : List Lexeme) × (value_at ls ≡ Some (v, mid)) × Takes mid ss rest
+value_again [] v ss rest t = absurd t
+value_again (l ∷ ls) v ss rest t = (ls, rw (t.0.0, t.0.1) refl, t.1)
+
+not_empty : (b : Bool) (text : List ℕ) → (b && not (length text == 0)) ≡ true → text ≡ [] → ⊥
+not_empty false text e h = cc
+not_empty true [] e h = cc
+not_empty true (x ∷ xs) e h = cc
+
+-- a name is not empty
+pub name_some : (ls : List Lexeme) (n : List ℕ) (ss : List Slot) (rest : List Lexeme) → Takes ls (Name n ∷ ss) rest → n ≡ [] → ⊥
+name_some [] n ss rest t h = absurd t
+name_some (l ∷ ls) n ss rest t h = not_empty (kind_names l.kind) l.text t.0.0 (t.0.1 ∙ h)
+
 -- ---- members
 
 -- each member that is read has its form
@@ -90,8 +108,13 @@ next_found item slots IsWhole go done xs x ls mid rest None again t w next e =
 next_found item slots IsWhole go done xs x ls mid rest (Some after) again t w next e =
     let r = again after e in
     let c = symbol_found comma mid after next in
-    record { head = x; more = r.head ∷ r.more; all = r.all ∙ append_assoc done (x ∷ []) (r.head ∷ r.more);
-      takes = Takes-append ls (slots x) (further_form slots (r.head ∷ r.more)) mid rest t (Takes-append mid (Mark comma ∷ []) (list_form slots (r.head ∷ r.more)) after rest c r.takes); whole = (w, r.whole) }
+    record {
+      head = x;
+      more = r.head ∷ r.more;
+      all = r.all ∙ append_assoc done (x ∷ []) (r.head ∷ r.more);
+      takes = Takes-append ls (slots x) (further_form slots (r.head ∷ r.more)) mid rest t (Takes-append mid (Mark comma ∷ []) (list_form slots (r.head ∷ r.more)) after rest c r.takes);
+      whole = (w, r.whole);
+    }
 
 pub members_found : {X : Type 0} (item : List Lexeme → Option (X × List Lexeme)) (slots : X → List Slot) (IsWhole : X → Type 0) → Finds item slots IsWhole → (k : ℕ) (done xs : List X) (ls rest : List Lexeme) →
     members item k done ls ≡ Some (xs, rest) → ReadMembers slots IsWhole done xs ls rest

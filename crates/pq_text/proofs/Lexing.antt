@@ -1,8 +1,6 @@
 -- Tokens follow each other.
 use Rattle.std.proofs.Common.{◌≡◌, ℕ, false, List, [], ◌∷◌, ◌++◌, drop, length, Result, Ok, Err, refl, sym, ap, subst, ◌∙◌, arith}
 use Rattle.std.specs.Prelude.{IfOk, IfErr, MatchResult}
-use Rattle.std.specs.List.{AllByRecursion}
-use Rattle.std.specs.Global.{Vec}
 use Rattle.std.proofs.Math.Seq.{drop-length}
 use Rattle.pq_text.specs.declared.token.Style.{Style}
 use Rattle.pq_text.specs.declared.token.TokenKind.{TokenKind}
@@ -14,8 +12,7 @@ use Rattle.pq_text.specs.declared.token.LexFault.TheVariants.{NoMemory}
 use Rattle.pq_text.specs.declared.token.Stop.{Stop}
 use Rattle.pq_text.specs.declared.token.Stop.TheVariants as stop
 use Rattle.pq_text.specs.declared.token.Stop.TheVariants.{End}
-use Rattle.pq_text.specs.declared.token.Lexed.{Lexed}
-use Rattle.pq_text.specs.Tokens.{gap_from, token_at, Lexes, HasFault, StopsAt, stop_place, IsFront}
+use Rattle.pq_text.specs.Tokens.{gap_from, token_at, Lexes, HasFault, StopsAt, stop_place}
 use Rattle.std.specs.Prelude.{Option, Some}
 use Rattle.std.specs.declared.alloc.AllocError.{AllocError}
 use Rattle.pq_text.specs.declared.token.Style.TheVariants.{Lines}
@@ -141,7 +138,7 @@ lines_one text a b p q =
     let one = Lexes-one Lines text 0 p.lexed.tokens q.lexed.tokens (stop_place text s) (stop_place text t) p.front.lexes (front-none Lines text s p.front.stops) q.front.lexes (front-none Lines text t q.front.stops) in
     let stops : s ≡ t = one_stop Lines text s t p.front.stops q.front.stops one.1 in
     let here : Tells t (cut text 1 q.lexed.tokens) a =
-      subst (λ (ts : List Token). Tells t (cut text 1 ts) a) one.0 (subst (λ (u : Stop). Tells u (cut text 1 p.lexed.tokens) a) stops p.tells) in
+    subst (λ (ts : List Token). Tells t (cut text 1 ts) a) one.0 (subst (λ (u : Stop). Tells u (cut text 1 p.lexed.tokens) a) stops p.tells) in
     tells_one t (cut text 1 q.lexed.tokens) a b here q.tells
 
 pub lines_only : (text : List ℕ) (r : Result TextLines AllocError) → IfOk r (λ told. AreLines text told) → IfOk r (λ told. (other : TextLines) → AreLines text other → other ≡ told)

@@ -1,8 +1,8 @@
 -- The lines of a text, cut token by token.
-use Rattle.std.proofs.Common.{◌≡◌, ℕ, ◌+◌, ◌-◌, ◌<◌, ◌≤◌, true, false, List, [], ◌∷◌, ◌++◌, length, take, drop, refl, sym, ap, ◌∙◌, arith, append_assoc}
-use Rattle.std.specs.Prelude.{Bool, if◌then◌else◌, nat_eq, cond, count_by, slice_range}
+use Rattle.std.proofs.Common.{◌≡◌, ℕ, ◌+◌, ◌-◌, ◌<◌, ◌≤◌, true, false, List, [], ◌∷◌, ◌++◌, length, take, refl, sym, ap, ◌∙◌, arith, append_assoc}
+use Rattle.std.specs.Prelude.{Bool, if◌then◌else◌, nat_eq, cond, slice_range}
 use Rattle.std.proofs.lemmas.List.{append-nil}
-use Rattle.std.proofs.lemmas.List.Sums.{sum_by-append, count_by-le-length}
+use Rattle.std.proofs.lemmas.List.Sums.{sum_by-append}
 use Rattle.std.proofs.Math.Seq.{take-add}
 use Rattle.pq_text.specs.declared.token.Token.{Token}
 use Rattle.pq_text.specs.declared.lexeme.Lexeme.{Lexeme}
@@ -17,7 +17,7 @@ number_step text counted place le =
     let k : counted + (place - counted) ≡ place = omega arith in
     let both : take place text ≡ take counted text ++ slice_range text counted place = ap (λ (n : ℕ). take n text) (sym k) ∙ take-add counted (place - counted) text in
     let sum : feeds (take place text) ≡ feeds (take counted text) + feeds (slice_range text counted place) =
-      ap feeds both ∙ sum_by-append (λ b. cond (nat_eq b 10) 1 0) (take counted text) (slice_range text counted place) in
+    ap feeds both ∙ sum_by-append (λ b. cond (nat_eq b 10) 1 0) (take counted text) (slice_range text counted place) in
     omega (arith, sum)
 
 -- ---- lines
@@ -46,7 +46,7 @@ cut_case : (text : List ℕ) (whole : List Line) (number : ℕ) (current : List 
     cut_from text (whole ++ record { number = number; tokens = current } ∷ []) (number_at text t.«end») [] ts ≡ (whole ++ record { number = number; tokens = current } ∷ []) ++ with_front [] (cut text (number_at text t.«end») ts) →
     cut_from text whole number (current ++ lexeme_for text t ∷ []) ts ≡ whole ++ with_front (current ++ lexeme_for text t ∷ []) (cut text number ts) →
     cond b (cut_from text (whole ++ record { number = number; tokens = current } ∷ []) (number_at text t.«end») [] ts) (cut_from text whole number (current ++ lexeme_for text t ∷ []) ts)
-      ≡ whole ++ with_front current (cond b (record { number = number; tokens = [] } ∷ cut text (number_at text t.«end») ts) (into_first (lexeme_for text t) (cut text number ts)))
+    ≡ whole ++ with_front current (cond b (record { number = number; tokens = [] } ∷ cut text (number_at text t.«end») ts) (into_first (lexeme_for text t) (cut text number ts)))
 cut_case text whole number current t ts true eol more =
     let line : Line = record { number = number; tokens = current } in
     let rest = cut text (number_at text t.«end») ts in
@@ -58,8 +58,8 @@ cut_from_is : (text : List ℕ) (whole : List Line) (number : ℕ) (current : Li
 cut_from_is text whole number current [] = ap (λ (ls : List Lexeme). let one : Line = record { number = number; tokens = ls } in whole ++ one ∷ []) (sym (append-nil current))
 cut_from_is text whole number current (t ∷ ts) =
     cut_case text whole number current t ts (kind_is_eol t.kind)
-      (cut_from_is text (whole ++ record { number = number; tokens = current } ∷ []) (number_at text t.«end») [] ts)
-      (cut_from_is text whole number (current ++ lexeme_for text t ∷ []) ts)
+    (cut_from_is text (whole ++ record { number = number; tokens = current } ∷ []) (number_at text t.«end») [] ts)
+    (cut_from_is text whole number (current ++ lexeme_for text t ∷ []) ts)
 
 cut_all : (text : List ℕ) (ts : List Token) → cut text 1 ts ≡ cut_from text [] 1 [] ts
 cut_all text ts = sym (cut_from_is text [] 1 [] ts ∙ with_nothing (cut text 1 ts))

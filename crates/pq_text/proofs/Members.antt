@@ -1,9 +1,9 @@
 -- Members of a list, read one after another in a loop.
-use Rattle.std.proofs.Common.{◌≡◌, ℕ, zero, suc, ◌+◌, ◌-◌, ◌<◌, ◌≤◌, List, [], ◌∷◌, ◌++◌, Option, None, Some, Result, Ok, Err, refl, sym, ap, ◌∙◌, arith}
+use Rattle.std.proofs.Common.{◌≡◌, ℕ, suc, ◌+◌, ◌-◌, ◌<◌, ◌≤◌, List, [], ◌∷◌, ◌++◌, Option, None, Some, Err, refl, sym, ◌∙◌, arith}
 use Rattle.pq_text.specs.declared.lexeme.Lexeme.{Lexeme}
 use Rattle.pq_text.specs.declared.cursor.Misfit.{Misfit}
 use Rattle.pq_text.specs.declared.cursor.Misfit.TheVariants as misfit
-use Rattle.pq_text.specs.Lexemes.{◌>>=◌, comma, symbol_at, next_member, members, Gives}
+use Rattle.pq_text.specs.Lexemes.{comma, symbol_at, members, Gives}
 
 -- a member and a comma
 pub goes_on : {X : Type 0} (item : List Lexeme → Option (X × List Lexeme)) (n i : ℕ) (done : List X) (here rest after : List Lexeme) (x : X) (total : Option (List X × List Lexeme)) →

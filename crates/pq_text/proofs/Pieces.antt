@@ -7,7 +7,6 @@ use Rattle.std.proofs.Math.Seq.{take-append_seam}
 use Rattle.pq_text.specs.declared.token.Style.{Style}
 use Rattle.pq_text.specs.declared.token.Style.TheVariants.{Lines, Sql}
 use Rattle.pq_text.specs.declared.token.Token.{Token}
-use Rattle.pq_text.specs.declared.scan.Found.TheVariants.{Begins}
 use Rattle.pq_text.specs.Tokens.{gap_from, token_at, Lexes}
 use Rattle.pq_text.specs.declared.token.Stop.TheVariants.{End}
 use Rattle.pq_text.specs.declared.token.Lexed.{Lexed}
@@ -16,7 +15,7 @@ use Rattle.pq_text.specs.declared.lexeme.Line.{Line}
 use Rattle.pq_text.specs.declared.lexeme.TextLines.{TextLines}
 use Rattle.pq_text.specs.Standing.{stands_for, lexeme_for}
 use Rattle.pq_text.specs.Lines.{kind_is_eol, feeds, number_at, into_first, cut, AreLines}
-use Rattle.pq_text.specs.Pieces.{Piece, behind_blank, text_of, start_of, tokens_of, piece_lexeme, IsLexed, AreLexed, eol, lines_text, numbered, AreInLine, IsPrintedLine, ArePrintedLines}
+use Rattle.pq_text.specs.Pieces.{Piece, behind_blank, text_of, start_of, tokens_of, piece_lexeme, IsLexed, AreLexed, eol, lines_text, numbered, AreInLine, ArePrintedLines}
 
 -- tokens begin behind the gap, so a place counts only by its gap
 Lexes-gap : (style : Style) (text : List ℕ) (n m : ℕ) (ts : List Token) (to : ℕ) → gap_from n style false (drop n text) ≡ gap_from m style false (drop m text) → Lexes style text m ts to → Lexes style text n ts to
@@ -62,7 +61,7 @@ piece_case style true x rest front ts lexed more =
     let at0 : drop (length front) (front ++ 32 ∷ (x.bytes ++ rest)) ≡ 32 ∷ (x.bytes ++ rest) = drop_at front (32 ∷ (x.bytes ++ rest)) (length front) refl in
     let at1 : drop (length front + 1) (front ++ 32 ∷ (x.bytes ++ rest)) ≡ x.bytes ++ rest = ap (drop (length front + 1)) (sym (append_assoc front (32 ∷ []) (x.bytes ++ rest))) ∙ drop_at one (x.bytes ++ rest) (length front + 1) len1 in
     Lexes-gap style (front ++ 32 ∷ (x.bytes ++ rest)) (length front) (length front + 1) (record { kind = x.kind; start = length front + 1; «end» = length front + 1 + length x.bytes } ∷ ts) (length (front ++ 32 ∷ (x.bytes ++ rest)))
-      (ap (gap_from (length front) style false) at0 ∙ blank_gap style (length front) (x.bytes ++ rest) ∙ sym (ap (gap_from (length front + 1) style false) at1)) e
+    (ap (gap_from (length front) style false) at0 ∙ blank_gap style (length front) (x.bytes ++ rest) ∙ sym (ap (gap_from (length front + 1) style false) at1)) e
 
 -- each piece is lexed as its token, with the pieces behind it
 abbrev AreAll : Style → List Piece → Type 0
@@ -75,7 +74,7 @@ pieces_lexed style [] front lexed =
     ap length (append-nil front) ∙ sym (ap (gap_from (length front) style false) d)
 pieces_lexed style (x ∷ xs) front lexed =
     piece_case style x.spaced x (text_of xs) front (tokens_of (start_of x.spaced (length front) + length x.bytes) xs) lexed.0
-      (λ before e. subst (λ (n : ℕ). Lexes style (before ++ text_of xs) (length before) (tokens_of n xs) (length (before ++ text_of xs))) e (pieces_lexed style xs before lexed.1))
+    (λ before e. subst (λ (n : ℕ). Lexes style (before ++ text_of xs) (length before) (tokens_of n xs) (length (before ++ text_of xs))) e (pieces_lexed style xs before lexed.1))
 
 -- ---- pieces one behind another
 
@@ -129,7 +128,7 @@ abbrev cut_pieces : ℕ → ℕ → List Piece → List Line
 cut_pieces seen number [] = record { number = number; tokens = [] } ∷ []
 cut_pieces seen number (x ∷ xs) =
     cond (kind_is_eol x.kind) (record { number = number; tokens = [] } ∷ cut_pieces (seen + feeds x.bytes) (seen + feeds x.bytes) xs)
-      (into_first (piece_lexeme x) (cut_pieces (seen + feeds x.bytes) number xs))
+    (into_first (piece_lexeme x) (cut_pieces (seen + feeds x.bytes) number xs))
 
 -- the text with a piece's bytes moved to the front
 piece_cut : (front : List ℕ) (x : Piece) (rest : List ℕ) (ts : List Token) (number : ℕ) (xs : List Piece) →
@@ -141,19 +140,19 @@ piece_cut front x rest ts number xs more =
     let sum : 1 + feeds (front ++ x.bytes) ≡ 1 + feeds front + feeds x.bytes = omega (arith, feeds-append front x.bytes) in
     let len : length (front ++ x.bytes) ≡ length front + length x.bytes = length-append front x.bytes in
     let place : number_at text (length front + length x.bytes) ≡ 1 + feeds front + feeds x.bytes =
-      ap (number_at text) (sym len) ∙ ap (λ (t : List ℕ). number_at t (length (front ++ x.bytes))) (sym same) ∙ number_back (front ++ x.bytes) rest ∙ sum in
+    ap (number_at text) (sym len) ∙ ap (λ (t : List ℕ). number_at t (length (front ++ x.bytes))) (sym same) ∙ number_back (front ++ x.bytes) rest ∙ sum in
     let behind : (m : ℕ) → cut text m ts ≡ cut_pieces (1 + feeds front + feeds x.bytes) m xs =
-      λ m. ap (λ (t : List ℕ). cut t m ts) (sym same) ∙ more m ∙ ap (λ (n : ℕ). cut_pieces n m xs) sum in
+    λ m. ap (λ (t : List ℕ). cut t m ts) (sym same) ∙ more m ∙ ap (λ (n : ℕ). cut_pieces n m xs) sum in
     let next : cut text (number_at text (length front + length x.bytes)) ts ≡ cut_pieces (1 + feeds front + feeds x.bytes) (1 + feeds front + feeds x.bytes) xs =
-      ap (λ (m : ℕ). cut text m ts) place ∙ behind (1 + feeds front + feeds x.bytes) in
+    ap (λ (m : ℕ). cut text m ts) place ∙ behind (1 + feeds front + feeds x.bytes) in
     let bytes : slice_range text (length front) (length front + length x.bytes) ≡ x.bytes = slice_back front x.bytes rest in
     let token : lexeme_for text (record { kind = x.kind; start = length front; «end» = length front + length x.bytes }) ≡ piece_lexeme x =
-      ap (λ (bs : List ℕ). let l : Lexeme = record { kind = x.kind; text = stands_for x.kind bs } in l) bytes in
+    ap (λ (bs : List ℕ). let l : Lexeme = record { kind = x.kind; text = stands_for x.kind bs } in l) bytes in
     let begun : Line = record { number = number; tokens = [] } in
     let a = ap (λ (ls : List Line). begun ∷ ls) next in
     let b = ap (λ (l : Lexeme). into_first l (cut text number ts)) token ∙ ap (into_first (piece_lexeme x)) (behind number) in
     ap (λ (ls : List Line). cond (kind_is_eol x.kind) ls (into_first (lexeme_for text (record { kind = x.kind; start = length front; «end» = length front + length x.bytes })) (cut text number ts))) a
-      ∙ ap (λ (ls : List Line). cond (kind_is_eol x.kind) (begun ∷ cut_pieces (1 + feeds front + feeds x.bytes) (1 + feeds front + feeds x.bytes) xs) ls) b
+    ∙ ap (λ (ls : List Line). cond (kind_is_eol x.kind) (begun ∷ cut_pieces (1 + feeds front + feeds x.bytes) (1 + feeds front + feeds x.bytes) xs) ls) b
 
 blank_length : (t : Bool) (front bytes rest : List ℕ) → (before : List ℕ) × (length before ≡ start_of t (length front)) × (feeds before ≡ feeds front) × (front ++ behind_blank t (bytes ++ rest) ≡ before ++ (bytes ++ rest))
 blank_length false front bytes rest = (front, refl, refl, refl)
@@ -166,10 +165,10 @@ pieces_cut (x ∷ xs) front number =
     let before = b.0 in
     let len : length (before ++ x.bytes) ≡ length before + length x.bytes = length-append before x.bytes in
     let here = piece_cut before x (text_of xs) (tokens_of (length before + length x.bytes) xs) number xs
-      (λ m. ap (λ (n : ℕ). cut ((before ++ x.bytes) ++ text_of xs) m (tokens_of n xs)) (sym len) ∙ pieces_cut xs (before ++ x.bytes) m) in
+    (λ m. ap (λ (n : ℕ). cut ((before ++ x.bytes) ++ text_of xs) m (tokens_of n xs)) (sym len) ∙ pieces_cut xs (before ++ x.bytes) m) in
     ap (λ (t : List ℕ). cut t number (tokens_of (length front) (x ∷ xs))) b.3
-      ∙ ap (λ (n : ℕ). cut (before ++ (x.bytes ++ text_of xs)) number (record { kind = x.kind; start = n; «end» = n + length x.bytes } ∷ tokens_of (n + length x.bytes) xs)) (sym b.1)
-      ∙ here ∙ ap (λ (n : ℕ). cut_pieces (1 + n) number (x ∷ xs)) b.2
+    ∙ ap (λ (n : ℕ). cut (before ++ (x.bytes ++ text_of xs)) number (record { kind = x.kind; start = n; «end» = n + length x.bytes } ∷ tokens_of (n + length x.bytes) xs)) (sym b.1)
+    ∙ here ∙ ap (λ (n : ℕ). cut_pieces (1 + n) number (x ∷ xs)) b.2
 
 -- ---- lines
 
@@ -189,13 +188,13 @@ line_cut (x ∷ xs) seen number more one =
     let rest = line_cut xs (seen + feeds x.bytes) number more one.1 in
     let k : seen + feeds x.bytes + feeds (text_of xs) + 1 ≡ seen + feeds (text_of (x ∷ xs)) + 1 = omega (arith, text_feeds x xs) in
     rw one.0 (ap (into_first (piece_lexeme x)) rest
-      ∙ ap (λ (n : ℕ). let line : Line = record { number = number; tokens = piece_lexeme x ∷ map piece_lexeme xs } in line ∷ cut_pieces n n more) k)
+    ∙ ap (λ (n : ℕ). let line : Line = record { number = number; tokens = piece_lexeme x ∷ map piece_lexeme xs } in line ∷ cut_pieces n n more) k)
 
 lines_cut : (lines : List (List Piece)) (number : ℕ) → ArePrintedLines Lines lines → cut_pieces number number (flat lines) ≡ numbered number lines
 lines_cut [] number printed = refl
 lines_cut (line ∷ lines) number printed =
     line_cut line number number (flat lines) printed.0.one
-      ∙ ap (λ (ls : List Line). let first : Line = record { number = number; tokens = map piece_lexeme line } in first ∷ ls) (lines_cut lines (number + feeds (text_of line) + 1) printed.1)
+    ∙ ap (λ (ls : List Line). let first : Line = record { number = number; tokens = map piece_lexeme line } in first ∷ ls) (lines_cut lines (number + feeds (text_of line) + 1) printed.1)
 
 -- The lines of a printed text are those of its pieces.
 pub printed_lines : (lines : List (List Piece)) → ArePrintedLines Lines lines → AreLines (lines_text lines) (record { whole = numbered 1 lines; broken = None })
@@ -205,4 +204,4 @@ printed_lines lines printed =
     let cuts = pieces_cut (flat lines) [] 1 ∙ lines_cut lines 1 printed in
     let told : TextLines = record { whole = numbered 1 lines; broken = None } in
     subst (λ (text : List ℕ). AreLines text told) (flat_text lines)
-      (record { lexed = lexed; front = record { lexes = lexes; stops = tt }; tells = (sym cuts, refl) })
+    (record { lexed = lexed; front = record { lexes = lexes; stops = tt }; tells = (sym cuts, refl) })

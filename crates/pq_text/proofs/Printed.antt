@@ -1,16 +1,14 @@
 -- A printed name and a printed value are lexed as themselves.
-use Rattle.std.proofs.Common.{◌≡◌, ℕ, zero, suc, ◌+◌, ◌<◌, ◌≤◌, Bool, true, false, cond, List, [], ◌∷◌, ◌++◌, length, Option, None, Some, refl, sym, ap, subst, ◌∙◌, append_assoc, arith, inl, inr}
+use Rattle.std.proofs.Common.{◌≡◌, ℕ, ◌+◌, ◌≤◌, Bool, true, false, cond, List, [], ◌∷◌, ◌++◌, length, Option, None, Some, refl, ap, ◌∙◌, append_assoc, arith, inl, inr}
 use Rattle.std.specs.Prelude.{◌⊎◌, ◌&&◌, ◌||◌, nat_eq, nat_le, map}
 use Rattle.std.proofs.lemmas.Bool.{eqb-true, leb-true, le-leb, lt-leb, ne_eqb}
 use Rattle.std.proofs.lemmas.List.{length-append}
 use Rattle.pq_text.specs.declared.token.Style.{Style}
-use Rattle.pq_text.specs.declared.token.TokenKind.{TokenKind}
-use Rattle.pq_text.specs.declared.token.TokenKind.TheVariants.{Word, Quoted, Text, Number, Symbol, Eol}
-use Rattle.pq_text.specs.declared.scan.Found.{Found}
-use Rattle.pq_text.specs.declared.scan.Found.TheVariants.{Begins, Bad, Open}
+use Rattle.pq_text.specs.declared.token.TokenKind.TheVariants.{Word, Quoted, Text}
+use Rattle.pq_text.specs.declared.scan.Found.TheVariants.{Begins}
 use Rattle.pq_text.specs.Tokens.{is_letter, is_digit, is_word_byte, run_from, end_from, text_found, quoted_found, token_at}
 use Rattle.pq_text.specs.Printing.{is_small, all_small, is_bare, doubled, between, printed_name, printed_value, printed_kind, Stops, follows_name, follows_value}
-use Rattle.pq_text.specs.Standing.{single, inside, lowered, stands_for}
+use Rattle.pq_text.specs.Standing.{single, lowered, stands_for}
 
 -- ---- quoted texts
 

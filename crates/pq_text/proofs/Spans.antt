@@ -1,5 +1,5 @@
 -- A token begins and ends with an ASCII byte, and the spans of tokens are in order.
-use Rattle.std.proofs.Common.{◌≡◌, ℕ, zero, suc, ◌+◌, ◌-◌, ◌<◌, ◌≤◌, Bool, true, false, cond, List, [], ◌∷◌, ◌++◌, length, drop, get_or, Option, None, Some, refl, sym, ap, subst, ◌∙◌, arith}
+use Rattle.std.proofs.Common.{◌≡◌, ℕ, ◌+◌, ◌-◌, ◌<◌, ◌≤◌, Bool, true, false, cond, List, [], ◌∷◌, ◌++◌, length, drop, get_or, Option, None, Some, refl, sym, ap, subst, ◌∙◌, arith}
 use Rattle.std.specs.Prelude.{◌&&◌, ◌||◌, nat_eq, nat_le, slice_index, IfSome}
 use Rattle.std.specs.List.{AllByRecursion}
 use Rattle.std.proofs.lemmas.Bool.{eqb-true, leb-true, leb-false, lt-leb, ne_eqb}
@@ -10,9 +10,9 @@ use Rattle.pq_text.specs.declared.token.TokenKind.{TokenKind}
 use Rattle.pq_text.specs.declared.token.TokenKind.TheVariants.{Word, Quoted, Text, Number, Symbol, Eol}
 use Rattle.pq_text.specs.declared.token.Token.{Token}
 use Rattle.pq_text.specs.declared.scan.Found.{Found}
-use Rattle.pq_text.specs.declared.scan.Found.TheVariants.{Begins, Bad, Open}
+use Rattle.pq_text.specs.declared.scan.Found.TheVariants.{Begins, Bad}
 use Rattle.pq_text.specs.Tokens.{is_letter, is_digit, is_word_byte, run_from, end_from, first, is_double, is_single, symbol_end, text_found, quoted_found, feed_found, token_at}
-use Rattle.pq_text.specs.Spans.{IsSpan, InOrder}
+use Rattle.pq_text.specs.Spans.{InOrder}
 
 drop_next : (text : List ℕ) (n b : ℕ) (bs : List ℕ) → drop n text ≡ b ∷ bs → (get_or text n 0 ≡ b) × (drop (n + 1) text ≡ bs)
 drop_next text n b bs here =
@@ -35,7 +35,7 @@ run_closes : (text : List ℕ) (p : ℕ → Bool) → ((b : ℕ) → p b ≡ tru
 run_closes text p low [] n here before = before
 run_closes text p low (b ∷ bs) n here before =
     run_step text n (p b) (run_from (n + 1) p bs)
-      (λ e. run_closes text p low bs (n + 1) (drop_next text n b bs here).1 (subst (λ (c : ℕ). c < 128) (sym (one_back text n b bs here)) (low b e))) before
+    (λ e. run_closes text p low bs (n + 1) (drop_next text n b bs here).1 (subst (λ (c : ℕ). c < 128) (sym (one_back text n b bs here)) (low b e))) before
 
 abbrev ClosedBy : List ℕ → ℕ → ℕ → Type 0
 ClosedBy text quote e = slice_index text (e - 1) ≡ quote
@@ -52,7 +52,7 @@ end_closes text quote (b ∷ bs) n last false here so_far before =
     end_closes text quote bs (n + 1) last (nat_eq b quote) (drop_next text n b bs here).1 so_far (λ e. one_back text n b bs here ∙ eqb-true b quote e)
 end_closes text quote (b ∷ bs) n last true here so_far before =
     end_step text quote n (nat_eq b quote) (end_from (n + 1) (Some n) false quote bs)
-      (λ e. end_closes text quote bs (n + 1) (Some n) false (drop_next text n b bs here).1 (before refl) (λ f. absurd cc)) (before refl)
+    (λ e. end_closes text quote bs (n + 1) (Some n) false (drop_next text n b bs here).1 (before refl) (λ f. absurd cc)) (before refl)
 
 -- ---- tests of bytes
 
@@ -171,8 +171,8 @@ ends_low style text n b bs k e here found =
     let t = closed_low text 39 (end_from (n + 1) None false 39 bs) (omega arith) (end_closes text 39 bs (n + 1) None false next tt (λ f. absurd cc)) in
     let m = closed_low text 34 (end_from (n + 1) None false 34 bs) (omega arith) (end_closes text 34 bs (n + 1) None false next tt (λ f. absurd cc)) in
     ends_case text style n (run_from (n + 1) is_word_byte bs) (run_from (n + 1) is_digit bs) (end_from (n + 1) None false 39 bs) (end_from (n + 1) None false 34 bs) (symbol_end n b (first bs))
-      (is_letter b) (is_digit b) (nat_eq b 39) (nat_eq b 34) (nat_eq b 10) k e word digits t m one
-      (symbol_case text n (is_double b (first bs)) (is_single b) k e (second_low text n b bs here) one) found
+    (is_letter b) (is_digit b) (nat_eq b 39) (nat_eq b 34) (nat_eq b 10) k e word digits t m one
+    (symbol_case text n (is_double b (first bs)) (is_single b) k e (second_low text n b bs here) one) found
 
 ascii_case : (style : Style) (text : List ℕ) (n : ℕ) (bs : List ℕ) (k : TokenKind) (e : ℕ) → drop n text ≡ bs → token_at style n bs ≡ Begins k e → (slice_index text n < 128) × ClosesLow text e
 ascii_case style text n [] k e here found = absurd cc

@@ -1,5 +1,5 @@
 -- What a token of a text stands for is a text: its slice is, and doubled quotes, the quotes around and capitals are ASCII.
-use Rattle.std.proofs.Common.{◌≡◌, ℕ, zero, suc, ◌+◌, ◌-◌, ◌<◌, ◌≤◌, Bool, true, false, cond, List, [], ◌∷◌, ◌++◌, length, drop, take, get_or, refl, sym, ap, subst, ◌∙◌, arith, append_assoc}
+use Rattle.std.proofs.Common.{◌≡◌, ℕ, zero, suc, ◌+◌, ◌-◌, ◌<◌, ◌≤◌, Bool, true, false, cond, List, [], ◌∷◌, ◌++◌, length, drop, take, get_or, refl, sym, ap, subst, ◌∙◌, arith}
 use Rattle.std.specs.Prelude.{◌&&◌, nat_eq, nat_le, map, slice_index, slice_range}
 use Rattle.std.specs.List.{AllByRecursion}
 use Rattle.std.specs.Str.{IsUtf8, IsCharBoundary}
@@ -151,7 +151,7 @@ slice_opens text t span =
     let within = span.within in
     let more = drop_more text t.start 0 (omega arith) in
     let first : slice_index (slice_range text t.start t.«end») 0 ≡ slice_index text t.start =
-      ap (λ (xs : List ℕ). slice_index (take (t.«end» - t.start) xs) 0) more ∙ take_cons (get_or text t.start 0) (t.«end» - t.start) (drop (t.start + 1) text) (omega arith) in
+    ap (λ (xs : List ℕ). slice_index (take (t.«end» - t.start) xs) 0) more ∙ take_cons (get_or text t.start 0) (t.«end» - t.start) (drop (t.start + 1) text) (omega arith) in
     subst (λ (b : ℕ). b < 128) (sym first) span.opens
 
 kind_utf8 : (k : TokenKind) (bs : List ℕ) → IsUtf8 bs → slice_index bs 0 < 128 → IsUtf8 (stands_for k bs)

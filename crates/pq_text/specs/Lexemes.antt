@@ -1,8 +1,8 @@
--- What tokens stand for, and what stands at the front of a list of them.
-use Rattle.std.specs.Prelude.{◌≡◌, ◌&&◌, ◌++◌, ℕ, zero, suc, codes, Bool, true, false, List, [], ◌∷◌, Option, None, Some, Result, Ok, Err, nat_eq, if◌then◌else◌}
+-- What a reader asks of a token, and what stands at the front of the tokens that are left.
+use Rattle.std.specs.Prelude.{◌≡◌, ◌&&◌, ◌++◌, ℕ, zero, suc, codes, Bool, true, false, List, [], ◌∷◌, Option, None, Some, Result, Ok, Err, nat_eq, not, length, ◌==◌, if◌then◌else◌}
 use Rattle.std.specs.Cmp.Lexicographic.{pointwise}
 use Rattle.pq_text.specs.declared.token.TokenKind.{TokenKind}
-use Rattle.pq_text.specs.declared.token.TokenKind.TheVariants.{Word, Quoted, Text, Number, Symbol, Eol}
+use Rattle.pq_text.specs.declared.token.TokenKind.TheVariants.{Word, Quoted, Text, Number, Symbol}
 use Rattle.pq_text.specs.declared.lexeme.Lexeme.{Lexeme}
 use Rattle.pq_text.specs.declared.cursor.Misfit.{Misfit}
 use Rattle.pq_text.specs.declared.cursor.Misfit.TheVariants.{NoMemory, NoFit}
@@ -35,9 +35,9 @@ is_word text l = kind_is_word l.kind && pointwise nat_eq l.text text
 abbrev pub is_symbol : List ℕ → Lexeme → Bool
 is_symbol text l = kind_is_symbol l.kind && pointwise nat_eq l.text text
 
--- a NAME is a Word or a Quoted, a VALUE a Text or a Number
+-- a name is a Word or a Quoted, which stand for one character or more; a value is a Text or a Number
 abbrev pub is_name : Lexeme → Bool
-is_name l = kind_names l.kind
+is_name l = kind_names l.kind && not (length l.text == 0)
 
 abbrev pub is_value : Lexeme → Bool
 is_value l = kind_is_value l.kind

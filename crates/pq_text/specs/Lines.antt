@@ -1,8 +1,8 @@
 -- The lines of a text in the style Lines: the tokens between two ends of lines, with what they stand for.
-use Rattle.std.specs.Prelude.{◌≡◌, ◌+◌, ◌++◌, ℕ, Bool, true, false, List, [], ◌∷◌, Option, None, Some, length, take, count_by, nat_eq, if◌then◌else◌}
+use Rattle.std.specs.Prelude.{◌≡◌, ◌+◌, ◌++◌, ℕ, Bool, true, false, List, [], ◌∷◌, None, Some, take, count_by, nat_eq, if◌then◌else◌}
 use Rattle.pq_text.specs.declared.token.Style.TheVariants.{Lines}
 use Rattle.pq_text.specs.declared.token.TokenKind.{TokenKind}
-use Rattle.pq_text.specs.declared.token.TokenKind.TheVariants.{Word, Quoted, Text, Number, Symbol, Eol}
+use Rattle.pq_text.specs.declared.token.TokenKind.TheVariants.{Eol}
 use Rattle.pq_text.specs.declared.token.Token.{Token}
 use Rattle.pq_text.specs.declared.token.Stop.{Stop}
 use Rattle.pq_text.specs.declared.token.Stop.TheVariants.{End, BadByte, OpenQuote}

@@ -1,5 +1,5 @@
 -- What digits stand for.
-use Rattle.std.specs.Prelude.{◌+◌, ◌-◌, ◌*◌, ◌&&◌, ℕ, Bool, true, false, List, [], ◌∷◌, nat_eq, nat_le}
+use Rattle.std.specs.Prelude.{◌+◌, ◌-◌, ◌*◌, ◌&&◌, ℕ, Bool, false, List, [], ◌∷◌, nat_le}
 
 -- the number of the digits behind those that are done
 abbrev pub value_from : ℕ → List ℕ → ℕ

@@ -31,7 +31,9 @@ impl<T: Drop> From<AllocFailed<T>> for Misfit {
     }
 }
 
-/// The tokens that are left.
+/// A reader over the tokens of a line. Contracts see it as the tokens that are left.
+///
+/// After a refusal nothing is said of what is left.
 #[derive(Drop)]
 pub struct Cursor<'a> {
     rest: &'a [Lexeme],
@@ -47,6 +49,7 @@ impl<'a> Model for Cursor<'a> {
 }
 
 impl<'a> Cursor<'a> {
+    /// A reader over these tokens.
     pub fn new(rest: &'a [Lexeme]) -> Cursor<'a>
         ensures { result ≡ rest.now }
     {
@@ -120,7 +123,7 @@ impl<'a> Cursor<'a> {
         }
     }
 
-    /// Takes a number, as digits.
+    /// Takes a number, as its digits.
     pub fn number(&mut self, alloc: Global) -> Result<Text, Misfit>
         ensures { Gives self.new result (number_at self.old) }
     {
@@ -153,16 +156,21 @@ impl<'a> Cursor<'a> {
         }
     }
 
+    /// How many tokens are left.
     pub fn len(&self) -> usize
         ensures { result ≡ length self.now }
     {
         self.rest.len()
     }
 
-    /// Nothing is left.
+    /// Refuses where a token is left.
     pub fn end(&self) -> Result<(), Misfit>
         ensures { GivesRest self.now result (end_at self.now) }
     {
-        if self.rest.is_empty() { Ok(()) } else { Err(Misfit::NoFit) }
+        if self.rest.is_empty() {
+            Ok(())
+        } else {
+            Err(Misfit::NoFit)
+        }
     }
 }

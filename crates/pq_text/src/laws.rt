@@ -15,19 +15,16 @@ pub fn printed_names_are_read()
     ensures lexed { (style : Style) (n b : ℕ) (bs rest : List ℕ) → Stops follows_name rest →
         token_at style n (printed_name (b ∷ bs) ++ rest) ≡ Begins (printed_kind (b ∷ bs)) (n + length (printed_name (b ∷ bs))) }
     ensures stands { (name : List ℕ) → stands_for (printed_kind name) (printed_name name) ≡ name }
-{
-}
+{}
 
 /// A printed value is lexed as one token, and the token stands for the value.
 pub fn printed_values_are_read()
     ensures lexed { (style : Style) (n : ℕ) (value rest : List ℕ) → Stops follows_value rest →
         token_at style n (printed_value value ++ rest) ≡ Begins Text (n + length (printed_value value)) }
     ensures stands { (value : List ℕ) → stands_for Text (printed_value value) ≡ value }
-{
-}
+{}
 
 /// A printed text is cut into its lines, each with what its pieces stand for.
 pub fn printed_lines_are_read()
     ensures { (lines : List (List Piece)) → ArePrintedLines Lines lines → AreLines (lines_text lines) (record { whole = numbered 1 lines; broken = None }) }
-{
-}
+{}

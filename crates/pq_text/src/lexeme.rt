@@ -19,30 +19,35 @@ pub struct Lexeme {
 }
 
 impl Lexeme {
+    /// Whether this is the word, which is given without capitals.
     pub fn is_word(&self, text: &[u8]) -> bool
         ensures { result ≡ is_word text.now self.now }
     {
         matches!(self.kind, TokenKind::Word) && self.text.as_bytes() == text
     }
 
+    /// Whether this is the symbol.
     pub fn is_symbol(&self, text: &[u8]) -> bool
         ensures { result ≡ is_symbol text.now self.now }
     {
         matches!(self.kind, TokenKind::Symbol) && self.text.as_bytes() == text
     }
 
+    /// Whether this is a name. The name is then not empty.
     pub fn is_name(&self) -> bool
         ensures { result ≡ is_name self.now }
     {
-        matches!(self.kind, TokenKind::Word | TokenKind::Quoted)
+        matches!(self.kind, TokenKind::Word | TokenKind::Quoted) && !self.text.as_bytes().is_empty()
     }
 
+    /// Whether this is a value.
     pub fn is_value(&self) -> bool
         ensures { result ≡ is_value self.now }
     {
         matches!(self.kind, TokenKind::Text | TokenKind::Number)
     }
 
+    /// Whether this is a number.
     pub fn is_number(&self) -> bool
         ensures { result ≡ is_number self.now }
     {

@@ -26,7 +26,11 @@ pub fn plain_number(digits: &Text) -> Option<u32>
 {
     match digits.as_str().parse::<u32>() {
         Ok(number) => {
-            if is_plain(digits.as_bytes()) { Some(number) } else { None }
+            if is_plain(digits.as_bytes()) {
+                Some(number)
+            } else {
+                None
+            }
         }
         Err(_) => None,
     }

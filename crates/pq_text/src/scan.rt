@@ -75,7 +75,11 @@ fn gap_end(style: Style, bytes: &[u8], at: usize) -> usize
     let mut place = at;
     let mut comment = false;
     while let [b, after @ ..] = left {
-        comment = if comment { *b != b'\n' } else { opens_comment(style, *b, after) };
+        comment = if comment {
+            *b != b'\n'
+        } else {
+            opens_comment(style, *b, after)
+        };
         if !comment && !is_blank(style, *b) {
             break;
         }

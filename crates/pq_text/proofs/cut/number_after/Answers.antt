@@ -1,5 +1,5 @@
-use Rattle.std.proofs.Common.{◌≡◌, ◌+◌, ◌∙◌, ap}
-use Rattle.pq_text.specs.Lines.{feeds, number_at}
+use Rattle.std.proofs.Common.{◌+◌, ◌∙◌, ap}
+use Rattle.pq_text.specs.Lines.{number_at}
 use Rattle.pq_text.proofs.Lines.{number_step}
 use Rattle.pq_text.proofs.cut.number_after.Goals as goal
 

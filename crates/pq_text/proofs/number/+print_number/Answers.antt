@@ -1,4 +1,4 @@
-use Rattle.std.proofs.Common.{◌<◌, ◌≤◌, ◌^◌, arith}
+use Rattle.std.proofs.Common.{arith}
 use Rattle.pq_text.proofs.Digits.{print_last, print_more}
 use Rattle.pq_text.proofs.number.+print_number.Goals as goal
 

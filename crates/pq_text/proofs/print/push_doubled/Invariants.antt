@@ -1,5 +1,5 @@
 use Rattle.std.proofs.Common.{◌≡◌, ◌++◌, length}
-use Rattle.pq_text.specs.Printing.{all_small, doubled}
+use Rattle.pq_text.specs.Printing.{doubled}
 use Rattle.pq_text.proofs.print.push_doubled.Given as goal
 
 abbrev pub invariant-loop-left : goal.invariant-loop-left

@@ -1,5 +1,5 @@
-use Rattle.std.proofs.Common.{◌≤◌, ◌<◌, ◌+◌, ◌≡◌, ◌∙◌, sym, ap, length, arith, drop, false}
-use Rattle.pq_text.specs.Tokens.{Lexes, gap_from, token_at}
+use Rattle.std.proofs.Common.{◌≤◌, ◌<◌, ◌+◌, ◌∙◌, sym, ap, length, arith}
+use Rattle.pq_text.specs.Tokens.{token_at}
 use Rattle.pq_text.proofs.Lexing.{Lexes-push}
 use Rattle.pq_text.proofs.Spans.{token_ascii, all_push, order_push, last_end_push}
 use Rattle.pq_text.specs.Spans.{IsSpan}
@@ -22,6 +22,10 @@ loop-at-preserved c =
     let span : IsSpan text token = record { some = near; within = limit; opens = ascii.0; closes = ascii.1 } in
     let spans = all_push (IsSpan text) c.loop-at.tokens token c.loop-at.invariant.2 span in
     let order = order_push 0 c.loop-at.tokens token c.loop-at.invariant.3 c.loop-at.invariant.4 in
-    let far_end = last_end_push 0 c.loop-at.tokens token in
-    (omega arith, rw (c.in_ok-push-in-Begins.ensures.ok, c.gap_end-at-in-Begins.ensures.gap, c.rest_of-in-Begins.ensures.rest) one,
-      rw c.in_ok-push-in-Begins.ensures.ok spans, rw c.in_ok-push-in-Begins.ensures.ok order, rw (c.in_ok-push-in-Begins.ensures.ok, far_end) (omega arith))
+    let far_end = last_end_push 0 c.loop-at.tokens token in (
+      omega arith,
+      rw (c.in_ok-push-in-Begins.ensures.ok, c.gap_end-at-in-Begins.ensures.gap, c.rest_of-in-Begins.ensures.rest) one,
+      rw c.in_ok-push-in-Begins.ensures.ok spans,
+      rw c.in_ok-push-in-Begins.ensures.ok order,
+      rw (c.in_ok-push-in-Begins.ensures.ok, far_end) (omega arith),
+    )

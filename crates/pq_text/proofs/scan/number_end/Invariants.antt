@@ -1,6 +1,5 @@
-use Rattle.std.proofs.Common.{◌≡◌, ◌+◌, ◌≤◌, None, false, length}
-use Rattle.std.specs.Prelude.{IfSome}
-use Rattle.pq_text.specs.Tokens.{run_from, is_word_byte, is_digit}
+use Rattle.std.proofs.Common.{◌≡◌, ◌+◌, ◌≤◌, length}
+use Rattle.pq_text.specs.Tokens.{run_from, is_digit}
 use Rattle.pq_text.proofs.scan.number_end.Given as goal
 
 abbrev pub invariant-loop-left : goal.invariant-loop-left

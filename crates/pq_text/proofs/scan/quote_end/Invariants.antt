@@ -1,6 +1,6 @@
 use Rattle.std.proofs.Common.{◌≡◌, ◌+◌, ◌≤◌, None, false, length}
 use Rattle.std.specs.Prelude.{IfSome}
-use Rattle.pq_text.specs.Tokens.{end_from, is_word_byte, is_digit}
+use Rattle.pq_text.specs.Tokens.{end_from}
 use Rattle.pq_text.proofs.scan.quote_end.Given as goal
 
 abbrev pub invariant-loop-left : goal.invariant-loop-left

@@ -1,6 +1,6 @@
-use Rattle.std.proofs.Common.{◌≡◌, ◌++◌, false, length, take}
+use Rattle.std.proofs.Common.{◌≡◌, take}
 use Rattle.std.specs.Prelude.{map}
-use Rattle.pq_text.specs.Standing.{lowered, single}
+use Rattle.pq_text.specs.Standing.{lowered}
 use Rattle.pq_text.proofs.stand.all_lowered.Given as goal
 
 abbrev pub invariant-loop-b : goal.invariant-loop-b

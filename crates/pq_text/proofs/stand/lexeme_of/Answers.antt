@@ -1,4 +1,4 @@
-use Rattle.std.proofs.Common.{◌≡◌, ◌∙◌, sym, ap, subst}
+use Rattle.std.proofs.Common.{◌∙◌, sym, ap, subst}
 use Rattle.std.specs.Str.{IsUtf8}
 use Rattle.pq_text.specs.Standing.{stands_for}
 use Rattle.pq_text.proofs.Standing.{stands_utf8}

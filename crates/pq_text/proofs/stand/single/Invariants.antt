@@ -1,6 +1,5 @@
-use Rattle.std.proofs.Common.{◌≡◌, ◌++◌, false, length, take}
-use Rattle.std.specs.Prelude.{map}
-use Rattle.pq_text.specs.Standing.{lowered, single}
+use Rattle.std.proofs.Common.{◌≡◌, ◌++◌, false, length}
+use Rattle.pq_text.specs.Standing.{single}
 use Rattle.pq_text.proofs.stand.single.Given as goal
 
 abbrev pub invariant-loop-left : goal.invariant-loop-left
