@@ -1,13 +1,13 @@
 -- What is read has its form, and what has a form is read.
-use Rattle.std.proofs.Common.{◌≡◌, ℕ, zero, suc, ◌+◌, ◌<◌, ◌≤◌, Bool, true, false, cond, List, [], ◌∷◌, ◌++◌, length, Option, None, Some, refl, sym, ap, subst, ◌∙◌, append_assoc, arith}
+use Rattle.std.proofs.Common.{◌≡◌, ℕ, zero, suc, ◌+◌, ◌<◌, ◌≤◌, Bool, true, false, cond, List, [], ◌∷◌, ◌++◌, length, Option, None, Some, refl, sym, ap, subst, ◌∙◌, append_assoc, arith, lit≤}
 use Rattle.std.specs.Prelude.{◌&&◌, ◌==◌, not, nat_eq}
 use Rattle.std.specs.Cmp.Lexicographic.{pointwise}
 use Rattle.std.proofs.lemmas.Bool.{eqb-true}
 use Rattle.std.specs.List.{AllByRecursion}
 use Rattle.std.proofs.lemmas.List.{length-append}
 use Rattle.pq_text.specs.declared.lexeme.Lexeme.{Lexeme}
-use Rattle.pq_text.specs.Lexemes.{◌>>=◌, comma, kind_is_symbol, kind_is_word, kind_names, word_next, is_word, is_symbol, is_name, is_value, is_number, symbol_at, word_at, name_at, value_at, number_at, next_member, members}
-use Rattle.pq_text.specs.Forms.{Slot, Key, Mark, Name, Value, Digits, Takes, further_form, list_form}
+use Rattle.pq_text.specs.Lexemes.{◌>>=◌, comma, kind_is_symbol, kind_is_word, kind_names, word_next, is_word, is_symbol, is_name, is_value, is_text, is_number, symbol_at, word_at, name_at, value_at, text_at, number_at, next_member, members, names_at, values_at}
+use Rattle.pq_text.specs.Forms.{Slot, Key, Mark, Name, Value, Quote, Digits, Takes, further_form, list_form, IsSome, name_form, value_form}
 
 pub bind_some : {A B : Type 0} (r : Option A) (f : A → Option B) (y : B) → (r >>= f) ≡ Some y → (x : A) × (r ≡ Some x) × (f x ≡ Some y)
 bind_some None f y e = absurd cc
@@ -70,6 +70,14 @@ value_found (l ∷ ls) v rest e = let g = some_if (is_value l) (l.text, ls) (v, 
 pub value_again : (ls : List Lexeme) (v : List ℕ) (ss : List Slot) (rest : List Lexeme) → Takes ls (Value v ∷ ss) rest → (mid : List Lexeme) × (value_at ls ≡ Some (v, mid)) × Takes mid ss rest
 value_again [] v ss rest t = absurd t
 value_again (l ∷ ls) v ss rest t = (ls, rw (t.0.0, t.0.1) refl, t.1)
+
+pub text_found : (ls : List Lexeme) (v : List ℕ) (rest : List Lexeme) → text_at ls ≡ Some (v, rest) → Takes ls (Quote v ∷ []) rest
+text_found [] v rest e = absurd cc
+text_found (l ∷ ls) v rest e = let g = some_if (is_text l) (l.text, ls) (v, rest) e in ((g.0, ap (λ (p : List ℕ × List Lexeme). p.0) g.1), ap (λ (p : List ℕ × List Lexeme). p.1) g.1)
+
+pub text_again : (ls : List Lexeme) (v : List ℕ) (ss : List Slot) (rest : List Lexeme) → Takes ls (Quote v ∷ ss) rest → (mid : List Lexeme) × (text_at ls ≡ Some (v, mid)) × Takes mid ss rest
+text_again [] v ss rest t = absurd t
+text_again (l ∷ ls) v ss rest t = (ls, rw (t.0.0, t.0.1) refl, t.1)
 
 not_empty : (b : Bool) (text : List ℕ) → (b && not (length text == 0)) ≡ true → text ≡ [] → ⊥
 not_empty false text e h = cc
@@ -186,3 +194,56 @@ number_found (l ∷ ls) n rest test ok e = let g = some_if (is_number l) (l.text
 pub number_again : (ls : List Lexeme) (test : List ℕ → Bool) (ss : List Slot) (rest : List Lexeme) → Takes ls (Digits test ∷ ss) rest → (n : List ℕ) × (mid : List Lexeme) × (number_at ls ≡ Some (n, mid)) × (test n ≡ true) × Takes mid ss rest
 number_again [] test ss rest t = absurd t
 number_again (l ∷ ls) test ss rest t = (l.text, ls, rw t.0.0 refl, t.0.1, t.1)
+
+-- ---- whole lists
+
+-- anything
+abbrev pub Any : {X : Type 0} → X → Type 0
+Any x = Unit {0}
+
+pub all_any : {X : Type 0} (xs : List X) → AllByRecursion Any xs
+all_any [] = tt
+all_any (x ∷ xs) = (tt, all_any xs)
+
+-- a list that is read in as many turns as tokens has its form, and some member
+pub list_found : {X : Type 0} (item : List Lexeme → Option (X × List Lexeme)) (slots : X → List Slot) (IsWhole : X → Type 0) → Finds item slots IsWhole → (ls : List Lexeme) (xs : List X) (rest : List Lexeme) →
+    members item (length ls) [] ls ≡ Some (xs, rest) → IsSome xs × AllByRecursion IsWhole xs × Takes ls (list_form slots xs) rest
+list_found {X} item slots IsWhole found ls xs rest e =
+    let r = members_found item slots IsWhole found (length ls) [] xs ls rest e in
+    subst (λ (ys : List X). IsSome ys × AllByRecursion IsWhole ys × Takes ls (list_form slots ys) rest) (sym r.all) (tt, r.whole, r.takes)
+
+pub list_again : {X : Type 0} (item : List Lexeme → Option (X × List Lexeme)) (slots : X → List Slot) (IsWhole : X → Type 0) → ((x : X) → 1 ≤ length (slots x)) → Rereads item slots IsWhole → (ls : List Lexeme) (xs : List X) (rest : List Lexeme) →
+    IsSome xs → AllByRecursion IsWhole xs → symbol_at comma rest ≡ None → Takes ls (list_form slots xs) rest → members item (length ls) [] ls ≡ Some (xs, rest)
+list_again item slots IsWhole some again ls [] rest h w ends t = absurd h
+list_again item slots IsWhole some again ls (x ∷ xs) rest h w ends t =
+    let len = Takes-length ls (list_form slots (x ∷ xs)) rest t in
+    let more = list_length slots some xs x in
+    members_again item slots IsWhole again xs x (length ls) [] ls rest w ends (omega arith) t
+
+-- ---- names
+
+names_find : Finds name_at name_form Any
+names_find ls n rest e = (name_found ls n rest e, tt)
+
+names_reread : Rereads name_at name_form Any
+names_reread ls n rest w t = let r = name_again ls n [] rest t in r.1 ∙ ap (λ (m : List Lexeme). Some (n, m)) r.2
+
+pub names_found : (ls : List Lexeme) (xs : List (List ℕ)) (rest : List Lexeme) → names_at ls ≡ Some (xs, rest) → IsSome xs × Takes ls (list_form name_form xs) rest
+names_found ls xs rest e = let r = list_found name_at name_form Any names_find ls xs rest e in (r.0, r.2)
+
+pub names_again : (ls : List Lexeme) (xs : List (List ℕ)) (rest : List Lexeme) → IsSome xs → symbol_at comma rest ≡ None → Takes ls (list_form name_form xs) rest → names_at ls ≡ Some (xs, rest)
+names_again ls xs rest h ends t = list_again name_at name_form Any (λ x. lit≤ tt) names_reread ls xs rest h (all_any xs) ends t
+
+-- ---- values
+
+values_find : Finds value_at value_form Any
+values_find ls v rest e = (value_found ls v rest e, tt)
+
+values_reread : Rereads value_at value_form Any
+values_reread ls v rest w t = let r = value_again ls v [] rest t in r.1 ∙ ap (λ (m : List Lexeme). Some (v, m)) r.2
+
+pub values_found : (ls : List Lexeme) (xs : List (List ℕ)) (rest : List Lexeme) → values_at ls ≡ Some (xs, rest) → IsSome xs × Takes ls (list_form value_form xs) rest
+values_found ls xs rest e = let r = list_found value_at value_form Any values_find ls xs rest e in (r.0, r.2)
+
+pub values_again : (ls : List Lexeme) (xs : List (List ℕ)) (rest : List Lexeme) → IsSome xs → symbol_at comma rest ≡ None → Takes ls (list_form value_form xs) rest → values_at ls ≡ Some (xs, rest)
+values_again ls xs rest h ends t = list_again value_at value_form Any (λ x. lit≤ tt) values_reread ls xs rest h (all_any xs) ends t

@@ -19,6 +19,10 @@ abbrev pub kind_is_number : TokenKind → Bool
 kind_is_number Number = true
 kind_is_number _ = false
 
+abbrev pub kind_is_text : TokenKind → Bool
+kind_is_text Text = true
+kind_is_text _ = false
+
 abbrev pub kind_names : TokenKind → Bool
 kind_names Word = true
 kind_names Quoted = true
@@ -42,6 +46,9 @@ is_name l = kind_names l.kind && not (length l.text == 0)
 abbrev pub is_value : Lexeme → Bool
 is_value l = kind_is_value l.kind
 
+abbrev pub is_text : Lexeme → Bool
+is_text l = kind_is_text l.kind
+
 abbrev pub is_number : Lexeme → Bool
 is_number l = kind_is_number l.kind
 
@@ -62,6 +69,10 @@ name_at (l ∷ ls) = if is_name l then Some (l.text, ls) else None
 abbrev pub value_at : List Lexeme → Option (List ℕ × List Lexeme)
 value_at [] = None
 value_at (l ∷ ls) = if is_value l then Some (l.text, ls) else None
+
+abbrev pub text_at : List Lexeme → Option (List ℕ × List Lexeme)
+text_at [] = None
+text_at (l ∷ ls) = if is_text l then Some (l.text, ls) else None
 
 abbrev pub number_at : List Lexeme → Option (List ℕ × List Lexeme)
 number_at [] = None
@@ -97,6 +108,13 @@ next_member go xs rest (Some after) = go after
 unfoldable pub members : {X : Type 0} → (List Lexeme → Option (X × List Lexeme)) → ℕ → List X → List Lexeme → Option (List X × List Lexeme)
 members item zero done ls = None
 members item (suc turns) done ls = item ls >>= λ x. next_member (members item turns (done ++ x.0 ∷ [])) (done ++ x.0 ∷ []) x.1 (symbol_at comma x.1)
+
+-- names, and values, with a comma between two
+abbrev pub names_at : List Lexeme → Option (List (List ℕ) × List Lexeme)
+names_at ls = members name_at (length ls) [] ls
+
+abbrev pub values_at : List Lexeme → Option (List (List ℕ) × List Lexeme)
+values_at ls = members value_at (length ls) [] ls
 
 -- A call gave what reading gives, and left the rest; memory may have run out.
 abbrev pub Gives : {X : Type 0} → List Lexeme → Result X Misfit → Option (X × List Lexeme) → Type 0

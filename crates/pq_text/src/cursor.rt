@@ -1,10 +1,10 @@
 // A reader over the tokens that are left of a line.
 ghost use Rattle.std.specs.Prelude.{◌≡◌, true, false, IsTrue, None, Some, length};
-ghost use Rattle.pq_text.specs.Lexemes.{word_at, symbol_at, name_at, value_at, number_at, name_next, word_next, end_at, Gives, GivesRest};
+ghost use Rattle.pq_text.specs.Lexemes.{word_at, symbol_at, name_at, value_at, text_at, number_at, name_next, word_next, end_at, names_at, values_at, Gives, GivesRest};
 ghost use Rattle.pq_text.specs.declared.cursor.Misfit.TheVariants.{NoMemory};
 
 use crate::lexeme::Lexeme;
-use lists::{Copies, Text};
+use lists::{Copies, Seq, Text, Texts};
 use std::alloc::{AllocError, AllocFailed, Global};
 use std::marker::Model;
 
@@ -123,6 +123,19 @@ impl<'a> Cursor<'a> {
         }
     }
 
+    /// Takes a text in single quotes.
+    pub fn text(&mut self, alloc: Global) -> Result<Text, Misfit>
+        ensures { Gives self.new result (text_at self.old) }
+    {
+        match self.rest {
+            [token, after @ ..] if token.is_text() => {
+                self.rest = after;
+                Ok(token.text.copy(alloc)?)
+            }
+            _ => Err(Misfit::NoFit),
+        }
+    }
+
     /// Takes a number, as its digits.
     pub fn number(&mut self, alloc: Global) -> Result<Text, Misfit>
         ensures { Gives self.new result (number_at self.old) }
@@ -134,6 +147,34 @@ impl<'a> Cursor<'a> {
             }
             _ => Err(Misfit::NoFit),
         }
+    }
+
+    /// Takes names with a comma between two: one or more.
+    pub fn names(&mut self, alloc: Global) -> Result<Texts, Misfit>
+        ensures { Gives self.new result (names_at self.old) }
+    {
+        let mut list = Seq::new(alloc);
+        for _ in 0..self.len() {
+            list.push(self.name(alloc)?)?;
+            if !self.accept(b",") {
+                return Ok(list);
+            }
+        }
+        Err(Misfit::NoFit)
+    }
+
+    /// Takes values with a comma between two: one or more.
+    pub fn values(&mut self, alloc: Global) -> Result<Texts, Misfit>
+        ensures { Gives self.new result (values_at self.old) }
+    {
+        let mut list = Seq::new(alloc);
+        for _ in 0..self.len() {
+            list.push(self.value(alloc)?)?;
+            if !self.accept(b",") {
+                return Ok(list);
+            }
+        }
+        Err(Misfit::NoFit)
     }
 
     /// Whether the word stands next.

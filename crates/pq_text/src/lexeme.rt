@@ -1,6 +1,6 @@
 // Tokens with what they stand for, and lines of them.
 ghost use Rattle.std.specs.Prelude.{◌≡◌};
-ghost use Rattle.pq_text.specs.Lexemes.{is_word, is_symbol, is_name, is_value, is_number};
+ghost use Rattle.pq_text.specs.Lexemes.{is_word, is_symbol, is_name, is_value, is_text, is_number};
 
 use crate::token::TokenKind;
 use lists::{Seq, Text};
@@ -45,6 +45,13 @@ impl Lexeme {
         ensures { result ≡ is_value self.now }
     {
         matches!(self.kind, TokenKind::Text | TokenKind::Number)
+    }
+
+    /// Whether this is a text in single quotes.
+    pub fn is_text(&self) -> bool
+        ensures { result ≡ is_text self.now }
+    {
+        matches!(self.kind, TokenKind::Text)
     }
 
     /// Whether this is a number.
