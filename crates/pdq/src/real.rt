@@ -133,8 +133,8 @@ mod tests {
     #[test]
     fn a_file_is_read_up_to_the_limit(rt: HostRuntime) {
         let alloc = rt.alloc();
-        fs::write(&rt, "five", "a,b\n1").unwrap();
-        fs::create_dir(&rt, "folder").unwrap();
+        fs::write(&rt, "five", "a,b\n1").expect(&rt, "a file is made");
+        fs::create_dir(&rt, "folder").expect(&rt, "a folder is made");
         let mut files = RealFiles::new(rt);
         for (name, limit, wanted) in [
             ("five", 5, Ok(5)),
@@ -147,11 +147,15 @@ mod tests {
             ("five/none", 5, Err(FileFault::Failed)),
             ("folder", 5, Err(FileFault::Failed)),
         ] {
-            let name_text = Text::from_str(alloc, name).unwrap();
+            let name_text = Text::from_str(alloc, name).expect(&rt, "a name is made");
             let before = files.failures;
             let got = files.read(alloc, &name_text, limit);
             let told = got.is_err() as u64;
-            assert_eq!(rt; files.failures, before + told, "{name} at {limit}");
+            assert_eq!(rt;
+                files.failures,
+                before.saturating_add(told),
+                "{name} at {limit}"
+            );
             assert_eq!(rt; got.map(|bytes| bytes.len()), wanted, "{name} at {limit}");
         }
     }
