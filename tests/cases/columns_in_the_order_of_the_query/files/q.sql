@@ -1,0 +1,1 @@
+SELECT DISTINCT b, a, b FROM r

@@ -1,0 +1,1 @@
+SELECT DISTINCT cost, method FROM relation

@@ -1,0 +1,1 @@
+select distinct b from r

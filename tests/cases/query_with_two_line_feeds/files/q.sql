@@ -1,0 +1,2 @@
+SELECT DISTINCT b FROM r
+
