@@ -1,1 +1,2 @@
 pub mod WholePlan
+pub mod Printing

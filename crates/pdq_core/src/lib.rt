@@ -2,3 +2,5 @@
 #![tactic(auto)]
 
 pub mod laws;
+mod print_plan;
+mod printing;
