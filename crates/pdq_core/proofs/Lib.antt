@@ -1,1 +1,2 @@
 pub mod WholePlans
+pub mod SinkTakes

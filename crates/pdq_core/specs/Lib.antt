@@ -1,2 +1,5 @@
+pub mod Status
+pub mod Writing
+pub mod FaultLines
 pub mod WholePlan
 pub mod Printing

@@ -1,6 +1,13 @@
 //! The top call.
 #![tactic(auto)]
 
+mod fault_line;
 pub mod laws;
 mod print_plan;
 mod printing;
+mod status;
+mod stop;
+mod write;
+
+pub use status::Status;
+pub use stop::{Input, Stop};

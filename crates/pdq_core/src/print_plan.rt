@@ -13,7 +13,7 @@ pub fn plan_text(alloc: Global, plan: &Plan) -> Result<Bytes, AllocError>
 {
     let mut out = Vec::new(alloc);
     out.extend_from_slice(b"plan ")?;
-    push_number(alloc, &mut out, plan.width)?;
+    push_number(alloc, &mut out, plan.width as u64)?;
     out.extend_from_slice(b"\n")?;
     push_branches(alloc, &mut out, plan.branches.as_slice())?;
     out.extend_from_slice(b"end\n")?;
@@ -68,7 +68,7 @@ fn push_column(alloc: Global, out: &mut Vec<u8>, column: u32) -> Result<(), Allo
     ensures { OnOk result (out.new.items ≡ out.old.items ++ column_text column) }
 {
     out.extend_from_slice(b"$")?;
-    push_number(alloc, out, column)?;
+    push_number(alloc, out, column as u64)?;
     Ok(())
 }
 

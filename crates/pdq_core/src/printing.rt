@@ -82,7 +82,7 @@ pub fn push_value(out: &mut Vec<u8>, value: &[u8]) -> Result<(), AllocError>
 }
 
 /// Appends a number in decimal digits.
-pub fn push_number(alloc: Global, out: &mut Vec<u8>, number: u32) -> Result<(), AllocError>
+pub fn push_number(alloc: Global, out: &mut Vec<u8>, number: u64) -> Result<(), AllocError>
     ensures { OnOk result (out.new.items ≡ out.old.items ++ decimal number) }
 {
     let digits = number.to_string(alloc)?;
