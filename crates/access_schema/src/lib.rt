@@ -1,0 +1,24 @@
+//! Access schemas: relations with their access methods, rules, constants and source lines.
+//!
+//! Crates above use this: every `Schema` keeps `IsSchema`, so it is well formed wherever it comes from, and `Schema::build`
+//! makes one from the named parts of a schema text. Begin at `specs/Invariant.antt`.
+#![tactic(auto)]
+
+mod build;
+mod fault;
+mod limits;
+mod part;
+mod schema;
+
+pub use fault::{BuildFault, Limit, SchemaFault};
+pub use limits::{
+    MOST_BODY_ATOMS, MOST_COLUMNS, MOST_CONSTANTS, MOST_COST, MOST_HEAD_ATOMS, MOST_METHODS,
+    MOST_RELATIONS, MOST_RULES, MOST_VARIABLES,
+};
+pub use lists::{Copies, Exact, NoMemory, Places, Row, Rows, Seq, Text, Texts};
+pub use meaning::types::{
+    Atom, Atoms, Fact, Instance, Method, Methods, Query, Relation, Relations, Rule, Rules, Term,
+    Terms,
+};
+pub use part::{NamedAtom, NamedAtoms, NamedTerm, NamedTerms, Part, Parts};
+pub use schema::{Schema, SourceLine, SourceLines};
