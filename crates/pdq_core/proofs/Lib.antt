@@ -1,2 +1,3 @@
 pub mod WholePlans
 pub mod SinkTakes
+pub mod Decided

@@ -1,7 +1,9 @@
 //! The top call.
 #![tactic(auto)]
 
+mod decide;
 mod fault_line;
+mod fetch;
 pub mod laws;
 mod print_plan;
 mod printing;
