@@ -1,7 +1,7 @@
 // Lanes of sources, and the two calls on one source of a lane.
 ghost use Rattle.std.specs.Prelude.{◌≡◌, ◌≤◌, ◌<◌, ◌↔◌, false, length, ℕ, IfSome, IsSome, IsTrue, slice_get};
 ghost use Rattle.source_trait.specs.Asking.{Seen, AttachGives, CallGives, CanAsk};
-ghost use Rattle.source_trait.specs.Lanes.{names_of, place_from, StepsAt, StepsOn, AtKind};
+ghost use Rattle.source_trait.specs.Lanes.{names_of, place_from, StepsAt, StepsOn, AtKind, KindsStay};
 
 use crate::source::{AttachFault, CallFault, Source};
 use lists::{Places, Row, Rows, Text, Texts};
@@ -61,6 +61,7 @@ pub fn attach_on<S: Source + Send + Drop>(
     requires few { length columns.now ≤ 64 }
     ensures steps { StepsOn lane.old.kinds.items lane.new.kinds.items kind.now
         (λ s t. AttachGives (S.seen s) (S.seen t) rel columns.now locator.now result) }
+    ensures stays { KindsStay S.seen lane.old.kinds.items lane.new.kinds.items }
     ensures stopped { lane.new.stopped ≡ lane.old.stopped }
 {
     match place(lane.kinds.as_slice(), kind) {
@@ -81,6 +82,7 @@ pub fn call_on<S: Source + Send + Drop>(
     requires ready { AtKind lane.old.kinds.items kind.now (λ s. CanAsk ((S.seen s).attached rel) positions.now values.now) }
     ensures steps { StepsOn lane.old.kinds.items lane.new.kinds.items kind.now
         (λ s t. CallGives (S.seen s) (S.seen t) rel positions.now values.now result) }
+    ensures stays { KindsStay S.seen lane.old.kinds.items lane.new.kinds.items }
     ensures stopped { lane.new.stopped ≡ lane.old.stopped }
 {
     match place(lane.kinds.as_slice(), kind) {
@@ -89,8 +91,8 @@ pub fn call_on<S: Source + Send + Drop>(
     }
 }
 
-/// The place of the first kind with this name.
-pub fn place<S>(kinds: &[Kind<S>], name: &Text) -> Option<usize>
+// The place of the first kind with this name.
+fn place<S>(kinds: &[Kind<S>], name: &Text) -> Option<usize>
     ensures found { result ≡ place_from 0 name.now (names_of kinds.now) }
     ensures within { IfSome result (λ k. k < length kinds.now) }
 {
@@ -106,8 +108,8 @@ pub fn place<S>(kinds: &[Kind<S>], name: &Text) -> Option<usize>
     None
 }
 
-/// Attaches a relation to the source at a place.
-pub fn attach_at<S: Source + Send + Drop>(
+// Attaches a relation to the source at a place.
+fn attach_at<S: Source + Send + Drop>(
     alloc: Global,
     kinds: &mut Vec<Kind<S>>,
     place: usize,
@@ -124,8 +126,8 @@ pub fn attach_at<S: Source + Send + Drop>(
     kind.object.attach(alloc, rel, columns, locator)
 }
 
-/// Asks a request of the source at a place.
-pub fn call_at<S: Source + Send + Drop>(
+// Asks a request of the source at a place.
+fn call_at<S: Source + Send + Drop>(
     alloc: Global,
     kinds: &mut Vec<Kind<S>>,
     place: usize,

@@ -5,15 +5,25 @@
 //! Begin at `specs/Asking.antt`.
 #![tactic(auto)]
 
+mod failing;
 mod files;
 mod holding;
 mod lanes;
+mod memory_files;
+mod memory_sink;
+mod memory_source;
 mod sink;
 mod source;
+mod table;
 
+pub use failing::FailingCalls;
 pub use files::{FileFault, Files};
 pub use holding::{Attachment, Holding};
-pub use lanes::{Boxed, Kind, Lane, attach_at, attach_on, call_at, call_on, place};
+pub use lanes::{Boxed, Kind, Lane, attach_on, call_on};
 pub use meaning::types::{Request, Requests};
+pub use memory_files::{MemoryFiles, NamedBytes, NamedFile, names_differ};
+pub use memory_sink::MemorySink;
+pub use memory_source::{MemorySource, locators_differ};
 pub use sink::{Sink, SinkFault};
 pub use source::{AttachFault, CallFault, Source};
+pub use table::{Table, Tables};
