@@ -1,3 +1,4 @@
 pub mod WholePlans
 pub mod SinkTakes
 pub mod Decided
+pub mod LaneGoes

@@ -1,8 +1,8 @@
 -- One relation fetched whole: it is attached on the first lane, and asked for without inputs.
-use Rattle.std.specs.Prelude.{◌≡◌, ◌⊎◌, ℕ, List, [], ◌∷◌, MatchOption, Option, None, Some, Result, Ok, Err, nat_eq, if◌then◌else◌}
+use Rattle.std.specs.Prelude.{◌≡◌, ◌⊎◌, ℕ, List, [], ◌∷◌, Option, None, Some, Result, Ok, Err, nat_eq, if◌then◌else◌}
 use Rattle.access_schema.specs.declared.schema.SourceLine.{SourceLine}
 use Rattle.source_trait.specs.Asking.{RowList, Seen, AttachGives, CallGives}
-use Rattle.source_trait.specs.Lanes.{names_of, place_from, StepsAt}
+use Rattle.source_trait.specs.Lanes.{names_of, place_from, StepsOn}
 use Rattle.source_trait.specs.declared.lanes.Lane.{Lane}
 use Rattle.source_trait.specs.declared.lanes.Kind.{Kind}
 use Rattle.source_trait.specs.declared.source.AttachFault.TheVariants as attach
@@ -35,11 +35,10 @@ WholeGives old new rel columns locator (Err (stop.CallFailed branch step)) = Fai
 WholeGives old new rel columns locator (Err stop.Memory) = AttachGives old new rel columns locator (Err attach.NoMemory) ⊎ Fails old new rel columns locator (Err stop.Memory)
 WholeGives old new rel columns locator (Err e) = ⊥
 
--- the first source of the line's kind did so, at its place, and no other changed; without the kind nothing changed
+-- The first source of the line's kind did so, and nothing else on the lane changed; without that kind nothing changed.
 abbrev pub LaneGives : {S : Type 0} → (S → Seen) → List (Kind S) → List (Kind S) → ℕ → List (List ℕ) → SourceLine → Result RowList Stop → Type 0
-LaneGives seen old new rel columns line result = MatchOption (place_from 0 line.kind (names_of old))
-    ((result ≡ Err (stop.UnknownKind rel)) × (new ≡ old))
-    (λ place. StepsAt old new place (λ s t. WholeGives (seen s) (seen t) rel columns line.locator result))
+LaneGives seen old new rel columns line (Err (stop.UnknownKind its)) = (its ≡ rel) × (place_from 0 line.kind (names_of old) ≡ None) × (new ≡ old)
+LaneGives seen old new rel columns line result = StepsOn old new line.kind (λ s t. WholeGives (seen s) (seen t) rel columns line.locator result)
 
 -- the same on the first lane; the other lanes stay, and without a lane the kind is unknown
 abbrev pub FirstLaneGives : {S : Type 0} → (S → Seen) → List (Lane S) → List (Lane S) → ℕ → List (List ℕ) → SourceLine → Result RowList Stop → Type 0
@@ -52,10 +51,3 @@ FirstLaneGives seen (lane ∷ rest) (after ∷ others) rel columns line result =
 abbrev pub LineGives : {S : Type 0} → (S → Seen) → List (Lane S) → List (Lane S) → ℕ → List (List ℕ) → Option SourceLine → Result RowList Stop → Type 0
 LineGives seen old new rel columns None result = (result ≡ Err (stop.NoSource rel)) × (new ≡ old)
 LineGives seen old new rel columns (Some line) result = FirstLaneGives seen old new rel columns line result
-
--- what the request without inputs gave
-abbrev pub AskGives : Seen → Seen → ℕ → Result RowList Stop → Type 0
-AskGives old new rel (Ok rows) = CallGives old new rel [] [] (Ok rows)
-AskGives old new rel (Err (stop.CallFailed branch step)) = (branch ≡ 0) × (step ≡ 0) × CallGives old new rel [] [] (Err call.Failed)
-AskGives old new rel (Err stop.Memory) = CallGives old new rel [] [] (Err call.NoMemory)
-AskGives old new rel (Err e) = ⊥

@@ -2,11 +2,11 @@
 ghost use Rattle.std.specs.Prelude.{◌≡◌, ◌≤◌, ◌<◌, length, option_copied, slice_get, IsSome, [], Ok, Err};
 ghost use Rattle.source_trait.specs.Asking.{AttachGives, CallGives, CanAsk};
 ghost use Rattle.source_trait.specs.Lanes.{StepsOn, AtKind, StepsAt, names_of, place_from};
-ghost use Rattle.pdq_core.specs.Fetching.{line_for, AskGives, WholeGives, LaneGives, FirstLaneGives, LineGives};
+ghost use Rattle.pdq_core.specs.Fetching.{line_for, WholeGives, LaneGives, FirstLaneGives, LineGives};
 
 use crate::stop::Stop;
 use access_schema::SourceLine;
-use lists::{Places, Row, Rows, Texts};
+use lists::{Places, Row, Rows, Text, Texts};
 use source_trait::{AttachFault, CallFault, Lane, Source, attach_on, call_on};
 use std::alloc::Global;
 
@@ -75,7 +75,11 @@ fn fetch_on<S: Source + Send + Drop>(
         return Err(Stop::UnknownKind { rel });
     }
     match attach_on(alloc, lane, &line.kind, rel, columns, &line.locator) {
-        Ok(()) => ask_whole(alloc, lane, rel, line),
+        Ok(()) => match ask_whole(alloc, lane, &line.kind, rel) {
+            Ok(rows) => Ok(rows),
+            Err(CallFault::Failed) => Err(Stop::CallFailed { branch: 0, step: 0 }),
+            Err(CallFault::NoMemory) => Err(Stop::Memory),
+        },
         Err(AttachFault::NoMemory) => Err(Stop::Memory),
         Err(fault) => Err(Stop::Attach { rel, fault }),
     }
@@ -85,18 +89,14 @@ fn fetch_on<S: Source + Send + Drop>(
 fn ask_whole<S: Source + Send + Drop>(
     alloc: Global,
     lane: &mut Lane<S>,
+    kind: &Text,
     rel: u32,
-    line: &SourceLine,
-) -> Result<Rows, Stop>
-    requires { AtKind lane.old.kinds.items line.now.kind (λ s. IsSome ((S.seen s).attached rel)) }
-    ensures steps { StepsOn lane.old.kinds.items lane.new.kinds.items line.now.kind (λ s t. AskGives (S.seen s) (S.seen t) rel result) }
+) -> Result<Rows, CallFault>
+    requires { AtKind lane.old.kinds.items kind.now (λ s. IsSome ((S.seen s).attached rel)) }
+    ensures steps { StepsOn lane.old.kinds.items lane.new.kinds.items kind.now (λ s t. CallGives (S.seen s) (S.seen t) rel [] [] result) }
     ensures stopped { lane.new.stopped ≡ lane.old.stopped }
 {
     let positions = Places::new(alloc);
     let values = Row::new(alloc);
-    match call_on(alloc, lane, &line.kind, rel, &positions, &values) {
-        Ok(rows) => Ok(rows),
-        Err(CallFault::Failed) => Err(Stop::CallFailed { branch: 0, step: 0 }),
-        Err(CallFault::NoMemory) => Err(Stop::Memory),
-    }
+    call_on(alloc, lane, kind, rel, &positions, &values)
 }
