@@ -1,7 +1,9 @@
 pub mod Status
 pub mod Writing
 pub mod FaultLines
+pub mod Telling
 pub mod WholePlan
 pub mod Fetching
 pub mod Deciding
+pub mod Delivering
 pub mod Printing

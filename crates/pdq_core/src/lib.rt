@@ -2,13 +2,16 @@
 #![tactic(auto)]
 
 mod decide;
+mod deliver;
 mod fault_line;
 mod fetch;
 pub mod laws;
 mod print_plan;
 mod printing;
+mod result;
 mod status;
 mod stop;
+mod tell;
 mod write;
 
 pub use status::Status;
