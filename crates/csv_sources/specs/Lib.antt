@@ -1,0 +1,4 @@
+pub mod FirstForm
+pub mod Folder
+pub mod Loading
+pub mod Records
