@@ -1,5 +1,5 @@
 // The text of the result.
-ghost use Rattle.std.specs.Prelude.{◌≡◌, ◌∷◌, [], IfOk, Contains, map, slice_get, option_copied};
+ghost use Rattle.std.specs.Prelude.{◌≡◌, ◌∷◌, [], IfOk, Contains, map, slice_index_or};
 ghost use Rattle.meaning.specs.Answers.{operand_value};
 ghost use Rattle.row_text.specs.RowText.{IsRowText};
 ghost use Rattle.pdq_core.specs.Delivering.{projected};
@@ -45,16 +45,17 @@ fn value(alloc: Global, item: &Operand, row: &Row) -> Result<Text, AllocError>
 {
     match item {
         Operand::Literal(text) => text.copy(alloc),
-        Operand::Column { from: 0, column } => match field(row, *column) {
-            Some(text) => text.copy(alloc),
-            None => Text::from_str(alloc, ""),
-        },
+        Operand::Column { from: 0, column } => column_value(alloc, row, *column),
         Operand::Column { .. } => Text::from_str(alloc, ""),
     }
 }
 
-fn field(row: &Row, column: u32) -> Option<&Text>
-    ensures { option_copied result ≡ slice_get row.now column }
+// The value of a column, and the empty text where there is none.
+fn column_value(alloc: Global, row: &Row, column: u32) -> Result<Text, AllocError>
+    ensures { IfOk result (λ value. value ≡ slice_index_or row.now column []) }
 {
-    row.get(column as usize)
+    match row.get(column as usize) {
+        Some(text) => text.copy(alloc),
+        None => Text::from_str(alloc, ""),
+    }
 }
