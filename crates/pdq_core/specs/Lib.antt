@@ -1,4 +1,5 @@
 pub mod Status
+pub mod Inputs
 pub mod Writing
 pub mod FaultLines
 pub mod Telling

@@ -5,6 +5,7 @@ mod decide;
 mod deliver;
 mod fault_line;
 mod fetch;
+mod input;
 pub mod laws;
 mod print_plan;
 mod printing;
