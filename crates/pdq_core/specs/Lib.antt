@@ -1,5 +1,6 @@
 pub mod Status
 pub mod Inputs
+pub mod Known
 pub mod Writing
 pub mod FaultLines
 pub mod Telling
@@ -7,4 +8,6 @@ pub mod WholePlan
 pub mod Fetching
 pub mod Deciding
 pub mod Delivering
+pub mod Held
+pub mod Run
 pub mod Printing
