@@ -1,8 +1,6 @@
--- Small facts on lists.
-use Rattle.std.proofs.Common.{◌≡◌, ◌⊎◌, ℕ, zero, suc, ◌+◌, ◌-◌, ◌<◌, List, [], ◌∷◌, ◌++◌, length, Some, refl, ap, inl, inr, ⊎_elim, arith}
+-- Members of lists: where they stand, and what maps do to them. Crates above cite these lemmas.
+use Rattle.std.proofs.Common.{◌≡◌, ◌⊎◌, ℕ, zero, suc, ◌<◌, List, [], ◌∷◌, ◌++◌, length, Some, refl, ap, inl, inr, ⊎_elim, arith}
 use Rattle.std.specs.Prelude.{Contains, slice_get, map}
-use Rattle.std.proofs.lemmas.Bool.Decides.{nat_tests}
-use Rattle.meaning.specs.Matching.{joined}
 use Rattle.std.proofs.lemmas.Option.{slice_get_within, get_or_from_slice_get}
 
 pub contains_here : {X : Type 0} (x : X) (xs : List X) → Contains (x ∷ xs) x
@@ -43,12 +41,6 @@ pub contains_mapped : {X Y : Type 0} (f : X → Y) (xs : List X) (y : Y) → Con
 contains_mapped f [] y c = absurd (omega arith)
 contains_mapped f (x ∷ xs) y c =
     ⊎_elim (λ e. (x, contains_here x xs, e)) (λ h. let (z, among, e) = contains_mapped f xs y h in (z, contains_there x xs z among, e)) (contains_cases (f x) (map f xs) y c)
-
-pub joined_below : {V : Type 0} (n : ℕ) (f g : ℕ → V) (x : ℕ) → x < n → joined n f g x ≡ f x
-joined_below n f g x l = grind (arith, nat_tests)
-
-pub joined_above : {V : Type 0} (n : ℕ) (f g : ℕ → V) (i : ℕ) → joined n f g (n + i) ≡ g i
-joined_above n f g i = let e : n + i - n ≡ i = omega arith in grind (arith, nat_tests)
 
 pub got_mapped : {X Y : Type 0} (f : X → Y) (xs : List X) (k : ℕ) (y : Y) → slice_get (map f xs) k ≡ Some y → (x : X) × (slice_get xs k ≡ Some x) × (f x ≡ y)
 got_mapped f [] k y e = absurd (cc)
