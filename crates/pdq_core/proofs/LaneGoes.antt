@@ -5,7 +5,7 @@ use Rattle.std.specs.Option.{is_some}
 use Rattle.source_trait.specs.Asking.{RowList, Seen, AttachGives, CallGives, CanAsk, Attached}
 use Rattle.source_trait.specs.Lanes.{names_of, place_from, source_of, AtKind, StepsAt, StepsOn}
 use Rattle.source_trait.proofs.LaneSteps.{StepsOn-names, StepsOn-source}
-use Rattle.meaning_laws.proofs.Lists.{some_injective}
+use Rattle.lists.proofs.Members.{some_injective}
 use Rattle.source_trait.specs.declared.lanes.Kind.{Kind}
 use Rattle.source_trait.specs.declared.lanes.Lane.{Lane}
 use Rattle.source_trait.specs.declared.source.AttachFault.{AttachFault}

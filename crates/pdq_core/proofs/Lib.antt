@@ -3,3 +3,7 @@ pub mod SinkTakes
 pub mod Decided
 pub mod LaneGoes
 pub mod FileTexts
+pub mod Picked
+pub mod WellFormed
+pub mod Effects
+pub mod OnLane

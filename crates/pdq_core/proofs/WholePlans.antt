@@ -4,7 +4,7 @@ use Rattle.std.specs.Prelude.{Contains, slice_get, slice_index_or}
 use Rattle.std.specs.List.{AllZip}
 use Rattle.std.proofs.lemmas.List.{append-nil}
 use Rattle.std.proofs.lemmas.Option.{get_or_from_slice_get}
-use Rattle.meaning_laws.proofs.Lists.{contains_here, contains_cases, contains_got, some_injective, contains_mapped, got_below, map_same}
+use Rattle.lists.proofs.Members.{contains_here, contains_cases, contains_got, some_injective, contains_mapped, got_below, map_same}
 use Rattle.meaning.specs.declared.types.Fact.{Fact}
 use Rattle.meaning.specs.declared.types.Method.{Method}
 use Rattle.meaning.specs.declared.types.Relation.{Relation}
@@ -22,8 +22,11 @@ use Rattle.meaning.specs.declared.types.Step.{Step}
 use Rattle.meaning.specs.declared.types.Branch.{Branch}
 use Rattle.meaning.specs.declared.types.Plan.{Plan}
 use Rattle.meaning.specs.declared.types.Request.{Request}
-use Rattle.meaning.specs.Plans.{made, AreLawfulPlaces, AreLawfulFrom, IsLawfulOut, IsLawfulBranch, IsLawful, IsWellFormed, IsMethod, Joins, StepsTo, LeadsTo, IsOut, IsBranchRow, IsRow, Wants, IsRound, AreRequests, input_value}
-use Rattle.meaning.specs.Answers.{IsInstance, IsChoice, operand_value, AnswersSelect, Answers}
+use Rattle.meaning.specs.Instances.{FitsRelation, IsInstance}
+use Rattle.meaning.specs.Plans.{made, AreLawfulPlaces, AreLawfulFrom, IsLawfulOut, IsLawfulBranch, IsLawful, IsWellFormed, IsMethod}
+use Rattle.meaning.specs.Rows.{Joins, StepsTo, LeadsTo, IsOut, IsBranchRow, IsRow}
+use Rattle.meaning.specs.Requests.{Wants, IsRound, AreRequests, input_value}
+use Rattle.meaning.specs.Answers.{IsChoice, MeetsConditions, operand_value, AnswersSelect, Answers}
 use Rattle.meaning.specs.Claims.{IsModel, IsEquivalent}
 use Rattle.pdq_core.specs.WholePlan.{AsksWhole, out_of, new_places, whole_plan}
 
@@ -136,7 +139,7 @@ module _ (schema : SchemaParts) (select : Select) (method : Method) (relation : 
         length_outs select.items,
         (method, record {
           named = named;
-          arity = (relation, asks.relation_is, new_length relation.columns);
+          arity = record { relation = relation; there = asks.relation_is; width = new_length relation.columns };
           places = lawful_places constants method.inputs asks.free;
         }, lawful_out constants),
       )
@@ -155,11 +158,11 @@ module _ (schema : SchemaParts) (select : Select) (method : Method) (relation : 
 
     step_row : (facts : List Fact) (row next : List (List ℕ)) → StepsTo schema facts step row next →
         (values : List (List ℕ)) × Contains facts (record { rel = method.rel; row = values }) × (length values ≡ length relation.columns) × (next ≡ row ++ values)
-    step_row facts row next (its, fact, is, rel, among, joins) =
-        let new = new_joins relation.columns fact.row row next joins in
-        let at : fact.rel ≡ method.rel = rel ∙ ap (λ (m : Method). m.rel) (same_method its is) in
-        let P : ℕ → Type 0 = λ n. Contains facts (record { rel = n; row = fact.row }) in
-        (fact.row, subst P at among, new.1, new.0)
+    step_row facts row next to =
+        let new = new_joins relation.columns to.fact.row row next to.joins in
+        let at : to.fact.rel ≡ method.rel = to.of_relation ∙ ap (λ (m : Method). m.rel) (same_method to.method to.named) in
+        let P : ℕ → Type 0 = λ n. Contains facts (record { rel = n; row = to.fact.row }) in
+        (to.fact.row, subst P at to.holds, new.1, new.0)
 
     projected : (facts : List Fact) (row last next : List (List ℕ)) → StepsTo schema facts step [] next → last ≡ next → AllZip (IsOut last) (map out_of select.items) row → IsProjected facts row
     projected facts row last next first end zip =
@@ -178,7 +181,7 @@ module _ (schema : SchemaParts) (select : Select) (method : Method) (relation : 
     pub row_whole : (facts : List Fact) (row : List (List ℕ)) → IsProjected facts row → IsRow schema (whole_plan method relation select) facts row
     row_whole facts row (values, among, fits, is) =
         (branch, contains_here branch [], (values,
-          (values, (method, record { rel = method.rel; row = values }, named, refl, among, joins_new relation.columns values [] fits), refl),
+          (values, record { method = method; fact = record { rel = method.rel; row = values }; named = named; of_relation = refl; holds = among; joins = joins_new relation.columns values [] fits }, refl),
           let P : List (List ℕ) → Type 0 = λ r. AllZip (IsOut values) (map out_of select.items) r in
           subst P (sym is) (outputs values select.items (columns_of values fits))))
 
@@ -187,7 +190,7 @@ module _ (schema : SchemaParts) (select : Select) (method : Method) (relation : 
     projected_answers facts row is =
         let choice : IsChoice facts (method.rel ∷ []) (is.0 ∷ []) = (is.1, tt) in
         let P : List ℕ → Type 0 = λ froms. IsChoice facts froms (is.0 ∷ []) in
-        let none : (condition : Condition) → Contains select.conditions condition → operand_value (is.0 ∷ []) condition.left ≡ operand_value (is.0 ∷ []) condition.right =
+        let none : MeetsConditions (is.0 ∷ []) select.conditions =
           λ condition c. let Q : List Condition → Type 0 = λ list. Contains list condition in absurd (let h = subst Q asks.conditions c in omega (arith, h.1)) in
         (is.0 ∷ [], subst P (sym asks.froms) choice, none, is.3)
 
@@ -202,9 +205,9 @@ module _ (schema : SchemaParts) (select : Select) (method : Method) (relation : 
         let P : List ℕ → Type 0 = λ froms. IsChoice facts froms answer.0 in
         let one = one_chosen facts answer.0 (subst P asks.froms answer.1) in
         let its = fits (record { rel = method.rel; row = one.0 }) one.2 in
-        let same : its.0 ≡ relation = some_injective its.0 relation (sym its.1 ∙ asks.relation_is) in
+        let same : its.relation ≡ relation = some_injective its.relation relation (sym its.there ∙ asks.relation_is) in
         let Q : List (List (List ℕ)) → Type 0 = λ rows. row ≡ map (operand_value rows) select.items in
-        (one.0, one.2, its.2 ∙ ap (λ (r : Relation). length r.columns) same, subst Q one.1 answer.3)
+        (one.0, one.2, its.width ∙ ap (λ (r : Relation). length r.columns) same, subst Q one.1 answer.3)
 
     pub whole_equivalent : IsEquivalent (whole_plan method relation select) (record { selects = select ∷ [] }) schema
     whole_equivalent = record {
@@ -219,22 +222,21 @@ module _ (schema : SchemaParts) (select : Select) (method : Method) (relation : 
 
     wanted : (facts : List Fact) (other : Request) → Wants schema facts [] step other → request ≡ other
     wanted facts other w =
-        let row = w.0 in
-        let rel : other.rel ≡ method.rel = w.4 ∙ ap (λ (m : Method). m.rel) (same_method w.1 w.3) in
-        let positions : other.positions ≡ [] = w.5 ∙ ap (λ (m : Method). m.inputs) (same_method w.1 w.3) ∙ asks.free in
+        let row = w.row in
+        let rel : other.rel ≡ method.rel = w.of_relation ∙ ap (λ (m : Method). m.rel) (same_method w.method w.named) in
+        let positions : other.positions ≡ [] = w.positions ∙ ap (λ (m : Method). m.inputs) (same_method w.method w.named) ∙ asks.free in
         let P : List ℕ → Type 0 = λ list. AllZip (λ p value. input_value row (slice_get (new_places relation.columns) p) ≡ Some value) list other.values in
-        let values : other.values ≡ [] = empty_zip other.values (subst P positions w.6) in
+        let values : other.values ≡ [] = empty_zip other.values (subst P positions w.values) in
         let make : ℕ → List ℕ → List (List ℕ) → Request = λ a b c. record { rel = a; positions = b; values = c } in
         ap (λ a. make a [] []) (sym rel) ∙ ap (λ b. make other.rel b []) (sym positions) ∙ ap (λ c. make other.rel other.positions c) (sym values)
       where
-        empty_zip : (values : List (List ℕ)) → AllZip (λ p value. input_value w.0 (slice_get (new_places relation.columns) p) ≡ Some value) [] values → values ≡ []
+        empty_zip : (values : List (List ℕ)) → AllZip (λ p value. input_value w.row (slice_get (new_places relation.columns) p) ≡ Some value) [] values → values ≡ []
         empty_zip [] z = refl
         empty_zip (value ∷ values) z = absurd z
 
     wants : (facts : List Fact) → Wants schema facts [] step request
     wants facts =
-        let P : List ℕ → Type 0 = λ list. AllZip (λ p value. input_value [] (slice_get (new_places relation.columns) p) ≡ Some value) list [] in
-        ([], method, refl, named, refl, sym asks.free, tt)
+        record { row = []; method = method; leads = refl; named = named; of_relation = refl; positions = sym asks.free; values = tt }
 
     one_round : (facts : List Fact) → IsRound schema facts [] step (request ∷ [])
     one_round facts = record {

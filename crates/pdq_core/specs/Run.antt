@@ -5,7 +5,8 @@ use Rattle.meaning.specs.declared.types.Relation.{Relation}
 use Rattle.meaning.specs.declared.types.Select.{Select}
 use Rattle.meaning.specs.declared.types.Statement.{Statement}
 use Rattle.meaning.specs.declared.types.Plan.{Plan}
-use Rattle.meaning.specs.Plans.{IsLawful, IsRow}
+use Rattle.meaning.specs.Plans.{IsLawful}
+use Rattle.meaning.specs.Rows.{IsRow}
 use Rattle.meaning.specs.Answers.{Answers}
 use Rattle.meaning.specs.Claims.{IsEquivalent, IsModel}
 use Rattle.access_schema.specs.declared.schema.Schema.{Schema}
