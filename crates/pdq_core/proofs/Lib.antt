@@ -7,3 +7,5 @@ pub mod Picked
 pub mod WellFormed
 pub mod Effects
 pub mod OnLane
+pub mod Planned
+pub mod Delivered

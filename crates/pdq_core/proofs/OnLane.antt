@@ -65,7 +65,7 @@ place_named n (suc q) kind (x ∷ kinds) k is got = go (pointwise nat_eq x.name 
     go true h later = let same : n ≡ n + suc q = some_injective n (n + suc q) h in absurd (omega (arith, same))
     go false h later = let e : n + suc q ≡ (n + 1) + q = omega arith in later (h ∙ ap Some e)
 
-asked_nothing : (asked : Option (List Request)) → asked ≡ option_map (λ list. list ++ []) asked
+pub asked_nothing : (asked : Option (List Request)) → asked ≡ option_map (λ list. list ++ []) asked
 asked_nothing None = refl
 asked_nothing (Some list) = ap Some (sym (append-nil list))
 
