@@ -115,7 +115,7 @@ module _ (schema : Schema) (statement : Statement) (access : Taken) (one : state
     used_refl [] P same = refl
     used_refl (lane ∷ rest) P same = (same lane.kinds.items, refl)
 
-    unchanged : (lanes : List (Lane S)) (result : Result RowList Stop) → (count_for result ≡ 1 → ⊥) → Lanes lanes lanes result
+    pub unchanged : (lanes : List (Lane S)) (result : Result RowList Stop) → (count_for result ≡ 1 → ⊥) → Lanes lanes lanes result
     unchanged lanes result never = record {
       stay = LanesStay-refl seen lanes;
       only = used_refl lanes (AttachesOnly seen schema the_plan) only_refl;

@@ -9,3 +9,6 @@ pub mod Effects
 pub mod OnLane
 pub mod Planned
 pub mod Delivered
+pub mod Assembled
+pub mod Course
+pub mod Ended

@@ -10,4 +10,5 @@ pub mod Deciding
 pub mod Delivering
 pub mod Held
 pub mod Run
+pub mod Ending
 pub mod Printing

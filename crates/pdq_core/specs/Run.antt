@@ -1,5 +1,5 @@
 -- What `run` does: the parts of the headline, and the cause of every stop.
-use Rattle.std.specs.Prelude.{◌≡◌, ◌⊎◌, ℕ, ◌≤◌, List, [], ◌∷◌, ◌++◌, Contains, Option, None, Some, IsSomeAnd}
+use Rattle.std.specs.Prelude.{◌≡◌, ◌⊎◌, ℕ, ◌≤◌, List, [], ◌∷◌, ◌++◌, Contains, Option, None, Some, IsSomeAnd, Result, Ok, Err}
 use Rattle.meaning.specs.declared.types.Fact.{Fact}
 use Rattle.meaning.specs.declared.types.Relation.{Relation}
 use Rattle.meaning.specs.declared.types.Select.{Select}
@@ -227,11 +227,22 @@ Follows seen words (Refused end) before after = RefusedFor words before.files (R
 Follows seen words (Unplanned schema statement end) before after = AreRead words before.files schema statement × UnplannedFor schema statement end × Untouched before after
 Follows seen words (Planned schema statement plan end) before after = RunsPlan seen words schema statement plan end before after
 
--- The run has a course: it ended with the status, did what the course says, and standard error took the decision and then
--- the line of the stop.
-pub record Runs {S : Type 0} (seen : S → Seen) (words : List (List ℕ)) (before after : Moment S) (status : Status) : Type 0 where
+-- The run has a course: it ended so, did what the course says, and standard error took the decision and then the line of
+-- the stop.
+pub record HasCourse {S : Type 0} (seen : S → Seen) (words : List (List ℕ)) (before after : Moment S) (end : Option Stop) : Type 0 where
   pub course : Course
-  pub ends : status ≡ ended (end_of course)
+  pub ends : end_of course ≡ end
   pub follows : Follows seen words course before after
   pub stops : TakesErrors words course before after
   pub stays : Stays seen before after
+
+-- a run that ended well, or with a stop
+abbrev pub RunsTo : {S : Type 0} → (S → Seen) → List (List ℕ) → Moment S → Moment S → Result (Unit {0}) Stop → Type 0
+RunsTo seen words before after (Ok done) = HasCourse seen words before after None
+RunsTo seen words before after (Err end) = HasCourse seen words before after (Some end)
+
+-- The run has a course that ends with the status.
+pub record Runs {S : Type 0} (seen : S → Seen) (words : List (List ℕ)) (before after : Moment S) (status : Status) : Type 0 where
+  pub end : Option Stop
+  pub status_is : status ≡ ended end
+  pub course : HasCourse seen words before after end

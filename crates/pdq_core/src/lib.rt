@@ -10,10 +10,13 @@ pub mod laws;
 mod print_plan;
 mod printing;
 mod result;
+mod run;
 mod status;
 mod stop;
 mod tell;
+mod top;
 mod write;
 
 pub use status::Status;
 pub use stop::{Input, Stop};
+pub use top::run_words;
