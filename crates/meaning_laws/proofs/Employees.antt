@@ -1,8 +1,8 @@
 -- The worked example of the staff: what each definition says of it.
-use Rattle.std.proofs.Common.{◌≡◌, ◌⊎◌, ℕ, zero, suc, ◌+◌, ◌<◌, List, [], ◌∷◌, ◌++◌, length, Some, refl, sym, ap, ◌∙◌, subst, inl, inr, ⊎_elim, arith}
+use Rattle.std.proofs.Common.{◌≡◌, ◌⊎◌, ℕ, zero, suc, ◌+◌, ◌<◌, List, [], ◌∷◌, length, Some, refl, sym, ap, ◌∙◌, subst, inl, inr, ⊎_elim, arith}
 use Rattle.std.specs.Prelude.{Contains, slice_get, slice_index_or, map, codes}
 use Rattle.std.specs.List.{AllZip}
-use Rattle.lists.proofs.Members.{contains_here, contains_there, contains_cases, some_injective}
+use Rattle.lists.proofs.Members.{contains_here, contains_cases, some_injective}
 use Rattle.meaning_laws.proofs.Example.{only, got_only, no_element, alone_first}
 use Rattle.meaning_laws.proofs.Closing.{accessible_closed}
 use Rattle.meaning_laws.proofs.Choosing.{select_sound, select_complete}
@@ -19,35 +19,28 @@ use Rattle.meaning.specs.declared.types.Atom.{Atom}
 use Rattle.meaning.specs.declared.types.Rule.{Rule}
 use Rattle.meaning.specs.declared.types.Method.{Method}
 use Rattle.meaning.specs.declared.types.Relation.{Relation}
-use Rattle.meaning.specs.declared.types.SchemaParts.{SchemaParts}
-use Rattle.meaning.specs.declared.types.Select.{Select}
 use Rattle.meaning.specs.declared.types.Condition.{Condition}
-use Rattle.meaning.specs.declared.types.Query.{Query}
 use Rattle.meaning.specs.declared.types.Fact.{Fact}
 use Rattle.meaning.specs.declared.types.Branch.{Branch}
-use Rattle.meaning.specs.declared.types.Plan.{Plan}
 use Rattle.meaning.specs.declared.types.Request.{Request}
-use Rattle.meaning.specs.declared.types.Step.{Step}
 use Rattle.meaning.specs.declared.types.Ground.{Ground}
-use Rattle.meaning.specs.declared.types.Trigger.{Trigger}
 use Rattle.meaning.specs.Values.{Value, Row}
 use Rattle.meaning.specs.Instances.{FitsRelation, IsInstance}
-use Rattle.meaning.specs.Matching.{value_of, AreFacts, OccursIn, Extends, MeetsAll, itself, FactsOf, GroundsOf, IsQueryAnswer, AnswersQuery, Meets}
+use Rattle.meaning.specs.Matching.{value_of, AreFacts, OccursIn, Extends, itself, FactsOf, GroundsOf, IsQueryAnswer, Meets}
 use Rattle.meaning.specs.Answers.{IsChoice, operand_value, AnswersSelect, Answers}
-use Rattle.meaning.specs.Access.{IsKnown, CanAccess, IsAccessPath, IsAccessible}
+use Rattle.meaning.specs.Access.{IsKnown, CanAccess, IsAccessible}
 use Rattle.meaning.specs.Plans.{IsWellFormed, IsMethod, IsLawfulOut, IsLawfulBranch, IsLawful}
-use Rattle.meaning.specs.Rows.{Joins, StepsTo, LeadsTo, IsBranchRow, IsRow}
+use Rattle.meaning.specs.Rows.{Joins, LeadsTo, IsBranchRow, IsRow}
 use Rattle.std.specs.declared.cmp.Ordering.TheVariants.{Less}
 use Rattle.meaning.specs.declared.types.Out.TheVariants.{Col as Made}
 use Rattle.meaning.specs.Requests.{rows_cmp, input_value, Wants, IsRound, AreRequests}
 use Rattle.meaning.specs.Claims.{IsModel, IsEquivalent, Refutes}
 use Rattle.meaning.specs.Costs.{IsCost}
-use Rattle.meaning.specs.Triggers.{State, IsNumbered, assigned, ground, IsTrigger, IsActive, fired, IsFiringRun}
-use Rattle.meaning.specs.RuleOrder.{StandsBefore}
-use Rattle.meaning.specs.Runs.{IsFirstActive, Proof, base_state, IsKnownValue, IsActiveExposure, IsBaseQuiet, IsOrderedRun, opening, opening_state, frozen_head, HasGoal}
+use Rattle.meaning.specs.Triggers.{State, IsNumbered, assigned, ground, IsActive, IsFiringRun}
+use Rattle.meaning.specs.Runs.{IsFirstActive, Proof, base_state, IsKnownValue, IsBaseQuiet, IsOrderedRun, opening, opening_state, frozen_head, HasGoal}
 use Rattle.meaning.specs.Fitting.{HaveConstants, RulesFit, QueryFits, QueryHasConstants}
 use Rattle.meaning.specs.Conjunctive.{AreJoined, given, alike, turned, chained, OperandFits, SelectFits, term_of, IsConjunctive}
-use Rattle.meaning.specs.Extract.{Exposure, exposed_facts, IsExposing}
+use Rattle.meaning.specs.Extract.{Exposure, IsExposing}
 use Rattle.meaning_laws.specs.Staff.{profinfo, udirect, prof_by_eid, all_direct, in_directory, staff, ruleless, smith, jones, smiths, smiths_statement, smiths_query, known, profile, entry, office, unlisted, ask_directory, ask_profile, smiths_branch, smiths_plan, guessing_plan, careless_plan, adding, profile_request, smiths_requests, smith_profile, smith_entry, smiths_trigger, smiths_log, smiths_end, unreachable, unreachable_answer}
 
 -- Something of each member of a list, and the members as alternatives.

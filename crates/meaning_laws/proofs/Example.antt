@@ -12,7 +12,6 @@ use Rattle.meaning.specs.Instances.{IsInstance}
 use Rattle.meaning_laws.proofs.Monotone.{no_plan_lem}
 use Rattle.meaning_laws.proofs.Renaming.{naming_exists}
 use Rattle.meaning_laws.proofs.Choosing.{select_sound, select_complete}
-use Rattle.meaning.specs.declared.types.Term.{Term}
 use Rattle.meaning.specs.declared.types.Term.TheVariants.{Var, Const as Said}
 use Rattle.meaning.specs.declared.types.Val.{Val}
 use Rattle.meaning.specs.declared.types.Val.TheVariants.{Const, Label}
@@ -23,14 +22,10 @@ use Rattle.meaning.specs.declared.types.Rule.{Rule}
 use Rattle.meaning.specs.declared.types.Method.{Method}
 use Rattle.meaning.specs.declared.types.Relation.{Relation}
 use Rattle.meaning.specs.declared.types.SchemaParts.{SchemaParts}
-use Rattle.meaning.specs.declared.types.Select.{Select}
-use Rattle.meaning.specs.declared.types.Statement.{Statement}
-use Rattle.meaning.specs.declared.types.Query.{Query}
 use Rattle.meaning.specs.declared.types.Ground.{Ground}
 use Rattle.meaning.specs.declared.types.Plan.{Plan}
-use Rattle.meaning.specs.declared.types.Trigger.{Trigger}
 use Rattle.meaning.specs.declared.types.Firing.{Firing}
-use Rattle.meaning.specs.declared.types.Firing.TheVariants.{Base, Copy, Expose}
+use Rattle.meaning.specs.declared.types.Firing.TheVariants.{Expose}
 use Rattle.meaning.specs.Matching.{GroundsOf, IsQueryAnswer, AnswersQuery, OccursIn}
 use Rattle.meaning.specs.Answers.{AnswersSelect}
 use Rattle.meaning.specs.Plans.{IsWellFormed, IsLawful}

@@ -1,5 +1,5 @@
 -- The rule order on two rules, of which the second feeds the first.
-use Rattle.std.proofs.Common.{◌≡◌, ◌⊎◌, ℕ, zero, suc, ◌<◌, ◌≤◌, List, [], ◌∷◌, Some, refl, sym, ap, ◌∙◌, subst, inl, inr, ⊎_elim, arith}
+use Rattle.std.proofs.Common.{◌≡◌, ℕ, zero, suc, ◌<◌, ◌≤◌, List, [], ◌∷◌, Some, refl, sym, ap, ◌∙◌, subst, inl, ⊎_elim, arith}
 use Rattle.std.specs.Prelude.{Contains, slice_get}
 use Rattle.lists.proofs.Members.{contains_here, contains_cases, some_injective}
 use Rattle.meaning_laws.proofs.Example.{only}
@@ -8,11 +8,10 @@ use Rattle.meaning.specs.declared.types.Rule.{Rule}
 use Rattle.meaning.specs.declared.types.Val.{Val}
 use Rattle.meaning.specs.declared.types.Val.TheVariants.{Label}
 use Rattle.meaning.specs.declared.types.Ground.{Ground}
-use Rattle.meaning.specs.declared.types.Trigger.{Trigger}
-use Rattle.meaning.specs.Triggers.{State, assigned, ground, IsTrigger, IsActive}
+use Rattle.meaning.specs.Triggers.{State, assigned, ground, IsActive}
 use Rattle.meaning.specs.RuleOrder.{IsFed, IsLevel, IsRuleLevel, StandsBefore}
-use Rattle.meaning.specs.Runs.{IsFirstActive, IsBaseRun}
-use Rattle.meaning_laws.specs.Small.{r_atom, s_atom, t_atom, r_to_s, s_to_t, fed_first, r_fact, s_fact, r_one, s_one, both_active, t_trigger, s_trigger, fed}
+use Rattle.meaning.specs.Runs.{IsBaseRun}
+use Rattle.meaning_laws.specs.Small.{r_atom, s_atom, t_atom, r_to_s, s_to_t, fed_first, r_fact, r_one, s_one, both_active, t_trigger, s_trigger, fed}
 
 abbrev r_rule : Rule
 r_rule = record r_to_s { line = 5 }

@@ -1,9 +1,8 @@
 -- The query of a lawful branch fits the schema, so that its frozen branch is the opening of runs.
 use Rattle.std.proofs.Common.{◌≡◌, ◌⊎◌, ℕ, suc, ◌+◌, ◌<◌, ◌≤◌, List, [], ◌∷◌, length, refl, sym, ap, ◌∙◌, subst, inl, inr, ⊎_elim, arith}
-use Rattle.std.specs.Prelude.{Contains, map}
+use Rattle.std.specs.Prelude.{Contains}
 use Rattle.lists.proofs.Members.{contains_here, contains_there, contains_cases, contains_mapped}
 use Rattle.meaning_laws.proofs.Fits.{fits_alike}
-use Rattle.meaning.specs.declared.types.Term.{Term}
 use Rattle.meaning.specs.declared.types.Term.TheVariants.{Var, Const as Said}
 use Rattle.meaning.specs.declared.types.Atom.{Atom}
 use Rattle.meaning.specs.declared.types.Place.{Place}

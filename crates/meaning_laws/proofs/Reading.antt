@@ -10,7 +10,6 @@ use Rattle.std.proofs.lemmas.Bool.{cases_eq}
 use Rattle.meaning.specs.declared.types.Val.{Val}
 use Rattle.meaning.specs.declared.types.Val.TheVariants.{Const as Known, Label}
 use Rattle.meaning.specs.declared.types.Out.{Out}
-use Rattle.meaning.specs.declared.types.Relation.{Relation}
 use Rattle.meaning.specs.declared.types.SchemaParts.{SchemaParts}
 use Rattle.meaning_laws.proofs.Fits.{fits_alike}
 use Rattle.meaning.specs.Instances.{FitsRelation}
