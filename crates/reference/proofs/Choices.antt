@@ -1,12 +1,12 @@
 -- Choices and answers from those of their parts.
 use Rattle.std.proofs.Common.{◌≡◌, ℕ, zero, suc, List, [], ◌∷◌, refl, sym, ◌∙◌, subst, Contains, map, Some, None}
 use Rattle.std.specs.Prelude.{slice_get, slice_index_or}
-use Rattle.meaning_laws.proofs.Lists.{contains_map, contains_mapped}
+use Rattle.lists.proofs.Members.{contains_map, contains_mapped}
 use Rattle.meaning.specs.declared.types.Fact.{Fact}
 use Rattle.meaning.specs.declared.types.Select.{Select}
 use Rattle.meaning.specs.declared.types.Statement.{Statement}
-use Rattle.meaning.specs.Answers.{Answers, AnswersSelect, IsChoice, operand_value}
-use Rattle.reference.specs.Choosing.{MeetsConditions, Selects, StartsWith}
+use Rattle.meaning.specs.Answers.{Answers, AnswersSelect, IsChoice, operand_value, MeetsConditions}
+use Rattle.reference.specs.Choosing.{Selects, StartsWith}
 use Rattle.reference.specs.Exactly.{Exactly, FromOne}
 use Rattle.reference.proofs.Exact.{exactly_same, exactly_one}
 
@@ -59,5 +59,5 @@ statement_exactly facts statement found = exactly_same (FromOne (λ select. Answ
     (λ row (select, among, is). (select, among, is)) (λ row (select, among, is). (select, among, is))
 
 -- the row of a choice that meets the conditions
-pub selected : (select : Select) (rows : List (List (List ℕ))) (row : List (List ℕ)) → MeetsConditions select.conditions rows → row ≡ map (operand_value rows) select.items → Exactly (Selects select rows) (row ∷ [])
+pub selected : (select : Select) (rows : List (List (List ℕ))) (row : List (List ℕ)) → MeetsConditions rows select.conditions → row ≡ map (operand_value rows) select.items → Exactly (Selects select rows) (row ∷ [])
 selected select rows row meets is = exactly_same (λ r. r ≡ row) (Selects select rows) (row ∷ []) (λ r e. (meets, e ∙ is)) (λ r s. s.1 ∙ sym is) (exactly_one row)

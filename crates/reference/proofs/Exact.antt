@@ -2,7 +2,7 @@
 use Rattle.std.proofs.Common.{◌≡◌, ◌↔◌, ℕ, ◌+◌, ◌<◌, ◌≤◌, List, [], ◌∷◌, ◌++◌, length, refl, sym, subst, ⊎_elim, Contains, take, slice_index_or, Some, None}
 use Rattle.std.proofs.lemmas.List.{take_all}
 use Rattle.std.proofs.lemmas.List.Elements.{Contains-append_left, Contains-append_right, Contains-append_cases, Contains-push}
-use Rattle.meaning_laws.proofs.Lists.{contains_here, contains_cases}
+use Rattle.lists.proofs.Members.{contains_here, contains_cases}
 use Rattle.reference.specs.Exactly.{Exactly, Only, FromOne}
 use Rattle.reference.proofs.Turns.{contains_none, turn, turn_cases}
 

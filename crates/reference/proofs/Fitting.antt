@@ -1,7 +1,7 @@
 -- Inputs of a method against the columns of its relation.
 use Rattle.std.proofs.Common.{◌≡◌, ◌↔◌, Bool, IsTrue, length, sym, ◌∙◌, subst, Some}
 use Rattle.std.specs.Prelude.{slice_get}
-use Rattle.meaning_laws.proofs.Lists.{some_injective}
+use Rattle.lists.proofs.Members.{some_injective}
 use Rattle.meaning.specs.declared.types.Method.{Method}
 use Rattle.meaning.specs.declared.types.Relation.{Relation}
 use Rattle.meaning.specs.declared.types.SchemaParts.{SchemaParts}

@@ -1,6 +1,6 @@
 -- The answers of a query from the ways to make its atoms facts, and rules that are met.
 use Rattle.std.proofs.Common.{◌≡◌, ℕ, List, [], refl, sym, ◌∙◌, subst, inr, ⊎_elim, Contains, map, Some}
-use Rattle.meaning_laws.proofs.Lists.{contains_map, contains_mapped, map_same}
+use Rattle.lists.proofs.Members.{contains_map, contains_mapped, map_same}
 use Rattle.meaning.specs.declared.types.Atom.{Atom}
 use Rattle.meaning.specs.declared.types.Fact.{Fact}
 use Rattle.meaning.specs.declared.types.Query.{Query}

@@ -5,7 +5,7 @@ use Rattle.std.specs.List.{AllZip}
 use Rattle.std.specs.List.Sorted.{IsStrictlySortedBy}
 use Rattle.std.specs.declared.cmp.Ordering.TheVariants.{Less}
 use Rattle.std.proofs.lemmas.List.{drop_more, drop_all, append-nil}
-use Rattle.meaning_laws.proofs.Lists.{contains_map, contains_mapped, got_mapped}
+use Rattle.lists.proofs.Members.{contains_map, contains_mapped, got_mapped}
 use Rattle.meaning.specs.declared.types.Branch.{Branch}
 use Rattle.meaning.specs.declared.types.Fact.{Fact}
 use Rattle.meaning.specs.declared.types.Method.{Method}
@@ -13,7 +13,9 @@ use Rattle.meaning.specs.declared.types.Place.{Place}
 use Rattle.meaning.specs.declared.types.Request.{Request}
 use Rattle.meaning.specs.declared.types.SchemaParts.{SchemaParts}
 use Rattle.meaning.specs.declared.types.Step.{Step}
-use Rattle.meaning.specs.Plans.{AreBranchesRequests, AreStepsRequests, IsMethod, IsRound, IsWellFormed, LeadsTo, Wants, rows_cmp}
+use Rattle.meaning.specs.Plans.{IsMethod, IsWellFormed}
+use Rattle.meaning.specs.Rows.{LeadsTo}
+use Rattle.meaning.specs.Requests.{AreBranchesRequests, AreStepsRequests, IsRound, Wants, rows_cmp}
 use Rattle.reference.specs.Exactly.{Exactly, FromOne}
 use Rattle.reference.specs.Requesting.{GivesInput, IsInputRow, request_with}
 use Rattle.reference.proofs.Exact.{exactly_same}
@@ -34,7 +36,7 @@ input_rows_exactly schema facts before places inputs lasts found exact = exactly
 pub round_none : (schema : SchemaParts) (facts : List Fact) (before : List Step) (step : Step) → ((method : Method) → IsMethod schema step.method method → ⊥) → IsRound schema facts before step []
 round_none schema facts before step none = record {
   ascending = λ i first second e f. absurd (cc);
-  exactly = λ request. ((λ c. absurd (contains_none request c)), (λ (row, method, leads, is, rel, positions, gives). absurd (none method is)));
+  exactly = λ request. ((λ c. absurd (contains_none request c)), (λ w. absurd (none w.method w.named)));
 }
 
 -- with the method, one request for each row of input values
@@ -57,12 +59,21 @@ module _ (schema : SchemaParts) (well : IsWellFormed schema) (facts : List Fact)
     exactly = λ request. (
       (λ c. let (values, among, same) = contains_mapped (request_with method.rel method.inputs) rows request c in
           let (row, leads, gives) = (exact values).0 among in
-          subst (Wants schema facts before step) same (row, method, leads, is_method, refl, refl, gives)),
-      (λ (row, other, leads, is, rel, positions, gives).
-          let same : other ≡ method = well.once other method is.0 is_method.0 (is.1 ∙ sym is_method.1) in
-          let gives_method : AllZip (GivesInput row step.places) method.inputs request.values = subst (λ inputs. AllZip (GivesInput row step.places) inputs request.values) (positions ∙ ap (λ (m : Method). m.inputs) same) gives in
-          let among : Contains rows request.values = (exact request.values).1 (row, leads, gives_method) in
-          asked request among (sym (rel ∙ ap (λ (m : Method). m.rel) same)) (sym (positions ∙ ap (λ (m : Method). m.inputs) same))),
+          subst (Wants schema facts before step) same (record {
+            row = row;
+            method = method;
+            leads = leads;
+            named = is_method;
+            of_relation = refl;
+            positions = refl;
+            values = gives;
+          })),
+      (λ w.
+          let same : w.method ≡ method = well.once w.method method w.named.0 is_method.0 (w.named.1 ∙ sym is_method.1) in
+          let positions : request.positions ≡ method.inputs = w.positions ∙ ap (λ (m : Method). m.inputs) same in
+          let gives : AllZip (GivesInput w.row step.places) method.inputs request.values = subst (λ inputs. AllZip (GivesInput w.row step.places) inputs request.values) positions w.values in
+          let among : Contains rows request.values = (exact request.values).1 (w.row, w.leads, gives) in
+          asked request among (sym (w.of_relation ∙ ap (λ (m : Method). m.rel) same)) (sym positions)),
     );
   }
 

@@ -8,7 +8,7 @@ use Rattle.meaning.specs.declared.types.Out.TheVariants.{Const, Col}
 use Rattle.meaning.specs.declared.types.Step.{Step}
 use Rattle.meaning.specs.declared.types.Branch.{Branch}
 use Rattle.meaning.specs.declared.types.Plan.{Plan}
-use Rattle.meaning.specs.Plans.{IsRow, IsBranchRow, IsOut, LeadsTo, StepsTo}
+use Rattle.meaning.specs.Rows.{IsRow, IsBranchRow, IsOut, LeadsTo, StepsTo}
 use Rattle.reference.specs.Exactly.{Exactly, FromOne}
 use Rattle.reference.specs.Joining.{JoinsFact, JoinsMethod}
 use Rattle.reference.proofs.Exact.{exactly_same, exactly_one}
@@ -22,8 +22,8 @@ method_rows facts step row method found name = exactly_same (FromOne (JoinsFact 
 pub step_rows : (schema : SchemaParts) (facts : List Fact) (step : Step) (row : List (List ℕ)) (found : List (List (List ℕ))) →
     Exactly (FromOne (JoinsMethod facts step row) schema.methods) found → Exactly (StepsTo schema facts step row) found
 step_rows schema facts step row found = exactly_same (FromOne (JoinsMethod facts step row) schema.methods) (StepsTo schema facts step row) found
-    (λ next (method, among, (name, (fact, in_facts, (rel, joins)))). (method, fact, (among, name), rel, in_facts, joins))
-    (λ next (method, fact, (among, name), rel, in_facts, joins). (method, among, (name, (fact, in_facts, (rel, joins)))))
+    (λ next (method, among, (name, (fact, in_facts, (rel, joins)))). record { method = method; fact = fact; named = (among, name); of_relation = rel; holds = in_facts; joins = joins; })
+    (λ next s. (s.method, s.named.0, (s.named.1, (s.fact, s.holds, (s.of_relation, s.joins)))))
 
 -- no steps, and one step before others
 pub no_steps : (schema : SchemaParts) (facts : List Fact) (steps : List Step) (row : List (List ℕ)) → steps ≡ [] → Exactly (LeadsTo schema facts steps row) (row ∷ [])

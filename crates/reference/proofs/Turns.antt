@@ -2,7 +2,7 @@
 use Rattle.std.proofs.Common.{◌≡◌, ◌↔◌, ◌⊎◌, ℕ, ◌+◌, ◌-◌, ◌<◌, ◌≤◌, suc, Bool, true, false, IsTrue, List, [], ◌∷◌, ◌++◌, length, refl, sym, ap, ◌∙◌, subst, ⊎_elim, arith, Contains, take, drop, map, slice_index_or, get_or}
 use Rattle.std.proofs.lemmas.List.{map_more, take_more, take_all, get_or_default}
 use Rattle.std.proofs.lemmas.List.Elements.{Contains-push_cases}
-use Rattle.meaning_laws.proofs.Lists.{contains_here}
+use Rattle.lists.proofs.Members.{contains_here}
 
 -- P holds of each member
 abbrev pub EachOf : {X : Type 0} → (X → Type 0) → List X → Type 0

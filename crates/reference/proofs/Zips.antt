@@ -2,7 +2,7 @@
 use Rattle.std.proofs.Common.{◌≡◌, ℕ, ◌+◌, ◌<◌, ◌≤◌, List, [], ◌∷◌, ◌++◌, length, refl, sym, subst, ⊎_elim, Contains, take, slice_index_or, Some, None}
 use Rattle.std.proofs.lemmas.List.{take_all}
 use Rattle.std.specs.List.{AllZip}
-use Rattle.meaning_laws.proofs.Lists.{contains_cases}
+use Rattle.lists.proofs.Members.{contains_cases}
 use Rattle.reference.specs.Exactly.{Only}
 use Rattle.reference.proofs.Turns.{contains_none, turn}
 

@@ -10,7 +10,7 @@ ghost use Rattle.reference.specs.Gathering.{KnowsAt, KnowsInputs, IsValueOf, Gat
 use crate::members::has;
 use lists::{Copies, NoMemory, Row, Seq, Text, Texts};
 use meaning::types::{Fact, Instance, SchemaParts};
-use meaning_laws::laws::acc_closed;
+use meaning_laws::laws::accessible_closed;
 use std::alloc::Global;
 
 /// The facts that the methods reach from the constants, each once.
@@ -36,7 +36,7 @@ pub fn accessible_part(
             part.insert(0, fact)?;
         }
     }
-    acc_closed();
+    accessible_closed();
     Ok(Seq::from_vec(part))
 }
 

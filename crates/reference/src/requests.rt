@@ -3,7 +3,8 @@ ghost use Rattle.std.specs.Prelude.{◌≡◌, ◌↔◌, [], List, ℕ, IsTrue,
 ghost use Rattle.std.specs.List.{AllZip};
 ghost use Rattle.std.specs.List.Sorted.{IsStrictlySortedBy};
 ghost use Rattle.meaning.specs.declared.types.Method.{Method};
-ghost use Rattle.meaning.specs.Plans.{AreRequests, AreStepsRequests, IsMethod, IsRound, IsWellFormed, input_value, rows_cmp};
+ghost use Rattle.meaning.specs.Plans.{IsMethod, IsWellFormed};
+ghost use Rattle.meaning.specs.Requests.{AreRequests, AreStepsRequests, IsRound, input_value, rows_cmp};
 ghost use Rattle.reference.specs.Exactly.{Exactly, Only};
 ghost use Rattle.reference.specs.Requesting.{GivesInput, IsInputRow, request_with};
 

@@ -1,7 +1,7 @@
 // The rows of plans.
 ghost use Rattle.std.specs.Prelude.{◌≡◌, ◌↔◌, IsTrue, IfOk, Some, slice_get, option_copied};
 ghost use Rattle.std.specs.List.{AllZip};
-ghost use Rattle.meaning.specs.Plans.{IsRow, IsBranchRow, IsOut, LeadsTo, StepsTo, Joins};
+ghost use Rattle.meaning.specs.Rows.{IsRow, IsBranchRow, IsOut, LeadsTo, StepsTo, Joins};
 ghost use Rattle.reference.specs.Exactly.{Exactly, Only, FromOne};
 ghost use Rattle.reference.specs.Joining.{JoinsFact};
 

@@ -1,7 +1,6 @@
 // The answers of selects and statements, by every choice of one row per FROM item.
 ghost use Rattle.std.specs.Prelude.{◌≡◌, ◌↔◌, [], ◌∷◌, IsTrue, IfOk, map, slice_index_or};
-ghost use Rattle.meaning.specs.Answers.{Answers, AnswersSelect, IsChoice, operand_value};
-ghost use Rattle.reference.specs.Choosing.{MeetsConditions};
+ghost use Rattle.meaning.specs.Answers.{Answers, AnswersSelect, IsChoice, MeetsConditions, operand_value};
 ghost use Rattle.reference.specs.Exactly.{Exactly};
 
 use lists::{Copies, NoMemory, Row, Rows, Seq, Text};
@@ -79,7 +78,7 @@ fn longer_by(alloc: Global, row: &Row, list: &Rows) -> Result<Rows, NoMemory>
 
 /// Whether the two sides of each condition are equal.
 fn meets_conditions(rows: &Rows, conditions: &[Condition]) -> bool
-    ensures { IsTrue result ↔ MeetsConditions conditions.now rows.now }
+    ensures { IsTrue result ↔ MeetsConditions rows.now conditions.now }
 {
     for condition in conditions {
         if !is_met(rows, condition) {

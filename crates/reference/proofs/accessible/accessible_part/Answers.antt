@@ -20,4 +20,4 @@ loop-place-preserved c =
 pub returns-clause-exactly : goal.returns-clause-exactly
 returns-clause-exactly c =
     let none : (fact : Fact) → Contains c.loop-place.waiting.items fact → CanAccess c.args.schema.now c.args.constants.now c.loop-place.part.items fact → ⊥ = rw (c.as_slice.ensures.value, c.as_slice-in-loop-place.ensures.value) at c.in_default.ensures.none in
-    rw c.from_vec.ensures (gathered_all _ _ _ _ _ (c.acc_closed.ensures c.args.schema.now c.args.constants.now c.args.facts.now c.loop-place.part.items) c.loop-place.invariant none)
+    rw c.from_vec.ensures (gathered_all _ _ _ _ _ (c.accessible_closed.ensures c.args.schema.now c.args.constants.now c.args.facts.now c.loop-place.part.items) c.loop-place.invariant none)

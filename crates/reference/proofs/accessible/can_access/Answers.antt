@@ -8,7 +8,12 @@ use Rattle.reference.proofs.accessible.can_access.Goals as goal
 pub returns-then-knows_inputs : goal.returns-then-knows_inputs
 returns-then-knows_inputs c =
     let among : Contains c.args.schema.now.methods c.method-item.result = rw c.as_slice-method-items.ensures at (is_among c.as_slice-method-items.result.now _ _ c.loop-method-test.true c.method-item.is) in
-    is_true (c.method-item.result, among, c.if-method-fact.true, true_says (rw c.as_slice.ensures at c.if-knows_inputs.ensures))
+    is_true (record {
+      method = c.method-item.result;
+      of_schema = among;
+      of_relation = c.if-method-fact.true;
+      inputs = true_says (rw c.as_slice.ensures at c.if-knows_inputs.ensures);
+    })
 
 pub loop-method-preserved : goal.loop-method-preserved
 loop-method-preserved c = each_more (λ (method : Method). (method.rel ≡ c.args.fact.now.rel) × KnowsInputs c.args.constants.now c.args.earlier.now c.args.fact.now.row method.inputs → ⊥) _ _ _ c.loop-method-test.true c.method-item.is c.loop-method.invariant
@@ -18,4 +23,4 @@ loop-method-preserved c = each_more (λ (method : Method). (method.rel ≡ c.arg
     ])
 
 pub returns : goal.returns
-returns c = is_false (λ (method, among, rel, inputs). each_all (λ (method : Method). (method.rel ≡ c.args.fact.now.rel) × KnowsInputs c.args.constants.now c.args.earlier.now c.args.fact.now.row method.inputs → ⊥) _ _ c.loop-method-test.false c.loop-method.invariant method (rw c.as_slice-method-items.ensures among) (rel, inputs))
+returns c = is_false (λ can. each_all (λ (method : Method). (method.rel ≡ c.args.fact.now.rel) × KnowsInputs c.args.constants.now c.args.earlier.now c.args.fact.now.row method.inputs → ⊥) _ _ c.loop-method-test.false c.loop-method.invariant can.method (rw c.as_slice-method-items.ensures can.of_schema) (can.of_relation, can.inputs))

@@ -1,5 +1,5 @@
 use Rattle.std.proofs.Common.{[]}
-use Rattle.meaning.specs.Plans.{AreStepsRequests}
+use Rattle.meaning.specs.Requests.{AreStepsRequests}
 use Rattle.reference.proofs.Rounds.{branches_more, branches_end}
 use Rattle.reference.proofs.requests.plan_requests.Goals as goal
 

@@ -1,6 +1,6 @@
 use Rattle.std.proofs.Common.{List, ◌++◌, drop}
 use Rattle.meaning.specs.declared.types.Request.{Request}
-use Rattle.meaning.specs.Plans.{AreBranchesRequests}
+use Rattle.meaning.specs.Requests.{AreBranchesRequests}
 use Rattle.reference.proofs.requests.plan_requests.Given as goal
 
 -- with the requests of the branches that are left, these are the requests of all branches

@@ -1,6 +1,6 @@
 use Rattle.std.proofs.Common.{List, [], ◌++◌, take, drop}
 use Rattle.meaning.specs.declared.types.Request.{Request}
-use Rattle.meaning.specs.Plans.{AreStepsRequests}
+use Rattle.meaning.specs.Requests.{AreStepsRequests}
 use Rattle.reference.proofs.requests.steps_requests.Given as goal
 
 -- with the requests of the steps that are left, these are the requests of all steps

@@ -1,5 +1,5 @@
 use Rattle.std.proofs.Common.{subst, sym, [], ◌∷◌, ◌-◌, length, take, drop}
-use Rattle.meaning.specs.Plans.{LeadsTo}
+use Rattle.meaning.specs.Rows.{LeadsTo}
 use Rattle.reference.specs.Exactly.{Exactly}
 use Rattle.reference.proofs.Exact.{exactly_more, exactly_end}
 use Rattle.reference.proofs.Turns.{none_left}

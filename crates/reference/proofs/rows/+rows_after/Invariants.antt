@@ -1,5 +1,5 @@
 use Rattle.std.proofs.Common.{take, length}
-use Rattle.meaning.specs.Plans.{LeadsTo}
+use Rattle.meaning.specs.Rows.{LeadsTo}
 use Rattle.reference.specs.Exactly.{Exactly, FromOne}
 use Rattle.reference.proofs.rows.+rows_after.Given as goal
 

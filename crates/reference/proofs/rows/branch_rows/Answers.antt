@@ -1,6 +1,6 @@
 use Rattle.std.proofs.Common.{subst, []}
 use Rattle.std.specs.List.{AllZip}
-use Rattle.meaning.specs.Plans.{IsOut, LeadsTo}
+use Rattle.meaning.specs.Rows.{IsOut, LeadsTo}
 use Rattle.reference.specs.Exactly.{Exactly, Only}
 use Rattle.reference.proofs.Exact.{exactly_push, exactly_skip, exactly_end, only_none}
 use Rattle.reference.proofs.Stepping as stepping

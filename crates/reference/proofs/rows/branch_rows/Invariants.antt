@@ -1,6 +1,6 @@
 use Rattle.std.proofs.Common.{take}
 use Rattle.std.specs.List.{AllZip}
-use Rattle.meaning.specs.Plans.{IsOut}
+use Rattle.meaning.specs.Rows.{IsOut}
 use Rattle.reference.specs.Exactly.{Exactly, FromOne}
 use Rattle.reference.proofs.rows.branch_rows.Given as goal
 

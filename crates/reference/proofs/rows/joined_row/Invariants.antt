@@ -1,5 +1,5 @@
 use Rattle.std.proofs.Common.{◌↔◌, ℕ, List, length}
-use Rattle.meaning.specs.Plans.{Joins}
+use Rattle.meaning.specs.Rows.{Joins}
 use Rattle.reference.proofs.rows.joined_row.Given as goal
 
 -- what is left joins the row so far exactly to what everything joins the row to

@@ -1,5 +1,5 @@
 use Rattle.std.proofs.Common.{refl}
-use Rattle.meaning.specs.Plans.{IsOut}
+use Rattle.meaning.specs.Rows.{IsOut}
 use Rattle.reference.proofs.Exact.{only_none}
 use Rattle.reference.proofs.Turns.{is_among}
 use Rattle.reference.proofs.Zips.{zip_more, zip_end, zip_no}

@@ -1,6 +1,6 @@
 use Rattle.std.proofs.Common.{take}
 use Rattle.std.specs.List.{AllZip}
-use Rattle.meaning.specs.Plans.{IsOut}
+use Rattle.meaning.specs.Rows.{IsOut}
 use Rattle.reference.proofs.rows.output_row.Given as goal
 
 abbrev pub invariant-loop-out : goal.invariant-loop-out

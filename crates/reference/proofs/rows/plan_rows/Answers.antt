@@ -1,4 +1,4 @@
-use Rattle.meaning.specs.Plans.{IsBranchRow}
+use Rattle.meaning.specs.Rows.{IsBranchRow}
 use Rattle.reference.proofs.Exact.{exactly_more, exactly_end}
 use Rattle.reference.proofs.Stepping as stepping
 use Rattle.reference.proofs.rows.plan_rows.Goals as goal

@@ -1,5 +1,5 @@
 use Rattle.std.proofs.Common.{take}
-use Rattle.meaning.specs.Plans.{IsBranchRow}
+use Rattle.meaning.specs.Rows.{IsBranchRow}
 use Rattle.reference.specs.Exactly.{Exactly, FromOne}
 use Rattle.reference.proofs.rows.plan_rows.Given as goal
 
