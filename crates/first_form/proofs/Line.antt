@@ -1,16 +1,16 @@
 -- The line of a query: what is read has its text, and the text is read.
-use Rattle.std.proofs.Common.{◌≡◌, ◌⊎◌, ℕ, zero, suc, ◌+◌, ◌<◌, ◌≤◌, Bool, true, false, cond, List, [], ◌∷◌, ◌++◌, length, Option, None, Some, refl, sym, ap, ◌∙◌, subst, inl, inr, arith, append_assoc}
+use Rattle.std.proofs.Common.{◌≡◌, ◌⊎◌, ℕ, List, [], ◌++◌, Option, None, Some, refl, sym, ap, ◌∙◌, subst, inl, inr, append_assoc}
 use Rattle.std.specs.Prelude.{◌&&◌, codes}
 use Rattle.std.specs.List.{list_all}
 use Rattle.std.proofs.lemmas.List.{append-nil}
 use Rattle.std.proofs.lemmas.Bool.{and_parts, and_from}
 use Rattle.first_form.specs.declared.query_form.Asked.{Asked}
 use Rattle.first_form.specs.declared.limits.TheConstants.{MOST_ITEMS}
-use Rattle.first_form.specs.Names.{is_name, is_name_byte, comma_listed, feed}
+use Rattle.first_form.specs.Names.{is_name_byte, comma_listed, feed}
 use Rattle.first_form.specs.Reserved.{is_free}
-use Rattle.first_form.specs.Reading.{◌>>=◌, literal_at, name_at, names_at, end_at, past_feed, asked_of}
+use Rattle.first_form.specs.Reading.{literal_at, name_at, names_at, end_at, past_feed, asked_of}
 use Rattle.first_form.specs.FirstQuery.{query_text, IsQueryLine}
-use Rattle.first_form.proofs.Rows.{bind_found, some_is, some_if, literal_found, name_found, name_again, end_found, Ends}
+use Rattle.first_form.proofs.Rows.{bind_found, some_if, literal_found, name_found, name_again, end_found, Ends}
 use Rattle.first_form.proofs.ListRows.{names_found, names_again}
 
 -- what is left behind the relation's name is a line feed or nothing
@@ -50,7 +50,14 @@ line_found bytes asked e =
     let text : bytes ≡ line_with made relation.1 = rw (h0, l.text, h1, n.0) refl in
     let ends = ending_case (literal_at feed relation.1) relation.1 rest refl is_rest in
     subst (λ (x : Asked). IsQueryLine bytes x) g.1 (record {
-      text = text_cases made bytes relation.1 text ends; names = l.names_are; names_free = free.0; some = l.some; few = l.few; relation = n.1; relation_free = free.1 }))))))
+      text = text_cases made bytes relation.1 text ends;
+      names = l.names_are;
+      names_free = free.0;
+      some = l.some;
+      few = l.few;
+      relation = n.1;
+      relation_free = free.1;
+    }))))))
 
 ending_again : (ending : List ℕ) → (ending ≡ []) ⊎ (ending ≡ feed) → end_at (past_feed ending (literal_at feed ending)) ≡ Some []
 ending_again ending (inl none) = rw none refl

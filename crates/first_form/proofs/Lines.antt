@@ -1,19 +1,19 @@
 -- The three lines: what is read has its text, and the text is read.
-use Rattle.std.proofs.Common.{◌≡◌, ℕ, zero, suc, ◌+◌, ◌<◌, ◌≤◌, Bool, true, false, cond, List, [], ◌∷◌, ◌++◌, length, Option, None, Some, refl, sym, ap, ◌∙◌, subst, arith, append_assoc}
-use Rattle.std.specs.Prelude.{codes, IsUtf8, IsTrue}
+use Rattle.std.proofs.Common.{◌≡◌, ℕ, ◌≤◌, true, List, [], ◌++◌, length, Some, refl, ap, ◌∙◌, subst}
+use Rattle.std.specs.Prelude.{codes, IsUtf8}
 use Rattle.std.specs.List.{list_all}
 use Rattle.meaning.specs.declared.types.Relation.{Relation}
 use Rattle.access_schema.specs.declared.limits.TheConstants.{MOST_COLUMNS, MOST_COST}
 use Rattle.first_form.specs.declared.schema_form.MethodLine.{MethodLine}
-use Rattle.first_form.specs.declared.schema_form.HeldLine.{HeldLine}
+use Rattle.first_form.specs.declared.schema_form.SourceLine.{SourceLine}
 use Rattle.first_form.specs.declared.schema_form.FirstForm.{FirstForm}
 use Rattle.first_form.specs.Names.{is_name, are_digits, is_plain, value_of, comma_listed, feed, all_differ}
-use Rattle.first_form.specs.Reading.{◌>>=◌, literal_at, name_at, names_at, cost_at, locator_at, end_at, relation_at, priced_at, method_at, quoted_at, held_at, form_at, form_of}
+use Rattle.first_form.specs.Reading.{literal_at, name_at, names_at, cost_at, locator_at, end_at, relation_at, priced_at, method_at, quoted_at, source_at, form_at, form_of}
 use Rattle.access_schema.specs.Names.{AllDiffer}
 use Rattle.first_form.specs.ThreeLines.{three_lines, AreThreeLines}
 use Rattle.first_form.proofs.Differ.{AllDiffer-from_test, AllDiffer-test}
-use Rattle.first_form.proofs.Rows.{bind_found, some_is, some_if, literal_found, literal_again, Ends, name_found, name_again, locator_found, locator_again, cost_found, cost_again, end_found}
-use Rattle.first_form.proofs.ListRows.{IsList, names_found, names_again}
+use Rattle.first_form.proofs.Rows.{bind_found, some_is, some_if, literal_found, literal_again, name_found, name_again, locator_found, locator_again, cost_found, cost_again, end_found}
+use Rattle.first_form.proofs.ListRows.{names_found, names_again}
 
 onto : (front : List ℕ) {a b : List ℕ} → a ≡ b → front ++ a ≡ front ++ b
 onto front e = ap (λ (x : List ℕ). front ++ x) e
@@ -135,35 +135,35 @@ quoted_again bytes rest locator line =
     let n = locator_again locator (codes "'" ++ (feed ++ rest)) line.plain line.utf8 refl in
     rw (line.text, n) refl
 
-pub record IsHeldLine (relation : List ℕ) (held : HeldLine) (bytes rest : List ℕ) : Type 0 where
-  pub text : bytes ≡ codes "source " ++ (relation ++ (codes " " ++ (held.kind ++ (codes " '" ++ (held.locator ++ (codes "'" ++ (feed ++ rest)))))))
-  pub kind : is_name held.kind ≡ true
-  pub plain : list_all is_plain held.locator ≡ true
-  pub utf8 : IsUtf8 held.locator
+pub record IsSourceLine (relation : List ℕ) (source : SourceLine) (bytes rest : List ℕ) : Type 0 where
+  pub text : bytes ≡ codes "source " ++ (relation ++ (codes " " ++ (source.kind ++ (codes " '" ++ (source.locator ++ (codes "'" ++ (feed ++ rest)))))))
+  pub kind : is_name source.kind ≡ true
+  pub plain : list_all is_plain source.locator ≡ true
+  pub utf8 : IsUtf8 source.locator
 
-pub held_found : (relation bytes rest : List ℕ) (held : HeldLine) → held_at relation bytes ≡ Some (held, rest) → IsHeldLine relation held bytes rest
-held_found relation bytes rest held e =
-    bind_found (literal_at (codes "source ") bytes) _ (held, rest) e (λ a is_a e1.
-    bind_found (literal_at relation a) _ (held, rest) e1 (λ b is_b e2.
-    bind_found (literal_at (codes " ") b) _ (held, rest) e2 (λ c is_c e3.
-    bind_found (name_at c) _ (held, rest) e3 (λ kind is_kind e4.
-    bind_found (quoted_at kind.1) _ (held, rest) e4 (λ locator is_locator e5.
-    let made : HeldLine = record { kind = kind.0; locator = locator.0 } in
-    let p = some_is (made, locator.1) (held, rest) e5 in
+pub source_found : (relation bytes rest : List ℕ) (source : SourceLine) → source_at relation bytes ≡ Some (source, rest) → IsSourceLine relation source bytes rest
+source_found relation bytes rest source e =
+    bind_found (literal_at (codes "source ") bytes) _ (source, rest) e (λ a is_a e1.
+    bind_found (literal_at relation a) _ (source, rest) e1 (λ b is_b e2.
+    bind_found (literal_at (codes " ") b) _ (source, rest) e2 (λ c is_c e3.
+    bind_found (name_at c) _ (source, rest) e3 (λ kind is_kind e4.
+    bind_found (quoted_at kind.1) _ (source, rest) e4 (λ locator is_locator e5.
+    let made : SourceLine = record { kind = kind.0; locator = locator.0 } in
+    let p = some_is (made, locator.1) (source, rest) e5 in
     let n = name_found c kind.0 kind.1 is_kind in
     let q = quoted_found kind.1 locator.1 locator.0 is_locator in
     let h0 = literal_found (codes "source ") bytes a is_a in
     let h1 = literal_found relation a b is_b in
     let h2 = literal_found (codes " ") b c is_c in
-    let P : HeldLine × List ℕ → Type 0 = λ q. IsHeldLine relation q.0 bytes q.1 in
+    let P : SourceLine × List ℕ → Type 0 = λ q. IsSourceLine relation q.0 bytes q.1 in
     subst P p (record { text = rw (h0, h1, h2, n.0, q.text) refl; kind = n.1; plain = q.plain; utf8 = q.utf8 }))))))
 
-pub held_again : (relation bytes rest : List ℕ) (held : HeldLine) → IsHeldLine relation held bytes rest → held_at relation bytes ≡ Some (held, rest)
-held_again relation bytes rest held line =
-    let quoted : List ℕ = codes " '" ++ (held.locator ++ (codes "'" ++ (feed ++ rest))) in
-    let h = literal_again relation (codes " " ++ (held.kind ++ quoted)) in
-    let n = name_again held.kind quoted line.kind refl in
-    let q = quoted_again quoted rest held.locator (record { text = refl; plain = line.plain; utf8 = line.utf8 }) in
+pub source_again : (relation bytes rest : List ℕ) (source : SourceLine) → IsSourceLine relation source bytes rest → source_at relation bytes ≡ Some (source, rest)
+source_again relation bytes rest source line =
+    let quoted : List ℕ = codes " '" ++ (source.locator ++ (codes "'" ++ (feed ++ rest))) in
+    let h = literal_again relation (codes " " ++ (source.kind ++ quoted)) in
+    let n = name_again source.kind quoted line.kind refl in
+    let q = quoted_again quoted rest source.locator (record { text = refl; plain = line.plain; utf8 = line.utf8 }) in
     rw (line.text, h, n, q) refl
 
 -- ---- the three lines
@@ -172,24 +172,37 @@ three_found : (bytes rest : List ℕ) (form : FirstForm) → form_at bytes ≡ S
 three_found bytes rest form e ends =
     bind_found (relation_at bytes) _ (form, rest) e (λ relation is_relation e1.
     bind_found (method_at relation.0.name relation.1) _ (form, rest) e1 (λ method is_method e2.
-    bind_found (held_at relation.0.name method.1) _ (form, rest) e2 (λ held is_held e3.
-    let made : FirstForm = record { relation = relation.0; method = method.0; held = held.0 } in
-    let p = some_is (made, held.1) (form, rest) e3 in
+    bind_found (source_at relation.0.name method.1) _ (form, rest) e2 (λ source is_held e3.
+    let made : FirstForm = record { relation = relation.0; method = method.0; source = source.0 } in
+    let p = some_is (made, source.1) (form, rest) e3 in
     let r = relation_found bytes relation.1 relation.0 is_relation in
     let m = method_found relation.0.name relation.1 method.1 method.0 is_method in
-    let h = held_found relation.0.name method.1 held.1 held.0 is_held in
-    let done : held.1 ≡ [] = ap (λ (q : FirstForm × List ℕ). q.1) p ∙ ends in
+    let h = source_found relation.0.name method.1 source.1 source.0 is_held in
+    let done : source.1 ≡ [] = ap (λ (q : FirstForm × List ℕ). q.1) p ∙ ends in
     let name = relation.0.name in
-    let here : method.1 ≡ codes "source " ++ (name ++ (codes " " ++ (held.0.kind ++ (codes " '" ++ (held.0.locator ++ (codes "'" ++ feed)))))) =
-        h.text ∙ ap (λ (x : List ℕ). codes "source " ++ (name ++ (codes " " ++ (held.0.kind ++ (codes " '" ++ (held.0.locator ++ (codes "'" ++ (feed ++ x)))))))) done in
-    let before : relation.1 ≡ codes "method " ++ (method.0.name ++ (codes " on " ++ (name ++ (codes "() cost " ++ (m.digits ++ (feed ++ (codes "source " ++ (name ++ (codes " " ++ (held.0.kind ++ (codes " '" ++ (held.0.locator ++ (codes "'" ++ feed))))))))))))) =
-        m.text ∙ ap (λ (x : List ℕ). codes "method " ++ (method.0.name ++ (codes " on " ++ (name ++ (codes "() cost " ++ (m.digits ++ (feed ++ x))))))) here in
+    let here : method.1 ≡ codes "source " ++ (name ++ (codes " " ++ (source.0.kind ++ (codes " '" ++ (source.0.locator ++ (codes "'" ++ feed)))))) =
+    h.text ∙ ap (λ (x : List ℕ). codes "source " ++ (name ++ (codes " " ++ (source.0.kind ++ (codes " '" ++ (source.0.locator ++ (codes "'" ++ (feed ++ x)))))))) done in
+    let before : relation.1 ≡ codes "method " ++ (method.0.name ++ (codes " on " ++ (name ++ (codes "() cost " ++ (m.digits ++ (feed ++ (codes "source " ++ (name ++ (codes " " ++ (source.0.kind ++ (codes " '" ++ (source.0.locator ++ (codes "'" ++ feed))))))))))))) =
+    m.text ∙ ap (λ (x : List ℕ). codes "method " ++ (method.0.name ++ (codes " on " ++ (name ++ (codes "() cost " ++ (m.digits ++ (feed ++ x))))))) here in
     let text : bytes ≡ three_lines made m.digits =
-        r.text ∙ ap (λ (x : List ℕ). codes "relation " ++ (name ++ (codes "(" ++ (comma_listed relation.0.columns ++ (codes ")" ++ (feed ++ x)))))) before in
+    r.text ∙ ap (λ (x : List ℕ). codes "relation " ++ (name ++ (codes "(" ++ (comma_listed relation.0.columns ++ (codes ")" ++ (feed ++ x)))))) before in
     let P : FirstForm × List ℕ → Type 0 = λ q. AllDiffer q.0.relation.columns → AreThreeLines bytes q.0 in
     subst P p (λ differ. record {
-      digits = m.digits; text = text; relation = r.name; columns = r.columns; some = r.some; few = r.few; differ = differ;
-      method = m.name; numeral = m.numeral; cost = m.cost_is; limit = m.limit; kind = h.kind; locator = h.plain; utf8 = h.utf8 }))))
+      digits = m.digits;
+      text = text;
+      relation = r.name;
+      columns = r.columns;
+      some = r.some;
+      few = r.few;
+      differ = differ;
+      method = m.name;
+      numeral = m.numeral;
+      cost = m.cost_is;
+      limit = m.limit;
+      kind = h.kind;
+      locator = h.plain;
+      utf8 = h.utf8;
+    }))))
 
 -- what is read is three lines
 pub lines_found : (bytes : List ℕ) (form : FirstForm) → form_of bytes ≡ Some form → AreThreeLines bytes form
@@ -204,10 +217,10 @@ lines_found bytes form e =
 pub lines_again : (bytes : List ℕ) (form : FirstForm) → AreThreeLines bytes form → form_of bytes ≡ Some form
 lines_again bytes form lines =
     let name = form.relation.name in
-    let third : List ℕ = codes "source " ++ (name ++ (codes " " ++ (form.held.kind ++ (codes " '" ++ (form.held.locator ++ (codes "'" ++ (feed ++ []))))))) in
+    let third : List ℕ = codes "source " ++ (name ++ (codes " " ++ (form.source.kind ++ (codes " '" ++ (form.source.locator ++ (codes "'" ++ (feed ++ []))))))) in
     let second : List ℕ = codes "method " ++ (form.method.name ++ (codes " on " ++ (name ++ (codes "() cost " ++ (lines.digits ++ (feed ++ third)))))) in
     let first : List ℕ = codes "relation " ++ (name ++ (codes "(" ++ (comma_listed form.relation.columns ++ (codes ")" ++ (feed ++ second))))) in
     let r = relation_again first second form.relation (record { text = refl; name = lines.relation; columns = lines.columns; some = lines.some; few = lines.few }) in
     let m = method_again name second third form.method (record { digits = lines.digits; text = refl; name = lines.method; numeral = lines.numeral; cost_is = lines.cost; limit = lines.limit }) in
-    let h = held_again name third [] form.held (record { text = refl; kind = lines.kind; plain = lines.locator; utf8 = lines.utf8 }) in
+    let h = source_again name third [] form.source (record { text = refl; kind = lines.kind; plain = lines.locator; utf8 = lines.utf8 }) in
     rw (lines.text, r, m, h, AllDiffer-test form.relation.columns lines.differ) refl

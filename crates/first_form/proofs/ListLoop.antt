@@ -1,9 +1,9 @@
 -- Names of a list, read one after another in a loop.
-use Rattle.std.proofs.Common.{◌≡◌, ℕ, zero, suc, ◌+◌, ◌-◌, ◌<◌, ◌≤◌, List, [], ◌∷◌, ◌++◌, Option, None, Some, Result, Ok, Err, refl, sym, ap, ◌∙◌, arith}
+use Rattle.std.proofs.Common.{◌≡◌, ℕ, suc, ◌+◌, ◌-◌, ◌<◌, ◌≤◌, List, [], ◌∷◌, ◌++◌, Option, None, Some, Err, refl, sym, ◌∙◌, arith}
 use Rattle.std.specs.Prelude.{codes}
 use Rattle.first_form.specs.declared.fault.FormFault.{FormFault}
 use Rattle.first_form.specs.declared.fault.FormFault.TheVariants as fault
-use Rattle.first_form.specs.Reading.{◌>>=◌, literal_at, name_at, next_name, names_from, Gives}
+use Rattle.first_form.specs.Reading.{literal_at, name_at, names_from, Gives}
 
 -- a name, and a comma and a blank
 pub goes_on : (n i : ℕ) (done : List (List ℕ)) (here rest after x : List ℕ) (total : Option (List (List ℕ) × List ℕ)) →

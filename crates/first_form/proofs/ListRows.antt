@@ -1,10 +1,10 @@
 -- Lists of names: what is read is a list, and a list is read.
-use Rattle.std.proofs.Common.{◌≡◌, ℕ, zero, suc, ◌+◌, ◌-◌, ◌<◌, ◌≤◌, Bool, true, false, cond, List, [], ◌∷◌, ◌++◌, length, Option, None, Some, refl, sym, ap, ◌∙◌, arith, append_assoc}
-use Rattle.std.specs.Prelude.{◌&&◌, codes, flat_map}
+use Rattle.std.proofs.Common.{◌≡◌, ℕ, zero, suc, ◌<◌, ◌≤◌, true, List, [], ◌∷◌, ◌++◌, length, Option, None, Some, refl, sym, ap, ◌∙◌, arith, append_assoc}
+use Rattle.std.specs.Prelude.{codes, flat_map}
 use Rattle.std.specs.List.{list_all}
 use Rattle.std.proofs.lemmas.Bool.{and_parts, and_from}
 use Rattle.first_form.specs.Names.{is_name, is_name_byte, comma_listed}
-use Rattle.first_form.specs.Reading.{◌>>=◌, literal_at, name_at, next_name, names_from, names_at}
+use Rattle.first_form.specs.Reading.{literal_at, name_at, next_name, names_from, names_at}
 use Rattle.first_form.proofs.Rows.{bind_some, some_is, literal_found, Ends, name_found, name_again}
 
 -- the further names of a list
@@ -33,8 +33,14 @@ next_found turns done names head bytes mid rest (Some after) again text named ne
     let c : mid ≡ codes ", " ++ after = literal_found (codes ", ") mid after next in
     let here : mid ≡ further (r.head ∷ r.more) ++ rest = c ∙ ap (λ (x : List ℕ). codes ", " ++ x) (r.text ∙ sym (append_assoc r.head (further r.more) rest)) in
     let few = r.few in
-    record { head = head; more = r.head ∷ r.more; all = r.all ∙ append_assoc done (head ∷ []) (r.head ∷ r.more);
-      text = text ∙ ap (λ (x : List ℕ). head ++ x) here; names_are = and_from (is_name head) (list_all is_name (r.head ∷ r.more)) named r.names_are; few = omega (arith, few) }
+    record {
+      head = head;
+      more = r.head ∷ r.more;
+      all = r.all ∙ append_assoc done (head ∷ []) (r.head ∷ r.more);
+      text = text ∙ ap (λ (x : List ℕ). head ++ x) here;
+      names_are = and_from (is_name head) (list_all is_name (r.head ∷ r.more)) named r.names_are;
+      few = omega (arith, few);
+    }
 
 names_from_found : (turns : ℕ) (done names : List (List ℕ)) (bytes rest : List ℕ) → names_from turns done bytes ≡ Some (names, rest) → Adds turns done names bytes rest
 unfolding names_from

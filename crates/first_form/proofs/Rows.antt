@@ -1,14 +1,14 @@
 -- What is read stands at the front, and what stands at the front is read.
-use Rattle.std.proofs.Common.{◌≡◌, ℕ, zero, suc, ◌+◌, ◌-◌, ◌*◌, ◌<◌, ◌≤◌, Bool, true, false, cond, List, [], ◌∷◌, ◌++◌, length, get_or, take, drop, Option, None, Some, refl, sym, ap, ◌∙◌, arith, append_assoc, eqb, inl, inr}
-use Rattle.std.specs.Prelude.{◌&&◌, IsUtf8, IsAscii, nat_eq, nat_le, codes}
+use Rattle.std.proofs.Common.{◌≡◌, ℕ, zero, suc, ◌+◌, ◌<◌, ◌≤◌, Bool, true, false, cond, List, [], ◌∷◌, ◌++◌, length, take, drop, Option, None, Some, refl, sym, ap, arith, inl, inr}
+use Rattle.std.specs.Prelude.{◌&&◌, IsUtf8, IsAscii, nat_eq, nat_le}
 use Rattle.std.specs.Str.{is_utf8}
 use Rattle.std.specs.List.{prefix_len, list_all}
 use Rattle.std.proofs.lemmas.Str.{is_utf8-from_IsUtf8, IsUtf8-from_is_utf8, IsUtf8-from_ascii}
-use Rattle.std.proofs.lemmas.Bool.{lt-leb, le-leb, leb-true, eqb-true, eq-eqb, and_parts, and_from, or_cases, cases_Bool, cond-true}
+use Rattle.std.proofs.lemmas.Bool.{le-leb, leb-true, eqb-true, eq-eqb, and_parts, and_from, or_cases, cond-true}
 use Rattle.std.proofs.lemmas.List.{take-append-drop, take_at, drop_at}
 use Rattle.access_schema.specs.declared.limits.TheConstants.{MOST_COST}
 use Rattle.first_form.specs.declared.scanner.Run.{Run}
-use Rattle.first_form.specs.declared.scanner.Run.TheVariants.{Name, Digits, Plain}
+use Rattle.first_form.specs.declared.scanner.Run.TheVariants.{Name, Plain}
 use Rattle.first_form.specs.Names.{is_letter, is_digit, is_name_byte, is_name, are_digits, is_plain, value_of}
 use Rattle.first_form.specs.Reading.{◌>>=◌, belongs, literal_at, run_at, starts_name, name_at, locator_at, cost_of, with_rest, cost_at, end_at}
 

@@ -1,13 +1,9 @@
 -- The schema that three lines say.
-use Rattle.std.proofs.Common.{◌≡◌, ◌≢◌, ℕ, suc, ◌<◌, ◌≤◌, Bool, true, false, List, [], ◌∷◌, length, get_or, Option, None, Some, Result, Ok, Err, refl, sym, ap, ◌∙◌, subst}
-use Rattle.std.specs.Prelude.{IsErrOf, Contains, IfOk}
-use Rattle.std.specs.List.{list_all}
+use Rattle.std.proofs.Common.{◌≡◌, ◌≢◌, ℕ, true, List, [], ◌∷◌, Option, None, Some, Result, Ok, Err, subst}
+use Rattle.std.specs.Prelude.{IsErrOf, IfOk}
 use Rattle.std.proofs.lemmas.List.Sums.{AllPass-from_list_all}
-use Rattle.access_schema.specs.Names.{AllDiffer}
 use Rattle.access_schema.specs.Invariant.{AreColumns}
-use Rattle.access_schema.specs.declared.limits.TheConstants.{MOST_COLUMNS}
 use Rattle.access_schema.specs.declared.schema.Schema.{Schema}
-use Rattle.meaning.specs.declared.types.Relation.{Relation}
 use Rattle.first_form.specs.declared.fault.FormFault.{FormFault}
 use Rattle.first_form.specs.declared.fault.FormFault.TheVariants as fault
 use Rattle.first_form.specs.declared.schema_form.FirstForm.{FirstForm}
@@ -29,8 +25,12 @@ name-some (b ∷ bs) e same = absurd cc
 pub columns_are : (form : FirstForm) (bytes : List ℕ) → AreThreeLines bytes form → AreColumns form.relation.columns
 columns_are form bytes lines =
     let each = AllPass-from_list_all is_name form.relation.columns lines.columns in
-    record { some = lines.some; few = lines.few; differ = lines.differ;
-      named = λ column there. name-some column (subst (λ (x : List ℕ). is_name x ≡ true) there.2 (each there.0 column there.1)) }
+    record {
+      some = lines.some;
+      few = lines.few;
+      differ = lines.differ;
+      named = λ column there. name-some column (subst (λ (x : List ℕ). is_name x ≡ true) there.2 (each there.0 column there.1));
+    }
 
 pub no_schema : (e : FormFault) (bytes : List ℕ) → Answers {X = FirstForm} (Err e) (form_of bytes) → IsErrOf {T = Schema} (Err e) fault.NoForm → (schema : Schema) → IsFirstSchema bytes schema → ⊥
 no_schema e bytes answers none schema first =

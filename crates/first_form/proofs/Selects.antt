@@ -1,10 +1,9 @@
 -- The select that a line says over a schema.
-use Rattle.std.proofs.Common.{◌≡◌, ◌≢◌, ℕ, zero, suc, ◌+◌, ◌<◌, ◌≤◌, ◌^◌, Bool, true, false, cond, List, [], ◌∷◌, ◌++◌, length, map, get_or, Option, None, Some, option_map, Result, Ok, Err, refl, sym, ap, ◌∙◌, subst, inl, inr, arith, append_assoc}
-use Rattle.std.specs.Prelude.{Contains, IsErrOf, IfOk, nat_eq, slice_get}
+use Rattle.std.proofs.Common.{◌≡◌, ◌≢◌, ℕ, zero, suc, ◌+◌, ◌<◌, ◌^◌, Bool, true, false, cond, List, [], ◌∷◌, ◌++◌, length, Option, None, Some, option_map, Result, Err, refl, sym, ap, ◌∙◌, subst, arith, append_assoc}
+use Rattle.std.specs.Prelude.{Contains, IsErrOf, nat_eq, slice_get}
 use Rattle.std.specs.List.{AllZip}
 use Rattle.std.specs.Cmp.Lexicographic.{pointwise}
 use Rattle.std.proofs.lemmas.Option.{slice_get-map, slice_get_within, get_or_from_slice_get}
-use Rattle.std.proofs.lemmas.Bool.{cases_Bool}
 use Rattle.std.proofs.lemmas.List.{append-nil}
 use Rattle.meaning.specs.declared.types.Relation.{Relation}
 use Rattle.meaning.specs.declared.types.Operand.{Operand}
@@ -16,7 +15,7 @@ use Rattle.access_schema.specs.declared.schema.Schema.{Schema}
 use Rattle.first_form.specs.declared.fault.FormFault.{FormFault}
 use Rattle.first_form.specs.declared.fault.FormFault.TheVariants as fault
 use Rattle.first_form.specs.declared.query_form.Asked.{Asked}
-use Rattle.first_form.specs.Reading.{◌>>=◌, place_from, items_from, Answers, asked_of}
+use Rattle.first_form.specs.Reading.{place_from, items_from, Answers, asked_of}
 use Rattle.first_form.specs.FirstQuery.{IsItem, IsSelect, IsFirstQuery}
 use Rattle.first_form.proofs.Rows.{some_is, bind_found}
 use Rattle.first_form.proofs.Differ.{same_text, text_itself}
@@ -80,7 +79,7 @@ items_some columns done (name ∷ names) (item ∷ items) zip =
 
 -- ---- the relation
 
-contains-at : {X : Type 0} (xs : List X) (k : ℕ) (x : X) → slice_get xs k ≡ Some x → Contains xs x
+pub contains-at : {X : Type 0} (xs : List X) (k : ℕ) (x : X) → slice_get xs k ≡ Some x → Contains xs x
 contains-at xs k x at = (k, slice_get_within xs k x at, get_or_from_slice_get xs k x x at)
 
 -- the relation at a place has its name there
@@ -89,7 +88,7 @@ name_there schema number relation there =
     slice_get-map (λ (r : Relation). r.name) schema.relations number ∙ ap (option_map (λ (r : Relation). r.name)) there
 
 -- the relation with a name stands at one place
-same_relation : (schema : Schema) (name : List ℕ) (m n : ℕ) (r s : Relation) → slice_get schema.relations m ≡ Some r → slice_get schema.relations n ≡ Some s → r.name ≡ name → s.name ≡ name → (m ≡ n) × (r ≡ s)
+pub same_relation : (schema : Schema) (name : List ℕ) (m n : ℕ) (r s : Relation) → slice_get schema.relations m ≡ Some r → slice_get schema.relations n ≡ Some s → r.name ≡ name → s.name ≡ name → (m ≡ n) × (r ≡ s)
 same_relation schema name m n r s at_m at_n named_r named_s =
     let p = name_there schema m r at_m ∙ ap (λ (x : List ℕ). Some x) named_r in
     let q = name_there schema n s at_n ∙ ap (λ (x : List ℕ). Some x) named_s in
@@ -125,8 +124,16 @@ no_place schema asked number none named =
 pub selected : (schema : Schema) (asked : Asked) (number : ℕ) (relation : Relation) (items : List Operand) → slice_get schema.relations number ≡ Some relation → slice_get (relation_names schema.relations) number ≡ Some asked.relation →
     items_from relation.columns [] asked.names ≡ Some items → IsSelect schema asked (record { froms = number ∷ []; conditions = []; items = items; names = asked.names })
 selected schema asked number relation items there named read =
-    record { number = number; relation = relation; there = there; named = some_is relation.name asked.relation (sym (name_there schema number relation there) ∙ named);
-      froms = refl; conditions = refl; items = items_found relation.columns asked.names items read; names = refl }
+    record {
+      number = number;
+      relation = relation;
+      there = there;
+      named = some_is relation.name asked.relation (sym (name_there schema number relation there) ∙ named);
+      froms = refl;
+      conditions = refl;
+      items = items_found relation.columns asked.names items read;
+      names = refl;
+    }
 
 -- ---- what the calls gave
 

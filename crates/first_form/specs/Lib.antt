@@ -1,6 +1,6 @@
 pub mod Names
-pub mod Reading
+pub mod Reserved
 pub mod ThreeLines
 pub mod FirstSchema
-pub mod Reserved
 pub mod FirstQuery
+pub mod Reading

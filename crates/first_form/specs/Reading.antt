@@ -1,5 +1,5 @@
--- What stands at the front of bytes, and the bytes behind it.
-use Rattle.std.specs.Prelude.{◌≡◌, ◌+◌, ◌++◌, ℕ, zero, suc, Bool, true, false, ◌&&◌, List, [], ◌∷◌, Option, None, Some, Result, Ok, Err, codes, length, take, drop, nat_eq, nat_le, if◌then◌else◌}
+-- What the private readers compute: what stands at the front of bytes, and the bytes behind it. No public clause names this file.
+use Rattle.std.specs.Prelude.{◌≡◌, ◌+◌, ◌++◌, ℕ, zero, suc, Bool, false, ◌&&◌, List, [], ◌∷◌, Option, None, Some, Result, Ok, Err, codes, take, drop, nat_eq, nat_le, if◌then◌else◌}
 use Rattle.std.specs.List.{prefix_len, list_all}
 use Rattle.std.specs.Str.{is_utf8}
 use Rattle.first_form.specs.declared.fault.FormFault.{FormFault}
@@ -8,7 +8,7 @@ use Rattle.first_form.specs.declared.scanner.Run.{Run}
 use Rattle.first_form.specs.declared.scanner.Run.TheVariants.{Name, Digits, Plain}
 use Rattle.access_schema.specs.declared.limits.TheConstants.{MOST_COST, MOST_COLUMNS}
 use Rattle.first_form.specs.declared.schema_form.MethodLine.{MethodLine}
-use Rattle.first_form.specs.declared.schema_form.HeldLine.{HeldLine}
+use Rattle.first_form.specs.declared.schema_form.SourceLine.{SourceLine}
 use Rattle.first_form.specs.declared.schema_form.FirstForm.{FirstForm}
 use Rattle.first_form.specs.declared.query_form.Asked.{Asked}
 use Rattle.first_form.specs.declared.limits.TheConstants.{MOST_ITEMS}
@@ -131,8 +131,8 @@ quoted_at bytes =
     literal_at (codes "'" ++ feed) locator.1 >>= λ b.
     Some (locator.0, b)
 
-abbrev pub held_at : List ℕ → List ℕ → Option (HeldLine × List ℕ)
-held_at relation bytes =
+abbrev pub source_at : List ℕ → List ℕ → Option (SourceLine × List ℕ)
+source_at relation bytes =
     literal_at (codes "source ") bytes >>= λ a.
     literal_at relation a >>= λ b.
     literal_at (codes " ") b >>= λ c.
@@ -144,8 +144,8 @@ abbrev pub form_at : List ℕ → Option (FirstForm × List ℕ)
 form_at bytes =
     relation_at bytes >>= λ relation.
     method_at relation.0.name relation.1 >>= λ method.
-    held_at relation.0.name method.1 >>= λ held.
-    Some (record { relation = relation.0; method = method.0; held = held.0 }, held.1)
+    source_at relation.0.name method.1 >>= λ source.
+    Some (record { relation = relation.0; method = method.0; source = source.0 }, source.1)
 
 abbrev pub form_of : List ℕ → Option FirstForm
 form_of bytes =

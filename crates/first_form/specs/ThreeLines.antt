@@ -13,7 +13,7 @@ abbrev pub three_lines : FirstForm → List ℕ → List ℕ
 three_lines form digits = concat (
     codes "relation " ∷ form.relation.name ∷ codes "(" ∷ comma_listed form.relation.columns ∷ codes ")" ∷ feed
     ∷ codes "method " ∷ form.method.name ∷ codes " on " ∷ form.relation.name ∷ codes "() cost " ∷ digits ∷ feed
-    ∷ codes "source " ∷ form.relation.name ∷ codes " " ∷ form.held.kind ∷ codes " '" ∷ form.held.locator ∷ codes "'" ∷ feed ∷ [])
+    ∷ codes "source " ∷ form.relation.name ∷ codes " " ∷ form.source.kind ∷ codes " '" ∷ form.source.locator ∷ codes "'" ∷ feed ∷ [])
 
 -- the bytes are three lines that say this
 pub record AreThreeLines (bytes : List ℕ) (form : FirstForm) : Type 0 where
@@ -28,6 +28,6 @@ pub record AreThreeLines (bytes : List ℕ) (form : FirstForm) : Type 0 where
   pub numeral : IsTrue (are_digits digits)
   pub cost : form.method.cost ≡ value_of digits
   pub limit : form.method.cost ≤ MOST_COST
-  pub kind : IsTrue (is_name form.held.kind)
-  pub locator : IsTrue (list_all is_plain form.held.locator)
-  pub utf8 : IsUtf8 form.held.locator
+  pub kind : IsTrue (is_name form.source.kind)
+  pub locator : IsTrue (list_all is_plain form.source.locator)
+  pub utf8 : IsUtf8 form.source.locator

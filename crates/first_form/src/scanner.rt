@@ -211,6 +211,10 @@ impl<'a> Scanner<'a> {
     pub fn end(&self) -> Result<(), FormFault>
         ensures { GivesRest self.now result (end_at self.now) }
     {
-        if self.rest.is_empty() { Ok(()) } else { Err(FormFault::NoForm) }
+        if self.rest.is_empty() {
+            Ok(())
+        } else {
+            Err(FormFault::NoForm)
+        }
     }
 }

@@ -1,6 +1,6 @@
 // The three lines of a schema: one relation, one access method without inputs, one source.
 ghost use Rattle.std.specs.Prelude.{◌≡◌, None, Some, MatchResult};
-ghost use Rattle.first_form.specs.Reading.{relation_at, priced_at, method_at, quoted_at, held_at, form_at, form_of, Gives, Answers};
+ghost use Rattle.first_form.specs.Reading.{relation_at, priced_at, method_at, quoted_at, source_at, form_at, form_of, Gives, Answers};
 
 use crate::fault::FormFault;
 use crate::names::{all_differ, names};
@@ -19,7 +19,7 @@ pub struct MethodLine {
 
 /// Which kind of source holds the relation, and where.
 #[derive(Drop)]
-pub struct HeldLine {
+pub struct SourceLine {
     pub kind: Text,
     pub locator: Text,
 }
@@ -29,7 +29,7 @@ pub struct HeldLine {
 pub struct FirstForm {
     pub relation: Relation,
     pub method: MethodLine,
-    pub held: HeldLine,
+    pub source: SourceLine,
 }
 
 fn relation_line(alloc: Global, scanner: &mut Scanner<'_>) -> Result<Relation, FormFault>
@@ -54,7 +54,11 @@ fn priced(scanner: &mut Scanner<'_>, relation: &Text) -> Result<u32, FormFault>
     Ok(cost)
 }
 
-fn method_line(alloc: Global, scanner: &mut Scanner<'_>, relation: &Text) -> Result<MethodLine, FormFault>
+fn method_line(
+    alloc: Global,
+    scanner: &mut Scanner<'_>,
+    relation: &Text,
+) -> Result<MethodLine, FormFault>
     ensures { Gives scanner.new result (method_at relation.now scanner.old) }
 {
     scanner.literal(b"method ")?;
@@ -73,15 +77,19 @@ fn quoted(alloc: Global, scanner: &mut Scanner<'_>) -> Result<Text, FormFault>
     Ok(locator)
 }
 
-fn held_line(alloc: Global, scanner: &mut Scanner<'_>, relation: &Text) -> Result<HeldLine, FormFault>
-    ensures { Gives scanner.new result (held_at relation.now scanner.old) }
+fn source_line(
+    alloc: Global,
+    scanner: &mut Scanner<'_>,
+    relation: &Text,
+) -> Result<SourceLine, FormFault>
+    ensures { Gives scanner.new result (source_at relation.now scanner.old) }
 {
     scanner.literal(b"source ")?;
     scanner.literal(relation.as_bytes())?;
     scanner.literal(b" ")?;
     let kind = scanner.name(alloc)?;
     let locator = quoted(alloc, scanner)?;
-    Ok(HeldLine { kind, locator })
+    Ok(SourceLine { kind, locator })
 }
 
 fn three_lines(alloc: Global, scanner: &mut Scanner<'_>) -> Result<FirstForm, FormFault>
@@ -89,11 +97,11 @@ fn three_lines(alloc: Global, scanner: &mut Scanner<'_>) -> Result<FirstForm, Fo
 {
     let relation = relation_line(alloc, scanner)?;
     let method = method_line(alloc, scanner, &relation.name)?;
-    let held = held_line(alloc, scanner, &relation.name)?;
+    let source = source_line(alloc, scanner, &relation.name)?;
     Ok(FirstForm {
         relation,
         method,
-        held,
+        source,
     })
 }
 

@@ -27,7 +27,7 @@ fn schema_of(alloc: Global, form: FirstForm) -> Result<Schema, FormFault>
     requires columns { AreColumns form.relation.columns }
     requires method { form.method.name ≢ [] }
     requires cost { form.method.cost ≤ MOST_COST }
-    requires kind { form.held.kind ≢ [] }
+    requires kind { form.source.kind ≢ [] }
     ensures schema { IfOk result (λ schema. HasForm form schema) }
     ensures memory { IfErr result (λ fault. fault ≡ FormFault.NoMemory) }
 {
@@ -38,11 +38,9 @@ fn schema_of(alloc: Global, form: FirstForm) -> Result<Schema, FormFault>
 }
 
 fn parts(alloc: Global, form: FirstForm) -> Result<Parts, NoMemory>
-    ensures {
-        IfOk result (λ parts. parts ≡ Part.Relation form.relation.name form.relation.columns
-            ∷ Part.Method form.method.name form.relation.name [] form.method.cost
-            ∷ Part.Source form.relation.name form.held.kind form.held.locator ∷ [])
-    }
+    ensures { IfOk result (λ parts. parts ≡ Part.Relation form.relation.name form.relation.columns
+        ∷ Part.Method form.method.name form.relation.name [] form.method.cost
+        ∷ Part.Source form.relation.name form.source.kind form.source.locator ∷ []) }
 {
     let mut parts = Seq::new(alloc);
     let accessed = form.relation.name.copy(alloc)?;
@@ -59,8 +57,8 @@ fn parts(alloc: Global, form: FirstForm) -> Result<Parts, NoMemory>
     })?;
     parts.push(Part::Source {
         relation: sourced,
-        kind: form.held.kind,
-        locator: form.held.locator,
+        kind: form.source.kind,
+        locator: form.source.locator,
     })?;
     Ok(parts)
 }

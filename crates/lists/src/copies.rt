@@ -7,6 +7,7 @@ use std::alloc::{AllocError, Global};
 ///
 /// `Clone` of std promises nothing of the copy under a bound; this trait promises that it is the same value.
 pub trait Copies: Drop {
+    /// A copy of the value.
     fn copy(&self, alloc: Global) -> Result<Self, AllocError>
         ensures { IfOk result (λ same. same ≡ self.now) };
 }

@@ -5,6 +5,7 @@ ghost use Rattle.std.specs.Prelude.{◌≡◌, ◌↔◌, IsTrue};
 ///
 /// `==` under the bound `PartialEq` says only what that type's own test says.
 pub trait Exact {
+    /// Whether the two values are the same.
     fn same(&self, other: &Self) -> bool
         ensures { IsTrue result ↔ (self.now ≡ other.now) };
 }

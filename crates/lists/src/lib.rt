@@ -33,3 +33,6 @@ pub type Rows = Seq<Row>;
 
 /// Positions of columns, or numbers of relations.
 pub type Places = Seq<u32>;
+
+#[cfg(test)]
+mod tests;

@@ -26,13 +26,14 @@ impl Model for Text {
 }
 
 impl Text {
-    /// Takes no memory.
+    /// The text of a string. Takes no memory.
     pub fn new(inner: String) -> Text
         ensures { result ≡ string_bytes inner }
     {
         Text { inner }
     }
 
+    /// A text with a copy of these characters.
     pub fn from_str(alloc: Global, text: &str) -> Result<Text, AllocError>
         ensures { IfOk result (λ t. t ≡ text.now) }
     {
@@ -41,19 +42,21 @@ impl Text {
         })
     }
 
+    /// The characters, lent. Takes no memory.
     pub fn as_str(&self) -> &str
         ensures { result.now ≡ self.now }
     {
         self.inner.as_str()
     }
 
+    /// The bytes, lent. Takes no memory.
     pub fn as_bytes(&self) -> &[u8]
         ensures { result.now ≡ self.now }
     {
         self.inner.as_bytes()
     }
 
-    /// Takes no memory.
+    /// The string of the text. Takes no memory.
     pub fn into_string(self) -> String
         ensures { string_bytes result ≡ self }
     {

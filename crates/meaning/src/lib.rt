@@ -5,6 +5,8 @@
 //! them by an example. The laws between them are the crate `meaning_laws`.
 #![tactic(auto)]
 
+mod copied;
+mod sameness;
 pub mod types;
 
 ghost use Rattle.std.specs.Prelude.{◌≡◌, ◌↔◌, ◌+◌, ◌<◌, ◌^◌, IsTrue, length};
@@ -32,3 +34,6 @@ pub fn columns_made(columns: u32, places: &[Place]) -> u32
     }
     total
 }
+
+#[cfg(test)]
+mod tests;

@@ -1,7 +1,6 @@
 // Plain data: what schemas, queries, plans and labelled states are made of.
 
-use lists::{Copies, Exact, Places, Row, Seq, Text, Texts};
-use std::alloc::{AllocError, Global};
+use lists::{Places, Row, Seq, Text, Texts};
 
 pub type Terms = Seq<Term>;
 
@@ -42,18 +41,21 @@ pub type Requests = Seq<Request>;
 
 pub type Queries = Seq<Query>;
 
+/// A variable, by its number, or a constant.
 #[derive(Drop)]
 pub enum Term {
     Var(u32),
     Const(Text),
 }
 
+/// A relation, by its number, with a term for each column.
 #[derive(Drop)]
 pub struct Atom {
     pub rel: u32,
     pub terms: Terms,
 }
 
+/// A rule, with the line of the schema text that it stands on: where the body's atoms are facts, so are the head's.
 #[derive(Drop)]
 pub struct Rule {
     pub line: u32,
@@ -61,6 +63,7 @@ pub struct Rule {
     pub head: Atoms,
 }
 
+/// A way to ask a relation: rows that have given values at the input columns.
 #[derive(Drop)]
 pub struct Method {
     pub name: Text,
@@ -69,12 +72,14 @@ pub struct Method {
     pub cost: u32,
 }
 
+/// A relation and its columns.
 #[derive(Drop)]
 pub struct Relation {
     pub name: Text,
     pub columns: Texts,
 }
 
+/// What the definitions read of a schema: all but its source lines.
 #[derive(Drop)]
 pub struct SchemaParts {
     pub relations: Relations,
@@ -83,13 +88,14 @@ pub struct SchemaParts {
     pub constants: Texts,
 }
 
-/// A relation with a row of its arity.
+/// A relation, by its number, with a row.
 #[derive(Drop)]
 pub struct Fact {
     pub rel: u32,
     pub row: Row,
 }
 
+/// A conjunctive query: atoms, the terms of the head, and how many variables the atoms have.
 #[derive(Drop)]
 pub struct Query {
     pub atoms: Atoms,
@@ -97,18 +103,21 @@ pub struct Query {
     pub variables: u32,
 }
 
+/// A column of a FROM item, both by number, or a literal.
 #[derive(Drop)]
 pub enum Operand {
     Column { from: u32, column: u32 },
     Literal(Text),
 }
 
+/// Two operands that have to be equal.
 #[derive(Drop)]
 pub struct Condition {
     pub left: Operand,
     pub right: Operand,
 }
 
+/// A select: the relations of its FROM items, its conditions, its items, and the names of the items.
 #[derive(Drop)]
 pub struct Select {
     pub froms: Places,
@@ -117,11 +126,13 @@ pub struct Select {
     pub names: Texts,
 }
 
+/// Selects, whose answers are taken together.
 #[derive(Drop)]
 pub struct Statement {
     pub selects: Selects,
 }
 
+/// A place of an access step: a constant, a column that exists, or the next new column.
 #[derive(Drop)]
 pub enum Place {
     Const(Text),
@@ -129,30 +140,35 @@ pub enum Place {
     New,
 }
 
+/// A place of an output: a constant, or a column.
 #[derive(Drop)]
 pub enum Out {
     Const(Text),
     Col(u32),
 }
 
+/// An access by the method of this name, with a place for each column of its relation.
 #[derive(Drop)]
 pub struct Step {
     pub method: Text,
     pub places: PlaceList,
 }
 
+/// Access steps, each joined with the columns made so far, and the output.
 #[derive(Drop)]
 pub struct Branch {
     pub steps: Steps,
     pub output: Outs,
 }
 
+/// Branches, whose rows are taken together; each row has `width` values.
 #[derive(Drop)]
 pub struct Plan {
     pub width: u32,
     pub branches: Branches,
 }
 
+/// One question to a source: the rows of a relation that have these values at these positions.
 #[derive(Drop)]
 pub struct Request {
     pub rel: u32,
@@ -167,12 +183,14 @@ pub enum Val {
     Label(u32),
 }
 
+/// A relation with a row of labelled values.
 #[derive(Drop)]
 pub struct Ground {
     pub rel: u32,
     pub vals: Vals,
 }
 
+/// A rule, by its number, with the values of its body's variables and the first of its new labels.
 #[derive(Drop)]
 pub struct Trigger {
     pub rule: u32,
@@ -180,43 +198,10 @@ pub struct Trigger {
     pub fresh: u32,
 }
 
+/// A firing of a base rule or of a copy rule, or an exposure of a base fact by a method.
 #[derive(Drop)]
 pub enum Firing {
     Base(Trigger),
     Copy(Trigger),
     Expose { method: u32, fact: Ground },
-}
-
-impl Copies for Val {
-    fn copy(&self, alloc: Global) -> Result<Val, AllocError> {
-        match self {
-            Val::Const(text) => Ok(Val::Const(text.copy(alloc)?)),
-            Val::Label(label) => Ok(Val::Label(*label)),
-        }
-    }
-}
-
-impl Exact for Val {
-    fn same(&self, other: &Val) -> bool {
-        match (self, other) {
-            (Val::Const(left), Val::Const(right)) => left.same(right),
-            (Val::Label(left), Val::Label(right)) => *left == *right,
-            _ => false,
-        }
-    }
-}
-
-impl Copies for Ground {
-    fn copy(&self, alloc: Global) -> Result<Ground, AllocError> {
-        Ok(Ground {
-            rel: self.rel,
-            vals: self.vals.copy(alloc)?,
-        })
-    }
-}
-
-impl Exact for Ground {
-    fn same(&self, other: &Ground) -> bool {
-        self.rel == other.rel && self.vals.same(&other.vals)
-    }
 }

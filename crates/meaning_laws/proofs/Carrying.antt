@@ -8,7 +8,8 @@ use Rattle.std.proofs.lemmas.List.{same_lists, get_or_default}
 use Rattle.std.proofs.lemmas.List.FromFn.{length-map-range_with_len, get_or-map-range_with_len, take-map-range_with_len}
 use Rattle.std.proofs.lemmas.Bool.{cases_lt}
 use Rattle.std.proofs.lemmas.List.Elements.{Contains-append_cases}
-use Rattle.meaning_laws.proofs.Lists.{contains_here, contains_there, contains_cases, contains_got, contains_map, contains_mapped, joined_below, joined_above}
+use Rattle.lists.proofs.Members.{contains_here, contains_there, contains_cases, contains_got, contains_map, contains_mapped}
+use Rattle.meaning_laws.proofs.Joined.{joined_below, joined_above}
 use Rattle.meaning.specs.declared.types.Term.{Term}
 use Rattle.meaning.specs.declared.types.Term.TheVariants.{Var, Const as Said}
 use Rattle.meaning.specs.declared.types.Val.{Val}
@@ -18,8 +19,10 @@ use Rattle.meaning.specs.declared.types.Rule.{Rule}
 use Rattle.meaning.specs.declared.types.Fact.{Fact}
 use Rattle.meaning.specs.declared.types.Ground.{Ground}
 use Rattle.meaning.specs.declared.types.Trigger.{Trigger}
-use Rattle.meaning.specs.Matching.{value_of, AreFacts, OccursIn, Extends, MeetsAll, itself, FactsOf, joined}
-use Rattle.meaning.specs.Runs.{image, Carries, terms_bound, bound, IsNumbered, AreNumbered, State, LabelsBelow, assigned, ground, IsTrigger, fired, IsBaseRun, IsFiringRun}
+use Rattle.meaning.specs.Matching.{value_of, AreFacts, OccursIn, Extends, MeetsAll, itself, FactsOf}
+use Rattle.meaning.specs.Homomorphisms.{image, Carries}
+use Rattle.meaning.specs.Triggers.{joined, terms_bound, bound, IsNumbered, AreNumbered, State, LabelsBelow, assigned, ground, IsTrigger, fired, IsFiringRun}
+use Rattle.meaning.specs.Runs.{IsBaseRun}
 
 -- the image of an atom's values is the atom under the mapped assignment
 pub image_values : (h : ℕ → List ℕ) (a : ℕ → Val) (terms : List Term) → map (image h) (map (value_of Const a) terms) ≡ map (value_of itself (λ x. image h (a x))) terms
@@ -143,6 +146,11 @@ module _ (rules : List Rule) (state : State) (trigger : Trigger) (rule : Rule) (
       λ atom among. subst (λ row. Contains instance (record { rel = atom.rel; row = row })) (image_values h (assigned trigger) atom.terms) (carries (ground (assigned trigger) atom) (is.body atom among)) in
       let found = meets rule (contains_got rules trigger.rule rule is.numbered) (λ x. image h (assigned trigger x)) body in
       extend_by instance h found.0 found.1 carries
+
+-- the same, with the premises in the order of the law
+pub firing_extends : (rules : List Rule) (state : State) (trigger : Trigger) (rule : Rule) (instance : List Fact) (h : ℕ → List ℕ) → AreNumbered rules → MeetsAll itself (FactsOf instance) rules → LabelsBelow state.facts state.next → IsTrigger rules state trigger rule → Carries h state.facts instance → (g : ℕ → List ℕ) × ((k : ℕ) → k < state.next → g k ≡ h k) × Carries g (fired state trigger rule).facts instance
+firing_extends rules state trigger rule instance h numbered meets below is carries =
+    extend_firing rules state trigger rule is (numbered rule (contains_got rules trigger.rule rule is.numbered)) below instance h meets carries
 
 -- a whole run
 pub extend_run : (rules : List Rule) (log : List Trigger) (state end : State) (instance : List Fact) (h : ℕ → List ℕ) → AreNumbered rules → MeetsAll itself (FactsOf instance) rules → LabelsBelow state.facts state.next → IsFiringRun rules state log end → Carries h state.facts instance → (g : ℕ → List ℕ) × ((k : ℕ) → k < state.next → g k ≡ h k) × Carries g end.facts instance

@@ -1,11 +1,11 @@
--- A select and its conjunctive query have the same answers.
+-- A select has the answers of a query that has one term for the operands that its conditions make equal.
 use Rattle.std.proofs.Common.{◌≡◌, ℕ, zero, suc, ◌+◌, ◌<◌, List, [], ◌∷◌, ◌++◌, length, Some, refl, sym, ap, ◌∙◌, subst, ⊎_elim, arith, append_assoc}
 use Rattle.std.specs.Prelude.{Contains, slice_get, slice_index_or, map}
 use Rattle.std.specs.List.{range_with_len}
 use Rattle.std.proofs.lemmas.Option.{get_or_from_slice_get, slice_get-get_or}
 use Rattle.std.proofs.lemmas.List.{get_or_default, get_or_at, same_lists, length_push}
 use Rattle.std.proofs.lemmas.List.FromFn.{length-range_with_len, get_or-range_with_len, length-map-range_with_len, get_or-map-range_with_len}
-use Rattle.meaning_laws.proofs.Lists.{contains_here, contains_there, contains_cases, map_same, map_got, some_injective}
+use Rattle.lists.proofs.Members.{contains_here, contains_there, contains_cases, map_same, map_got, some_injective}
 use Rattle.meaning.specs.declared.types.Term.{Term}
 use Rattle.meaning.specs.declared.types.Term.TheVariants.{Var, Const}
 use Rattle.meaning.specs.declared.types.Atom.{Atom}
@@ -17,9 +17,10 @@ use Rattle.meaning.specs.declared.types.Operand.{Operand}
 use Rattle.meaning.specs.declared.types.Operand.TheVariants.{Column, Literal}
 use Rattle.meaning.specs.declared.types.Condition.{Condition}
 use Rattle.meaning.specs.declared.types.Select.{Select}
+use Rattle.meaning.specs.Instances.{IsInstance}
 use Rattle.meaning.specs.Matching.{value_of, AreFacts, itself, FactsOf, AnswersQuery}
-use Rattle.meaning.specs.Answers.{IsInstance, IsChoice, operand_value, AnswersSelect}
-use Rattle.meaning.specs.Conjunctive.{AreJoined, given, alike, turned, chained, OperandFits, SelectFits, AtomsFrom, IsConjunctive}
+use Rattle.meaning.specs.Answers.{IsChoice, operand_value, AnswersSelect}
+use Rattle.meaning.specs.Conjunctive.{AreJoined, given, alike, turned, chained, OperandFits, SelectFits}
 
 -- operands that are joined have one value under a choice that meets the conditions
 joined_values : (rows : List (List (List ℕ))) (conditions : List Condition) → ((condition : Condition) → Contains conditions condition → operand_value rows condition.left ≡ operand_value rows condition.right) → {o p : Operand} → AreJoined conditions o p → operand_value rows o ≡ operand_value rows p
@@ -32,13 +33,36 @@ map_map : {X Y Z : Type 0} (f : X → Y) (g : Y → Z) (xs : List X) → map g (
 map_map f g [] = refl
 map_map f g (x ∷ xs) = ap (λ ys. g (f x) ∷ ys) (map_map f g xs)
 
-in_range : (n c : ℕ) → Contains (range_with_len 0 n) c → c < n
+pub in_range : (n c : ℕ) → Contains (range_with_len 0 n) c → c < n
 in_range n c (k, l, e) =
     let l' : k < n = rw (length-range_with_len) at l in
     let is : 0 + k ≡ c = sym (get_or-range_with_len 0 n k c l') ∙ e in
     omega arith
 
-module _ (schema : SchemaParts) (select : Select) (query : Query) (term : Operand → Term) (first : ℕ → Operand) (is : IsConjunctive schema select query term first) (facts : List Fact) where
+pub range_at : (n c : ℕ) → c < n → slice_get (range_with_len 0 n) c ≡ Some c
+range_at n c l =
+    slice_get-get_or (range_with_len 0 n) c 0 (rw (length-range_with_len) l) ∙ ap Some (get_or-range_with_len 0 n c 0 l ∙ plain c)
+  where
+    plain : (c : ℕ) → 0 + c ≡ c
+    plain c = omega arith
+
+-- One atom for each FROM item, from item i on, with the columns' terms.
+abbrev pub AtomsFrom : SchemaParts → (Operand → Term) → ℕ → List ℕ → List Atom → Type 0
+AtomsFrom schema term i [] [] = Unit {0}
+AtomsFrom schema term i [] (atom ∷ atoms) = ⊥
+AtomsFrom schema term i (rel ∷ froms) [] = ⊥
+AtomsFrom schema term i (rel ∷ froms) (atom ∷ atoms) = ((relation : Relation) × (slice_get schema.relations rel ≡ Some relation) × (atom ≡ record { rel = rel; terms = map (λ c. term (Column i c)) (range_with_len 0 (length relation.columns)) })) × AtomsFrom schema term (i + 1) froms atoms
+
+-- The form with a term for each operand, and a column for each variable.
+pub record IsTermed (schema : SchemaParts) (select : Select) (query : Query) (term : Operand → Term) (first : ℕ → Operand) : Type 0 where
+  pub literal : (text : List ℕ) → term (Literal text) ≡ Const text
+  pub joined : (condition : Condition) → Contains select.conditions condition → term condition.left ≡ term condition.right
+  pub constant : (o : Operand) (text : List ℕ) → OperandFits schema select o → term o ≡ Const text → AreJoined select.conditions o (Literal text)
+  pub variable : (o : Operand) (k : ℕ) → OperandFits schema select o → term o ≡ Var k → AreJoined select.conditions o (first k)
+  pub atoms : AtomsFrom schema term 0 select.froms query.atoms
+  pub head : query.head ≡ map term select.items
+
+module _ (schema : SchemaParts) (select : Select) (query : Query) (term : Operand → Term) (first : ℕ → Operand) (is : IsTermed schema select query term first) (facts : List Fact) where
   -- the term has the operand's value
   term_value : (rows : List (List (List ℕ))) → ((condition : Condition) → Contains select.conditions condition → operand_value rows condition.left ≡ operand_value rows condition.right) → (o : Operand) → OperandFits schema select o → value_of itself (λ k. operand_value rows (first k)) (term o) ≡ operand_value rows o
   term_value rows hold o fits = go (term o) refl
@@ -67,7 +91,7 @@ module _ (schema : SchemaParts) (select : Select) (query : Query) (term : Operan
   facts_from a rows done [] i (rel ∷ froms) (first' ∷ atoms) fits value whole long choice are atom c = absurd choice
   facts_from a rows done (row ∷ rest) i (rel ∷ froms) (first' ∷ atoms) fits value whole long (holds, choice) ((relation, got, e), are) atom c =
       let its = fits (record { rel = rel; row = row }) holds in
-      let width : length row ≡ length relation.columns = its.2 ∙ ap (λ (r : Relation). length r.columns) (some_injective its.0 relation (sym its.1 ∙ got)) in
+      let width : length row ≡ length relation.columns = its.width ∙ ap (λ (r : Relation). length r.columns) (some_injective its.relation relation (sym its.there ∙ got)) in
       let here : slice_index_or rows i [] ≡ row = ap (λ rs. slice_index_or rs i []) whole ∙ get_or_at done row rest [] i long in
       let zeroth : i + 0 ≡ i = omega arith in
       let here_value : (c : ℕ) → c < length relation.columns → value_of itself a (term (Column i c)) ≡ operand_value rows (Column i c) =
@@ -84,8 +108,8 @@ module _ (schema : SchemaParts) (select : Select) (query : Query) (term : Operan
       shift : (j : ℕ) → i + suc j ≡ (i + 1) + j
       shift j = omega arith
 
-  pub select_complete : (row : List (List ℕ)) → SelectFits schema select → IsInstance schema facts → AnswersSelect select facts row → AnswersQuery query facts row
-  select_complete row select_fits fits (rows, choice, hold, e) = (
+  pub termed_complete : (row : List (List ℕ)) → SelectFits schema select → IsInstance schema facts → AnswersSelect select facts row → AnswersQuery query facts row
+  termed_complete row select_fits fits (rows, choice, hold, e) = (
     (λ k. operand_value rows (first k)),
     facts_from (λ k. operand_value rows (first k)) rows [] rows 0 select.froms query.atoms fits (λ j rel c relation got got' l. term_value rows hold (Column (0 + j) c) (rel, relation, plain j got, got', l)) refl refl choice is.atoms,
     e ∙ sym (map_map term (value_of itself (λ k. operand_value rows (first k))) select.items ∙ map_same (λ o. value_of itself (λ k. operand_value rows (first k)) (term o)) (operand_value rows) select.items (λ o c. term_value rows hold o (select_fits.items o c)))
@@ -116,13 +140,6 @@ module _ (schema : SchemaParts) (select : Select) (query : Query) (term : Operan
       let later : (i + 1) + j ≡ i + suc j = omega arith in
       atom_at (i + 1) froms atoms j rel relation are got got' ∙ ap (λ n. Some (record { rel = rel; terms = map (λ c. term (Column n c)) (range_with_len 0 (length relation.columns)) })) later
 
-  range_at : (n c : ℕ) → c < n → slice_get (range_with_len 0 n) c ≡ Some c
-  range_at n c l =
-      slice_get-get_or (range_with_len 0 n) c 0 (rw (length-range_with_len) l) ∙ ap Some (get_or-range_with_len 0 n c 0 l ∙ plain c)
-    where
-      plain : (c : ℕ) → 0 + c ≡ c
-      plain c = omega arith
-
   operand_is : (a : ℕ → List ℕ) (o : Operand) → OperandFits schema select o → operand_value (map (λ atom. map (value_of itself a) atom.terms) query.atoms) o ≡ value_of itself a (term o)
   operand_is a (Literal text) fits = ap (value_of itself a) (sym (is.literal text))
   operand_is a (Column from column) (rel, relation, got, got', below) =
@@ -136,8 +153,8 @@ module _ (schema : SchemaParts) (select : Select) (query : Query) (term : Operan
       ∙ get_or_from_slice_get (map (value_of itself a) terms) column (value_of itself a (term (Column from column))) []
       (map_got (value_of itself a) terms column (term (Column from column)) (map_got (λ c. term (Column from c)) (range_with_len 0 (length relation.columns)) column column (range_at (length relation.columns) column below)))
 
-  pub select_sound : (row : List (List ℕ)) → SelectFits schema select → AnswersQuery query facts row → AnswersSelect select facts row
-  select_sound row fits (a, are, e) = (
+  pub termed_sound : (row : List (List ℕ)) → SelectFits schema select → AnswersQuery query facts row → AnswersSelect select facts row
+  termed_sound row fits (a, are, e) = (
     map (λ atom. map (value_of itself a) atom.terms) query.atoms,
     choice_from a 0 select.froms query.atoms is.atoms are,
     (λ condition c. let both = fits.conditions condition c in operand_is a condition.left both.0 ∙ ap (value_of itself a) (is.joined condition c) ∙ sym (operand_is a condition.right both.1)),

@@ -4,7 +4,8 @@ use Rattle.std.specs.Prelude.{Contains, slice_get, map}
 use Rattle.std.proofs.lemmas.Bool.{cases_lt}
 use Rattle.std.proofs.lemmas.List.{append-nil, length-map}
 use Rattle.std.proofs.lemmas.List.Elements.{Contains-append_cases, Contains-push_cases}
-use Rattle.meaning_laws.proofs.Lists.{contains_cases, contains_got, contains_map, contains_mapped, some_injective}
+use Rattle.lists.proofs.Members.{contains_cases, contains_got, contains_map, contains_mapped, some_injective}
+use Rattle.meaning_laws.proofs.Fits.{fits_alike}
 use Rattle.meaning_laws.proofs.Carrying.{fresh_is}
 use Rattle.meaning_laws.proofs.Extracting.{columns_kept, columns_have}
 use Rattle.meaning_laws.proofs.Extracted.{extract_sound, extract_complete, all_have}
@@ -23,18 +24,27 @@ use Rattle.meaning.specs.declared.types.Trigger.{Trigger}
 use Rattle.meaning.specs.declared.types.Firing.{Firing}
 use Rattle.meaning.specs.declared.types.Firing.TheVariants.{Base, Copy, Expose}
 use Rattle.meaning.specs.Matching.{value_of, IsQueryAnswer, GroundsOf, AnswersQuery, Meets}
-use Rattle.meaning.specs.Plans.{IsWellFormed, IsLawfulBranch, IsBranchRow}
+use Rattle.meaning.specs.Plans.{IsWellFormed, IsLawfulBranch}
+use Rattle.meaning.specs.Rows.{IsBranchRow}
+use Rattle.meaning.specs.Triggers.{bound, ground, State, AreNumbered, assigned, IsTrigger, fired, IsFiringRun, IsNumbered}
+use Rattle.meaning.specs.Runs.{Proof, base_state, copy_state, IsRun, opening, frozen_head, HasGoal, IsKnownValue, opening_state}
+use Rattle.meaning.specs.Naming.{AreNamed}
+use Rattle.meaning.specs.Fitting.{IsKept, RulesFit, QueryFits, QueryHasConstants}
+use Rattle.meaning.specs.Extract.{all_columns, out_of, Exposure, exposed_facts, IsExposing, AreInOrder, IsInput, columns_after, branch_of, IsQueryRival, IsDerivation, IsHeadKnown}
 use Rattle.meaning.specs.declared.types.Branch.{Branch}
 use Rattle.meaning.specs.declared.types.Fact.{Fact}
-use Rattle.meaning.specs.Runs.{bound, ground, State, AreNumbered, assigned, IsTrigger, fired, IsFiringRun, Proof, base_state, copy_state, IsOrderedRun, opening, frozen_head, IsKept, HasGoal, IsKnownValue, IsNumbered, AreNamed, RulesFit, QueryFits, QueryHasConstants}
-use Rattle.meaning.specs.Extract.{all_columns, out_of, Exposure, exposed_facts, IsExposing, AreInOrder, IsInput, columns_after, branch_of, opening_state, IsReadFor, IsDerivation, IsHeadKnown}
+use Rattle.meaning.specs.declared.types.Select.{Select}
+use Rattle.meaning.specs.declared.types.Statement.{Statement}
+use Rattle.meaning.specs.Costs.{IsRival}
+use Rattle.meaning.specs.Conjunctive.{SelectFits, term_of, IsConjunctive, StandFor}
+use Rattle.meaning_laws.proofs.Choosing.{select_complete}
 
 -- the copy firings of a run
-pub copy_part : (schema : SchemaParts) (constants : List (List ℕ)) (proof : Proof) (log : List Firing) (end : Proof) → IsOrderedRun schema constants 2 proof log end → (copy : List Trigger) × IsFiringRun schema.rules (copy_state proof) copy (copy_state end) × (end.exposed ≡ proof.exposed)
+pub copy_part : (schema : SchemaParts) (constants : List (List ℕ)) (proof : Proof) (log : List Firing) (end : Proof) → IsRun schema constants 2 proof log end → (copy : List Trigger) × IsFiringRun schema.rules (copy_state proof) copy (copy_state end) × (end.exposed ≡ proof.exposed)
 copy_part schema constants proof [] end run = ([], ap (λ p. copy_state p) run, ap (λ (p : Proof). p.exposed) run)
-copy_part schema constants proof (Base trigger ∷ log) end (order, waits, rest) = absurd (omega arith)
-copy_part schema constants proof (Expose number fact ∷ log) end (order, waits, rest) = absurd (omega arith)
-copy_part schema constants proof (Copy trigger ∷ log) end (order, waits, (next, (rule, first, quiet, e), more)) =
+copy_part schema constants proof (Base trigger ∷ log) end (order, rest) = absurd (omega arith)
+copy_part schema constants proof (Expose number fact ∷ log) end (order, rest) = absurd (omega arith)
+copy_part schema constants proof (Copy trigger ∷ log) end (order, (next, (rule, first, quiet, e), more)) =
     let (copy, run, same) = copy_part schema constants next log end more in
     let state : copy_state next ≡ fired (copy_state proof) trigger rule = ap (λ p. copy_state p) e in
     (trigger ∷ copy, (rule, first.active.trigger_is, subst (λ s. IsFiringRun schema.rules s copy (copy_state end)) state run), same ∙ ap (λ (p : Proof). p.exposed) e)
@@ -57,14 +67,14 @@ none_exposed schema constants proof end copy run same =
       all = same ∙ sym (append-nil proof.exposed);
     }
 
-pub exposure_part : (schema : SchemaParts) (constants : List (List ℕ)) (proof : Proof) (log : List Firing) (end : Proof) → IsOrderedRun schema constants 1 proof log end → Exposed schema constants proof end
+pub exposure_part : (schema : SchemaParts) (constants : List (List ℕ)) (proof : Proof) (log : List Firing) (end : Proof) → IsRun schema constants 1 proof log end → Exposed schema constants proof end
 exposure_part schema constants proof [] end run = none_exposed schema constants proof end [] (ap (λ p. copy_state p) run) (ap (λ (p : Proof). p.exposed) run)
-exposure_part schema constants proof (Base trigger ∷ log) end (order, waits, rest) = absurd (omega arith)
-exposure_part schema constants proof (Copy trigger ∷ log) end (order, waits, rest) =
-    let (copy, run, same) = copy_part schema constants proof (Copy trigger ∷ log) end (omega arith, waits, rest) in
+exposure_part schema constants proof (Base trigger ∷ log) end (order, rest) = absurd (omega arith)
+exposure_part schema constants proof (Copy trigger ∷ log) end (order, rest) =
+    let (copy, run, same) = copy_part schema constants proof (Copy trigger ∷ log) end (omega arith, rest) in
     none_exposed schema constants proof end copy run same
-exposure_part schema constants proof (Expose number fact ∷ log) end (order, waits, (next, (method, active, quiet, e), more)) =
-    let rest = exposure_part schema constants (record proof { exposed = proof.exposed ++ fact ∷ []; copy = proof.copy ++ fact ∷ [] }) log end (subst (λ p. IsOrderedRun schema constants 1 p log end) e more) in
+exposure_part schema constants proof (Expose number fact ∷ log) end (order, (next, (method, active, quiet, e), more)) =
+    let rest = exposure_part schema constants (record proof { exposed = proof.exposed ++ fact ∷ []; copy = proof.copy ++ fact ∷ [] }) log end (subst (λ p. IsRun schema constants 1 p log end) e more) in
     record {
       exposures = record { method = method; fact = fact } ∷ rest.exposures;
       exposing = (record { of_base = active.of_base; new = active.new; of_schema = contains_got schema.methods number method active.named; of_relation = active.of_relation; inputs = active.inputs }, rest.exposing);
@@ -82,10 +92,10 @@ pub record Parts (schema : SchemaParts) (constants : List (List ℕ)) (proof end
   pub same_copy : middle.copy ≡ proof.copy
   pub rest : Exposed schema constants middle end
 
-pub parts_of : (schema : SchemaParts) (constants : List (List ℕ)) (proof : Proof) (log : List Firing) (end : Proof) → IsOrderedRun schema constants 0 proof log end → Parts schema constants proof end
+pub parts_of : (schema : SchemaParts) (constants : List (List ℕ)) (proof : Proof) (log : List Firing) (end : Proof) → IsRun schema constants 0 proof log end → Parts schema constants proof end
 parts_of schema constants proof [] end run =
     record { base = []; middle = proof; base_run = refl; same_exposed = refl; same_copy = refl; rest = exposure_part schema constants proof [] end run }
-parts_of schema constants proof (Base trigger ∷ log) end (order, waits, (next, (rule, first, e), more)) =
+parts_of schema constants proof (Base trigger ∷ log) end (order, (next, (rule, first, e), more)) =
     let rest = parts_of schema constants next log end more in
     record {
       base = trigger ∷ rest.base;
@@ -95,17 +105,17 @@ parts_of schema constants proof (Base trigger ∷ log) end (order, waits, (next,
       same_copy = rest.same_copy ∙ ap (λ (p : Proof). p.copy) e;
       rest = rest.rest;
     }
-parts_of schema constants proof (Expose number fact ∷ log) end (order, waits, rest) =
-    record { base = []; middle = proof; base_run = refl; same_exposed = refl; same_copy = refl; rest = exposure_part schema constants proof (Expose number fact ∷ log) end (omega arith, waits, rest) }
-parts_of schema constants proof (Copy trigger ∷ log) end (order, waits, rest) =
-    record { base = []; middle = proof; base_run = refl; same_exposed = refl; same_copy = refl; rest = exposure_part schema constants proof (Copy trigger ∷ log) end (omega arith, waits, rest) }
+parts_of schema constants proof (Expose number fact ∷ log) end (order, rest) =
+    record { base = []; middle = proof; base_run = refl; same_exposed = refl; same_copy = refl; rest = exposure_part schema constants proof (Expose number fact ∷ log) end (omega arith, rest) }
+parts_of schema constants proof (Copy trigger ∷ log) end (order, rest) =
+    record { base = []; middle = proof; base_run = refl; same_exposed = refl; same_copy = refl; rest = exposure_part schema constants proof (Copy trigger ∷ log) end (omega arith, rest) }
 
 -- a fact of the list has the label
 abbrev HasLabel : List Ground → ℕ → Type 0
 HasLabel facts k = (f : Ground) × Contains facts f × Contains f.vals (Label k)
 
 -- a label below the next one that stands after a firing stood before it
-fired_old : (rules : List Rule) (state : State) (trigger : Trigger) (rule : Rule) → IsTrigger rules state trigger rule → IsNumbered rule → (k : ℕ) → k < state.next → HasLabel (fired state trigger rule).facts k → HasLabel state.facts k
+pub fired_old : (rules : List Rule) (state : State) (trigger : Trigger) (rule : Rule) → IsTrigger rules state trigger rule → IsNumbered rule → (k : ℕ) → k < state.next → HasLabel (fired state trigger rule).facts k → HasLabel state.facts k
 fired_old rules state trigger rule is numbered k l (f, c, i) =
     ⊎_elim (λ old. (f, old, i))
     (λ new. let (atom, among, e) = contains_mapped (ground (assigned trigger)) rule.head f new in
@@ -124,7 +134,7 @@ fired_old rules state trigger rule is numbered k l (f, c, i) =
         (λ above. let split : bound rule.body + (x - bound rule.body) ≡ x = omega arith in
         absurd (fresh (x - bound rule.body) (sym (fresh_is rules state trigger rule is (x - bound rule.body)) ∙ ap (assigned trigger) split ∙ same))) (cases_lt x (bound rule.body))
 
-run_old : (rules : List Rule) (log : List Trigger) (state end : State) → AreNumbered rules → IsFiringRun rules state log end → (k : ℕ) → k < state.next → HasLabel end.facts k → HasLabel state.facts k
+pub run_old : (rules : List Rule) (log : List Trigger) (state end : State) → AreNumbered rules → IsFiringRun rules state log end → (k : ℕ) → k < state.next → HasLabel end.facts k → HasLabel state.facts k
 run_old rules [] state end numbered run k l has = subst (λ (s : State). HasLabel s.facts k) run has
 run_old rules (trigger ∷ log) state end numbered (rule, is, more) k l has =
     let its = numbered rule (contains_got rules trigger.rule rule is.numbered) in
@@ -197,8 +207,7 @@ module _ (schema : SchemaParts) (constants : List (List ℕ)) (query goal : Quer
   lawful =
       extract_lawful schema constants exposures (frozen_head query)
       (λ e c. let its = exposing_each schema constants middle.facts [] exposures exposing e c in
-      let (relation, got, long) = kept.fit e.fact its.0 in
-      (its.1, (relation, subst (λ r. slice_get schema.relations r ≡ Some relation) (sym its.2) got, long)))
+      (its.1, fits_alike schema e.fact.rel e.method.rel e.fact.vals e.fact.vals (sym its.2) refl (kept.fit e.fact its.0)))
       (λ e t c i. kept.named e.fact (Const t) (exposing_each schema constants middle.facts [] exposures exposing e c).0 i)
       (order_of schema constants middle.next middle.facts [] [] exposures kept.named (λ f c. absurd (none f c)) (λ k (f, c, i). absurd (none f c)) exposing)
       (λ t c. opened.head_named (Const t) c)
@@ -218,7 +227,7 @@ module _ (schema : SchemaParts) (constants : List (List ℕ)) (query goal : Quer
 
 -- what a run that reaches a goal gives
 pub run_extracts : (schema : SchemaParts) (constants : List (List ℕ)) (query goal : Query) (log : List Firing) (proof : Proof) → IsWellFormed schema → RulesFit schema constants → QueryFits schema query → QueryFits schema goal → QueryHasConstants constants query →
-    IsOrderedRun schema constants 0 (opening query) log proof → IsQueryAnswer Const (GroundsOf proof.copy) goal (frozen_head query) →
+    IsRun schema constants 0 (opening query) log proof → IsQueryAnswer Const (GroundsOf proof.copy) goal (frozen_head query) →
     (branch : Branch) × IsLawfulBranch schema constants branch
     × ((instance : List Fact) (row : List (List ℕ)) → Meets instance schema → IsBranchRow schema branch instance row → AnswersQuery goal instance row)
     × ((instance : List Fact) (row : List (List ℕ)) → Meets instance schema → AnswersQuery query instance row → IsBranchRow schema branch instance row)
@@ -234,7 +243,7 @@ run_extracts schema constants query goal log proof well rules fits goal_fits hav
 
 -- a run of a query that reaches a goal gives a branch that is read for it
 pub read_from_run : (schema : SchemaParts) (constants : List (List ℕ)) (queries : List Query) (query : Query) (log : List Firing) (proof : Proof) → IsWellFormed schema → RulesFit schema constants → QueryFits schema query → ((q : Query) → Contains queries q → QueryFits schema q) → QueryHasConstants constants query →
-    IsOrderedRun schema constants 0 (opening query) log proof → HasGoal queries proof (frozen_head query) → (branch : Branch) × IsReadFor schema constants queries query branch × (length branch.output ≡ length query.head)
+    IsRun schema constants 0 (opening query) log proof → HasGoal queries proof (frozen_head query) → (branch : Branch) × IsQueryRival schema constants queries query branch × (length branch.output ≡ length query.head)
 read_from_run schema constants queries query log proof well rules fits all have run (goal, among, match) =
     let (branch, lawful, sound, complete, long) = run_extracts schema constants query goal log proof well rules fits (all goal among) have run match in (
       branch,
@@ -244,4 +253,21 @@ read_from_run schema constants queries query log proof well rules fits all have 
         complete = λ facts row model answer. complete facts row model.meets answer;
       },
       long,
+    )
+
+-- The same, said of the statement and the select.
+pub branch_from_run : (schema : SchemaParts) (constants : List (List ℕ)) (statement : Statement) (queries : List Query) (select : Select) (query : Query) (log : List Firing) (proof : Proof) →
+    IsWellFormed schema → RulesFit schema constants → QueryFits schema query → ((q : Query) → Contains queries q → QueryFits schema q) → QueryHasConstants constants query →
+    StandFor schema queries statement → SelectFits schema select → IsConjunctive schema select query →
+    IsRun schema constants 0 (opening query) log proof → HasGoal queries proof (frozen_head query) →
+    (branch : Branch) × IsRival schema constants statement select branch × (length branch.output ≡ length select.items)
+branch_from_run schema constants statement queries select query log proof well rules fits all have stand select_fits is run goal =
+    let (branch, its, long) = read_from_run schema constants queries query log proof well rules fits all have run goal in (
+      branch,
+      record {
+        lawful = its.lawful;
+        sound = λ facts row model rows. let (found, among, answer) = its.sound facts row model rows in stand.sound facts row found model.fits among answer;
+        complete = λ facts row model answer. its.complete facts row model (select_complete schema select query is facts row select_fits model.fits answer);
+      },
+      long ∙ ap length is.head ∙ length-map select.items (term_of query.atoms),
     )

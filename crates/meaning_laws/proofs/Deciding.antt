@@ -8,7 +8,8 @@ use Rattle.std.proofs.lemmas.Bool.{cases_lt}
 use Rattle.std.proofs.lemmas.Option.{slice_get-get_or}
 use Rattle.std.proofs.lemmas.List.Elements.{Contains-append_left, Contains-append_right}
 use Rattle.std.proofs.lemmas.List.FromFn.{length-map-range_with_len, get_or-map-range_with_len}
-use Rattle.meaning_laws.proofs.Lists.{contains_here, contains_there, contains_cases, contains_map, joined_below, joined_above}
+use Rattle.lists.proofs.Members.{contains_here, contains_there, contains_cases, contains_map}
+use Rattle.meaning_laws.proofs.Joined.{joined_below, joined_above}
 use Rattle.meaning_laws.proofs.Carrying.{occurs_below}
 use Rattle.meaning.specs.declared.types.Term.{Term}
 use Rattle.meaning.specs.declared.types.Term.TheVariants.{Var, Const as Said}
@@ -18,8 +19,8 @@ use Rattle.meaning.specs.declared.types.Atom.{Atom}
 use Rattle.meaning.specs.declared.types.Rule.{Rule}
 use Rattle.meaning.specs.declared.types.Ground.{Ground}
 use Rattle.meaning.specs.declared.types.Trigger.{Trigger}
-use Rattle.meaning.specs.Matching.{value_of, AreFacts, OccursIn, Extends, MeetsAll, GroundsOf, joined}
-use Rattle.meaning.specs.Runs.{bound, IsNumbered, AreNumbered, State, assigned, ground, IsTrigger, IsActive}
+use Rattle.meaning.specs.Matching.{value_of, AreFacts, OccursIn, Extends, MeetsAll, GroundsOf}
+use Rattle.meaning.specs.Triggers.{joined, bound, IsNumbered, AreNumbered, State, assigned, ground, IsTrigger, IsActive}
 
 -- equality of labelled facts is decidable
 Val-discrete : (v w : Val) → Dec (v ≡ w)
@@ -48,7 +49,7 @@ Ground-discrete f g =
     ]
 
 -- some element, each element, and membership
-dec_some : {X : Type 0} (P : X → Type 0) → ((x : X) → Dec (P x)) → (xs : List X) → Dec ((x : X) × Contains xs x × P x)
+pub dec_some : {X : Type 0} (P : X → Type 0) → ((x : X) → Dec (P x)) → (xs : List X) → Dec ((x : X) × Contains xs x × P x)
 dec_some P d [] = no (λ (x, c, p). none c)
   where
     none : {X : Type 0} {x : X} → Contains [] x → ⊥

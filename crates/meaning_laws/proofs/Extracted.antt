@@ -2,7 +2,7 @@
 use Rattle.std.proofs.Common.{◌≡◌, ℕ, ◌<◌, ◌≤◌, List, [], ◌∷◌, sym, ap, ◌∙◌, subst, ⊎_elim, arith}
 use Rattle.std.specs.Prelude.{Contains, map}
 use Rattle.std.specs.List.{AllZip}
-use Rattle.meaning_laws.proofs.Lists.{contains_cases, contains_map, contains_mapped}
+use Rattle.lists.proofs.Members.{contains_cases, contains_map, contains_mapped}
 use Rattle.meaning_laws.proofs.Carrying.{image_values, extend_run, run_below, occurs_below}
 use Rattle.meaning_laws.proofs.Extracting.{steps_image, steps_map, outs_image, outs_row, columns_have, columns_kept, same_vals}
 use Rattle.meaning.specs.declared.types.Term.{Term}
@@ -15,9 +15,12 @@ use Rattle.meaning.specs.declared.types.Query.{Query}
 use Rattle.meaning.specs.declared.types.SchemaParts.{SchemaParts}
 use Rattle.meaning.specs.declared.types.Trigger.{Trigger}
 use Rattle.meaning.specs.Matching.{value_of, IsQueryAnswer, GroundsOf, AnswersQuery, Meets}
-use Rattle.meaning.specs.Plans.{IsWellFormed, IsOut, IsBranchRow}
-use Rattle.meaning.specs.Runs.{image, Carries, fact_of, bound, ground, State, AreNumbered, LabelsBelow, frozen_head}
-use Rattle.meaning.specs.Extract.{Exposure, exposed_facts, columns_after, all_columns, out_of, branch_of, opening_state, IsDerivation, IsHeadKnown}
+use Rattle.meaning.specs.Plans.{IsWellFormed}
+use Rattle.meaning.specs.Rows.{IsOut, IsBranchRow}
+use Rattle.meaning.specs.Homomorphisms.{image, Carries, fact_of}
+use Rattle.meaning.specs.Triggers.{bound, ground, State, AreNumbered, LabelsBelow}
+use Rattle.meaning.specs.Runs.{frozen_head, opening_state}
+use Rattle.meaning.specs.Extract.{Exposure, exposed_facts, columns_after, all_columns, out_of, branch_of, IsDerivation, IsHeadKnown}
 
 -- an answer in labelled facts is carried along
 pub carries_answer : (h : ℕ → List ℕ) (facts : List Ground) (instance : List Fact) (query : Query) (head : List Val) → Carries h facts instance → IsQueryAnswer Const (GroundsOf facts) query head → AnswersQuery query instance (map (image h) head)

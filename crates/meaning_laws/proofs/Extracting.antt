@@ -6,14 +6,15 @@ use Rattle.std.proofs.lemmas.Bool.Decides.{nat_tests}
 use Rattle.std.proofs.lemmas.Bool.{cases_eq}
 use Rattle.std.proofs.lemmas.List.{map_push}
 use Rattle.std.proofs.lemmas.List.Elements.{Contains-append_left, Contains-push}
-use Rattle.meaning_laws.proofs.Lists.{contains_here, contains_there, contains_cases, contains_got, map_got, map_same, some_injective}
+use Rattle.lists.proofs.Members.{contains_here, contains_there, contains_cases, contains_got, map_got, map_same, some_injective}
 use Rattle.meaning.specs.declared.types.Val.{Val}
 use Rattle.meaning.specs.declared.types.Val.TheVariants.{Const as Known, Label}
 use Rattle.meaning.specs.declared.types.Fact.{Fact}
 use Rattle.meaning.specs.declared.types.Method.{Method}
 use Rattle.meaning.specs.declared.types.SchemaParts.{SchemaParts}
-use Rattle.meaning.specs.Plans.{IsWellFormed, Joins, LeadsTo, IsOut}
-use Rattle.meaning.specs.Runs.{image, fact_of}
+use Rattle.meaning.specs.Plans.{IsWellFormed}
+use Rattle.meaning.specs.Rows.{Joins, LeadsTo, IsOut}
+use Rattle.meaning.specs.Homomorphisms.{image, fact_of}
 use Rattle.meaning.specs.Extract.{Exposure, next_column, column_of, label_place, with_label, places_of, columns_after, steps_of, all_columns, label_out, out_of}
 
 pub column_here : (j k : ℕ) (columns : List ℕ) → j ≡ k → column_of (j ∷ columns) k ≡ Some 0
@@ -146,7 +147,7 @@ module _ (schema : SchemaParts) (well : IsWellFormed schema) (instance : List Fa
   steps_image h columns (e ∷ exposures) methods carries =
       let its = methods e (contains_here e exposures) in (
         map h (columns_after columns e.fact.vals),
-        (e.method, fact_of h e.fact, (its.0, refl), sym its.1, carries e (contains_here e exposures), joins_image h columns e.fact.vals),
+        record { method = e.method; fact = fact_of h e.fact; named = (its.0, refl); of_relation = sym its.1; holds = carries e (contains_here e exposures); joins = joins_image h columns e.fact.vals },
         steps_image h (columns_after columns e.fact.vals) exposures (λ f c. methods f (contains_there e exposures f c)) (λ f c. carries f (contains_there e exposures f c)),
       )
 
@@ -168,7 +169,8 @@ module _ (schema : SchemaParts) (well : IsWellFormed schema) (instance : List Fa
     where
       no_exposure : (x : Exposure) → Contains [] x → ⊥
       no_exposure x c = omega arith
-  steps_map h columns (e ∷ exposures) last methods (next, (method, fact, named, rel, holds, joins), more) =
+  steps_map h columns (e ∷ exposures) last methods (next, one, more) =
+      let record { method = method; fact = fact; named = named; of_relation = rel; holds = holds; joins = joins } = one in
       let its = methods e (contains_here e exposures) in
       let rel' : e.fact.rel ≡ fact.rel = sym (rel ∙ ap (λ (m : Method). m.rel) (well.once method e.method named.0 its.0 named.1) ∙ its.1) in
       let (f, agree, n, vs) = joins_map' h columns e.fact.vals fact.row next joins in

@@ -5,7 +5,7 @@ use Rattle.std.specs.List.{AllZip, range_with_len}
 use Rattle.std.proofs.lemmas.Option.{get_or_from_slice_get, slice_get_within, slice_get-get_or}
 use Rattle.std.proofs.lemmas.List.{length_push}
 use Rattle.std.proofs.lemmas.List.FromFn.{length-map-range_with_len, get_or-map-range_with_len, map-range_with_len_more}
-use Rattle.meaning_laws.proofs.Lists.{contains_here, contains_there, contains_cases, contains_mapped, got_push, got_before, map_same}
+use Rattle.lists.proofs.Members.{contains_here, contains_there, contains_cases, contains_mapped, got_push, got_before, map_same}
 use Rattle.meaning_laws.proofs.Monotone.{joins_length}
 use Rattle.meaning.specs.declared.types.Atom.{Atom}
 use Rattle.meaning.specs.declared.types.Place.{Place}
@@ -28,11 +28,15 @@ use Rattle.meaning_laws.proofs.Deciding.{quiet_meets}
 use Rattle.meaning_laws.proofs.Renaming.{renamed_meets, answer_renamed, answer_back}
 use Rattle.meaning_laws.proofs.Witness.{renamed_fits}
 use Rattle.meaning_laws.proofs.Extracted.{carries_answer}
-use Rattle.meaning.specs.Claims.{IsModel}
-use Rattle.meaning.specs.Runs.{image, Carries, fact_of, renamed, ground, State, IsFiringRun, IsActive, IsNaming, RulesFit, QueryFits, QueryHasConstants, frozen_head}
-use Rattle.meaning.specs.Extract.{opening_state}
 use Rattle.meaning.specs.Matching.{value_of, AreFacts, itself, FactsOf, GroundsOf, IsQueryAnswer, Meets, AnswersQuery}
-use Rattle.meaning.specs.Plans.{IsWellFormed, made, AreLawfulPlaces, IsLawfulOut, AreLawfulFrom, IsLawfulBranch, Joins, LeadsTo, IsOut, IsBranchRow}
+use Rattle.meaning.specs.Plans.{IsWellFormed, made, AreLawfulPlaces, IsLawfulOut, AreLawfulFrom, IsLawfulBranch}
+use Rattle.meaning.specs.Rows.{Joins, LeadsTo, IsOut, IsBranchRow}
+use Rattle.meaning.specs.Claims.{IsModel}
+use Rattle.meaning.specs.Homomorphisms.{image, Carries, fact_of, renamed}
+use Rattle.meaning.specs.Triggers.{ground, State, IsFiringRun, IsActive}
+use Rattle.meaning.specs.Runs.{frozen_head, opening_state}
+use Rattle.meaning.specs.Naming.{IsNaming}
+use Rattle.meaning.specs.Fitting.{RulesFit, QueryFits, QueryHasConstants}
 use Rattle.meaning.specs.Judge.{terms_of, AreAtoms, out_term, IsBranchQuery}
 
 -- what stands in the row stands in the next one
@@ -87,14 +91,15 @@ terms_join a constants inputs began p n (New ∷ places) lawful =
 module _ (schema : SchemaParts) (well : IsWellFormed schema) (instance : List Fact) where
   steps_front : (steps : List Step) (row last : List (List ℕ)) → LeadsTo schema instance steps row last → (k : ℕ) (v : List ℕ) → slice_get row k ≡ Some v → slice_get last k ≡ Some v
   steps_front [] row last e k v g = subst (λ r. slice_get r k ≡ Some v) (sym e) g
-  steps_front (step ∷ steps) row last (next, (method, fact, named, rel, holds, joins), more) k v g = steps_front steps next last more k v (joins_front step.places fact.row row next joins k v g)
+  steps_front (step ∷ steps) row last (next, one, more) k v g = steps_front steps next last more k v (joins_front step.places one.fact.row row next one.joins k v g)
 
   steps_atoms : (a : ℕ → List ℕ) (steps : List Step) (row last : List (List ℕ)) (n : ℕ) (atoms : List Atom) → length row ≡ n → AreAtoms schema n steps atoms → ((k : ℕ) (v : List ℕ) → slice_get last k ≡ Some v → a k ≡ v) → LeadsTo schema instance steps row last → AreFacts itself (FactsOf instance) a atoms
   steps_atoms a [] row last n atoms l are agree rows atom c = absurd (no_atom atom (subst (λ xs. Contains xs atom) are c))
     where
       no_atom : (atom : Atom) → Contains [] atom → ⊥
       no_atom atom c = omega arith
-  steps_atoms a (step ∷ steps) row last n atoms l (method, rest, named, e, are) agree (next, (found, fact, named', rel, holds, joins), more) atom c =
+  steps_atoms a (step ∷ steps) row last n atoms l (method, rest, named, e, are) agree (next, one, more) atom c =
+      let record { method = found; fact = fact; named = named'; of_relation = rel; holds = holds; joins = joins } = one in
       let same : found ≡ method = well.once found method named'.0 named.0 (named'.1 ∙ sym named.1) in
       let rel' : fact.rel ≡ method.rel = rel ∙ ap (λ (m : Method). m.rel) same in
       let row' : fact.row ≡ map (value_of itself a) (terms_of n step.places) = joins_terms a step.places fact.row row next n l joins (λ k v g. agree k v (steps_front steps next last more k v g)) in
@@ -113,7 +118,7 @@ module _ (schema : SchemaParts) (well : IsWellFormed schema) (instance : List Fa
       facts (record { rel = found.rel; terms = terms_of n step.places }) (subst (λ xs. Contains xs (record { rel = found.rel; terms = terms_of n step.places })) first (contains_here (record { rel = found.rel; terms = terms_of n step.places }) rest)) in
       let (m, rows, outs) = atoms_steps a constants steps output (made n step.places) rest more are
       (λ atom c. facts atom (subst (λ xs. Contains xs atom) first (contains_there (record { rel = found.rel; terms = terms_of n step.places }) rest atom c))) in
-      (m, (tabulated a (made n step.places), (found, record { rel = found.rel; row = map (value_of itself a) (terms_of n step.places) }, named, refl, holds, terms_join a constants method.inputs n 0 n step.places lawful.places), rows), outs)
+      (m, (tabulated a (made n step.places), record { method = found; fact = record { rel = found.rel; row = map (value_of itself a) (terms_of n step.places) }; named = named; of_relation = refl; holds = holds; joins = terms_join a constants method.inputs n 0 n step.places lawful.places }, rows), outs)
 
 outs_terms : (a : ℕ → List ℕ) (last : List (List ℕ)) (output : List Out) (row : List (List ℕ)) → ((k : ℕ) (v : List ℕ) → slice_get last k ≡ Some v → a k ≡ v) → AllZip (IsOut last) output row → row ≡ map (value_of itself a) (map out_term output)
 outs_terms a last [] [] agree z = refl

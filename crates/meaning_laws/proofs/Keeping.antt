@@ -4,7 +4,7 @@ use Rattle.std.specs.Prelude.{Contains, slice_get, map}
 use Rattle.std.proofs.lemmas.Bool.{cases_lt}
 use Rattle.std.proofs.lemmas.List.{length-map}
 use Rattle.std.proofs.lemmas.List.Elements.{Contains-append_cases, Contains-append_left}
-use Rattle.meaning_laws.proofs.Lists.{contains_got, contains_map, contains_mapped}
+use Rattle.lists.proofs.Members.{contains_got, contains_map, contains_mapped}
 use Rattle.meaning_laws.proofs.Carrying.{occurs_below, fresh_is}
 use Rattle.meaning.specs.declared.types.Term.{Term}
 use Rattle.meaning.specs.declared.types.Term.TheVariants.{Var, Const as Said}
@@ -16,8 +16,12 @@ use Rattle.meaning.specs.declared.types.Relation.{Relation}
 use Rattle.meaning.specs.declared.types.Ground.{Ground}
 use Rattle.meaning.specs.declared.types.SchemaParts.{SchemaParts}
 use Rattle.meaning.specs.declared.types.Trigger.{Trigger}
+use Rattle.meaning_laws.proofs.Fits.{fits_alike}
+use Rattle.meaning.specs.Instances.{FitsRelation}
 use Rattle.meaning.specs.Matching.{value_of}
-use Rattle.meaning.specs.Runs.{bound, IsNumbered, State, assigned, ground, IsTrigger, fired, IsFiringRun, IsNamed, AreNamed, HaveConstants, Fit, RulesFit}
+use Rattle.meaning.specs.Triggers.{bound, IsNumbered, State, assigned, ground, IsTrigger, fired, IsFiringRun}
+use Rattle.meaning.specs.Naming.{IsNamed, AreNamed}
+use Rattle.meaning.specs.Fitting.{HaveConstants, Fit, RulesFit}
 
 pub named_more : (constants : List (List ℕ)) (m n : ℕ) (v : Val) → m ≤ n → IsNamed constants m v → IsNamed constants n v
 named_more constants m n (Const c) l is = is
@@ -51,12 +55,11 @@ module _ (constants : List (List ℕ)) (rules : List Rule) (state : State) (trig
           fresh_is' : (i : ℕ) → assigned trigger (bound rule.body + i) ≡ Label (trigger.fresh + i)
           fresh_is' i = fresh_is rules state trigger rule is i
 
-  fired_fits : (schema : SchemaParts) → ((atom : Atom) → Contains rule.head atom → (relation : Relation) × (slice_get schema.relations atom.rel ≡ Some relation) × (length atom.terms ≡ length relation.columns)) → Fit schema state.facts → Fit schema (fired state trigger rule).facts
+  fired_fits : (schema : SchemaParts) → ((atom : Atom) → Contains rule.head atom → FitsRelation schema atom.rel atom.terms) → Fit schema state.facts → Fit schema (fired state trigger rule).facts
   fired_fits schema heads fit fact c =
       ⊎_elim (λ old. fit fact old)
       (λ new. let (atom, among, e) = contains_mapped (ground (assigned trigger)) rule.head fact new in
-      let (relation, got, long) = heads atom among in
-      (relation, subst (λ (f : Ground). slice_get schema.relations f.rel ≡ Some relation) e got, ap (λ (f : Ground). length f.vals) (sym e) ∙ length-map atom.terms (value_of Const (assigned trigger)) ∙ long))
+      fits_alike schema atom.rel fact.rel atom.terms fact.vals (ap (λ (f : Ground). f.rel) e) (ap (λ (f : Ground). length f.vals) (sym e) ∙ length-map atom.terms (value_of Const (assigned trigger))) (heads atom among))
       (Contains-append_cases state.facts (map (ground (assigned trigger)) rule.head) fact c)
 
 -- what a whole run keeps

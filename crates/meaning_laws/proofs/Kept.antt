@@ -3,7 +3,7 @@ use Rattle.std.proofs.Common.{◌≡◌, ℕ, ◌<◌, List, [], ◌∷◌, ◌+
 use Rattle.std.specs.Prelude.{Contains, slice_get, map}
 use Rattle.std.proofs.lemmas.List.{length-map}
 use Rattle.std.proofs.lemmas.List.Elements.{Contains-append_left, Contains-push, Contains-push_cases}
-use Rattle.meaning_laws.proofs.Lists.{contains_map, contains_mapped}
+use Rattle.lists.proofs.Members.{contains_map, contains_mapped}
 use Rattle.meaning_laws.proofs.Carrying.{occurs_below}
 use Rattle.meaning_laws.proofs.Keeping.{Keeps, named_more, run_keeps}
 use Rattle.meaning_laws.proofs.Witness.{witness_refutes}
@@ -19,9 +19,15 @@ use Rattle.meaning.specs.declared.types.Statement.{Statement}
 use Rattle.meaning.specs.declared.types.Trigger.{Trigger}
 use Rattle.meaning.specs.declared.types.Firing.{Firing}
 use Rattle.meaning.specs.declared.types.Firing.TheVariants.{Base, Copy, Expose}
+use Rattle.meaning_laws.proofs.Fits.{fits_alike}
 use Rattle.meaning.specs.Matching.{value_of}
-use Rattle.meaning.specs.Claims.{Refutes, StandFor}
-use Rattle.meaning.specs.Runs.{bound, ground, State, fired, IsFirstActive, Proof, base_state, copy_state, Fires, part_of, IsOrderedRun, opening, frozen_head, IsNamed, AreNamed, Fit, RulesFit, QueryHasConstants, QueryFits, IsKept, IsStuck, IsNaming, renamed, image}
+use Rattle.meaning.specs.Claims.{Refutes}
+use Rattle.meaning.specs.Homomorphisms.{renamed, image}
+use Rattle.meaning.specs.Triggers.{bound, ground, State, fired}
+use Rattle.meaning.specs.Runs.{IsFirstActive, Proof, base_state, copy_state, Fires, part_of, IsRun, IsOrderedRun, opening, frozen_head, IsStuck}
+use Rattle.meaning.specs.Naming.{IsNamed, AreNamed, IsNaming}
+use Rattle.meaning.specs.Fitting.{Fit, RulesFit, QueryHasConstants, QueryFits, IsKept}
+use Rattle.meaning.specs.Conjunctive.{StandFor}
 
 -- a term of the query under the labels of its variables
 frozen_named : (constants : List (List ℕ)) (n : ℕ) (terms : List Term) → ((x : ℕ) → Contains terms (Var x) → x < n) → ((c : List ℕ) → Contains terms (Said c) → Contains constants c) → (v : Val) → Contains (map (value_of Const Label) terms) v → IsNamed constants n v
@@ -35,8 +41,8 @@ frozen_named constants n terms below have v c =
 
 pub kept_opening : (schema : SchemaParts) (constants : List (List ℕ)) (query : Query) → QueryFits schema query → QueryHasConstants constants query → IsKept schema constants query (opening query)
 kept_opening schema constants query fits have = record {
-  base_fits = λ fact c. let (atom, among, e) = contains_mapped (ground Label) query.atoms fact c in let (relation, got, long) = fits.arity atom among in
-      (relation, subst (λ (f : Ground). slice_get schema.relations f.rel ≡ Some relation) e got, ap (λ (f : Ground). length f.vals) (sym e) ∙ length-map atom.terms (value_of Const Label) ∙ long);
+  base_fits = λ fact c. let (atom, among, e) = contains_mapped (ground Label) query.atoms fact c in
+      fits_alike schema atom.rel fact.rel atom.terms fact.vals (ap (λ (f : Ground). f.rel) e) (ap (λ (f : Ground). length f.vals) (sym e) ∙ length-map atom.terms (value_of Const Label)) (fits.arity atom among);
   copy_fits = λ fact c. absurd (none fact c);
   base_named = λ fact v c i. let (atom, among, e) = contains_mapped (ground Label) query.atoms fact c in
       frozen_named constants query.variables atom.terms (λ x h. low x (occurs_below query.atoms x (atom, among, h))) (λ t h. have.atoms atom t among h) v (subst (λ (f : Ground). Contains f.vals v) (sym e) i);
@@ -95,13 +101,19 @@ kept_fires schema constants query proof next (Expose number fact) rules kept (me
       answered = kept.answered;
     })
 
-pub kept_run : (schema : SchemaParts) (constants : List (List ℕ)) (query : Query) (part : ℕ) (proof : Proof) (log : List Firing) (end : Proof) → RulesFit schema constants → IsKept schema constants query proof → IsOrderedRun schema constants part proof log end → IsKept schema constants query end
+pub kept_run : (schema : SchemaParts) (constants : List (List ℕ)) (query : Query) (part : ℕ) (proof : Proof) (log : List Firing) (end : Proof) → RulesFit schema constants → IsKept schema constants query proof → IsRun schema constants part proof log end → IsKept schema constants query end
 kept_run schema constants query part proof [] end rules kept run = subst (λ p. IsKept schema constants query p) (sym run) kept
-kept_run schema constants query part proof (firing ∷ log) end rules kept (order, waits, (next, fires, more)) =
+kept_run schema constants query part proof (firing ∷ log) end rules kept (order, (next, fires, more)) =
     kept_run schema constants query (part_of firing) next log end rules (kept_fires schema constants query proof next firing rules kept fires) more
 
--- an ordered run from the opening state, after which nothing is active and there is no goal, refutes
-pub run_refutes : (schema : SchemaParts) (constants : List (List ℕ)) (statement : Statement) (queries : List Query) (query : Query) (log : List Firing) (proof : Proof) (h : ℕ → List ℕ) → RulesFit schema constants → StandFor schema queries statement → Contains queries query → ((q : Query) → Contains queries q → QueryHasConstants constants q) → QueryFits schema query → IsOrderedRun schema constants 0 (opening query) log proof → IsStuck schema constants queries proof (frozen_head query) → IsNaming constants proof.next h → Refutes schema constants statement (renamed h proof.base) (renamed h proof.copy) (map (image h) (frozen_head query))
+-- An ordered run is a run.
+pub ordered_is_run : (schema : SchemaParts) (constants : List (List ℕ)) (part : ℕ) (proof : Proof) (log : List Firing) (end : Proof) → IsOrderedRun schema constants part proof log end → IsRun schema constants part proof log end
+ordered_is_run schema constants part proof [] end run = run
+ordered_is_run schema constants part proof (firing ∷ log) end (order, waits, (next, fires, more)) =
+    (order, (next, fires, ordered_is_run schema constants (part_of firing) next log end more))
+
+-- a run from the opening state, after which nothing is active and there is no goal, refutes
+pub run_refutes : (schema : SchemaParts) (constants : List (List ℕ)) (statement : Statement) (queries : List Query) (query : Query) (log : List Firing) (proof : Proof) (h : ℕ → List ℕ) → RulesFit schema constants → StandFor schema queries statement → Contains queries query → ((q : Query) → Contains queries q → QueryHasConstants constants q) → QueryFits schema query → IsRun schema constants 0 (opening query) log proof → IsStuck schema constants queries proof (frozen_head query) → IsNaming constants proof.next h → Refutes schema constants statement (renamed h proof.base) (renamed h proof.copy) (map (image h) (frozen_head query))
 run_refutes schema constants statement queries query log proof h rules stand among have fits run stuck naming =
     witness_refutes schema constants statement queries query proof h rules stand among have
     (kept_run schema constants query 0 (opening query) log proof rules (kept_opening schema constants query fits (have query among)) run) stuck naming

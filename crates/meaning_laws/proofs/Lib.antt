@@ -1,4 +1,5 @@
-pub mod Lists
+pub mod Joined
+pub mod Fits
 pub mod Monotone
 pub mod Carrying
 pub mod Keeping
@@ -12,9 +13,13 @@ pub mod Rivals
 pub mod Kept
 pub mod Decided
 pub mod Judging
+pub mod Frozen
 pub mod Searching
 pub mod Conjoining
+pub mod Choosing
 pub mod Example
+pub mod Employees
+pub mod Feeding
 pub mod Closing
 pub mod SameSets
 pub mod Members

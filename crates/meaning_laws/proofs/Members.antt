@@ -3,7 +3,8 @@ use Rattle.std.proofs.Common.{ℕ, List, [], ◌∷◌}
 use Rattle.meaning.specs.declared.types.Fact.{Fact}
 use Rattle.meaning.specs.declared.types.SchemaParts.{SchemaParts}
 use Rattle.meaning.specs.declared.types.Statement.{Statement}
-use Rattle.meaning.specs.Answers.{IsWithin, IsChoice, Answers}
+use Rattle.meaning.specs.Instances.{IsWithin}
+use Rattle.meaning.specs.Answers.{IsChoice, Answers}
 use Rattle.meaning.specs.Access.{IsAccessPath}
 use Rattle.meaning.specs.Claims.{IsModel, Refutes}
 

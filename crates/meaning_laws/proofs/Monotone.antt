@@ -3,7 +3,7 @@ use Rattle.std.proofs.Common.{◌≡◌, ◌⊎◌, ℕ, zero, suc, ◌+◌, ◌
 use Rattle.std.specs.Prelude.{Contains, slice_get}
 use Rattle.std.proofs.lemmas.List.{length_push}
 use Rattle.std.proofs.lemmas.List.Elements.{Contains-push_cases}
-use Rattle.meaning_laws.proofs.Lists.{contains_here, contains_there, contains_got, got_before}
+use Rattle.lists.proofs.Members.{contains_here, contains_there, contains_got, got_before}
 use Rattle.meaning.specs.declared.types.Fact.{Fact}
 use Rattle.meaning.specs.declared.types.Method.{Method}
 use Rattle.meaning.specs.declared.types.SchemaParts.{SchemaParts}
@@ -13,7 +13,8 @@ use Rattle.meaning.specs.declared.types.Out.{Out}
 use Rattle.meaning.specs.declared.types.Step.{Step}
 use Rattle.meaning.specs.declared.types.Plan.{Plan}
 use Rattle.meaning.specs.Access.{IsKnown, CanAccess, IsAccessPath, IsAccessible}
-use Rattle.meaning.specs.Plans.{made, AreLawfulPlaces, IsLawfulStep, AreLawfulFrom, IsLawful, Joins, LeadsTo, IsRow, IsWellFormed}
+use Rattle.meaning.specs.Plans.{made, AreLawfulPlaces, IsLawfulStep, AreLawfulFrom, IsLawful, IsWellFormed}
+use Rattle.meaning.specs.Rows.{Joins, LeadsTo, IsRow}
 use Rattle.meaning.specs.Claims.{IsEquivalent, Refutes}
 use Rattle.meaning.specs.declared.types.Statement.{Statement}
 
@@ -73,28 +74,29 @@ known_later constants fact trail v = ⊎_elim inl (λ h. inr (h.0, contains_ther
 module _ (schema : SchemaParts) (well : IsWellFormed schema) (constants : List (List ℕ)) (first second : List Fact) (included : (fact : Fact) → IsAccessible schema constants first fact → Contains second fact) where
   -- the fact of a lawful step on known values can be accessed
   step_access : (step : Step) (method : Method) (fact : Fact) (trail : List Fact) (row next : List (List ℕ)) → ((v : List ℕ) → Contains row v → IsKnown constants trail v) → IsLawfulStep schema constants (length row) step method → fact.rel ≡ method.rel → Joins step.places fact.row row next → CanAccess schema constants trail fact
-  step_access step method fact trail row next known lawful rel joins = (
-    method,
-    lawful.named.0,
-    sym rel,
-    λ p i.
+  step_access step method fact trail row next known lawful rel joins = record {
+    method = method;
+    of_schema = lawful.named.0;
+    of_relation = sym rel;
+    inputs = λ p i.
         let zeroth : p ≡ 0 + p = omega arith in
-        let below : p < length lawful.arity.0.columns = well.inputs method lawful.arity.0 p lawful.named.0 lawful.arity.1 i in
+        let below : p < length lawful.arity.relation.columns = well.inputs method lawful.arity.relation p lawful.named.0 lawful.arity.there i in
         let got = joins_inputs constants method.inputs (length row) (IsKnown constants trail) step.places fact.row row next 0 (length row) p joins lawful.places
-        (λ k v less got. known v (contains_got row k v got)) (omega arith) (subst (λ n. Contains method.inputs n) zeroth i) (rw lawful.arity.2 below) in
-        (got.0, got.1, ⊎_elim inl (λ h. h) got.2),
-  )
+        (λ k v less got. known v (contains_got row k v got)) (omega arith) (subst (λ n. Contains method.inputs n) zeroth i) (rw lawful.arity.width below) in
+        (got.0, got.1, ⊎_elim inl (λ h. h) got.2);
+  }
 
   steps_over : (steps : List Step) (output : List Out) (trail : List Fact) (row last : List (List ℕ)) → IsAccessPath schema constants first trail → ((v : List ℕ) → Contains row v → IsKnown constants trail v) → AreLawfulFrom schema constants (length row) steps output → LeadsTo schema first steps row last → LeadsTo schema second steps row last
   steps_over [] output trail row last t known lawful e = e
-  steps_over (step ∷ steps) output trail row last t known (method, lawful, rest) (next, (found, fact, named, rel, holds, joins), more) =
+  steps_over (step ∷ steps) output trail row last t known (method, lawful, rest) (next, one, more) =
+      let record { method = found; fact = fact; named = named; of_relation = rel; holds = holds; joins = joins } = one in
       let same : found ≡ method = well.once found method named.0 lawful.named.0 (named.1 ∙ sym lawful.named.1) in
       let rel' : fact.rel ≡ method.rel = rel ∙ ap (λ (m : Method). m.rel) same in
       let access : CanAccess schema constants trail fact = step_access step method fact trail row next known lawful rel' joins in
       let longer : IsAccessPath schema constants first (fact ∷ trail) = (holds, access, t) in
       let known' : (v : List ℕ) → Contains next v → IsKnown constants (fact ∷ trail) v =
       λ v c. ⊎_elim (λ h. known_later constants fact trail v (known v h)) (λ h. inr (fact, contains_here fact trail, h)) (joins_values step.places fact.row row next joins v c) in
-      (next, (method, fact, lawful.named, rel', included fact (trail, longer), joins), steps_over steps output (fact ∷ trail) next last longer known' (rw (joins_length step.places fact.row row next joins) rest) more)
+      (next, record { method = method; fact = fact; named = lawful.named; of_relation = rel'; holds = included fact (trail, longer); joins = joins }, steps_over steps output (fact ∷ trail) next last longer known' (rw (joins_length step.places fact.row row next joins) rest) more)
 
   -- the rows grow with the accessible part
   pub rows_over : (plan : Plan) (row : List (List ℕ)) → IsLawful plan schema constants → IsRow schema plan first row → IsRow schema plan second row
@@ -105,12 +107,12 @@ module _ (schema : SchemaParts) (well : IsWellFormed schema) (constants : List (
       no_value v c = omega arith
 
 -- a fact that can be reached is in the instance
-pub acc_within : (schema : SchemaParts) (constants : List (List ℕ)) (facts : List Fact) (fact : Fact) → IsAccessible schema constants facts fact → Contains facts fact
-acc_within schema constants facts fact (earlier, trail) = trail.0
+pub accessible_within : (schema : SchemaParts) (constants : List (List ℕ)) (facts : List Fact) (fact : Fact) → IsAccessible schema constants facts fact → Contains facts fact
+accessible_within schema constants facts fact (earlier, trail) = trail.0
 
 pub rows_grow_lem : (schema : SchemaParts) (constants : List (List ℕ)) (plan : Plan) (first second : List Fact) → IsWellFormed schema → IsLawful plan schema constants → ((fact : Fact) → IsAccessible schema constants first fact → IsAccessible schema constants second fact) → (row : List (List ℕ)) → IsRow schema plan first row → IsRow schema plan second row
 rows_grow_lem schema constants plan first second well lawful grows row =
-    rows_over schema well constants first second (λ fact reached. acc_within schema constants second fact (grows fact reached)) plan row lawful
+    rows_over schema well constants first second (λ fact reached. accessible_within schema constants second fact (grows fact reached)) plan row lawful
 
 pub no_plan_lem : (schema : SchemaParts) (constants : List (List ℕ)) (statement : Statement) (first second : List Fact) (row : List (List ℕ)) → IsWellFormed schema → Refutes schema constants statement first second row → (plan : Plan) → IsLawful plan schema constants → IsEquivalent plan statement schema → ⊥
 no_plan_lem schema constants statement first second row well pair plan lawful same =

@@ -4,7 +4,7 @@ use Rattle.std.specs.Prelude.{Contains, slice_get, map}
 use Rattle.std.proofs.lemmas.Option.{slice_get_within}
 use Rattle.std.proofs.lemmas.List.{length_push, append-nil}
 use Rattle.std.proofs.lemmas.List.Elements.{Contains-append_left}
-use Rattle.meaning_laws.proofs.Lists.{contains_here, contains_there, contains_cases, contains_mapped}
+use Rattle.lists.proofs.Members.{contains_here, contains_there, contains_cases, contains_mapped}
 use Rattle.meaning_laws.proofs.Extracting.{column_found, column_none, column_here, column_later}
 use Rattle.std.proofs.lemmas.Bool.{cases_eq}
 use Rattle.meaning.specs.declared.types.Val.{Val}
@@ -12,6 +12,8 @@ use Rattle.meaning.specs.declared.types.Val.TheVariants.{Const as Known, Label}
 use Rattle.meaning.specs.declared.types.Out.{Out}
 use Rattle.meaning.specs.declared.types.Relation.{Relation}
 use Rattle.meaning.specs.declared.types.SchemaParts.{SchemaParts}
+use Rattle.meaning_laws.proofs.Fits.{fits_alike}
+use Rattle.meaning.specs.Instances.{FitsRelation}
 use Rattle.meaning.specs.Plans.{made, AreLawfulPlaces, IsLawfulOut, AreLawfulFrom, IsLawfulBranch}
 use Rattle.meaning.specs.Extract.{Exposure, column_of, next_column, label_place, with_label, places_of, columns_after, steps_of, all_columns, label_out, out_of, branch_of, IsInput, AreInOrder}
 
@@ -72,16 +74,16 @@ length_places (Known t ∷ vals) columns = ap suc (length_places vals columns)
 length_places (Label k ∷ vals) columns = ap suc (length_places vals (with_label columns k (column_of columns k)))
 
 module _ (schema : SchemaParts) (constants : List (List ℕ)) where
-  steps_lawful : (exposures : List Exposure) (columns : List ℕ) (output : List Out) → ((e : Exposure) → Contains exposures e → Contains schema.methods e.method × ((relation : Relation) × (slice_get schema.relations e.method.rel ≡ Some relation) × (length e.fact.vals ≡ length relation.columns))) → ((e : Exposure) (c : List ℕ) → Contains exposures e → Contains e.fact.vals (Known c) → Contains constants c) → AreInOrder constants columns exposures →
+  steps_lawful : (exposures : List Exposure) (columns : List ℕ) (output : List Out) → ((e : Exposure) → Contains exposures e → Contains schema.methods e.method × FitsRelation schema e.method.rel e.fact.vals) → ((e : Exposure) (c : List ℕ) → Contains exposures e → Contains e.fact.vals (Known c) → Contains constants c) → AreInOrder constants columns exposures →
       ((out : Out) → Contains output out → IsLawfulOut constants (length (all_columns columns exposures)) out) → AreLawfulFrom schema constants (length columns) (steps_of columns exposures) output
   steps_lawful [] columns output fits have order outs = outs
   steps_lawful (e ∷ exposures) columns output fits have order outs =
-      let (among, (relation, got, long)) = fits e (contains_here e exposures) in
+      let (among, fit) = fits e (contains_here e exposures) in
       let zeroth : columns ++ [] ≡ columns = append-nil columns in (
         e.method,
         record {
           named = (among, refl);
-          arity = (relation, got, length_places e.fact.vals columns ∙ long);
+          arity = fits_alike schema e.method.rel e.method.rel e.fact.vals (places_of columns e.fact.vals) refl (length_places e.fact.vals columns) fit;
           places = subst (λ cs. AreLawfulPlaces constants e.method.inputs (length columns) 0 (length cs) (places_of cs e.fact.vals)) zeroth
               (places_lawful constants e.method.inputs columns e.fact.vals [] 0 (λ c i. have e c (contains_here e exposures) i) (λ q v i g. order.0 q v (subst (λ n. Contains e.method.inputs n) (plain q) i) g));
         },
@@ -92,7 +94,7 @@ module _ (schema : SchemaParts) (constants : List (List ℕ)) where
       plain : (q : ℕ) → 0 + q ≡ q
       plain q = omega arith
 
-  pub extract_lawful : (exposures : List Exposure) (head : List Val) → ((e : Exposure) → Contains exposures e → Contains schema.methods e.method × ((relation : Relation) × (slice_get schema.relations e.method.rel ≡ Some relation) × (length e.fact.vals ≡ length relation.columns))) → ((e : Exposure) (c : List ℕ) → Contains exposures e → Contains e.fact.vals (Known c) → Contains constants c) → AreInOrder constants [] exposures → ((c : List ℕ) → Contains head (Known c) → Contains constants c) → ((k : ℕ) → Contains head (Label k) → Contains (all_columns [] exposures) k) → IsLawfulBranch schema constants (branch_of exposures head)
+  pub extract_lawful : (exposures : List Exposure) (head : List Val) → ((e : Exposure) → Contains exposures e → Contains schema.methods e.method × FitsRelation schema e.method.rel e.fact.vals) → ((e : Exposure) (c : List ℕ) → Contains exposures e → Contains e.fact.vals (Known c) → Contains constants c) → AreInOrder constants [] exposures → ((c : List ℕ) → Contains head (Known c) → Contains constants c) → ((k : ℕ) → Contains head (Label k) → Contains (all_columns [] exposures) k) → IsLawfulBranch schema constants (branch_of exposures head)
   extract_lawful exposures head fits have order have_head known =
       steps_lawful exposures [] (map (out_of (all_columns [] exposures)) head) fits have order (λ out c. let (v, among, is) = contains_mapped (out_of (all_columns [] exposures)) head out c in subst (λ o. IsLawfulOut constants (length (all_columns [] exposures)) o) is (each v among))
     where

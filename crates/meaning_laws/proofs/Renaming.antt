@@ -4,7 +4,7 @@ use mathlib.Core.List.{List-discrete}
 use Rattle.std.proofs.Math.Decide.{ℕ_discrete}
 use Rattle.std.specs.Prelude.{Contains, map, replicate}
 use Rattle.std.proofs.lemmas.List.{length-replicate}
-use Rattle.meaning_laws.proofs.Lists.{contains_here, contains_there, contains_cases, contains_map, contains_mapped}
+use Rattle.lists.proofs.Members.{contains_here, contains_there, contains_cases, contains_map, contains_mapped}
 use Rattle.meaning_laws.proofs.Carrying.{image_values}
 use Rattle.meaning.specs.declared.types.Term.{Term}
 use Rattle.meaning.specs.declared.types.Term.TheVariants.{Var, Const as Said}
@@ -16,7 +16,9 @@ use Rattle.meaning.specs.declared.types.Query.{Query}
 use Rattle.meaning.specs.declared.types.Fact.{Fact}
 use Rattle.meaning.specs.declared.types.Ground.{Ground}
 use Rattle.meaning.specs.Matching.{value_of, AreFacts, OccursIn, MeetsAll, IsQueryAnswer, itself, FactsOf, GroundsOf}
-use Rattle.meaning.specs.Runs.{image, fact_of, renamed, IsNaming, IsNamed, AreNamed, HaveConstants, RulesHaveConstants}
+use Rattle.meaning.specs.Homomorphisms.{image, fact_of, renamed}
+use Rattle.meaning.specs.Naming.{IsNaming, IsNamed, AreNamed}
+use Rattle.meaning.specs.Fitting.{HaveConstants, RulesHaveConstants}
 
 -- the label below n whose text it is, or the text as a constant
 pub back : (ℕ → List ℕ) → ℕ → List ℕ → Val

@@ -2,7 +2,7 @@
 use Rattle.std.proofs.Common.{◌≡◌, ℕ, ◌+◌, ◌<◌, ◌≤◌, List, [], ◌∷◌, ◌++◌, length, Some, sym, ap, ◌∙◌, subst, inl, inr, ⊎_elim, arith, append_assoc}
 use Rattle.std.specs.Prelude.{Contains, slice_get, map}
 use Rattle.std.proofs.lemmas.List.Elements.{Contains-append_left, Contains-append_right, Contains-append_cases, Contains-push}
-use Rattle.meaning_laws.proofs.Lists.{contains_here, contains_cases, contains_got, contains_map, contains_mapped, got_mapped}
+use Rattle.lists.proofs.Members.{contains_here, contains_cases, contains_got, contains_map, contains_mapped, got_mapped}
 use Rattle.meaning_laws.proofs.Monotone.{joins_inputs, joins_values, joins_length}
 use Rattle.meaning_laws.proofs.Deciding.{dec_contains, quiet_meets}
 use Rattle.meaning_laws.proofs.Renaming.{naming_exists, back, back_named, renamed_meets, answer_renamed, answer_back}
@@ -18,20 +18,28 @@ use Rattle.meaning.specs.declared.types.Step.{Step}
 use Rattle.meaning.specs.declared.types.Branch.{Branch}
 use Rattle.meaning.specs.declared.types.Query.{Query}
 use Rattle.meaning.specs.declared.types.SchemaParts.{SchemaParts}
-use Rattle.meaning.specs.Plans.{IsWellFormed, IsLawfulStep, AreLawfulFrom, Joins, LeadsTo}
+use Rattle.meaning.specs.Instances.{IsInstance}
 use Rattle.meaning.specs.Matching.{AnswersQuery}
-use Rattle.meaning.specs.Claims.{IsStepsCost, IsCost, IsModel, StandFor, IsLeast}
-use Rattle.meaning.specs.Answers.{IsInstance, AnswersSelect}
+use Rattle.meaning.specs.Answers.{AnswersSelect}
+use Rattle.meaning.specs.Plans.{IsWellFormed, IsLawfulStep, AreLawfulFrom}
+use Rattle.meaning.specs.Rows.{Joins, LeadsTo}
+use Rattle.meaning.specs.Claims.{IsModel}
+use Rattle.meaning.specs.Costs.{IsStepsCost, IsCost, IsLeast}
+use Rattle.meaning.specs.Homomorphisms.{image, fact_of, renamed}
+use Rattle.meaning.specs.Triggers.{State}
+use Rattle.meaning.specs.Runs.{IsKnownValue}
+use Rattle.meaning.specs.Naming.{IsNaming, IsNamed, AreNamed}
+use Rattle.meaning.specs.Fitting.{RulesFit, QueryHasConstants, Fit}
+use Rattle.meaning.specs.Conjunctive.{StandFor}
+use Rattle.meaning.specs.Extract.{Exposure, exposed_facts, IsExposing, exposures_cost, IsBase, IsQueryRival, HasGoalAfter}
 use Rattle.meaning.specs.declared.types.Statement.{Statement}
 use Rattle.meaning.specs.declared.types.Select.{Select}
-use Rattle.meaning.specs.Runs.{image, fact_of, renamed, IsNaming, IsNamed, AreNamed, IsKnownValue, State, RulesFit, QueryHasConstants, Fit}
-use Rattle.meaning.specs.Extract.{Exposure, exposed_facts, IsExposing, exposures_cost, IsBase, IsQueryRival, HasGoalAfter}
 
 -- rows grow with the facts
 pub steps_grow : (schema : SchemaParts) (first second : List Fact) → ((fact : Fact) → Contains first fact → Contains second fact) → (steps : List Step) (row last : List (List ℕ)) → LeadsTo schema first steps row last → LeadsTo schema second steps row last
 steps_grow schema first second within [] row last e = e
-steps_grow schema first second within (step ∷ steps) row last (next, (method, fact, named, rel, holds, joins), more) =
-    (next, (method, fact, named, rel, within fact holds, joins), steps_grow schema first second within steps next last more)
+steps_grow schema first second within (step ∷ steps) row last (next, one, more) =
+    (next, record { method = one.method; fact = one.fact; named = one.named; of_relation = one.of_relation; holds = within one.fact one.holds; joins = one.joins }, steps_grow schema first second within steps next last more)
 
 module _ (schema : SchemaParts) (well : IsWellFormed schema) (constants : List (List ℕ)) (base : List Ground) (n : ℕ) (h : ℕ → List ℕ) (naming : IsNaming constants n h) (named : AreNamed constants n base) where
   -- a text that is the image of a known value
@@ -47,9 +55,9 @@ module _ (schema : SchemaParts) (well : IsWellFormed schema) (constants : List (
   unfolding IsKnownText
   inputs_known step method g exposed row next known of_base lawful in_base joins p i =
       let zeroth : p ≡ 0 + p = omega arith in
-      let below : p < length lawful.arity.0.columns = well.inputs method lawful.arity.0 p lawful.named.0 lawful.arity.1 i in
+      let below : p < length lawful.arity.relation.columns = well.inputs method lawful.arity.relation p lawful.named.0 lawful.arity.there i in
       let (value, got, is) = joins_inputs constants method.inputs (length row) (IsKnownText exposed) step.places (map (image h) g.vals) row next 0 (length row) p joins lawful.places
-      (λ k v less at. known v (contains_got row k v at)) (omega arith) (subst (λ m. Contains method.inputs m) zeroth i) (rw lawful.arity.2 below) in
+      (λ k v less at. known v (contains_got row k v at)) (omega arith) (subst (λ m. Contains method.inputs m) zeroth i) (rw lawful.arity.width below) in
       let (v, at, same) = got_mapped (image h) g.vals p value got in
       let comes : back h n value ≡ v = ap (back h n) (sym same) ∙ back_named constants n h naming v (named g v in_base (contains_got g.vals p v at)) in (
         v,
@@ -68,7 +76,8 @@ module _ (schema : SchemaParts) (well : IsWellFormed schema) (constants : List (
   rows_expose : (steps : List Step) (output : List Out) (exposed : List Ground) (row last : List (List ℕ)) (cost : ℕ) → ((v : List ℕ) → Contains row v → IsKnownText exposed v) → ((f : Ground) → Contains exposed f → Contains base f) → AreLawfulFrom schema constants (length row) steps output → IsStepsCost schema steps cost → LeadsTo schema (renamed h base) steps row last → Shown exposed steps row last cost
   unfolding Shown IsKnownText
   rows_expose [] output exposed row last cost known of_base lawful is_cost e = ([], tt, omega arith, e)
-  rows_expose (step ∷ steps) output exposed row last cost known of_base (method, lawful, rest) (priced, left, named_priced, is_left, is_cost) (next, (found, fact, named_found, rel, holds, joins), more) =
+  rows_expose (step ∷ steps) output exposed row last cost known of_base (method, lawful, rest) (priced, left, named_priced, is_left, is_cost) (next, one, more) =
+      let record { method = found; fact = fact; named = named_found; of_relation = rel; holds = holds; joins = joins } = one in
       let (g, in_base, e) = contains_mapped (fact_of h) base fact holds in
       let same : found ≡ method = well.once found method named_found.0 lawful.named.0 (named_found.1 ∙ sym lawful.named.1) in
       let priced_same : priced ≡ method = well.once priced method named_priced.0 lawful.named.0 (named_priced.1 ∙ sym lawful.named.1) in
@@ -80,7 +89,7 @@ module _ (schema : SchemaParts) (well : IsWellFormed schema) (constants : List (
       elim (dec_contains exposed g) [
         | yes is ↦
             let (exposures, exposing, cheap, rows) = rows_expose steps output exposed next last left (known_next exposed next g is joins' (λ v c. known v c)) of_base rest' is_left more in
-            (exposures, exposing, omega arith, (next, (method, fact_of h g, lawful.named, rel', contains_map (fact_of h) (exposed ++ exposed_facts exposures) g (Contains-append_left exposed (exposed_facts exposures) g is), joins'), rows))
+            (exposures, exposing, omega arith, (next, record { method = method; fact = fact_of h g; named = lawful.named; of_relation = rel'; holds = contains_map (fact_of h) (exposed ++ exposed_facts exposures) g (Contains-append_left exposed (exposed_facts exposures) g is); joins = joins' }, rows))
         | no new ↦
             let (exposures, exposing, cheap, rows) = rows_expose steps output (exposed ++ g ∷ []) next last left
             (known_next (exposed ++ g ∷ []) next g (Contains-push exposed g) joins' (λ v c. known_grow exposed (g ∷ []) v (known v c)))
@@ -91,7 +100,7 @@ module _ (schema : SchemaParts) (well : IsWellFormed schema) (constants : List (
               omega arith,
               (
                 next,
-                (method, fact_of h g, lawful.named, rel', contains_map (fact_of h) (exposed ++ g ∷ exposed_facts exposures) g (Contains-append_right exposed (g ∷ exposed_facts exposures) g (contains_here g (exposed_facts exposures))), joins'),
+                record { method = method; fact = fact_of h g; named = lawful.named; of_relation = rel'; holds = contains_map (fact_of h) (exposed ++ g ∷ exposed_facts exposures) g (Contains-append_right exposed (g ∷ exposed_facts exposures) g (contains_here g (exposed_facts exposures))); joins = joins' },
                 subst (λ facts. LeadsTo schema facts steps next last) whole rows,
               ),
             )
@@ -161,13 +170,13 @@ cost_once schema well (step ∷ steps) m n (method, left, named, more, e) (other
     omega arith
 
 -- where no exposures with a goal cost less, no rival costs less
-pub leastwise : (schema : SchemaParts) (constants : List (List ℕ)) (statement : Statement) (select : Select) (queries : List Query) (query : Query) (base : State) (head : List Val) (branch : Branch) (best : ℕ) →
+pub least_by_exposures : (schema : SchemaParts) (constants : List (List ℕ)) (statement : Statement) (select : Select) (queries : List Query) (query : Query) (base : State) (head : List Val) (branch : Branch) (best : ℕ) →
     IsWellFormed schema → RulesFit schema constants → ((q : Query) → Contains queries q → QueryHasConstants constants q) → StandFor schema queries statement →
     ((facts : List Fact) (row : List (List ℕ)) → IsInstance schema facts → AnswersQuery query facts row → AnswersSelect select facts row) →
     IsBase schema constants query base head → IsCost schema branch best →
     ((exposures : List Exposure) → IsExposing schema constants base.facts [] exposures → HasGoalAfter schema queries head base.next exposures → best ≤ exposures_cost exposures) →
     IsLeast schema constants statement select branch
-leastwise schema constants statement select queries query base head branch best well rules have stand selects is_base is_best least rival cost other is_rival is_cost is_other =
+least_by_exposures schema constants statement select queries query base head branch best well rules have stand selects is_base is_best least rival cost other is_rival is_cost is_other =
     let as_query : IsQueryRival schema constants queries query rival = record {
       lawful = is_rival.lawful;
       sound = λ facts row model rows. stand.complete facts row model.fits (is_rival.sound facts row model rows);

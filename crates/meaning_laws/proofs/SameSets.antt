@@ -8,7 +8,7 @@ use Rattle.meaning.specs.declared.types.Ground.{Ground}
 use Rattle.meaning.specs.declared.types.Query.{Query}
 use Rattle.meaning.specs.declared.types.SchemaParts.{SchemaParts}
 use Rattle.meaning.specs.declared.types.Trigger.{Trigger}
-use Rattle.meaning.specs.Runs.{State, assigned, ground, IsTrigger, IsActive, fired, IsFiringRun}
+use Rattle.meaning.specs.Triggers.{State, assigned, ground, IsTrigger, IsActive, fired, IsFiringRun}
 use Rattle.meaning.specs.Extract.{Exposure, exposed_facts, HasGoalAfter}
 
 -- the same facts, and the same next label
@@ -17,11 +17,11 @@ pub record Alike (first second : State) : Type 0 where
   pub from : (fact : Ground) → Contains second.facts fact → Contains first.facts fact
   pub next : first.next ≡ second.next
 
-trigger_alike : (rules : List Rule) (first second : State) (trigger : Trigger) (rule : Rule) → Alike first second → IsTrigger rules first trigger rule → IsTrigger rules second trigger rule
+pub trigger_alike : (rules : List Rule) (first second : State) (trigger : Trigger) (rule : Rule) → Alike first second → IsTrigger rules first trigger rule → IsTrigger rules second trigger rule
 trigger_alike rules first second trigger rule alike is =
     record { numbered = is.numbered; width = is.width; fresh = subst (λ n. n ≤ trigger.fresh) alike.next is.fresh; body = λ atom c. alike.to (ground (assigned trigger) atom) (is.body atom c) }
 
-active_alike : (rules : List Rule) (first second : State) (trigger : Trigger) (rule : Rule) → Alike first second → IsActive rules first trigger rule → IsActive rules second trigger rule
+pub active_alike : (rules : List Rule) (first second : State) (trigger : Trigger) (rule : Rule) → Alike first second → IsActive rules first trigger rule → IsActive rules second trigger rule
 active_alike rules first second trigger rule alike is =
     record {
       trigger_is = trigger_alike rules first second trigger rule alike is.trigger_is;
@@ -29,10 +29,10 @@ active_alike rules first second trigger rule alike is =
       unmet = λ b ext. is.unmet b (record { agrees = ext.agrees; head = λ atom c. alike.from (ground b atom) (ext.head atom c) });
     }
 
-turn : (first second : State) → Alike first second → Alike second first
+pub turn : (first second : State) → Alike first second → Alike second first
 turn first second alike = record { to = alike.from; from = alike.to; next = sym alike.next }
 
-run_alike : (rules : List Rule) (log : List Trigger) (first end second : State) → Alike first second → IsFiringRun rules first log end → (other : State) × IsFiringRun rules second log other × Alike end other
+pub run_alike : (rules : List Rule) (log : List Trigger) (first end second : State) → Alike first second → IsFiringRun rules first log end → (other : State) × IsFiringRun rules second log other × Alike end other
 run_alike rules [] first end second alike run = (second, refl, subst (λ s. Alike s second) (sym run) alike)
 run_alike rules (trigger ∷ log) first end second alike (rule, is, more) =
     let (other, run, same) = run_alike rules log (fired first trigger rule) end (fired second trigger rule) (record { to = grown first second alike.to; from = grown second first alike.from; next = refl }) more in

@@ -2,11 +2,11 @@
 use Rattle.std.proofs.Common.{◌≡◌, ℕ, zero, suc, ◌+◌, ◌^◌, ◌≤◌, List, [], ◌∷◌, ◌++◌, length, Bool, true, false, sym, subst, ⊎_elim, arith, append_assoc, pow-suc}
 use Rattle.std.specs.Prelude.{Contains}
 use Rattle.std.proofs.lemmas.List.{append-nil}
-use Rattle.meaning_laws.proofs.Lists.{contains_here, contains_there, contains_cases}
+use Rattle.lists.proofs.Members.{contains_here, contains_there, contains_cases}
 use Rattle.meaning.specs.declared.types.Ground.{Ground}
 use Rattle.meaning.specs.declared.types.SchemaParts.{SchemaParts}
-use Rattle.meaning.specs.Search.{AreDistinct, AreSets}
 use Rattle.meaning.specs.Extract.{Exposure, exposed_facts, Exposes, IsExposing, exposures_cost}
+use Rattle.meaning.specs.Search.{AreDistinct, AreSets}
 
 -- the rests of the sets that begin with true, and with false
 with_true : List (List Bool) → List (List Bool)

@@ -3,7 +3,8 @@ use Rattle.std.proofs.Common.{◌≡◌, ℕ, List, [], ◌∷◌, length, Some,
 use Rattle.std.proofs.lemmas.List.{length-map}
 use Rattle.std.specs.Prelude.{Contains, slice_get, map}
 use Rattle.std.proofs.lemmas.Option.{slice_get-get_or}
-use Rattle.meaning_laws.proofs.Lists.{contains_cases, contains_got, contains_map, contains_mapped, got_mapped}
+use Rattle.lists.proofs.Members.{contains_cases, contains_got, contains_map, contains_mapped, got_mapped}
+use Rattle.meaning_laws.proofs.Fits.{fits_alike}
 use Rattle.meaning_laws.proofs.Deciding.{dec_contains, quiet_meets}
 use Rattle.meaning_laws.proofs.Renaming.{back, back_named, renamed_meets, answer_renamed, answer_back}
 use Rattle.meaning.specs.declared.types.Val.{Val}
@@ -13,31 +14,34 @@ use Rattle.meaning.specs.declared.types.Ground.{Ground}
 use Rattle.meaning.specs.declared.types.Query.{Query}
 use Rattle.meaning.specs.declared.types.SchemaParts.{SchemaParts}
 use Rattle.meaning.specs.declared.types.Statement.{Statement}
-use Rattle.meaning.specs.Answers.{IsInstance}
-use Rattle.meaning.specs.Access.{IsKnown, CanAccess, IsAccessPath}
-use Rattle.meaning.specs.Claims.{Refutes, StandFor}
+use Rattle.meaning.specs.Instances.{IsInstance}
 use Rattle.meaning.specs.Matching.{AnswersQuery}
-use Rattle.meaning.specs.Runs.{image, fact_of, renamed, IsNaming, AreNamed, QueryHasConstants, Fit, IsKept, IsStuck, RulesFit, Proof, base_state, copy_state, IsKnownValue, NoExposure, frozen_head}
+use Rattle.meaning.specs.Access.{IsKnown, CanAccess, IsAccessPath}
+use Rattle.meaning.specs.Claims.{Refutes}
+use Rattle.meaning.specs.Homomorphisms.{image, fact_of, renamed}
+use Rattle.meaning.specs.Runs.{IsStuck, Proof, base_state, copy_state, IsKnownValue, NoExposure, frozen_head}
+use Rattle.meaning.specs.Naming.{IsNaming, AreNamed}
+use Rattle.meaning.specs.Fitting.{QueryHasConstants, Fit, IsKept, RulesFit}
+use Rattle.meaning.specs.Conjunctive.{StandFor}
 
 pub renamed_fits : (schema : SchemaParts) (h : ℕ → List ℕ) (facts : List Ground) → Fit schema facts → IsInstance schema (renamed h facts)
 renamed_fits schema h facts fit fact c =
     let (g, among, e) = contains_mapped (fact_of h) facts fact c in
-    let (relation, got, long) = fit g among in
-    (relation, subst (λ (f : Fact). slice_get schema.relations f.rel ≡ Some relation) e got, ap (λ (f : Fact). length f.row) (sym e) ∙ length-map g.vals (image h) ∙ long)
+    fits_alike schema g.rel fact.rel g.vals fact.row (ap (λ (f : Fact). f.rel) e) (ap (λ (f : Fact). length f.row) (sym e) ∙ length-map g.vals (image h)) (fit g among)
 
 module _ (schema : SchemaParts) (constants : List (List ℕ)) (proof : Proof) (h : ℕ → List ℕ) (naming : IsNaming constants proof.next h) (base_named : AreNamed constants proof.next proof.base) (exposed_base : (fact : Ground) → Contains proof.exposed fact → Contains proof.base fact) (none : NoExposure schema constants proof) where
   -- a fact that can be accessed after exposed facts is exposed
   exposed_of : (fact : Fact) (earlier : List Fact) → ((f : Fact) → Contains earlier f → (g : Ground) × Contains proof.exposed g × (fact_of h g ≡ f)) → Contains (renamed h proof.base) fact → CanAccess schema constants earlier fact → (g : Ground) × Contains proof.exposed g × (fact_of h g ≡ fact)
-  exposed_of fact earlier were holds (method, among, rel, inputs) =
+  exposed_of fact earlier were holds access =
       let (g, in_base, e) = contains_mapped (fact_of h) proof.base fact holds in
       elim (dec_contains proof.exposed g) [
         | yes is ↦ (g, is, e)
-        | no new ↦ absurd (none among.0 g method (record {
+        | no new ↦ absurd (none access.of_schema.0 g access.method (record {
           of_base = in_base;
           new = new;
-          named = slice_get-get_or schema.methods among.0 method among.1 ∙ ap Some among.2;
-          of_relation = rel ∙ sym (ap (λ (f : Fact). f.rel) e);
-          inputs = λ p i. known g in_base e p (inputs p i);
+          named = slice_get-get_or schema.methods access.of_schema.0 access.method access.of_schema.1 ∙ ap Some access.of_schema.2;
+          of_relation = access.of_relation ∙ sym (ap (λ (f : Fact). f.rel) e);
+          inputs = λ p i. known g in_base e p (access.inputs p i);
         }))
       ]
     where

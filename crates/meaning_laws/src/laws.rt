@@ -1,86 +1,151 @@
 // Laws of the definitions: each is the contract of a function that does nothing.
 
 ghost use Rattle.std.specs.Prelude.{◌≡◌, ◌^◌, ◌<◌, ◌≤◌, List, [], ℕ, Bool, Contains, length, map, slice_index_or, take};
-ghost use Rattle.meaning.specs.declared.types.Fact.{Fact};
-ghost use Rattle.meaning.specs.declared.types.Firing.{Firing};
-ghost use Rattle.meaning.specs.declared.types.Ground.{Ground};
-ghost use Rattle.meaning.specs.declared.types.Plan.{Plan};
-ghost use Rattle.meaning.specs.declared.types.SchemaParts.{SchemaParts};
-ghost use Rattle.meaning.specs.declared.types.Statement.{Statement};
-ghost use Rattle.meaning.specs.declared.types.Trigger.{Trigger};
-ghost use Rattle.meaning.specs.declared.types.Query.{Query};
-ghost use Rattle.meaning.specs.declared.types.Val.{Val};
-ghost use Rattle.meaning.specs.declared.types.Rule.{Rule};
-ghost use Rattle.meaning.specs.declared.types.Branch.{Branch};
-ghost use Rattle.meaning.specs.declared.types.Select.{Select};
-ghost use Rattle.meaning.specs.declared.types.Operand.{Operand};
-ghost use Rattle.meaning.specs.declared.types.Term.{Term};
-ghost use Rattle.meaning.specs.declared.types.Val.TheVariants.{Const, Label};
 ghost use Rattle.std.specs.List.{AllZip};
-ghost use Rattle.meaning.specs.Access.{IsAccessible, CanAccess, IsAccessPath};
-ghost use Rattle.meaning.specs.Answers.{IsInstance, IsWithin, AnswersSelect};
-ghost use Rattle.meaning.specs.Matching.{itself, FactsOf, GroundsOf, MeetsAll, Meets, IsQueryAnswer, AnswersQuery};
-ghost use Rattle.meaning.specs.Plans.{IsWellFormed, IsLawful, IsLawfulBranch, IsRow, IsBranchRow};
-ghost use Rattle.meaning.specs.Claims.{IsModel, IsEquivalent, Refutes, StandFor, IsCost, IsLeast};
-ghost use Rattle.meaning.specs.Runs.{State, Proof, LabelsBelow, AreNumbered, IsActive, IsFiringRun, Carries, RulesFit, QueryHasConstants, QueryFits, IsOrderedRun, HasGoal, opening, IsKept, IsStuck, IsNaming, frozen_head, renamed, image};
-ghost use Rattle.meaning.specs.Extract.{Exposure, IsDerivation, IsHeadKnown, branch_of, IsBase, IsQueryRival, IsExposing, exposures_cost, exposed_facts, HasGoalAfter, opening_state, IsReadFor};
+ghost use Rattle.meaning.specs.declared.types.Rule.{Rule};
+ghost use Rattle.meaning.specs.declared.types.SchemaParts.{SchemaParts};
+ghost use Rattle.meaning.specs.declared.types.Fact.{Fact};
+ghost use Rattle.meaning.specs.declared.types.Query.{Query};
+ghost use Rattle.meaning.specs.declared.types.Select.{Select};
+ghost use Rattle.meaning.specs.declared.types.Statement.{Statement};
+ghost use Rattle.meaning.specs.declared.types.Branch.{Branch};
+ghost use Rattle.meaning.specs.declared.types.Plan.{Plan};
+ghost use Rattle.meaning.specs.declared.types.Val.{Val};
+ghost use Rattle.meaning.specs.declared.types.Ground.{Ground};
+ghost use Rattle.meaning.specs.declared.types.Trigger.{Trigger};
+ghost use Rattle.meaning.specs.declared.types.Firing.{Firing};
+ghost use Rattle.meaning.specs.declared.types.Val.TheVariants.{Const, Label};
+ghost use Rattle.meaning.specs.Values.{Value, Row};
+ghost use Rattle.meaning.specs.Instances.{IsInstance, IsWithin};
+ghost use Rattle.meaning.specs.Matching.{IsQueryAnswer, MeetsAll, itself, FactsOf, GroundsOf, Meets, AnswersQuery};
+ghost use Rattle.meaning.specs.Answers.{AnswersSelect};
+ghost use Rattle.meaning.specs.Access.{CanAccess, IsAccessPath, IsAccessible};
+ghost use Rattle.meaning.specs.Plans.{IsWellFormed, IsLawfulBranch, IsLawful};
+ghost use Rattle.meaning.specs.Rows.{IsBranchRow, IsRow};
+ghost use Rattle.meaning.specs.Claims.{IsModel, IsEquivalent, Refutes};
+ghost use Rattle.meaning.specs.Costs.{IsCost, IsRival, IsLeast};
+ghost use Rattle.meaning.specs.Homomorphisms.{image, renamed, Carries};
+ghost use Rattle.meaning.specs.Triggers.{AreNumbered, State, LabelsBelow, IsTrigger, IsQuiet, fired, IsFiringRun};
+ghost use Rattle.meaning.specs.Runs.{IsBaseRun, Proof, IsRun, IsOrderedRun, opening, opening_state, frozen_head, HasGoal, IsStuck};
+ghost use Rattle.meaning.specs.Naming.{IsNaming};
+ghost use Rattle.meaning.specs.Fitting.{QueryHasConstants, RulesFit, QueryFits, IsKept};
+ghost use Rattle.meaning.specs.Conjunctive.{SelectFits, IsConjunctive, StandFor};
+ghost use Rattle.meaning.specs.Extract.{Exposure, exposed_facts, branch_of, IsDerivation, IsHeadKnown, IsExposing, exposures_cost, IsBase, IsQueryRival, HasGoalAfter};
 ghost use Rattle.meaning.specs.Judge.{IsBranchQuery};
-ghost use Rattle.meaning.specs.Search.{AreSets, AreDistinct};
-ghost use Rattle.meaning.specs.Conjunctive.{SelectFits, IsConjunctive};
+ghost use Rattle.meaning.specs.Search.{AreDistinct, AreSets};
 
 /// The rows of a lawful plan depend on the accessible part alone, and grow with it.
 pub fn rows_grow()
-    ensures { (schema : SchemaParts) (constants : List (List ℕ)) (plan : Plan) (first second : List Fact) →
+    ensures { (schema : SchemaParts) (constants : List Value) (plan : Plan) (first second : List Fact) →
         IsWellFormed schema → IsLawful plan schema constants →
         ((fact : Fact) → IsAccessible schema constants first fact → IsAccessible schema constants second fact) →
-        (row : List (List ℕ)) → IsRow schema plan first row → IsRow schema plan second row }
+        (row : Row) → IsRow schema plan first row → IsRow schema plan second row }
 {}
 
 /// Where a pair refutes, no lawful plan is equivalent to the statement.
 pub fn no_plan()
-    ensures { (schema : SchemaParts) (constants : List (List ℕ)) (statement : Statement) (first second : List Fact) (row : List (List ℕ)) →
+    ensures { (schema : SchemaParts) (constants : List Value) (statement : Statement)
+        (first second : List Fact) (row : Row) →
         IsWellFormed schema → Refutes schema constants statement first second row →
         (plan : Plan) → IsLawful plan schema constants → IsEquivalent plan statement schema → ⊥ }
 {}
 
+/// A pair refutes whatever lists hold its facts.
+pub fn refutes_alike()
+    ensures { (schema : SchemaParts) (constants : List Value) (statement : Statement)
+        (first second other another : List Fact) (row : Row) →
+        IsWithin first other → IsWithin other first → IsWithin second another → IsWithin another second →
+        Refutes schema constants statement first second row → Refutes schema constants statement other another row }
+{}
+
+/// A list of facts that is closed under access has every fact of an access path.
+pub fn accessible_closed()
+    ensures { (schema : SchemaParts) (constants : List Value) (facts closed : List Fact) →
+        ((fact : Fact) → Contains facts fact → CanAccess schema constants closed fact → Contains closed fact) →
+        (path : List Fact) → IsAccessPath schema constants facts path →
+        (fact : Fact) → Contains path fact → Contains closed fact }
+{}
+
+/// A map that carries a state into an instance that meets the rules extends along a firing.
+pub fn extend_firing()
+    ensures { (rules : List Rule) (state : State) (trigger : Trigger) (rule : Rule) (instance : List Fact)
+        (h : ℕ → Value) → AreNumbered rules → MeetsAll itself (FactsOf instance) rules →
+        LabelsBelow state.facts state.next → IsTrigger rules state trigger rule → Carries h state.facts instance →
+        (g : ℕ → Value) × ((k : ℕ) → k < state.next → g k ≡ h k)
+        × Carries g (fired state trigger rule).facts instance }
+{}
+
 /// A map that carries a state into an instance that meets the rules extends along a run of firings.
 pub fn extend_along()
-    ensures { (rules : List Rule) (log : List Trigger) (state end : State) (instance : List Fact) (h : ℕ → List ℕ) →
+    ensures { (rules : List Rule) (log : List Trigger) (state end : State) (instance : List Fact) (h : ℕ → Value) →
         AreNumbered rules → MeetsAll itself (FactsOf instance) rules → LabelsBelow state.facts state.next →
         IsFiringRun rules state log end → Carries h state.facts instance →
-        (g : ℕ → List ℕ) × ((k : ℕ) → k < state.next → g k ≡ h k) × Carries g end.facts instance }
+        (g : ℕ → Value) × ((k : ℕ) → k < state.next → g k ≡ h k) × Carries g end.facts instance }
 {}
 
 /// The same with a list of values, one for each label below the next one.
 pub fn extend_list()
-    ensures { (rules : List Rule) (log : List Trigger) (state end : State) (instance : List Fact) (values : List (List ℕ)) →
+    ensures { (rules : List Rule) (log : List Trigger) (state end : State) (instance : List Fact)
+        (values : List Value) →
         AreNumbered rules → MeetsAll itself (FactsOf instance) rules → LabelsBelow state.facts state.next →
-        IsFiringRun rules state log end → length values ≡ state.next → Carries (λ k. slice_index_or values k []) state.facts instance →
-        (longer : List (List ℕ)) × (take (length values) longer ≡ values) × (length longer ≡ end.next) × Carries (λ k. slice_index_or longer k []) end.facts instance }
+        IsFiringRun rules state log end → length values ≡ state.next →
+        Carries (λ k. slice_index_or values k []) state.facts instance →
+        (longer : List Value) × (take (length values) longer ≡ values) × (length longer ≡ end.next)
+        × Carries (λ k. slice_index_or longer k []) end.facts instance }
+{}
+
+/// A base run is a run of firings.
+pub fn base_run_fires()
+    ensures { (rules : List Rule) (log : List Trigger) (state end : State) →
+        IsBaseRun rules state log end → IsFiringRun rules state log end }
+{}
+
+/// An ordered run is a run.
+pub fn ordered_is_run()
+    ensures { (schema : SchemaParts) (constants : List Value) (part : ℕ) (proof : Proof) (log : List Firing)
+        (end : Proof) → IsOrderedRun schema constants part proof log end → IsRun schema constants part proof log end }
 {}
 
 /// A state in which no trigger is active, with labels as values, meets the rules.
 pub fn quiet_meets()
-    ensures { (rules : List Rule) (state : State) → AreNumbered rules →
-        ((trigger : Trigger) (rule : Rule) → IsActive rules state trigger rule → ⊥) →
+    ensures { (rules : List Rule) (state : State) → AreNumbered rules → IsQuiet rules state →
         MeetsAll Const (GroundsOf state.facts) rules }
+{}
+
+/// There are texts for all labels that differ from each other and from the constants.
+pub fn naming_exists()
+    ensures { (constants : List Value) → (h : ℕ → Value) × ((n : ℕ) → IsNaming constants n h) }
 {}
 
 /// A proof in which nothing is active and that has no goal gives a pair that refutes.
 pub fn witness_refutes()
-    ensures { (schema : SchemaParts) (constants : List (List ℕ)) (statement : Statement) (queries : List Query) (query : Query) (proof : Proof) (h : ℕ → List ℕ) →
+    ensures { (schema : SchemaParts) (constants : List Value) (statement : Statement) (queries : List Query)
+        (query : Query) (proof : Proof) (h : ℕ → Value) →
         RulesFit schema constants → StandFor schema queries statement → Contains queries query →
         ((q : Query) → Contains queries q → QueryHasConstants constants q) → IsKept schema constants query proof →
         IsStuck schema constants queries proof (frozen_head query) → IsNaming constants proof.next h →
-        Refutes schema constants statement (renamed h proof.base) (renamed h proof.copy) (map (image h) (frozen_head query)) }
+        Refutes schema constants statement (renamed h proof.base) (renamed h proof.copy)
+        (map (image h) (frozen_head query)) }
+{}
+
+/// A run from the opening proof, after which nothing is active and there is no goal, gives a pair that refutes.
+pub fn run_refutes()
+    ensures { (schema : SchemaParts) (constants : List Value) (statement : Statement) (queries : List Query)
+        (query : Query) (log : List Firing) (proof : Proof) (h : ℕ → Value) →
+        RulesFit schema constants → StandFor schema queries statement → Contains queries query →
+        ((q : Query) → Contains queries q → QueryHasConstants constants q) → QueryFits schema query →
+        IsRun schema constants 0 (opening query) log proof →
+        IsStuck schema constants queries proof (frozen_head query) → IsNaming constants proof.next h →
+        Refutes schema constants statement (renamed h proof.base) (renamed h proof.copy)
+        (map (image h) (frozen_head query)) }
 {}
 
 /// Where the copy has a match, each row of the branch that is read off is an answer of the matched query.
 pub fn extract_sound()
     ensures { (schema : SchemaParts) → IsWellFormed schema → AreNumbered schema.rules →
-        (query : Query) (base : List Trigger) (middle : State) (exposures : List Exposure) (copy : List Trigger) (end : State) →
-        IsDerivation schema query base middle exposures copy end →
-        (instance : List Fact) (goal : Query) (head : List Val) (row : List (List ℕ)) →
+        (query : Query) (base : List Trigger) (middle : State) (exposures : List Exposure) (copy : List Trigger)
+        (end : State) → IsDerivation schema query base middle exposures copy end →
+        (instance : List Fact) (goal : Query) (head : List Val) (row : Row) →
         Meets instance schema → IsHeadKnown exposures head → IsQueryAnswer Const (GroundsOf end.facts) goal head →
         IsBranchRow schema (branch_of exposures head) instance row → AnswersQuery goal instance row }
 {}
@@ -88,56 +153,93 @@ pub fn extract_sound()
 /// Each answer of the query is a row of the branch that is read off.
 pub fn extract_complete()
     ensures { (schema : SchemaParts) → IsWellFormed schema → AreNumbered schema.rules →
-        (query : Query) (base : List Trigger) (middle : State) (exposures : List Exposure) (copy : List Trigger) (end : State) →
-        IsDerivation schema query base middle exposures copy end →
-        (instance : List Fact) (row : List (List ℕ)) →
+        (query : Query) (base : List Trigger) (middle : State) (exposures : List Exposure) (copy : List Trigger)
+        (end : State) → IsDerivation schema query base middle exposures copy end →
+        (instance : List Fact) (row : Row) →
         Meets instance schema → IsHeadKnown exposures (frozen_head query) →
         ((k : ℕ) → Contains (frozen_head query) (Label k) → k < query.variables) →
         AnswersQuery query instance row → IsBranchRow schema (branch_of exposures (frozen_head query)) instance row }
 {}
 
-/// An ordered run from the opening state, after which nothing is active and there is no goal, gives a pair that refutes.
-pub fn run_refutes()
-    ensures { (schema : SchemaParts) (constants : List (List ℕ)) (statement : Statement) (queries : List Query) (query : Query) (log : List Firing) (proof : Proof) (h : ℕ → List ℕ) →
-        RulesFit schema constants → StandFor schema queries statement → Contains queries query →
-        ((q : Query) → Contains queries q → QueryHasConstants constants q) → QueryFits schema query →
-        IsOrderedRun schema constants 0 (opening query) log proof →
-        IsStuck schema constants queries proof (frozen_head query) → IsNaming constants proof.next h →
-        Refutes schema constants statement (renamed h proof.base) (renamed h proof.copy) (map (image h) (frozen_head query)) }
-{}
-
-/// An ordered run that reaches a goal gives a branch that is lawful, sound for the goal's query and complete for its own.
+/// A run that reaches a goal gives a branch that is lawful, sound for the goal's query and complete for its own.
 pub fn run_extracts()
-    ensures { (schema : SchemaParts) (constants : List (List ℕ)) (query goal : Query) (log : List Firing) (proof : Proof) →
-        IsWellFormed schema → RulesFit schema constants → QueryFits schema query → QueryFits schema goal → QueryHasConstants constants query →
-        IsOrderedRun schema constants 0 (opening query) log proof → IsQueryAnswer Const (GroundsOf proof.copy) goal (frozen_head query) →
+    ensures { (schema : SchemaParts) (constants : List Value) (query goal : Query) (log : List Firing) (proof : Proof) →
+        IsWellFormed schema → RulesFit schema constants → QueryFits schema query → QueryFits schema goal →
+        QueryHasConstants constants query → IsRun schema constants 0 (opening query) log proof →
+        IsQueryAnswer Const (GroundsOf proof.copy) goal (frozen_head query) →
         (branch : Branch) × IsLawfulBranch schema constants branch
-        × ((instance : List Fact) (row : List (List ℕ)) → Meets instance schema → IsBranchRow schema branch instance row → AnswersQuery goal instance row)
-        × ((instance : List Fact) (row : List (List ℕ)) → Meets instance schema → AnswersQuery query instance row → IsBranchRow schema branch instance row)
+        × ((instance : List Fact) (row : Row) → Meets instance schema →
+        IsBranchRow schema branch instance row → AnswersQuery goal instance row)
+        × ((instance : List Fact) (row : Row) → Meets instance schema →
+        AnswersQuery query instance row → IsBranchRow schema branch instance row)
         × (length branch.output ≡ length query.head) }
 {}
 
-/// A rival gives exposures in order that cost no more, and whose copy has the goal.
-pub fn rival_exposes()
-    ensures { (schema : SchemaParts) (constants : List (List ℕ)) (queries : List Query) (query : Query) (base : State) (head : List Val) (rival : Branch) (cost : ℕ) →
-        IsWellFormed schema → RulesFit schema constants → ((q : Query) → Contains queries q → QueryHasConstants constants q) →
-        IsBase schema constants query base head → IsQueryRival schema constants queries query rival → IsCost schema rival cost →
-        (exposures : List Exposure) × IsExposing schema constants base.facts [] exposures × (exposures_cost exposures ≤ cost) × HasGoalAfter schema queries head base.next exposures }
+/// A run that reaches a goal gives a rival for its query, among the queries of all selects.
+pub fn read_from_run()
+    ensures { (schema : SchemaParts) (constants : List Value) (queries : List Query) (query : Query)
+        (log : List Firing) (proof : Proof) →
+        IsWellFormed schema → RulesFit schema constants → QueryFits schema query →
+        ((q : Query) → Contains queries q → QueryFits schema q) → QueryHasConstants constants query →
+        IsRun schema constants 0 (opening query) log proof → HasGoal queries proof (frozen_head query) →
+        (branch : Branch) × IsQueryRival schema constants queries query branch
+        × (length branch.output ≡ length query.head) }
 {}
 
-/// There are texts for all labels that differ from each other and from the constants.
-pub fn naming_exists()
-    ensures { (constants : List (List ℕ)) → (h : ℕ → List ℕ) × ((n : ℕ) → IsNaming constants n h) }
+/// A run that reaches a goal gives a branch that is lawful, sound for the statement and complete for its select.
+pub fn branch_from_run()
+    ensures { (schema : SchemaParts) (constants : List Value) (statement : Statement) (queries : List Query)
+        (select : Select) (query : Query) (log : List Firing) (proof : Proof) →
+        IsWellFormed schema → RulesFit schema constants → QueryFits schema query →
+        ((q : Query) → Contains queries q → QueryFits schema q) → QueryHasConstants constants query →
+        StandFor schema queries statement → SelectFits schema select → IsConjunctive schema select query →
+        IsRun schema constants 0 (opening query) log proof → HasGoal queries proof (frozen_head query) →
+        (branch : Branch) × IsRival schema constants statement select branch
+        × (length branch.output ≡ length select.items) }
+{}
+
+/// One rival for each query makes a plan that is lawful and equivalent to the statement.
+pub fn plan_from_branches()
+    ensures { (schema : SchemaParts) (constants : List Value) (statement : Statement) (queries : List Query)
+        (plan : Plan) → StandFor schema queries statement →
+        AllZip (IsQueryRival schema constants queries) queries plan.branches →
+        ((branch : Branch) → Contains plan.branches branch → length branch.output ≡ plan.width) →
+        IsLawful plan schema constants × IsEquivalent plan statement schema }
+{}
+
+/// A rival of any length gives exposures in order that cost no more, and whose copy has the goal.
+pub fn rival_exposes()
+    ensures { (schema : SchemaParts) (constants : List Value) (queries : List Query) (query : Query) (base : State)
+        (head : List Val) (rival : Branch) (cost : ℕ) →
+        IsWellFormed schema → RulesFit schema constants →
+        ((q : Query) → Contains queries q → QueryHasConstants constants q) →
+        IsBase schema constants query base head → IsQueryRival schema constants queries query rival →
+        IsCost schema rival cost →
+        (exposures : List Exposure) × IsExposing schema constants base.facts [] exposures
+        × (exposures_cost exposures ≤ cost) × HasGoalAfter schema queries head base.next exposures }
 {}
 
 /// Where no exposures with a goal cost less than the branch, no rival does.
-pub fn leastwise()
-    ensures { (schema : SchemaParts) (constants : List (List ℕ)) (statement : Statement) (select : Select) (queries : List Query) (query : Query) (base : State) (head : List Val) (branch : Branch) (best : ℕ) →
-        IsWellFormed schema → RulesFit schema constants → ((q : Query) → Contains queries q → QueryHasConstants constants q) → StandFor schema queries statement →
-        ((facts : List Fact) (row : List (List ℕ)) → IsInstance schema facts → AnswersQuery query facts row → AnswersSelect select facts row) →
+pub fn least_by_exposures()
+    ensures { (schema : SchemaParts) (constants : List Value) (statement : Statement) (select : Select)
+        (queries : List Query) (query : Query) (base : State) (head : List Val) (branch : Branch) (best : ℕ) →
+        IsWellFormed schema → RulesFit schema constants →
+        ((q : Query) → Contains queries q → QueryHasConstants constants q) → StandFor schema queries statement →
+        ((facts : List Fact) (row : Row) → IsInstance schema facts →
+        AnswersQuery query facts row → AnswersSelect select facts row) →
         IsBase schema constants query base head → IsCost schema branch best →
-        ((exposures : List Exposure) → IsExposing schema constants base.facts [] exposures → HasGoalAfter schema queries head base.next exposures → best ≤ exposures_cost exposures) →
+        ((exposures : List Exposure) → IsExposing schema constants base.facts [] exposures →
+        HasGoalAfter schema queries head base.next exposures → best ≤ exposures_cost exposures) →
         IsLeast schema constants statement select branch }
+{}
+
+/// A goal after one order of the exposures is one after every order, so a search may look at sets.
+pub fn goal_alike()
+    ensures { (schema : SchemaParts) (queries : List Query) (head : List Val) (next : ℕ)
+        (first second : List Exposure) →
+        ((fact : Ground) → (Contains (exposed_facts first) fact → Contains (exposed_facts second) fact)
+        × (Contains (exposed_facts second) fact → Contains (exposed_facts first) fact)) →
+        HasGoalAfter schema queries head next first → HasGoalAfter schema queries head next second }
 {}
 
 /// Distinct sets of n facts are at most 2 ^ n.
@@ -147,73 +249,56 @@ pub fn sets_bound()
 
 /// The rows of a lawful branch are the answers of its query.
 pub fn rows_are_answers()
-    ensures { (schema : SchemaParts) (constants : List (List ℕ)) (branch : Branch) (query : Query) (instance : List Fact) (row : List (List ℕ)) →
+    ensures { (schema : SchemaParts) (constants : List Value) (branch : Branch) (query : Query)
+        (instance : List Fact) (row : Row) →
         IsWellFormed schema → IsLawfulBranch schema constants branch → IsBranchQuery schema branch query →
-        (IsBranchRow schema branch instance row → AnswersQuery query instance row) × (AnswersQuery query instance row → IsBranchRow schema branch instance row) }
+        (IsBranchRow schema branch instance row → AnswersQuery query instance row)
+        × (AnswersQuery query instance row → IsBranchRow schema branch instance row) }
+{}
+
+/// The query of a lawful branch fits the schema, and its constants are known.
+pub fn branch_query_fits()
+    ensures { (schema : SchemaParts) (constants : List Value) (branch : Branch) (query : Query) →
+        IsWellFormed schema → IsLawfulBranch schema constants branch → IsBranchQuery schema branch query →
+        QueryFits schema query × QueryHasConstants constants query }
 {}
 
 /// Where a run from the opening state has the head for another query, the answers are the other's.
 pub fn contained()
-    ensures { (schema : SchemaParts) (constants : List (List ℕ)) (query other : Query) (log : List Trigger) (end : State) →
-        RulesFit schema constants → QueryFits schema query → QueryHasConstants constants query → IsFiringRun schema.rules (opening_state query) log end →
+    ensures { (schema : SchemaParts) (constants : List Value) (query other : Query) (log : List Trigger)
+        (end : State) →
+        RulesFit schema constants → QueryFits schema query → QueryHasConstants constants query →
+        IsFiringRun schema.rules (opening_state query) log end →
         IsQueryAnswer Const (GroundsOf end.facts) other (frozen_head query) →
-        (instance : List Fact) (row : List (List ℕ)) → Meets instance schema → AnswersQuery query instance row → AnswersQuery other instance row }
+        (instance : List Fact) (row : Row) → Meets instance schema →
+        AnswersQuery query instance row → AnswersQuery other instance row }
 {}
 
 /// Where nothing is active after the run and no query has the head, the state is an instance that separates.
 pub fn separated()
-    ensures { (schema : SchemaParts) (constants : List (List ℕ)) (query : Query) (others : List Query) (log : List Trigger) (end : State) (h : ℕ → List ℕ) →
-        RulesFit schema constants → QueryFits schema query → QueryHasConstants constants query → ((q : Query) → Contains others q → QueryHasConstants constants q) →
-        IsFiringRun schema.rules (opening_state query) log end → ((trigger : Trigger) (rule : Rule) → IsActive schema.rules end trigger rule → ⊥) →
-        ((q : Query) → Contains others q → IsQueryAnswer Const (GroundsOf end.facts) q (frozen_head query) → ⊥) → IsNaming constants end.next h →
-        IsModel schema (renamed h end.facts) × AnswersQuery query (renamed h end.facts) (map (image h) (frozen_head query))
-        × ((q : Query) → Contains others q → AnswersQuery q (renamed h end.facts) (map (image h) (frozen_head query)) → ⊥) }
+    ensures { (schema : SchemaParts) (constants : List Value) (query : Query) (others : List Query)
+        (log : List Trigger) (end : State) (h : ℕ → Value) →
+        RulesFit schema constants → QueryFits schema query → QueryHasConstants constants query →
+        ((q : Query) → Contains others q → QueryHasConstants constants q) →
+        IsFiringRun schema.rules (opening_state query) log end → IsQuiet schema.rules end →
+        ((q : Query) → Contains others q → IsQueryAnswer Const (GroundsOf end.facts) q (frozen_head query) → ⊥) →
+        IsNaming constants end.next h →
+        IsModel schema (renamed h end.facts)
+        × AnswersQuery query (renamed h end.facts) (map (image h) (frozen_head query))
+        × ((q : Query) → Contains others q →
+        AnswersQuery q (renamed h end.facts) (map (image h) (frozen_head query)) → ⊥) }
 {}
 
-/// The answers of the conjunctive query are the select's.
+/// The answers of a conjunctive form are the select's.
 pub fn select_sound()
-    ensures { (schema : SchemaParts) (select : Select) (query : Query) (term : Operand → Term) (first : ℕ → Operand) → IsConjunctive schema select query term first →
-        (facts : List Fact) (row : List (List ℕ)) → SelectFits schema select → AnswersQuery query facts row → AnswersSelect select facts row }
+    ensures { (schema : SchemaParts) (select : Select) (query : Query) → IsConjunctive schema select query →
+        (facts : List Fact) (row : Row) → SelectFits schema select →
+        AnswersQuery query facts row → AnswersSelect select facts row }
 {}
 
-/// The select's answers are those of the conjunctive query.
+/// The select's answers are those of a conjunctive form.
 pub fn select_complete()
-    ensures { (schema : SchemaParts) (select : Select) (query : Query) (term : Operand → Term) (first : ℕ → Operand) → IsConjunctive schema select query term first →
-        (facts : List Fact) (row : List (List ℕ)) → SelectFits schema select → IsInstance schema facts → AnswersSelect select facts row → AnswersQuery query facts row }
-{}
-
-/// An ordered run of a query that reaches a goal gives a branch that is read for it.
-pub fn read_from_run()
-    ensures { (schema : SchemaParts) (constants : List (List ℕ)) (queries : List Query) (query : Query) (log : List Firing) (proof : Proof) →
-        IsWellFormed schema → RulesFit schema constants → QueryFits schema query → ((q : Query) → Contains queries q → QueryFits schema q) → QueryHasConstants constants query →
-        IsOrderedRun schema constants 0 (opening query) log proof → HasGoal queries proof (frozen_head query) →
-        (branch : Branch) × IsReadFor schema constants queries query branch × (length branch.output ≡ length query.head) }
-{}
-
-/// A branch that is read for each query makes a plan that is lawful and equivalent to the statement.
-pub fn plan_from_branches()
-    ensures { (schema : SchemaParts) (constants : List (List ℕ)) (statement : Statement) (queries : List Query) (plan : Plan) → StandFor schema queries statement →
-        AllZip (IsReadFor schema constants queries) queries plan.branches → ((branch : Branch) → Contains plan.branches branch → length branch.output ≡ plan.width) →
-        IsLawful plan schema constants × IsEquivalent plan statement schema }
-{}
-
-/// A closed set of facts has every accessible fact.
-pub fn acc_closed()
-    ensures { (schema : SchemaParts) (constants : List (List ℕ)) (facts closed : List Fact) →
-        ((fact : Fact) → Contains facts fact → CanAccess schema constants closed fact → Contains closed fact) →
-        (trail : List Fact) → IsAccessPath schema constants facts trail → (fact : Fact) → Contains trail fact → Contains closed fact }
-{}
-
-/// A goal after one order of the exposures is one after every order, so a search may look at sets.
-pub fn goal_alike()
-    ensures { (schema : SchemaParts) (queries : List Query) (head : List Val) (next : ℕ) (first second : List Exposure) →
-        ((fact : Ground) → (Contains (exposed_facts first) fact → Contains (exposed_facts second) fact) × (Contains (exposed_facts second) fact → Contains (exposed_facts first) fact)) →
-        HasGoalAfter schema queries head next first → HasGoalAfter schema queries head next second }
-{}
-
-/// A pair refutes whatever lists hold its facts.
-pub fn refutes_alike()
-    ensures { (schema : SchemaParts) (constants : List (List ℕ)) (statement : Statement) (first second other another : List Fact) (row : List (List ℕ)) →
-        IsWithin first other → IsWithin other first → IsWithin second another → IsWithin another second →
-        Refutes schema constants statement first second row → Refutes schema constants statement other another row }
+    ensures { (schema : SchemaParts) (select : Select) (query : Query) → IsConjunctive schema select query →
+        (facts : List Fact) (row : Row) → SelectFits schema select → IsInstance schema facts →
+        AnswersSelect select facts row → AnswersQuery query facts row }
 {}

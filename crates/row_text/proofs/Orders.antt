@@ -1,5 +1,5 @@
 -- The order of rows: it is total, rows that tie are the same, and a strictly ascending list is fixed by its members.
-use Rattle.std.proofs.Common.{◌≡◌, ◌<◌, ◌⊎◌, ◌↔◌, ℕ, zero, suc, List, [], ◌∷◌, Bool, true, inl, inr, refl, sym, ◌∙◌, ap, subst, arith}
+use Rattle.std.proofs.Common.{◌≡◌, ◌<◌, ◌↔◌, ℕ, List, [], ◌∷◌, Bool, true, inl, inr, refl, sym, ◌∙◌, ap, subst, arith}
 use Rattle.std.specs.Prelude.{Contains, nat_eq}
 use Rattle.std.specs.List.{AllByRecursion}
 use Rattle.std.specs.List.Sorted.{IsStrictlySortedBy}
@@ -9,6 +9,7 @@ use Rattle.std.specs.Cmp.Lexicographic.{slice_cmp, pointwise, texts_ties, lists_
 use Rattle.std.specs.declared.cmp.Ordering.{Ordering}
 use Rattle.std.specs.declared.cmp.Ordering.TheVariants.{Less, Equal, Greater}
 use Rattle.std.proofs.lemmas.Cmp.{ranked, tied_itself, lists_total, nat_cmp_total}
+use Rattle.lists.proofs.Members.{contains_cases, contains_there}
 use Rattle.row_text.specs.RowText.{row_cmp}
 
 then_equal : (o p : Ordering) → ordering_then o p ≡ Equal → (o ≡ Equal) × (p ≡ Equal)
@@ -51,13 +52,6 @@ rows_total = lists_total (lists_total nat_cmp_total)
 
 pub rows_equiv : IsEquivalence rows_same
 rows_equiv = lists_equiv nat_list_eq_equiv
-
-contains_cases : {X : Type 0} (y : X) (xs : List X) (x : X) → Contains (y ∷ xs) x → (y ≡ x) ⊎ Contains xs x
-contains_cases y xs x (zero, l, e) = inl e
-contains_cases y xs x (suc k, l, e) = inr (k, omega arith, e)
-
-contains_there : {X : Type 0} (y : X) (xs : List X) (x : X) → Contains xs x → Contains (y ∷ xs) x
-contains_there y xs x (k, l, e) = (suc k, omega arith, e)
 
 none : {X : Type 0} (x : X) → Contains [] x → ⊥
 none x (k, l, e) = omega (arith, l)

@@ -1,7 +1,7 @@
 -- The text of rows, as databases export it: a header, and each row once, in ascending order.
-use Rattle.std.specs.Prelude.{◌≡◌, ◌↔◌, ◌++◌, ℕ, List, Contains, flat_map}
+use Rattle.std.specs.Prelude.{◌≡◌, ◌↔◌, ◌++◌, ℕ, Bool, List, Contains, flat_map, nat_eq}
 use Rattle.std.specs.Ordering.{nat_cmp}
-use Rattle.std.specs.Cmp.Lexicographic.{slice_cmp}
+use Rattle.std.specs.Cmp.Lexicographic.{pointwise, slice_cmp}
 use Rattle.std.specs.List.Sorted.{IsStrictlySortedBy}
 use Rattle.std.specs.declared.cmp.Ordering.{Ordering}
 use Rattle.csv.specs.Writing.{default_writer, row_text}
@@ -9,6 +9,9 @@ use Rattle.csv.specs.Writing.{default_writer, row_text}
 -- rows are compared column by column, each column by its bytes
 abbrev pub row_cmp : List (List ℕ) → List (List ℕ) → Ordering
 row_cmp = slice_cmp (slice_cmp nat_cmp)
+
+abbrev pub row_eq : List (List ℕ) → List (List ℕ) → Bool
+row_eq = pointwise (pointwise nat_eq)
 
 -- the lines of the names and of these rows, in this order
 abbrev pub csv_rows : List (List ℕ) → List (List (List ℕ)) → List ℕ

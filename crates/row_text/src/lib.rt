@@ -6,7 +6,11 @@
 
 pub mod laws;
 mod order;
+mod started;
 mod text;
 
 pub use order::ascending_distinct;
 pub use text::csv_text;
+
+#[cfg(test)]
+mod tests;

@@ -1,35 +1,57 @@
 // The text of rows.
-ghost use Rattle.std.specs.Prelude.{◌≡◌, ◌++◌, IfOk, OnOk, Contains, flat_map};
+ghost use Rattle.std.specs.Prelude.{◌≡◌, ◌↔◌, ◌++◌, IfOk, OnOk, Contains, List, ℕ, flat_map, map};
+ghost use Rattle.std.specs.List.Sorted.{IsStrictlySortedBy};
 ghost use Rattle.csv.specs.Writing.{default_writer, row_text, writer_pending, writer_under};
-ghost use Rattle.row_text.specs.RowText.{IsRowText};
+ghost use Rattle.row_text.specs.RowText.{IsRowText, row_cmp};
 ghost use Rattle.row_text.specs.Writer.{IsReady};
 
-use crate::order::ascending_distinct;
+use crate::started::Started;
 use csv::{Writer, WriterBuilder};
 use lists::{Bytes, NoMemory, Row, Rows, Text, Texts};
 use std::alloc::Global;
 
 /// The text of the names, and then of the distinct rows, ascending.
-pub fn csv_text(alloc: Global, names: &Texts, rows: Rows) -> Result<Bytes, NoMemory>
-    ensures { IfOk result (IsRowText names.now (Contains rows)) }
+pub fn csv_text(alloc: Global, names: &Texts, rows: &Rows) -> Result<Bytes, NoMemory>
+    ensures { IfOk result (IsRowText names.now (Contains rows.now)) }
 {
-    let mut members = rows.into_vec();
-    ascending_distinct(&mut members);
+    let members = ascending_members(alloc, rows.as_slice())?;
     let text = written(alloc, names.as_slice(), members.as_slice())?;
     Ok(Bytes::from_vec(text))
 }
 
+// The distinct rows, ascending, by reference: the rows stay where they are, since moving them would part them from
+// their values in memory.
+fn ascending_members(alloc: Global, rows: &[Row]) -> Result<Vec<Started<'_>>, NoMemory>
+    ensures ascends { IfOk result (λ members. IsStrictlySortedBy row_cmp (map (λ m. m.row.now) members.items)) }
+    ensures same { IfOk result (λ members. (row : List (List ℕ)) → Contains (map (λ m. m.row.now) members.items) row ↔ Contains rows.now row) }
+{
+    let mut members = started(alloc, rows)?;
+    members.sort_unstable();
+    members.dedup();
+    Ok(members)
+}
+
+fn started(alloc: Global, rows: &[Row]) -> Result<Vec<Started<'_>>, NoMemory>
+    ensures { IfOk result (λ members. map (λ m. m.row.now) members.items ≡ rows.now) }
+{
+    let mut members = Vec::with_capacity(alloc, rows.len())?;
+    for row in rows {
+        members.push(Started::new(row))?;
+    }
+    Ok(members)
+}
+
 // The lines of the names and of the rows, in this order, through one writer.
-fn written(alloc: Global, names: &[Text], rows: &[Row]) -> Result<Vec<u8>, NoMemory>
-    ensures { IfOk result (λ text. text.items ≡ row_text default_writer names.now ++ flat_map (row_text default_writer) rows.now) }
+fn written(alloc: Global, names: &[Text], members: &[Started<'_>]) -> Result<Vec<u8>, NoMemory>
+    ensures { IfOk result (λ text. text.items ≡ row_text default_writer names.now ++ flat_map (row_text default_writer) (map (λ m. m.row.now) members.now)) }
 {
     let mut writer = WriterBuilder::new()
         .flexible(true)
         .from_writer(Vec::new(alloc));
     let mut fields = Vec::new(alloc);
     write_row(&mut writer, &mut fields, names)?;
-    for row in rows {
-        write_row(&mut writer, &mut fields, row.as_slice())?;
+    for member in members {
+        write_row(&mut writer, &mut fields, member.row.as_slice())?;
     }
     match writer.into_inner() {
         Ok(text) => Ok(text),

@@ -1,12 +1,11 @@
 -- What a step of one source does to its lane, and what stays.
 use Rattle.std.proofs.Common.{◌≡◌, ◌≢◌, ◌+◌, ◌≤◌, ◌⊎◌, inl, inr, ℕ, zero, suc, Bool, true, false, cond, List, [], ◌∷◌, Option, None, Some, refl, sym, ◌∙◌, ap, subst, arith, nat_eq}
-use Rattle.std.specs.Prelude.{slice_get, slice_set, IsSome, IfSome, IsSomeAnd, if◌then◌else◌}
+use Rattle.std.specs.Prelude.{slice_get, slice_set, IsSome, IfSome, IsSomeAnd}
 use Rattle.std.specs.Bool.{Decides}
-use Rattle.std.specs.List.{AllZip}
 use Rattle.std.specs.Cmp.Lexicographic.{pointwise}
 use Rattle.std.proofs.lemmas.Slice.Eq.{bytes_eq-Decides}
 use Rattle.source_trait.specs.Asking.{Seen}
-use Rattle.source_trait.specs.Lanes.{names_of, place_from, source_of, AtKind, StepsAt, StepsOn, SourceSteps, KindStays, KindsStay, LanesStay}
+use Rattle.source_trait.specs.Lanes.{names_of, place_from, source_of, AtKind, StepsAt, StepsOn, SourceSteps, KindsStay, LanesStay}
 use Rattle.source_trait.specs.declared.lanes.Kind.{Kind}
 use Rattle.source_trait.specs.declared.lanes.Lane.{Lane}
 
@@ -137,6 +136,14 @@ module _ {S : Type 0} where
       go true later = inl refl
       go false later = later
 
+  -- what follows from a property of the source of a kind holds of it too
+  pub AtKind-map : (name : List ℕ) (kinds : List (Kind S)) (P Q : S → Type 0) → ((s : S) → P s → Q s) → AtKind kinds name P → AtKind kinds name Q
+  AtKind-map name kinds P Q follows holds = go (source_of kinds name) holds
+    where
+      go : (found : Option S) → IsSomeAnd found P → IsSomeAnd found Q
+      go None holds = absurd holds
+      go (Some s) holds = follows s holds
+
   -- kinds stay where nothing happens to them
   pub KindsStay-refl : (seen : S → Seen) (kinds : List (Kind S)) → KindsStay seen kinds kinds
   KindsStay-refl seen [] = tt
@@ -223,6 +230,12 @@ module _ {S : Type 0} where
             let there : place_from 0 kind (names_of (slice_set old place at.after)) ≡ Some (0 + place) = ap (place_from 0 kind) names ∙ is ∙ ap Some e in
             let now : source_of (slice_set old place at.after) kind ≡ Some at.after.object = source_of-place 0 place kind (slice_set old place at.after) at.after there (get-put place old at.before at.after at.there) in
             record { before = at.before.object; after = at.after.object; was = was; now = ap (λ (l : List (Kind S)). source_of l kind) at.now ∙ now; steps = at.steps }
+
+    -- what the step brings about holds of the source of the kind after it
+    pub StepsOn-after : (kind : List ℕ) (P Q : S → Type 0) → ((s t : S) → P s → step s t → Q t) → StepsOn old new kind step → AtKind old kind P → AtKind new kind Q
+    StepsOn-after kind P Q after h holds =
+        let at = StepsOn-source kind h in
+        subst (λ o. IsSomeAnd o Q) (sym at.now) (after at.before at.after (subst (λ o. IsSomeAnd o P) at.was holds) at.steps)
 
     -- the sources of the other names stayed
     pub StepsOn-others : (kind other : List ℕ) → other ≢ kind → StepsOn old new kind step → source_of new other ≡ source_of old other

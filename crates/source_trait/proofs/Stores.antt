@@ -1,5 +1,5 @@
 -- Attached relations with their rows.
-use Rattle.std.proofs.Common.{◌≡◌, ◌≢◌, ◌&&◌, ◌+◌, inl, inr, ℕ, List, [], ◌∷◌, ◌++◌, length, map, None, Some, option_map, Bool, true, false, not, nat_eq, cond, refl, sym, ◌∙◌, ap, subst, arith, append_assoc}
+use Rattle.std.proofs.Common.{◌≡◌, ◌≢◌, ◌&&◌, inl, inr, ℕ, List, [], ◌∷◌, ◌++◌, length, map, None, Some, option_map, Bool, true, false, not, nat_eq, cond, refl, sym, ◌∙◌, ap, subst, arith, append_assoc}
 use Rattle.std.specs.List.{AllByRecursion, filter}
 use Rattle.std.proofs.lemmas.List.{append-nil, map-append}
 use Rattle.std.proofs.lemmas.List.Elements.{filter-append}

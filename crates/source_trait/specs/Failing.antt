@@ -1,5 +1,5 @@
 -- Calls that are to fail, by their numbers.
-use Rattle.std.specs.Prelude.{◌≡◌, ℕ, ◌+◌, ◌-◌, ◌^◌, ◌≤◌, min, ◌⊎◌, Contains}
+use Rattle.std.specs.Prelude.{◌≡◌, ℕ, ◌+◌, ◌-◌, ◌^◌, ◌≤◌, min, [], ◌⊎◌, Contains}
 use Rattle.source_trait.specs.declared.failing.FailingCalls.{FailingCalls}
 
 -- the count after one more; it stays at the greatest value of its counter
@@ -24,5 +24,7 @@ pub record FailsAsListed (old new : FailingCalls) (faults_before faults_after : 
   pub raises : failed → faults_after ≡ next faults_before
   -- without a failure the count of faults stays
   pub quiet : ¬ failed → faults_after ≡ faults_before
+  -- with no listed number the count of faults stays
+  pub never : old.numbers ≡ [] → faults_after ≡ faults_before
   -- the count of faults does not fall
   pub later : faults_before ≤ faults_after

@@ -1,8 +1,8 @@
 -- Attached relations with their rows.
 use Rattle.std.specs.Prelude.{◌≡◌, ℕ, List, [], ◌∷◌, ◌++◌, length, Option, None, Some, option_map, not, nat_eq, if◌then◌else◌}
-use Rattle.std.specs.List.{AllByRecursion, filter}
+use Rattle.std.specs.List.{filter}
 use Rattle.meaning.specs.declared.types.Fact.{Fact}
-use Rattle.source_trait.specs.Asking.{RowList, HaveArity, facts_of}
+use Rattle.source_trait.specs.Asking.{HaveArity, facts_of}
 use Rattle.source_trait.specs.declared.holding.Attachment.{Attachment}
 
 -- the facts of the attached relations

@@ -1,8 +1,7 @@
 -- What a source in memory offers: the rows of the table at a locator.
-use Rattle.std.specs.Prelude.{◌≡◌, ℕ, zero, suc, ◌+◌, true, false, List, [], ◌∷◌, length, Option, None, Some, nat_eq, if◌then◌else◌, Result, Ok, Err}
+use Rattle.std.specs.Prelude.{◌≡◌, ℕ, zero, suc, ◌+◌, List, [], ◌∷◌, length, Option, None, Some, nat_eq, if◌then◌else◌, Result, Ok, Err}
 use Rattle.std.specs.Cmp.Lexicographic.{pointwise}
-use Rattle.source_trait.specs.Asking.{RowList, Seen}
-use Rattle.source_trait.specs.Holding.{facts_held, attached_in}
+use Rattle.source_trait.specs.Asking.{RowList}
 use Rattle.source_trait.specs.declared.table.Table.{Table}
 use Rattle.source_trait.specs.declared.source.AttachFault.{AttachFault}
 use Rattle.source_trait.specs.declared.source.AttachFault.TheVariants.{Missing, Failed, BadRow, NoMemory}

@@ -8,6 +8,7 @@ use lists::{Copies, Row, Rows, Seq, Text, Texts};
 use std::alloc::{AllocError, Global};
 use std::marker::Model;
 
+/// An attached relation with its rows.
 #[derive(Drop)]
 pub struct Attachment {
     pub rel: u32,
@@ -16,6 +17,7 @@ pub struct Attachment {
     pub rows: Rows,
 }
 
+/// The attached relations of a source, each once, with rows of its arity.
 #[derive(Drop)]
 pub struct Holding {
     list: Vec<Attachment>,
@@ -34,6 +36,7 @@ impl Model for Holding {
 }
 
 impl Holding {
+    /// No relation is attached. Takes no memory.
     pub fn new(alloc: Global) -> Holding
         ensures { result ≡ [] }
     {
@@ -52,8 +55,8 @@ impl Holding {
         take_away(&mut self.list, rel);
     }
 
-    /// Adds a relation that is not attached.
-    pub fn attach(&mut self, attachment: Attachment) -> Result<(), AllocError>
+    // Adds a relation that is not attached.
+    fn attach(&mut self, attachment: Attachment) -> Result<(), AllocError>
         requires absent { attachment_in self.old attachment.rel ≡ None }
         requires fit { HaveArity (length attachment.columns) attachment.rows }
         ensures ok { OnOk result (self.new ≡ self.old ++ attachment ∷ []) }

@@ -15,18 +15,21 @@ pub struct Kind<S> {
     pub object: S,
 }
 
+/// The sources of one lane, in order.
+pub type Kinds<S> = Vec<Kind<S>>;
+
 /// The sources of one lane, and whether one of them failed in the present round.
 ///
 /// Where two kinds have one name, the first is used.
 #[derive(Drop)]
 pub struct Lane<S> {
-    pub kinds: Vec<Kind<S>>,
+    pub kinds: Kinds<S>,
     pub stopped: bool,
 }
 
 impl<S> Lane<S> {
     /// A lane of these kinds that is not stopped. Takes no memory.
-    pub fn new(kinds: Vec<Kind<S>>) -> Lane<S>
+    pub fn new(kinds: Kinds<S>) -> Lane<S>
         ensures kinds { result.kinds ≡ kinds }
         ensures stopped { result.stopped ≡ false }
     {
@@ -111,7 +114,7 @@ fn place<S>(kinds: &[Kind<S>], name: &Text) -> Option<usize>
 // Attaches a relation to the source at a place.
 fn attach_at<S: Source + Send + Drop>(
     alloc: Global,
-    kinds: &mut Vec<Kind<S>>,
+    kinds: &mut Kinds<S>,
     place: usize,
     rel: u32,
     columns: &Texts,
@@ -129,7 +132,7 @@ fn attach_at<S: Source + Send + Drop>(
 // Asks a request of the source at a place.
 fn call_at<S: Source + Send + Drop>(
     alloc: Global,
-    kinds: &mut Vec<Kind<S>>,
+    kinds: &mut Kinds<S>,
     place: usize,
     rel: u32,
     positions: &Places,

@@ -19,7 +19,7 @@ mod table;
 pub use failing::FailingCalls;
 pub use files::{FileFault, Files};
 pub use holding::{Attachment, Holding};
-pub use lanes::{Boxed, Kind, Lane, attach_on, call_on};
+pub use lanes::{Boxed, Kind, Kinds, Lane, attach_on, call_on};
 pub use meaning::types::{Request, Requests};
 pub use memory_files::{MemoryFiles, NamedBytes, NamedFile, names_differ};
 pub use memory_sink::MemorySink;
@@ -27,3 +27,6 @@ pub use memory_source::{MemorySource, locators_differ};
 pub use sink::{Sink, SinkFault};
 pub use source::{AttachFault, CallFault, Source};
 pub use table::{Table, Tables};
+
+#[cfg(test)]
+mod tests;

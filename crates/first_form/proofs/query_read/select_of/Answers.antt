@@ -1,4 +1,4 @@
-use Rattle.std.proofs.Common.{sym, ◌∙◌, subst, ◌<◌, ◌^◌, ℕ, List, length}
+use Rattle.std.proofs.Common.{sym, subst, ◌<◌, ◌^◌, ℕ, List, length}
 use Rattle.std.proofs.lemmas.Result.{err_from_is_err_and}
 use Rattle.first_form.proofs.Selects.{few_columns, no_relation, no_place, no_items, read_items, selected}
 use Rattle.first_form.proofs.query_read.select_of.Goals as goal
@@ -18,7 +18,7 @@ pub returns-in_err-items-clause-none : goal.returns-in_err-items-clause-none
 returns-in_err-items-clause-none c =
     let p = err_from_is_err_and c.from_residual.result c.from_residual.ensures.1 in
     rw (p.1, p.2) (no_items c.in_err-items.field-0.0 c.args.schema.now c.args.asked c.in-Some.number c.in-Some-get.relation.now c.as_slice.result.now c.as_slice-2.result.now
-      c.as_slice.ensures c.as_slice-2.ensures (sym c.in-Some-get.ensures) c.in-Some.ensures c.in_err-items.ensures)
+    c.as_slice.ensures c.as_slice-2.ensures (sym c.in-Some-get.ensures) c.in-Some.ensures c.in_err-items.ensures)
 
 pub returns-clause-found : goal.returns-clause-found
 returns-clause-found c =

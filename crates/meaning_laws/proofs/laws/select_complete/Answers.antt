@@ -1,4 +1,4 @@
-use Rattle.meaning_laws.proofs.Conjoining.{select_complete}
+use Rattle.meaning_laws.proofs.Choosing.{select_complete}
 use Rattle.meaning_laws.proofs.laws.select_complete.Goals as goal
 
 pub returns : goal.returns

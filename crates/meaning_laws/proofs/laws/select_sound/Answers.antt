@@ -1,4 +1,4 @@
-use Rattle.meaning_laws.proofs.Conjoining.{select_sound}
+use Rattle.meaning_laws.proofs.Choosing.{select_sound}
 use Rattle.meaning_laws.proofs.laws.select_sound.Goals as goal
 
 pub returns : goal.returns

@@ -1,0 +1,5 @@
+use Rattle.meaning_laws.proofs.Employees.{office_is_a_model}
+use Rattle.meaning_laws.proofs.worked.office_is_a_model.Goals as goal
+
+pub returns : goal.returns
+returns c = office_is_a_model

@@ -1,0 +1,5 @@
+use Rattle.meaning_laws.proofs.Employees.{unreachable_refutes}
+use Rattle.meaning_laws.proofs.worked.unreachable_refutes.Goals as goal
+
+pub returns : goal.returns
+returns c = unreachable_refutes

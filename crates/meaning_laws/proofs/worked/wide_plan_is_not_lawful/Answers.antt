@@ -1,0 +1,5 @@
+use Rattle.meaning_laws.proofs.Employees.{wide_is_not_lawful}
+use Rattle.meaning_laws.proofs.worked.wide_plan_is_not_lawful.Goals as goal
+
+pub returns : goal.returns
+returns c = wide_is_not_lawful

@@ -1,0 +1,14 @@
+pub mod WholePlans
+pub mod SinkTakes
+pub mod Decided
+pub mod LaneGoes
+pub mod FileTexts
+pub mod Picked
+pub mod WellFormed
+pub mod Effects
+pub mod OnLane
+pub mod Planned
+pub mod Delivered
+pub mod Assembled
+pub mod Course
+pub mod Ended

@@ -1,0 +1,10 @@
+use Rattle.std.proofs.Common.{ap, Err}
+use Rattle.meaning.specs.declared.types.Statement.{Statement}
+use Rattle.first_form.specs.FirstQuery.{IsFirstQuery}
+use Rattle.pdq_core.proofs.FileTexts.{told_bytes}
+use Rattle.pdq_core.proofs.input.statement_of.Goals as goal
+
+pub returns-in-Err-NoForm-clause-cause : goal.returns-in-Err-NoForm-clause-cause
+returns-in-Err-NoForm-clause-cause g c =
+    told_bytes (g.F.Files.contents c.args.files.now) c.args.name.now c.in-Ok.bytes (λ bytes. (statement : Statement) → IsFirstQuery c.args.schema.now bytes statement → ⊥) c.in-Ok.ensures.bytes
+      (rw c.as_slice.ensures at (c.in-Err-NoForm.ensures.none (ap Err c.in-Err-NoForm.field-0-is)))

@@ -1,0 +1,10 @@
+pub mod Utf8
+pub mod Tokens
+pub mod Spans
+pub mod Standing
+pub mod Lexemes
+pub mod Lines
+pub mod Numbers
+pub mod Forms
+pub mod Printing
+pub mod Pieces

@@ -1,0 +1,16 @@
+-- What digits stand for.
+use Rattle.std.specs.Prelude.{◌+◌, ◌-◌, ◌*◌, ◌&&◌, ℕ, Bool, false, List, [], ◌∷◌, nat_le}
+
+-- the number of the digits behind those that are done
+abbrev pub value_from : ℕ → List ℕ → ℕ
+value_from n [] = n
+value_from n (d ∷ ds) = value_from (n * 10 + (d - 48)) ds
+
+abbrev pub value_of : List ℕ → ℕ
+value_of digits = value_from 0 digits
+
+-- the first byte is a digit, and no zero but the only one
+abbrev pub is_plain : List ℕ → Bool
+is_plain [] = false
+is_plain (d ∷ []) = nat_le 48 d && nat_le d 57
+is_plain (d ∷ e ∷ ds) = nat_le 49 d && nat_le d 57

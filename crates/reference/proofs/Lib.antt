@@ -1,0 +1,12 @@
+pub mod Turns
+pub mod Gathers
+pub mod Exact
+pub mod Zips
+pub mod Stepping
+pub mod Orders
+pub mod Rounds
+pub mod Choices
+pub mod Narrowing
+pub mod Ways
+pub mod Heads
+pub mod Fitting

@@ -1,0 +1,58 @@
+// Texts that are known from outside.
+use crate::csv_text;
+use lists::{NoMemory, Row, Rows, Text, Texts};
+use std::alloc::Global;
+use std::test::Fail;
+
+fn row(alloc: Global, values: &[&str]) -> Result<Row, NoMemory> {
+    let mut row = Row::new(alloc);
+    for value in values {
+        row.push(Text::from_str(alloc, value)?)?;
+    }
+    Ok(row)
+}
+
+fn rows(alloc: Global, values: &[&[&str]]) -> Result<Rows, NoMemory> {
+    let mut rows = Rows::new(alloc);
+    for value in values {
+        rows.push(row(alloc, value)?)?;
+    }
+    Ok(rows)
+}
+
+#[test]
+fn rows_come_once_and_ascend_by_bytes(rt: HostRuntime) -> Result<(), Fail> {
+    let alloc = rt.alloc();
+    let names: Texts = row(alloc, &["a", "b"])?;
+    let list: [&[&str]; 5] = [
+        &["b", "1"],
+        &["a", "2"],
+        &["B", "3"],
+        &["a", "10"],
+        &["b", "1"],
+    ];
+    let text = csv_text(alloc, &names, &rows(alloc, &list)?)?;
+    assert!(rt; text.as_slice() == b"a,b\nB,3\na,10\na,2\nb,1\n".as_slice());
+    Ok(())
+}
+
+#[test]
+fn values_are_quoted_where_they_need_it(rt: HostRuntime) -> Result<(), Fail> {
+    let alloc = rt.alloc();
+    let names: Texts = row(alloc, &["n,1"])?;
+    let list: [&[&str]; 4] = [&["x"], &[""], &["say \"y\""], &["two\nlines"]];
+    let text = csv_text(alloc, &names, &rows(alloc, &list)?)?;
+    assert!(rt;
+        text.as_slice() == b"\"n,1\"\n\"\"\n\"say \"\"y\"\"\"\n\"two\nlines\"\nx\n".as_slice()
+    );
+    Ok(())
+}
+
+#[test]
+fn no_rows_leave_the_header(rt: HostRuntime) -> Result<(), Fail> {
+    let alloc = rt.alloc();
+    let names: Texts = row(alloc, &["a", "b"])?;
+    let text = csv_text(alloc, &names, &Rows::new(alloc))?;
+    assert!(rt; text.as_slice() == b"a,b\n".as_slice());
+    Ok(())
+}
