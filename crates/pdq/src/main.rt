@@ -7,6 +7,7 @@
 mod real;
 
 ghost use Rattle.std.specs.Prelude.{◌≡◌, ◌∷◌, [], map, codes, IfOk};
+ghost use Rattle.std.specs.Process.{exit_status};
 ghost use Rattle.source_trait.specs.Lanes.{names_of};
 
 use csv_sources::CsvFolder;
@@ -73,7 +74,9 @@ fn lanes_of(alloc: Global, object: Boxed) -> Result<Vec<Lane<Boxed>>, NoMemory>
 }
 
 // The answer where the program finds no memory before the top call.
-fn want_of_memory(err: &mut RealErr) -> ExitCode {
+fn want_of_memory(err: &mut RealErr) -> ExitCode
+    ensures { exit_status result ≡ 8 }
+{
     // where this line is not taken whole, nothing more can be said
     let _taken = err.write(b"out of memory\n");
     ExitCode::from(Status::Memory.code())

@@ -1,5 +1,5 @@
 // The outside: files of the system, and sinks over standard output and standard error.
-ghost use Rattle.std.specs.Prelude.{◌≡◌, ◌≢◌, ◌↔◌, ◌≤◌, length, IfOk, None};
+ghost use Rattle.std.specs.Prelude.{◌≡◌, ◌≢◌, ◌↔◌, ◌≤◌, ◌<◌, ◌+◌, ◌^◌, length, IfOk, IfSome, IsErrOf, None};
 ghost use Rattle.std.specs.IoError.{error_kind};
 
 use lists::{Bytes, Text};
@@ -22,7 +22,9 @@ pub struct RealFiles<R> {
 }
 
 impl<R: std::rt::Files + Drop> RealFiles<R> {
-    pub fn new(rt: R) -> RealFiles<R> {
+    pub fn new(rt: R) -> RealFiles<R>
+        ensures { result.failures ≡ 0 }
+    {
         RealFiles { rt, failures: 0 }
     }
 }
@@ -64,11 +66,13 @@ fn read_named<R: std::rt::Files>(
 
 // All bytes that a reader has left, where there are at most `limit`.
 fn read_up_to<T: Read>(alloc: Global, reader: &mut T, limit: u64) -> Result<Bytes, FileFault>
-    ensures { IfOk result (λ bytes. length bytes ≤ limit) }
+    ensures within { IfOk result (λ bytes. length bytes ≤ limit) }
+    ensures bytes { limit + 1 < 2 ^ 64 → IfOk result (λ bytes. IfSome (T.remaining reader.old) (λ left. bytes ≡ left)) }
+    ensures too_large { limit + 1 < 2 ^ 64 → IsErrOf result FileFault.TooLarge → IfSome (T.remaining reader.old) (λ left. limit < length left) }
 {
     let mut bytes = Vec::new(alloc);
     // one byte more than the limit tells a file that is too large, however large it is
-    let mut head = reader.by_ref().take(limit.saturating_add(1));
+    let mut head = reader.take(limit.saturating_add(1));
     if let Err(fault) = head.read_to_end(&mut bytes) {
         return Err(fault_of(&fault));
     }
@@ -99,7 +103,10 @@ pub struct RealSink<W> {
 }
 
 impl<W: Write + Drop> RealSink<W> {
-    pub fn new(writer: W) -> RealSink<W> {
+    pub fn new(writer: W) -> RealSink<W>
+        ensures writer { result.writer ≡ writer }
+        ensures failures { result.failures ≡ 0 }
+    {
         RealSink {
             writer,
             failures: 0,
