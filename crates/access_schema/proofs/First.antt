@@ -27,7 +27,7 @@ of_none member (k, lt, is) = omega arith
 no_feeding : (source target : ℕ) → Feeds [] source target → ⊥
 no_feeding source target feeds = of_none feeds.rule feeds.of_rules
 
-no_chain : (source : ℕ) (between : List ℕ) (target : ℕ) → IsChain [] source between target → ⊥
+no_chain : (source : ℕ) (between : List ℕ) (target : ℕ) → IsChain (Feeds []) source between target → ⊥
 no_chain source [] target chain = no_feeding source target chain
 no_chain source (next ∷ between) target chain = no_feeding source next chain.0
 
@@ -65,7 +65,7 @@ pub no_rules : (relations : List Relation) (constants : List (List ℕ)) → Are
 no_rules relations constants = record {
   few = omega arith;
   fit = λ rule at. absurd (of_none rule at);
-  non_recursive = λ relation between chain. no_chain relation between relation chain;
+  non_recursive = λ found. no_chain found.0 found.1 found.0 found.2;
 }
 
 pub first_is_schema : (name : List ℕ) (columns : List (List ℕ)) (method : List ℕ) (cost : ℕ) (kind locator : List ℕ) → name ≢ [] → AreColumns columns → method ≢ [] → cost ≤ 1000000 → kind ≢ [] → IsSchema (record { name = name; columns = columns } ∷ []) (record { name = method; rel = 0; inputs = []; cost = cost } ∷ []) [] [] (record { rel = 0; kind = kind; locator = locator } ∷ [])

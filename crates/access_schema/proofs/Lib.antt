@@ -1,2 +1,4 @@
 pub mod NamesFound
 pub mod First
+pub mod Circles
+pub mod Members

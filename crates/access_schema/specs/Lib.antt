@@ -1,5 +1,11 @@
 pub mod Names
+pub mod Lists
 pub mod Feeding
 pub mod Invariant
 pub mod Meaning
+pub mod Content
+pub mod Wanted
+pub mod Links
+pub mod Marks
+pub mod Faults
 pub mod FirstForm

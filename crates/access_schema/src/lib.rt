@@ -5,9 +5,14 @@
 #![tactic(auto)]
 
 mod build;
+mod collect;
 mod fault;
 mod limits;
+mod lookup;
+mod names;
 mod part;
+mod part_faults;
+mod recursion;
 mod schema;
 
 pub use fault::{BuildFault, Limit, SchemaFault};
