@@ -1,4 +1,5 @@
 pub mod NamesFound
 pub mod First
+pub mod Collected
 pub mod Circles
 pub mod Members

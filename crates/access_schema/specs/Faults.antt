@@ -1,5 +1,5 @@
 -- What is wrong with a part, and the first faulty part with its least fault.
-use Rattle.std.specs.Prelude.{◌≡◌, ℕ, ◌+◌, ◌<◌, ◌≤◌, List, [], ◌∷◌, ◌++◌, Option, Some, None, Bool, true, false, ◌||◌, ◌&&◌, not, ◌==◌, nat_lt, nat_le, IsTrue, map, length, take, slice_get, flat_map, count_by, if◌then◌else◌}
+use Rattle.std.specs.Prelude.{◌≡◌, ℕ, ◌+◌, ◌<◌, ◌≤◌, List, [], ◌∷◌, ◌++◌, Option, Some, None, Bool, true, false, ◌||◌, ◌&&◌, not, ◌==◌, nat_lt, nat_le, IsTrue, map, length, take, slice_get, flat_map, filter, if◌then◌else◌}
 use Rattle.std.specs.List.{list_any}
 use Rattle.std.specs.Cmp.Lexicographic.{pointwise}
 use Rattle.std.specs.Prelude.{nat_eq, ◌≢◌, Contains}
@@ -93,27 +93,42 @@ is_outside most count = (count == 0) || nat_lt most count
 abbrev pub constant_count : List Part → ℕ
 constant_count parts = length (each_once (flat_map part_constants parts))
 
--- the first limit that is passed: by a count of the part, or since as many parts of its kind as are allowed stand before it
-abbrev pub passed_limit : List Part → Part → Option Limit
-passed_limit earlier (RelationPart name columns) =
-    if nat_le MOST_RELATIONS (count_by is_relation earlier) then Some Relations
-    else if is_outside MOST_COLUMNS (length columns) then Some Columns
+-- whether the distinct constants of the parts up to this one are too many
+abbrev pub has_many_constants : List Part → Part → Bool
+has_many_constants earlier part = nat_lt MOST_CONSTANTS (constant_count (earlier ++ part ∷ []))
+
+-- the first limit that a part of each kind passes: by a count of its own, or since as many parts of its kind as are allowed stand before it
+abbrev pub relation_limit : List Part → ℕ → Option Limit
+relation_limit earlier columns =
+    if nat_le MOST_RELATIONS (length (filter is_relation earlier)) then Some Relations
+    else if is_outside MOST_COLUMNS columns then Some Columns
     else None
-passed_limit earlier (MethodPart name relation inputs cost) =
-    if nat_le MOST_METHODS (count_by is_method earlier) then Some Methods
+
+abbrev pub method_limit : List Part → ℕ → Option Limit
+method_limit earlier cost =
+    if nat_le MOST_METHODS (length (filter is_method earlier)) then Some Methods
     else if nat_lt MOST_COST cost then Some Cost
     else None
-passed_limit earlier (RulePart line body head) =
-    if nat_le MOST_RULES (count_by is_rule earlier) then Some Rules
+
+abbrev pub rule_limit : List Part → List NamedAtom → List NamedAtom → Bool → Option Limit
+rule_limit earlier body head many_constants =
+    if nat_le MOST_RULES (length (filter is_rule earlier)) then Some Rules
     else if is_outside MOST_BODY_ATOMS (length body) then Some BodyAtoms
     else if is_outside MOST_HEAD_ATOMS (length head) then Some HeadAtoms
     else if nat_lt MOST_VARIABLES (length (variables_of (body ++ head))) then Some Variables
-    else if nat_lt MOST_CONSTANTS (constant_count (earlier ++ RulePart line body head ∷ [])) then Some Constants
+    else if many_constants then Some Constants
     else None
-passed_limit earlier (KeyPart line relation columns target target_columns) =
-    if nat_le MOST_RULES (count_by is_rule earlier) then Some Rules else None
-passed_limit earlier (ConstantPart text) =
-    if nat_lt MOST_CONSTANTS (constant_count (earlier ++ ConstantPart text ∷ [])) then Some Constants else None
+
+abbrev pub key_limit : List Part → Option Limit
+key_limit earlier = if nat_le MOST_RULES (length (filter is_rule earlier)) then Some Rules else None
+
+-- the first limit that the part passes
+abbrev pub passed_limit : List Part → Part → Option Limit
+passed_limit earlier (RelationPart name columns) = relation_limit earlier (length columns)
+passed_limit earlier (MethodPart name relation inputs cost) = method_limit earlier cost
+passed_limit earlier (RulePart line body head) = rule_limit earlier body head (has_many_constants earlier (RulePart line body head))
+passed_limit earlier (KeyPart line relation columns target target_columns) = key_limit earlier
+passed_limit earlier (ConstantPart text) = if has_many_constants earlier (ConstantPart text) then Some Constants else None
 passed_limit earlier (SourcePart relation kind locator) = None
 
 -- the part after the earlier ones has this fault, where the relations are those of all parts

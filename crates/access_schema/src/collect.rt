@@ -53,7 +53,7 @@ fn add_terms(
 }
 
 /// Adds the wanted texts of the atoms to the known ones, and says whether these are still at most so many.
-pub fn add_atoms(
+fn add_atoms(
     alloc: Global,
     known: &mut Vec<Text>,
     wanted: Wanted,
@@ -71,4 +71,24 @@ pub fn add_atoms(
         left = rest;
     }
     Ok(known.len() <= most)
+}
+
+/// Adds the wanted texts of a rule to the known ones, and says whether these are still at most so many.
+#[tactic(auto, using(crate::proofs::Collected::once_both, crate::proofs::Collected::once_both_over))]
+pub fn add_rule(
+    alloc: Global,
+    known: &mut Vec<Text>,
+    wanted: Wanted,
+    most: usize,
+    body: &[NamedAtom],
+    head: &[NamedAtom],
+) -> Result<bool, AllocError>
+    ensures fits { IfOk result (λ fits. fits ≡ not (nat_lt most (length (once_after known.old.items (filter_map (text_of wanted) (named_terms (body.now ++ head.now))))))) }
+    ensures texts { IfOk result (λ fits. IsTrue fits → known.new.items ≡ once_after known.old.items (filter_map (text_of wanted) (named_terms (body.now ++ head.now)))) }
+{
+    if !add_atoms(alloc, known, wanted, most, body)? {
+        return Ok(false);
+    }
+    let fits = add_atoms(alloc, known, wanted, most, head)?;
+    Ok(fits)
 }

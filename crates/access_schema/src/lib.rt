@@ -12,6 +12,7 @@ mod lookup;
 mod names;
 mod part;
 mod part_faults;
+mod part_limits;
 mod recursion;
 mod schema;
 
