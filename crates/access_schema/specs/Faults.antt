@@ -1,5 +1,5 @@
 -- What is wrong with a part, and the first faulty part with its least fault.
-use Rattle.std.specs.Prelude.{◌≡◌, ℕ, ◌+◌, ◌<◌, ◌≤◌, List, [], ◌∷◌, ◌++◌, Option, Some, None, Bool, true, false, ◌||◌, ◌&&◌, not, ◌==◌, nat_lt, nat_le, IsTrue, map, length, take, slice_get, flat_map, filter, if◌then◌else◌}
+use Rattle.std.specs.Prelude.{◌≡◌, ℕ, ◌+◌, ◌<◌, ◌≤◌, List, [], ◌∷◌, ◌++◌, Option, Some, None, option_map, Bool, true, false, ◌||◌, ◌&&◌, not, ◌==◌, nat_lt, nat_le, IsTrue, map, length, take, slice_get, flat_map, filter, if◌then◌else◌}
 use Rattle.std.specs.List.{list_any}
 use Rattle.std.specs.Cmp.Lexicographic.{pointwise}
 use Rattle.std.specs.Prelude.{nat_eq, ◌≢◌, Contains}
@@ -9,6 +9,8 @@ use Rattle.access_schema.specs.declared.part.Part.TheVariants.{Relation as Relat
 use Rattle.access_schema.specs.declared.part.NamedAtom.{NamedAtom}
 use Rattle.access_schema.specs.declared.fault.Limit.{Limit}
 use Rattle.access_schema.specs.declared.fault.Limit.TheVariants.{Relations, Methods, Rules, Columns, BodyAtoms, HeadAtoms, Variables, Cost, Constants}
+use Rattle.access_schema.specs.declared.fault.BuildFault.{BuildFault}
+use Rattle.access_schema.specs.declared.fault.BuildFault.TheVariants.{NoMemory, At}
 use Rattle.access_schema.specs.declared.fault.SchemaFault.{SchemaFault}
 use Rattle.access_schema.specs.declared.fault.SchemaFault.TheVariants.{DuplicateName, UnknownRelation, WrongArity, UnknownColumn, OverLimit, Recursive}
 use Rattle.access_schema.specs.declared.limits.TheConstants.{MOST_RELATIONS, MOST_METHODS, MOST_RULES, MOST_COLUMNS, MOST_BODY_ATOMS, MOST_HEAD_ATOMS, MOST_VARIABLES, MOST_COST, MOST_CONSTANTS}
@@ -140,6 +142,15 @@ IsFaultOf relations earlier part UnknownColumn = IsTrue (has_unknown_column rela
 IsFaultOf relations earlier part (OverLimit limit) = passed_limit earlier part ≡ Some limit
 IsFaultOf relations earlier part Recursive = IsTrue (is_rule part) × AreRecursive (rules_of relations (earlier ++ part ∷ []))
 
+-- the first of the faults that the part shows without the chains of the rules
+abbrev pub plain_fault : List Relation → List Part → Part → Option SchemaFault
+plain_fault relations earlier part =
+    if repeats_name earlier part then Some DuplicateName
+    else if uses_unknown relations part then Some UnknownRelation
+    else if has_wrong_arity relations part then Some WrongArity
+    else if has_unknown_column relations part then Some UnknownColumn
+    else option_map OverLimit (passed_limit earlier part)
+
 -- the order in which faults are looked for
 abbrev pub fault_number : SchemaFault → ℕ
 fault_number DuplicateName = 1
@@ -148,6 +159,15 @@ fault_number WrongArity = 3
 fault_number UnknownColumn = 4
 fault_number (OverLimit limit) = 5
 fault_number Recursive = 6
+
+-- the part after the earlier ones has this fault and none that is looked for before it
+pub record IsLeastFault (relations : List Relation) (earlier : List Part) (part : Part) (fault : SchemaFault) : Type 0 where
+  pub has : IsFaultOf relations earlier part fault
+  pub least : (other : SchemaFault) → IsFaultOf relations earlier part other → fault_number fault ≤ fault_number other
+
+-- the part after the earlier ones has no fault
+abbrev pub IsFaultless : List Relation → List Part → Part → Type 0
+IsFaultless relations earlier part = (fault : SchemaFault) → IsFaultOf relations earlier part fault → ⊥
 
 -- the part at the index has this fault
 abbrev pub HasFault : List Part → ℕ → SchemaFault → Type 0
@@ -158,6 +178,11 @@ pub record IsFirstFault (parts : List Part) (index : ℕ) (fault : SchemaFault) 
   pub has : HasFault parts index fault
   pub least : (other : SchemaFault) → HasFault parts index other → fault_number fault ≤ fault_number other
   pub first : (before : ℕ) (other : SchemaFault) → before < index → HasFault parts before other → ⊥
+
+-- the cause of a fault of building: none is told of want of memory
+abbrev pub IsCause : List Part → BuildFault → Type 0
+IsCause parts NoMemory = Unit {0}
+IsCause parts (At index fault) = IsFirstFault parts index fault
 
 -- no part has a fault
 abbrev pub AreFaultless : List Part → Type 0

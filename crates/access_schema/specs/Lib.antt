@@ -8,4 +8,5 @@ pub mod Wanted
 pub mod Links
 pub mod Marks
 pub mod Faults
+pub mod Progress
 pub mod FirstForm

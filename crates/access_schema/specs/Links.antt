@@ -13,6 +13,10 @@ link_of relations (RulePart line body head) = Some (record { body = map (λ atom
 link_of relations (KeyPart line relation columns target target_columns) = Some (record { body = number_of relations relation ∷ []; head = number_of relations target ∷ [] })
 link_of relations _ = None
 
+-- the links of the rules and the foreign keys, in order
+abbrev pub links_of : List Relation → List Part → List Link
+links_of relations parts = filter_map (link_of relations) parts
+
 -- some link leads from the one number to the other
 pub record Joins (links : List Link) (source target : ℕ) : Type 0 where
   pub link : Link

@@ -7,6 +7,7 @@
 mod build;
 mod collect;
 mod fault;
+mod first_fault;
 mod limits;
 mod lookup;
 mod names;

@@ -1,5 +1,5 @@
 // Relations by their names.
-ghost use Rattle.std.specs.Prelude.{◌≡◌};
+ghost use Rattle.std.specs.Prelude.{◌≡◌, ◌≤◌, length};
 ghost use Rattle.access_schema.specs.Content.{is_declared, number_of, columns_of};
 
 use lists::Text;
@@ -14,7 +14,8 @@ pub fn is_declared(relations: &[Relation], name: &Text) -> bool
 
 /// The number of the first relation of that name, or the number of relations where there is none.
 pub fn number_of(relations: &[Relation], name: &Text) -> usize
-    ensures { result ≡ number_of relations.now name.now }
+    ensures number { result ≡ number_of relations.now name.now }
+    ensures within { result ≤ length relations.now }
 {
     let mut number = 0;
     let mut left = relations;
