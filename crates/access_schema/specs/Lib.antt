@@ -9,4 +9,5 @@ pub mod Links
 pub mod Marks
 pub mod Faults
 pub mod Progress
+pub mod Fits
 pub mod FirstForm

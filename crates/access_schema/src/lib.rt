@@ -6,6 +6,7 @@
 
 mod build;
 mod collect;
+mod content;
 mod fault;
 mod first_fault;
 mod limits;

@@ -1,5 +1,5 @@
 // Lists of names: whether a name is among them, its place, repetitions, and each name once.
-ghost use Rattle.std.specs.Prelude.{◌≡◌, ◌∷◌, [], OnOk, OnErr};
+ghost use Rattle.std.specs.Prelude.{◌≡◌, ◌≤◌, ◌∷◌, [], length, OnOk, OnErr};
 ghost use Rattle.access_schema.specs.Lists.{is_among, place_of, repeats, once_after};
 
 use lists::{Copies, Text};
@@ -14,7 +14,8 @@ pub fn is_among(texts: &[Text], text: &Text) -> bool
 
 /// The first place of the text, or the length of a list that lacks it.
 pub fn place_of(texts: &[Text], text: &Text) -> usize
-    ensures { result ≡ place_of texts.now text.now }
+    ensures place { result ≡ place_of texts.now text.now }
+    ensures within { result ≤ length texts.now }
 {
     let mut place = 0;
     let mut left = texts;
