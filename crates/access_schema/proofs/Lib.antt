@@ -1,5 +1,7 @@
 pub mod NamesFound
 pub mod First
+pub mod Numbering
+pub mod Texts
 pub mod FirstFault
 pub mod LeastFault
 pub mod Collected

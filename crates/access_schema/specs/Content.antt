@@ -90,13 +90,19 @@ abbrev pub numbered_rule : List Relation → ℕ → List NamedAtom → List Nam
 numbered_rule relations line body head =
     record { line = line; body = map (atom_of relations (variables_of (body ++ head))) body; head = map (atom_of relations (variables_of (body ++ head))) head }
 
--- the terms of a foreign key's target: at each of its listed columns the variable of the matching column, and new variables elsewhere
+-- the variable at a column of a foreign key's target: that of the matching column where it is listed, and the next one elsewhere
+abbrev pub key_number : List (List ℕ) → List (List ℕ) → List (List ℕ) → ℕ → List ℕ → ℕ
+key_number own columns target_columns next column =
+    if is_among target_columns column then place_of own (slice_index_or columns (place_of target_columns column) []) else next
+
+abbrev pub next_number : List (List ℕ) → ℕ → List ℕ → ℕ
+next_number target_columns next column = if is_among target_columns column then next else (next + 1)
+
+-- the terms of a foreign key's target, from a next variable on
 abbrev pub key_terms : List (List ℕ) → List (List ℕ) → List (List ℕ) → ℕ → List (List ℕ) → List Term
 key_terms own columns target_columns next [] = []
 key_terms own columns target_columns next (column ∷ rest) =
-    if is_among target_columns column
-    then (Var (place_of own (slice_index_or columns (place_of target_columns column) [])) ∷ key_terms own columns target_columns next rest)
-    else (Var next ∷ key_terms own columns target_columns (next + 1) rest)
+    Var (key_number own columns target_columns next column) ∷ key_terms own columns target_columns (next_number target_columns next column) rest
 
 -- a foreign key as a rule: the relation with distinct variables, and then the target
 abbrev pub key_rule : List Relation → ℕ → List ℕ → List (List ℕ) → List ℕ → List (List ℕ) → Rule

@@ -16,6 +16,7 @@ mod part;
 mod part_faults;
 mod part_limits;
 mod recursion;
+mod rules;
 mod schema;
 
 pub use fault::{BuildFault, Limit, SchemaFault};
