@@ -1,5 +1,8 @@
 pub mod NamesFound
 pub mod First
+pub mod Prefixes
+pub mod Clean
+pub mod Built
 pub mod Numbering
 pub mod Texts
 pub mod FirstFault

@@ -124,7 +124,7 @@ once_differ known (text ∷ texts) differ = ⊎_elim
     (cases_Bool (is_among known text))
 
 -- a text is kept from the known ones, and taken from the others
-got_contained : {X : Type 0} (xs : List X) (x : X) (there : Contains xs x) → slice_get xs there.0 ≡ Some x
+pub got_contained : {X : Type 0} (xs : List X) (x : X) (there : Contains xs x) → slice_get xs there.0 ≡ Some x
 got_contained xs x (k, lt, is) = slice_get_read xs (length xs) k x refl lt (sym is)
 
 pub once_known : (known texts : List (List ℕ)) (text : List ℕ) → Contains known text → Contains (once_after known texts) text
