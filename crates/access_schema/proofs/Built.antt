@@ -31,7 +31,7 @@ cons_counted p h x xs agree same = ⊎_elim
     (λ (y, gives, holds). rw (gives, holds) (ap suc same))
     agree
 
-counted : {X Y : Type 0} (p : X → Bool) (h : X → Option Y) → ((x : X) → ((h x ≡ None) × (p x ≡ false)) ⊎ ((y : Y) × (h x ≡ Some y) × (p x ≡ true))) → (xs : List X) → length (filter_map h xs) ≡ length (filter p xs)
+pub counted : {X Y : Type 0} (p : X → Bool) (h : X → Option Y) → ((x : X) → ((h x ≡ None) × (p x ≡ false)) ⊎ ((y : Y) × (h x ≡ Some y) × (p x ≡ true))) → (xs : List X) → length (filter_map h xs) ≡ length (filter p xs)
 counted p h agree [] = refl
 counted p h agree (x ∷ xs) = cons_counted p h x xs (agree x) (counted p h agree xs)
 
@@ -197,10 +197,10 @@ got_taken (suc k) [] j x at = absurd (cc)
 got_taken (suc k) (y ∷ xs) zero x at = at
 got_taken (suc k) (y ∷ xs) (suc j) x at = got_taken k xs j x at
 
-less : (most count : ℕ) → nat_le most count ≡ false → count < most
+pub less : (most count : ℕ) → nat_le most count ≡ false → count < most
 less most count is = grind (arith, nat_tests)
 
-not_more : (most count : ℕ) → nat_lt most count ≡ false → count ≤ most
+pub not_more : (most count : ℕ) → nat_lt most count ≡ false → count ≤ most
 not_more most count is = grind (arith, nat_tests)
 
 two_none : {L : Type 0} (a b : Bool) (x y : L) → (if a then Some x else if b then Some y else None) ≡ None → (a ≡ false) × (b ≡ false)
@@ -208,7 +208,7 @@ two_none true b x y is = absurd (cc)
 two_none false true x y is = absurd (cc)
 two_none false false x y is = (refl, refl)
 
-inside : (most count : ℕ) → is_outside most count ≡ false → (1 ≤ count) × (count ≤ most)
+pub inside : (most count : ℕ) → is_outside most count ≡ false → (1 ≤ count) × (count ≤ most)
 inside most zero is = absurd (cc)
 inside most (suc count) is = (omega arith, not_more most (suc count) (neither _ _ is).1)
 

@@ -227,7 +227,7 @@ cons_none (Some x) = refl
 pub mapped_push : {X Y : Type 0} (h : X → Option Y) (xs : List X) (x : X) → filter_map h (xs ++ x ∷ []) ≡ filter_map h xs ++ option_to_list (h x)
 mapped_push h xs x = filter_map-append h xs (x ∷ []) ∙ ap (λ ys. filter_map h xs ++ ys) (cons_none (h x))
 
-no_link : (relations : List Relation) (part : Part) → is_rule part ≡ false → link_of relations part ≡ None
+pub no_link : (relations : List Relation) (part : Part) → is_rule part ≡ false → link_of relations part ≡ None
 no_link relations (RelationPart name columns) is = refl
 no_link relations (MethodPart name relation inputs cost) is = refl
 no_link relations (RulePart line body head) is = absurd (cc)
@@ -258,7 +258,7 @@ module _ (relations : List Relation) (earlier : List Part) (part : Part) (links 
       let recursive : IsFaultOf relations earlier part Recursive = subst (IsFaultOf relations earlier part) same has in
       straight (subst LeadRound links_here (round_from_recursive relations (earlier ++ part ∷ []) recursive.1))
 
-constants_push : (earlier : List Part) (part : Part) → each_once (flat_map part_constants (earlier ++ part ∷ [])) ≡ once_after (each_once (flat_map part_constants earlier)) (part_constants part)
+pub constants_push : (earlier : List Part) (part : Part) → each_once (flat_map part_constants (earlier ++ part ∷ [])) ≡ once_after (each_once (flat_map part_constants earlier)) (part_constants part)
 constants_push earlier part =
     ap each_once (flat_map-append part_constants earlier (part ∷ []) ∙ ap (λ texts. flat_map part_constants earlier ++ texts) (append-nil (part_constants part)))
     ∙ once_on [] (flat_map part_constants earlier) (part_constants part)
@@ -278,7 +278,7 @@ one_none : (a : Bool) (limit : Limit) → (if a then Some limit else None) ≡ N
 one_none true limit is = absurd (cc)
 one_none false limit is = refl
 
-none_many : (earlier : List Part) (part : Part) → passed_limit earlier part ≡ None → (part_constants part ≡ []) ⊎ (has_many_constants earlier part ≡ false)
+pub none_many : (earlier : List Part) (part : Part) → passed_limit earlier part ≡ None → (part_constants part ≡ []) ⊎ (has_many_constants earlier part ≡ false)
 none_many earlier (RelationPart name columns) is = inl refl
 none_many earlier (MethodPart name relation inputs cost) is = inl refl
 none_many earlier (RulePart line body head) is = inr (rule_within earlier body head (has_many_constants earlier (RulePart line body head)) is).4

@@ -1,5 +1,7 @@
 pub mod NamesFound
 pub mod First
+pub mod BuiltRules
+pub mod Ordered
 pub mod Prefixes
 pub mod Clean
 pub mod Built
