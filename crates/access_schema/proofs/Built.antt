@@ -203,7 +203,7 @@ less most count is = grind (arith, nat_tests)
 pub not_more : (most count : ℕ) → nat_lt most count ≡ false → count ≤ most
 not_more most count is = grind (arith, nat_tests)
 
-two_none : {L : Type 0} (a b : Bool) (x y : L) → (if a then Some x else if b then Some y else None) ≡ None → (a ≡ false) × (b ≡ false)
+pub two_none : {L : Type 0} (a b : Bool) (x y : L) → (if a then Some x else if b then Some y else None) ≡ None → (a ≡ false) × (b ≡ false)
 two_none true b x y is = absurd (cc)
 two_none false true x y is = absurd (cc)
 two_none false false x y is = (refl, refl)
