@@ -325,7 +325,7 @@ rule_agrees relations (KeyPart line relation columns target target_columns) = in
 rule_agrees relations (ConstantPart text) = inl (refl, refl)
 rule_agrees relations (SourcePart relation kind locator) = inl (refl, refl)
 
-found_columns : (relations : List Relation) (name : List ℕ) (most : ℕ) → ((relation : Relation) → Contains relations relation → length relation.columns ≤ most) → length (columns_of relations name) ≤ most
+pub found_columns : (relations : List Relation) (name : List ℕ) (most : ℕ) → ((relation : Relation) → Contains relations relation → length relation.columns ≤ most) → length (columns_of relations name) ≤ most
 found_columns [] name most few = omega arith
 found_columns (relation ∷ relations) name most few = ⊎_elim
     (λ (here : is_named name relation ≡ true). rw here (few relation (contains_here relation relations)))

@@ -1,5 +1,6 @@
 pub mod NamesFound
 pub mod First
+pub mod BuiltSchema
 pub mod BuiltRules
 pub mod Ordered
 pub mod Prefixes
