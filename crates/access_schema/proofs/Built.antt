@@ -18,7 +18,7 @@ use Rattle.std.specs.Prelude.{nat_eq}
 use Rattle.std.specs.Cmp.Lexicographic.{pointwise}
 use Rattle.access_schema.specs.Invariant.{AreColumns, AreRelations, AreMethods, AreSources}
 use Rattle.access_schema.specs.Faults.{is_relation, is_method, is_rule, is_relation_named, is_method_named, is_source_of, is_outside, is_unknown, repeats_name, AreFaultless, IsNamed, AreNamed}
-use Rattle.access_schema.proofs.Members.{contains_here, contains_there, contains_cases, contains_got, some_injective}
+use Rattle.lists.proofs.Members.{contains_here, contains_there, contains_cases, contains_got, some_injective}
 use Rattle.access_schema.proofs.Texts.{text_is, text_same, neither, any_at, none_at, place_holds, find_place, differ_from_repeats, among_contains, got_contained}
 use Rattle.access_schema.proofs.Prefixes.{prefix_all, given_by, differ_all, few_all, given_mapped}
 use Rattle.access_schema.proofs.LeastFault.{number_within, rule_within}

@@ -13,7 +13,7 @@ use Rattle.meaning.specs.declared.types.Rule.{Rule}
 use Rattle.meaning.specs.declared.types.Atom.{Atom}
 use Rattle.meaning.specs.declared.types.Term.{Term}
 use Rattle.meaning.specs.declared.types.Term.TheVariants.{Var, Const}
-use Rattle.meaning.specs.Runs.{terms_bound}
+use Rattle.meaning.specs.Triggers.{terms_bound}
 use Rattle.access_schema.specs.declared.part.Part.{Part}
 use Rattle.access_schema.specs.declared.part.Part.TheVariants.{Relation as RelationPart, Method as MethodPart, Rule as RulePart, ForeignKey as KeyPart, Constant as ConstantPart, Source as SourcePart}
 use Rattle.access_schema.specs.declared.part.NamedAtom.{NamedAtom}
@@ -27,7 +27,7 @@ use Rattle.access_schema.specs.Invariant.{AtomFits, terms_of, AreInOrder, IsRule
 use Rattle.access_schema.specs.Feeding.{AreRecursive, AreNonRecursive}
 use Rattle.access_schema.specs.Fits.{IsWithin, AreWithin}
 use Rattle.access_schema.specs.Faults.{is_rule, is_unknown, is_misfit, has_many_constants, constant_count, AreFaultless, AreNamed}
-use Rattle.access_schema.proofs.Members.{contains_here, contains_there, contains_cases, contains_got, contains_mapped, contains_map, some_injective}
+use Rattle.lists.proofs.Members.{contains_here, contains_there, contains_cases, contains_got, contains_mapped, contains_map, some_injective}
 use Rattle.access_schema.proofs.Texts.{text_is, text_same, neither, none_at, any_at, differ_push, once_differ, once_taken, once_from, length_le, contains_among, among_contains, not_among, got_contained}
 use Rattle.access_schema.proofs.Prefixes.{prefix_all, given_by, given_from, few_all}
 use Rattle.access_schema.proofs.LeastFault.{number_within, rule_within, no_limit_from_none, none_many, constants_push, mapped_push}
@@ -277,7 +277,7 @@ given_somewhere f (x ∷ xs) a there = ⊎_elim
     (λ later. let (y, among, has) = given_somewhere f xs a later in (y, contains_there x xs y among, has))
     (Contains-append_cases (f x) (flat_map f xs) a there)
 
-given_of : {X A : Type 0} (f : X → List A) (xs : List X) (x : X) (a : A) → Contains xs x → Contains (f x) a → Contains (flat_map f xs) a
+pub given_of : {X A : Type 0} (f : X → List A) (xs : List X) (x : X) (a : A) → Contains xs x → Contains (f x) a → Contains (flat_map f xs) a
 given_of f [] x a among has = absurd (omega arith)
 given_of {X} {A} f (y ∷ xs) x a among has = ⊎_elim
     (λ same. Contains-append_left (f y) (flat_map f xs) a (subst (λ (z : X). Contains (f z) a) (sym same) has))

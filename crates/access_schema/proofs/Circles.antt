@@ -10,7 +10,7 @@ use Rattle.access_schema.specs.declared.recursion.Link.{Link}
 use Rattle.access_schema.specs.Feeding.{IsChain, HasCycle}
 use Rattle.access_schema.specs.Links.{Joins, LeadRound, IsBelow, AreBelow, IsMarked, Reaches, Spreads}
 use Rattle.access_schema.specs.Marks.{any_marked, all_marked, with_marks, is_open}
-use Rattle.access_schema.proofs.Members.{contains_here, contains_there, contains_cases}
+use Rattle.lists.proofs.Members.{contains_here, contains_there, contains_cases}
 
 -- a chain that goes one step on
 pub chain_on : (Step : ℕ → ℕ → Type 0) (source : ℕ) (between : List ℕ) (middle target : ℕ) → IsChain Step source between middle → Step middle target → IsChain Step source (between ++ middle ∷ []) target

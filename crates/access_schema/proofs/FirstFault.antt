@@ -13,7 +13,7 @@ use Rattle.access_schema.specs.Feeding.{IsChain}
 use Rattle.access_schema.specs.Faults.{IsFaultOf, IsLeastFault, IsFaultless, HasFault, IsFirstFault, AreFaultless, fault_number}
 use Rattle.access_schema.specs.Links.{Joins, LeadRound}
 use Rattle.access_schema.specs.Progress.{StandsFor}
-use Rattle.access_schema.proofs.Members.{some_injective}
+use Rattle.lists.proofs.Members.{some_injective}
 
 -- no part before the index has a fault
 abbrev pub FaultlessBelow : List Part → ℕ → Type 0

@@ -26,7 +26,7 @@ use Rattle.access_schema.specs.Faults.{is_rule, is_unknown, repeats_name, uses_u
 use Rattle.access_schema.specs.Links.{link_of, links_of, Joins, IsBelow, AreBelow, LeadRound}
 use Rattle.access_schema.specs.Progress.{StandsFor}
 use Rattle.access_schema.proofs.Circles.{chain_along}
-use Rattle.access_schema.proofs.Members.{contains_map, contains_mapped, contains_cases}
+use Rattle.lists.proofs.Members.{contains_map, contains_mapped, contains_cases}
 use Rattle.access_schema.proofs.Collected.{once_on}
 
 -- the first of five cases

@@ -1,5 +1,7 @@
 pub mod NamesFound
 pub mod First
+pub mod FirstBuilt
+pub mod Keeping
 pub mod BuiltSchema
 pub mod BuiltRules
 pub mod Ordered
@@ -12,4 +14,3 @@ pub mod FirstFault
 pub mod LeastFault
 pub mod Collected
 pub mod Circles
-pub mod Members

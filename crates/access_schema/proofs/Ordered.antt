@@ -11,9 +11,9 @@ use Rattle.meaning.specs.declared.types.Term.TheVariants.{Var, Const}
 use Rattle.meaning.specs.declared.types.Atom.{Atom}
 use Rattle.meaning.specs.declared.types.Rule.{Rule}
 use Rattle.meaning.specs.Matching.{OccursIn}
-use Rattle.meaning.specs.Runs.{terms_bound, bound, IsNumbered}
+use Rattle.meaning.specs.Triggers.{terms_bound, bound, IsNumbered}
 use Rattle.access_schema.specs.Invariant.{terms_of, AreInOrder}
-use Rattle.access_schema.proofs.Members.{contains_here, contains_there, contains_cases, some_injective}
+use Rattle.lists.proofs.Members.{contains_here, contains_there, contains_cases, some_injective}
 
 -- each variable is below the number that is reached, or is that number
 abbrev pub OrderedFrom : ℕ → List Term → Type 0

@@ -5,7 +5,7 @@ use Rattle.std.specs.List.{cons_option}
 use Rattle.std.proofs.Math.Seq.{take-length}
 use Rattle.std.proofs.lemmas.List.{append-nil, length-append}
 use Rattle.access_schema.specs.Names.{AllDiffer}
-use Rattle.access_schema.proofs.Members.{contains_here, contains_there, contains_cases, got_below}
+use Rattle.lists.proofs.Members.{contains_here, contains_there, contains_cases, got_below}
 use Rattle.access_schema.proofs.LeastFault.{mapped_push}
 use Rattle.access_schema.proofs.FirstFault.{taken_on}
 use Rattle.access_schema.proofs.Texts.{differ_push}

@@ -10,7 +10,7 @@ use Rattle.std.proofs.lemmas.Map.Made.{length-le_from_is_member}
 use Rattle.std.proofs.lemmas.List.Elements.{Contains-push, Contains-push_cases, Contains-append_left}
 use Rattle.access_schema.specs.Names.{AllDiffer}
 use Rattle.access_schema.specs.Lists.{is_among, place_of, repeats, once_after, each_once}
-use Rattle.access_schema.proofs.Members.{contains_here, contains_there, contains_cases, contains_got}
+use Rattle.lists.proofs.Members.{contains_here, contains_there, contains_cases, contains_got}
 
 pub text_is : (a b : List ℕ) → pointwise nat_eq a b ≡ true → a ≡ b
 text_is a b same = (bytes_decides a b).0 same
