@@ -1,2 +1,16 @@
 pub mod NamesFound
 pub mod First
+pub mod FirstBuilt
+pub mod Keeping
+pub mod BuiltSchema
+pub mod BuiltRules
+pub mod Ordered
+pub mod Prefixes
+pub mod Clean
+pub mod Built
+pub mod Numbering
+pub mod Texts
+pub mod FirstFault
+pub mod LeastFault
+pub mod Collected
+pub mod Circles

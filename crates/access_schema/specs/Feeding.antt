@@ -14,11 +14,19 @@ pub record Feeds (rules : List Rule) (source target : ℕ) : Type 0 where
   pub reads : body.rel ≡ source
   pub makes : head.rel ≡ target
 
--- feeding steps lead from the one relation over those between to the other
-abbrev pub IsChain : List Rule → ℕ → List ℕ → ℕ → Type 0
-IsChain rules source [] target = Feeds rules source target
-IsChain rules source (next ∷ between) target = Feeds rules source next × IsChain rules next between target
+-- steps lead from the one number over those between to the other
+abbrev pub IsChain : (ℕ → ℕ → Type 0) → ℕ → List ℕ → ℕ → Type 0
+IsChain Step source [] target = Step source target
+IsChain Step source (next ∷ between) target = Step source next × IsChain Step next between target
 
--- no chain of feeding leads from a relation back to itself
+-- a chain of steps leads from some number back to itself
+abbrev pub HasCycle : (ℕ → ℕ → Type 0) → Type 0
+HasCycle Step = (number : ℕ) × (between : List ℕ) × IsChain Step number between number
+
+-- a chain of feeding leads from some relation back to itself
+abbrev pub AreRecursive : List Rule → Type 0
+AreRecursive rules = HasCycle (Feeds rules)
+
+-- no chain of feeding does
 abbrev pub AreNonRecursive : List Rule → Type 0
-AreNonRecursive rules = (relation : ℕ) (between : List ℕ) → IsChain rules relation between relation → ⊥
+AreNonRecursive rules = AreRecursive rules → ⊥

@@ -1,7 +1,5 @@
 -- What every schema keeps: numbers in range, arities that fit, distinct names, rules that are not recursive, and the limits.
-use Rattle.std.specs.Prelude.{◌≡◌, ◌≢◌, ◌<◌, ◌≤◌, ◌+◌, ℕ, List, [], ◌++◌, Contains, IsTrue, Bool, length, map, take, flat_map, slice_get, Some, nat_eq}
-use Rattle.std.specs.List.{list_any}
-use Rattle.std.specs.Cmp.Lexicographic.{pointwise}
+use Rattle.std.specs.Prelude.{◌≡◌, ◌≢◌, ◌<◌, ◌≤◌, ◌+◌, ℕ, List, [], ◌++◌, Contains, IsTrue, length, map, take, flat_map, slice_get, Some}
 use Rattle.meaning.specs.declared.types.Term.{Term}
 use Rattle.meaning.specs.declared.types.Term.TheVariants.{Var, Const}
 use Rattle.meaning.specs.declared.types.Atom.{Atom}
@@ -12,6 +10,7 @@ use Rattle.meaning.specs.Triggers.{terms_bound}
 use Rattle.access_schema.specs.declared.schema.SourceLine.{SourceLine}
 use Rattle.access_schema.specs.declared.limits.TheConstants.{MOST_RELATIONS, MOST_METHODS, MOST_RULES, MOST_COLUMNS, MOST_BODY_ATOMS, MOST_HEAD_ATOMS, MOST_VARIABLES, MOST_COST, MOST_CONSTANTS}
 use Rattle.access_schema.specs.Names.{relation_names, method_names, AllDiffer}
+use Rattle.access_schema.specs.Lists.{is_among}
 use Rattle.access_schema.specs.Feeding.{AreNonRecursive}
 
 -- one or more columns, each with a name of its own
@@ -50,10 +49,6 @@ terms_of atoms = flat_map (λ atom. atom.terms) atoms
 -- each variable is one that occurs before, or the next number
 abbrev pub AreInOrder : List Term → Type 0
 AreInOrder terms = (i x : ℕ) → slice_get terms i ≡ Some (Var x) → x ≤ terms_bound (take i terms)
-
--- whether the text is one of the list
-abbrev pub is_among : List (List ℕ) → List ℕ → Bool
-is_among texts text = list_any (pointwise nat_eq text) texts
 
 -- a rule over the relations, with its variables numbered by first occurrence and its constants among the schema's
 pub record IsRule (relations : List Relation) (constants : List (List ℕ)) (rule : Rule) : Type 0 where

@@ -1,5 +1,13 @@
 pub mod Names
+pub mod Lists
 pub mod Feeding
 pub mod Invariant
 pub mod Meaning
+pub mod Content
+pub mod Wanted
+pub mod Links
+pub mod Marks
+pub mod Faults
+pub mod Progress
+pub mod Fits
 pub mod FirstForm

@@ -9,7 +9,7 @@ ghost use Rattle.first_form.specs.FirstSchema.{IsFirstSchema, HasForm};
 
 use crate::fault::FormFault;
 use crate::schema_form::{FirstForm, schema_lines};
-use access_schema::{Copies, NoMemory, Part, Parts, Schema, Seq};
+use access_schema::{Copies, NoMemory, Part, Parts, Schema, Seq, first_form_builds, first_form_is_named};
 use std::alloc::Global;
 
 /// Reads the three lines of a schema of the first form.
@@ -31,6 +31,8 @@ fn schema_of(alloc: Global, form: FirstForm) -> Result<Schema, FormFault>
     ensures schema { IfOk result (λ schema. HasForm form schema) }
     ensures memory { IfErr result (λ fault. fault ≡ FormFault.NoMemory) }
 {
+    first_form_is_named();
+    first_form_builds();
     match Schema::build(alloc, parts(alloc, form)?) {
         Ok(schema) => Ok(schema),
         Err(_) => Err(FormFault::NoMemory),

@@ -1,0 +1,40 @@
+-- What a part without faults keeps.
+use Rattle.std.proofs.Common.{◌≡◌, ◌⊎◌, ◌+◌, ◌<◌, ◌≤◌, ◌∙◌, sym, ap, subst, ℕ, zero, suc, List, [], ◌∷◌, ◌++◌, Bool, true, false, not, ◌||◌, Option, Some, None, length, take, slice_get, refl, arith, inl, inr, ⊎_elim}
+use Rattle.std.proofs.lemmas.Bool.{cases_Bool}
+use Rattle.meaning.specs.declared.types.Relation.{Relation}
+use Rattle.access_schema.specs.declared.part.Part.{Part}
+use Rattle.access_schema.specs.declared.fault.Limit.{Limit}
+use Rattle.access_schema.specs.declared.fault.SchemaFault.{SchemaFault}
+use Rattle.access_schema.specs.declared.fault.SchemaFault.TheVariants.{DuplicateName, UnknownRelation, WrongArity, UnknownColumn, OverLimit, Recursive}
+use Rattle.access_schema.specs.Content.{relations_of, rules_of}
+use Rattle.access_schema.specs.Feeding.{AreNonRecursive, AreRecursive}
+use Rattle.access_schema.specs.Faults.{is_rule, repeats_name, uses_unknown, has_wrong_arity, has_unknown_column, passed_limit, IsFaultOf, HasFault, AreFaultless}
+
+-- each test for a fault fails
+pub record IsClean (relations : List Relation) (earlier : List Part) (part : Part) : Type 0 where
+  pub names : repeats_name earlier part ≡ false
+  pub known : uses_unknown relations part ≡ false
+  pub arity : has_wrong_arity relations part ≡ false
+  pub columns : has_unknown_column relations part ≡ false
+  pub limit : passed_limit earlier part ≡ None
+  pub straight : is_rule part ≡ true → AreNonRecursive (rules_of relations (earlier ++ part ∷ []))
+
+fails : (b : Bool) → (b ≡ true → ⊥) → b ≡ false
+fails true free = absurd (free refl)
+fails false free = refl
+
+nothing : {X : Type 0} (o : Option X) → ((x : X) → o ≡ Some x → ⊥) → o ≡ None
+nothing None free = refl
+nothing (Some x) free = absurd (free x refl)
+
+pub clean_at : (parts : List Part) → AreFaultless parts → (k : ℕ) (part : Part) → slice_get parts k ≡ Some part → IsClean (relations_of parts) (take k parts) part
+clean_at parts faultless k part at =
+    let free : (fault : SchemaFault) → IsFaultOf (relations_of parts) (take k parts) part fault → ⊥ = λ fault has. faultless k fault (part, at, has) in
+    record {
+      names = fails _ (free DuplicateName);
+      known = fails _ (free UnknownRelation);
+      arity = fails _ (free WrongArity);
+      columns = fails _ (free UnknownColumn);
+      limit = nothing _ (λ limit is. free (OverLimit limit) is);
+      straight = λ rule recursive. free Recursive (rule, recursive);
+    }

@@ -1,0 +1,12 @@
+use Rattle.std.proofs.Common.{◌≡◌, length}
+use Rattle.std.specs.Prelude.{filter_map}
+use Rattle.access_schema.specs.Lists.{once_after}
+use Rattle.access_schema.specs.Wanted.{text_of}
+use Rattle.access_schema.proofs.collect.add_terms.Given as goal
+
+-- what is known goes on to the same texts
+abbrev pub invariant-loop-left : goal.invariant-loop-left
+invariant-loop-left l = once_after l.fn.known.items (filter_map (text_of l.wanted) l.terms) ≡ once_after l.known.items (filter_map (text_of l.wanted) l.left)
+
+abbrev pub decreases-loop-left : goal.decreases-loop-left
+decreases-loop-left l = length l.left
