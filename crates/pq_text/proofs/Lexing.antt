@@ -131,7 +131,7 @@ tells_one (stop.BadByte o) all a b p q = fault_told all a b p q
 tells_one (stop.OpenQuote o) all a b p q = fault_told all a b p q
 
 -- a text has one list of lines
-lines_one : (text : List ℕ) (a b : TextLines) → AreLines text a → AreLines text b → a ≡ b
+pub lines_one : (text : List ℕ) (a b : TextLines) → AreLines text a → AreLines text b → a ≡ b
 lines_one text a b p q =
     let s = p.lexed.stop in
     let t = q.lexed.stop in

@@ -8,3 +8,4 @@ pub mod Members
 pub mod Forms
 pub mod Printed
 pub mod Pieces
+pub mod PieceLaws

@@ -97,7 +97,7 @@ capital_case true true b e p q = absurd (not_small b (leb-true 65 b p) (leb-true
 no_capital : (b : ℕ) → (is_small b || is_digit b) ≡ true → (nat_le 65 b && nat_le b 90) ≡ false
 no_capital b e = capital_case (nat_le 65 b) (nat_le b 90) b e refl refl
 
-lowered-small : (bs : List ℕ) → all_small bs ≡ true → map lowered bs ≡ bs
+pub lowered-small : (bs : List ℕ) → all_small bs ≡ true → map lowered bs ≡ bs
 lowered-small [] e = refl
 lowered-small (b ∷ bs) e =
     let g = and-both (is_small b || is_digit b) (all_small bs) e in
@@ -121,7 +121,7 @@ stops-quote : (rest : List ℕ) → Stops follows_name rest → Stops (λ b. nat
 stops-quote [] h = tt
 stops-quote (b ∷ bs) h = or-none-2 (is_word_byte b) (nat_eq b 34) h
 
-bare_lexed : (style : Style) (n b : ℕ) (bs rest : List ℕ) → (is_small b && all_small bs) ≡ true → Stops is_word_byte rest → token_at style n ((b ∷ bs) ++ rest) ≡ Begins Word (n + length (b ∷ bs))
+pub bare_lexed : (style : Style) (n b : ℕ) (bs rest : List ℕ) → (is_small b && all_small bs) ≡ true → Stops is_word_byte rest → token_at style n ((b ∷ bs) ++ rest) ≡ Begins Word (n + length (b ∷ bs))
 bare_lexed style n b bs rest small stops =
     let g = and-both (is_small b) (all_small bs) small in
     let l : is_letter b ≡ true = small_letter (nat_le 97 b && nat_le b 122) (nat_le 65 b && nat_le b 90) (nat_eq b 95) g.0 in

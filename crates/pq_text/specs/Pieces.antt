@@ -1,14 +1,16 @@
 -- A printed text as pieces: each is a token's bytes, some with a blank before.
-use Rattle.std.specs.Prelude.{◌≡◌, ◌++◌, ◌+◌, ℕ, Bool, true, false, List, [], ◌∷◌, map, length}
+use Rattle.std.specs.Prelude.{◌≡◌, ◌++◌, ◌+◌, ℕ, codes, Bool, true, false, List, [], ◌∷◌, map, length}
+use Rattle.std.specs.Fmt.{decimal}
 use Rattle.pq_text.specs.declared.token.Style.{Style}
 use Rattle.pq_text.specs.declared.token.TokenKind.{TokenKind}
-use Rattle.pq_text.specs.declared.token.TokenKind.TheVariants.{Eol}
+use Rattle.pq_text.specs.declared.token.TokenKind.TheVariants.{Word, Text, Number, Symbol, Eol}
 use Rattle.pq_text.specs.declared.token.Token.{Token}
 use Rattle.pq_text.specs.declared.scan.Found.TheVariants.{Begins}
 use Rattle.pq_text.specs.declared.lexeme.Lexeme.{Lexeme}
 use Rattle.pq_text.specs.declared.lexeme.Line.{Line}
 use Rattle.pq_text.specs.Tokens.{gap_from, token_at}
 use Rattle.pq_text.specs.Standing.{stands_for}
+use Rattle.pq_text.specs.Printing.{printed_kind, printed_name, printed_value}
 use Rattle.pq_text.specs.Lines.{feeds, kind_is_eol}
 
 pub record Piece : Type 0 where
@@ -74,3 +76,29 @@ pub record IsPrintedLine (style : Style) (line : List Piece) : Type 0 where
 abbrev pub ArePrintedLines : Style → List (List Piece) → Type 0
 ArePrintedLines style [] = Unit {0}
 ArePrintedLines style (line ∷ lines) = IsPrintedLine style line × ArePrintedLines style lines
+
+-- ---- the pieces of grammars
+
+abbrev pub word_piece : Bool → List ℕ → Piece
+word_piece spaced text = record { spaced = spaced; kind = Word; bytes = text }
+
+abbrev pub mark_piece : Bool → List ℕ → Piece
+mark_piece spaced text = record { spaced = spaced; kind = Symbol; bytes = text }
+
+abbrev pub name_piece : Bool → List ℕ → Piece
+name_piece spaced name = record { spaced = spaced; kind = printed_kind name; bytes = printed_name name }
+
+abbrev pub value_piece : Bool → List ℕ → Piece
+value_piece spaced value = record { spaced = spaced; kind = Text; bytes = printed_value value }
+
+abbrev pub number_piece : Bool → ℕ → Piece
+number_piece spaced n = record { spaced = spaced; kind = Number; bytes = decimal n }
+
+-- members with a comma and a blank between two
+abbrev pub further_pieces : {X : Type 0} → (Bool → X → List Piece) → List X → List Piece
+further_pieces item [] = []
+further_pieces item (x ∷ xs) = mark_piece false (codes ",") ∷ (item true x ++ further_pieces item xs)
+
+abbrev pub list_pieces : {X : Type 0} → (Bool → X → List Piece) → Bool → List X → List Piece
+list_pieces item spaced [] = []
+list_pieces item spaced (x ∷ xs) = item spaced x ++ further_pieces item xs
