@@ -47,6 +47,7 @@ all_prefix old new text all = (length text, omega arith, all ∙ whole old)
     taken_all : (xs : List ℕ) → xs ≡ take (length xs) xs
     taken_all [] = refl
     taken_all (x ∷ xs) = ap (λ (l : List ℕ). x ∷ l) (taken_all xs)
+
     whole : (o : Option (List ℕ)) → option_map (λ bytes. bytes ++ text) o ≡ option_map (λ bytes. bytes ++ take (length text) text) o
     whole o = ap (λ (t : List ℕ). option_map (λ bytes. bytes ++ t) o) (taken_all text)
 
@@ -195,13 +196,13 @@ module _ {S : Type 0} (seen : S → Seen) (words : List (List ℕ)) where
         ((given ≡ stop.Memory) ⊎ ((given ≡ stop.DecisionWrite) × Rose before.err_faults after.err_faults)) → HasCourse seen words before after (Some end)
     cut_decision given which prefix lanes out cause =
         let early : (end ≡ stop.Memory) ⊎ ((end ≡ stop.DecisionWrite) × Rose before.err_faults after.err_faults) =
-          elim which [
-            | inl same ↦ elim cause [
-              | inl memory ↦ inl (same ∙ memory)
-              | inr write ↦ inr (same ∙ write.0, write.1)
-            ]
-            | inr memory ↦ inl memory
-          ] in
+        elim which [
+          | inl same ↦ elim cause [
+            | inl memory ↦ inl (same ∙ memory)
+            | inr write ↦ inr (same ∙ write.0, write.1)
+          ]
+          | inr memory ↦ inl memory
+        ] in
         let which_end : (Some end ≡ Some stop.Memory) ⊎ (Some end ≡ Some stop.DecisionWrite) = elim early [
           | inl memory ↦ inl (ap Some memory)
           | inr write ↦ inr (ap Some write.0)
@@ -220,7 +221,7 @@ module _ {S : Type 0} (seen : S → Seen) (words : List (List ℕ)) where
         let is = taken_is (meaning_of schema) statement access takes in
         let P : Stop → Type 0 = λ e. PlannedFor seen schema (plan_of access) (Some e) before after in
         built (Err given) (lanes_of schema statement access is.0 is.1 seen before.lanes after.lanes (Err given) fetched) (inl told) (inl out)
-          (either P given end which (stopped_for schema statement access is.0 is.1 seen before after given fetched) tt)
+        (either P given end which (stopped_for schema statement access is.0 is.1 seen before after given fetched) tt)
 
     -- the result was not written whole
     pub cut_result : (given : Stop) → (end ≡ given) ⊎ (end ≡ stop.Memory) → TookAll before.err middle (plan_text (plan_of access)) →
@@ -229,13 +230,13 @@ module _ {S : Type 0} (seen : S → Seen) (words : List (List ℕ)) where
         let is = taken_is (meaning_of schema) statement access takes in
         let P : Stop → Type 0 = λ e. PlannedFor seen schema (plan_of access) (Some e) before after in
         let late : ((given ≡ stop.Memory) ⊎ ((given ≡ stop.ResultWrite) × Rose before.out_faults after.out_faults)) → (end ≡ stop.Memory) ⊎ ((end ≡ stop.ResultWrite) × Rose before.out_faults after.out_faults) =
-          λ cause. elim which [
-            | inl same ↦ elim cause [
-              | inl memory ↦ inl (same ∙ memory)
-              | inr write ↦ inr (same ∙ write.0, write.1)
-            ]
-            | inr memory ↦ inl memory
-          ] in
+        λ cause. elim which [
+          | inl same ↦ elim cause [
+            | inl memory ↦ inl (same ∙ memory)
+            | inr write ↦ inr (same ∙ write.0, write.1)
+          ]
+          | inr memory ↦ inl memory
+        ] in
         let why : ((end ≡ stop.Memory) ⊎ ((end ≡ stop.ResultWrite) × Rose before.out_faults after.out_faults)) → P end = λ cause. elim cause [
           | inl memory ↦ subst P (sym memory) tt
           | inr write ↦ subst P (sym write.0) write.1
@@ -248,7 +249,7 @@ module _ {S : Type 0} (seen : S → Seen) (words : List (List ℕ)) where
         elim cut.cut [
           | inl unwritten ↦ built (Ok cut.rows) lanes (inl told) (inl unwritten.0) (why (late (inl unwritten.1)))
           | inr written ↦ built (Ok cut.rows) lanes (inl told)
-            (inr (when (late written.3), (written.0, written.2, (whole_of schema statement access is.0 is.1 seen before.lanes after.lanes cut.rows written.0 cut.fetched written.1).result))) (why (late written.3))
+              (inr (when (late written.3), (written.0, written.2, (whole_of schema statement access is.0 is.1 seen before.lanes after.lanes cut.rows written.0 cut.fetched written.1).result))) (why (late written.3))
         ]
 
   pub stopped_runs : (before after : Moment S) (schema : Schema) (statement : Statement) (names : Names) (end : Stop) → AreRead words before.files schema statement →
@@ -259,10 +260,10 @@ module _ {S : Type 0} (seen : S → Seen) (words : List (List ℕ)) where
       let line = later_line end told.line in
       elim ends.stopped [
         | inl early ↦ cut_decision before after schema statement read ends.access ends.takes end files file_faults out_faults err_faults names names_are ends.middle line ends.given told.which
-          early.0 early.1 early.2 (elim early.3 [
-            | inl memory ↦ inl memory
-            | inr write ↦ inr (write.0, rose_between before.err_faults before.err_faults ends.middle_faults after.err_faults (omega arith) ends.second write.1)
-          ])
+            early.0 early.1 early.2 (elim early.3 [
+              | inl memory ↦ inl memory
+              | inr write ↦ inr (write.0, rose_between before.err_faults before.err_faults ends.middle_faults after.err_faults (omega arith) ends.second write.1)
+            ])
         | inr late ↦ elim late.1 [
           | inl fetch ↦ cut_fetch before after schema statement read ends.access ends.takes end files file_faults out_faults err_faults names names_are ends.middle line ends.given told.which late.0 fetch.0 fetch.1
           | inr cut ↦ cut_result before after schema statement read ends.access ends.takes end files file_faults out_faults err_faults names names_are ends.middle line ends.given told.which late.0 cut
@@ -271,11 +272,13 @@ module _ {S : Type 0} (seen : S → Seen) (words : List (List ℕ)) where
     where
       later : Rose ends.middle_faults after.err_faults → Rose before.err_faults after.err_faults
       later rose = rose_between before.err_faults ends.middle_faults after.err_faults after.err_faults ends.first (omega arith) rose
+
       took_later : (text : List ℕ) → TookLine ends.middle after.err (Rose ends.middle_faults after.err_faults) text → TookLine ends.middle after.err (Rose before.err_faults after.err_faults) text
       took_later text took = elim took [
         | inl all ↦ inl all
         | inr part ↦ inr (later part.0, part.1)
       ]
+
       later_line : (e : Stop) → TakesLine names (Some e) ends.middle after.err (Rose ends.middle_faults after.err_faults) → TakesLine names (Some e) ends.middle after.err (Rose before.err_faults after.err_faults)
       later_line stop.Memory took = took
       later_line stop.Words took = took_later (fault_line names stop.Words) took

@@ -106,11 +106,11 @@ module _ {S : Type 0} (seen : S → Seen) (words : List (List ℕ)) (before afte
       done_runs seen words before after schema statement read (record { access = ends.access; takes = ends.takes; told = ends.told; done = ends.done }) files file_faults out_faults err_faults
   ends_runs schema statement names (Err end) read ends are files file_faults out_faults err_faults = elim ends [
     | inl unplanned ↦
-      let lanes : after.lanes ≡ before.lanes = unplanned.untouched.lanes in
-      unplanned_runs seen words before after schema statement names end read
+        let lanes : after.lanes ≡ before.lanes = unplanned.untouched.lanes in
+        unplanned_runs seen words before after schema statement names end read
         (record { given = unplanned.given; cause = unplanned.cause; tells = unplanned.tells; untouched = record { lanes = lanes; out = unplanned.untouched.out } }) are
         (record { files = files; file_faults = file_faults; lanes = subst (λ (l : List (Lane S)). LanesStay seen before.lanes l) (sym lanes) (LanesStay-refl seen before.lanes); out_faults = out_faults; err_faults = err_faults })
     | inr stopped ↦ stopped_runs seen words before after schema statement names end read
-      (record { access = stopped.access; takes = stopped.takes; given = stopped.given; middle = stopped.middle; middle_faults = stopped.middle_faults; stopped = stopped.stopped; tells = stopped.tells; first = stopped.first; second = stopped.second })
-      are files file_faults out_faults err_faults
+        (record { access = stopped.access; takes = stopped.takes; given = stopped.given; middle = stopped.middle; middle_faults = stopped.middle_faults; stopped = stopped.stopped; tells = stopped.tells; first = stopped.first; second = stopped.second })
+        are files file_faults out_faults err_faults
   ]

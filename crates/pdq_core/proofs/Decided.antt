@@ -76,11 +76,13 @@ method_found rel (first ∷ methods) method c at free e =
     later : (whole_method rel methods ≢ None) → (b : Bool) → cond b (Some first) (whole_method rel methods) ≡ None → ⊥
     later found true h = absurd (cc)
     later found false h = found h
+
     here : (m : Method) → m ≡ method → (nat_eq m.rel rel && is_nil m.inputs) ≡ true
     here m same =
         let rel_is : m.rel ≡ rel = ap (λ (x : Method). x.rel) same ∙ at in
         let test : nat_eq m.rel rel ≡ true = grind (arith, nat_tests, rel_is) in
         rw test (ap is_nil (ap (λ (x : Method). x.inputs) same ∙ free))
+
     step : (nat_eq first.rel rel && is_nil first.inputs) ≡ true → cond (nat_eq first.rel rel && is_nil first.inputs) (Some first) (whole_method rel methods) ≡ None → ⊥
     step passes h = let g = rw passes at h in absurd (cc)
 
@@ -97,31 +99,39 @@ taken_is schema statement access e = at_select (single statement.selects) refl e
         let is = method_is rel schema.methods method m in
         let same : record { select = select; method = method; relation = relation } ≡ access = some_injective _ access h in
         let P : Taken → Type 0 = λ a. (statement.selects ≡ a.select ∷ []) × AsksWhole schema a.select a.method a.relation in
-        subst P same (one, record {
-          of_schema = is.0;
-          free = is.2;
-          relation_is = ap (slice_get schema.relations) is.1 ∙ at;
-          froms = froms ∙ ap (λ n. n ∷ []) (sym is.1);
-          conditions = conditions;
-          items = columns_are (length relation.columns) select.items columns;
-        })
+        subst P same (
+          one,
+          record {
+            of_schema = is.0;
+            free = is.2;
+            relation_is = ap (slice_get schema.relations) is.1 ∙ at;
+            froms = froms ∙ ap (λ n. n ∷ []) (sym is.1);
+            conditions = conditions;
+            items = columns_are (length relation.columns) select.items columns;
+          },
+        )
+
     at_columns : (select : Select) (rel : ℕ) (relation : Relation) → statement.selects ≡ select ∷ [] → select.froms ≡ rel ∷ [] → select.conditions ≡ [] → slice_get schema.relations rel ≡ Some relation →
         (b : Bool) → are_columns (length relation.columns) select.items ≡ b → cond b (with_method select relation (whole_method rel schema.methods)) None ≡ Some access →
         (statement.selects ≡ access.select ∷ []) × AsksWhole schema access.select access.method access.relation
     at_columns select rel relation one froms conditions at true columns h = at_method select rel relation one froms conditions at columns (whole_method rel schema.methods) refl h
     at_columns select rel relation one froms conditions at false columns h = absurd (cc)
+
     at_relation : (select : Select) (rel : ℕ) → statement.selects ≡ select ∷ [] → select.froms ≡ rel ∷ [] → select.conditions ≡ [] → (found : Option Relation) → slice_get schema.relations rel ≡ found →
         with_relation schema select rel found ≡ Some access → (statement.selects ≡ access.select ∷ []) × AsksWhole schema access.select access.method access.relation
     at_relation select rel one froms conditions None at h = absurd (cc)
     at_relation select rel one froms conditions (Some relation) at h = at_columns select rel relation one froms conditions at (are_columns (length relation.columns) select.items) refl h
+
     at_conditions : (select : Select) (rel : ℕ) → statement.selects ≡ select ∷ [] → select.froms ≡ rel ∷ [] → (b : Bool) → is_nil select.conditions ≡ b →
         cond b (with_relation schema select rel (slice_get schema.relations rel)) None ≡ Some access → (statement.selects ≡ access.select ∷ []) × AsksWhole schema access.select access.method access.relation
     at_conditions select rel one froms true none h = at_relation select rel one froms (nil_is select.conditions none) (slice_get schema.relations rel) refl h
     at_conditions select rel one froms false none h = absurd (cc)
+
     at_from : (select : Select) → statement.selects ≡ select ∷ [] → (found : Option ℕ) → single select.froms ≡ found → with_from schema select found ≡ Some access →
         (statement.selects ≡ access.select ∷ []) × AsksWhole schema access.select access.method access.relation
     at_from select one None f h = absurd (cc)
     at_from select one (Some rel) f h = at_conditions select rel one (only_is select.froms rel f) (is_nil select.conditions) refl h
+
     at_select : (found : Option Select) → single statement.selects ≡ found → with_select schema found ≡ Some access →
         (statement.selects ≡ access.select ∷ []) × AsksWhole schema access.select access.method access.relation
     at_select None f h = absurd (cc)
@@ -132,7 +142,7 @@ pub none_taken : (schema : SchemaParts) (statement : Statement) → taken schema
 none_taken schema statement e select method relation one asks =
     let columns : are_columns (length relation.columns) select.items ≡ true = are_columns_all (length relation.columns) select.items asks.items in
     let reads : taken schema statement ≡ with_method select relation (whole_method method.rel schema.methods) =
-      rw (one, asks.froms, asks.conditions, asks.relation_is, columns) refl in
+    rw (one, asks.froms, asks.conditions, asks.relation_is, columns) refl in
     finish (whole_method method.rel schema.methods) (method_found method.rel schema.methods method asks.of_schema refl asks.free) (sym reads ∙ e)
   where
     finish : (found : Option Method) → found ≢ None → with_method select relation found ≡ None → ⊥

@@ -142,13 +142,15 @@ module _ (schema : Schema) (statement : Statement) (access : Taken) (one : state
       where
         same : (lanes others : List (Lane S)) → others ≡ lanes → (r : Result RowList Stop) → (count_for r ≡ 1 → ⊥) → Lanes lanes others r
         same lanes others e r never = let P : List (Lane S) → Type 0 = λ l. Lanes lanes l r in subst P (sym e) (unchanged lanes r never)
+
         kind_gone : (r : Result RowList Stop) → r ≡ Err (stop.UnknownKind rel) → count_for r ≡ 1 → ⊥
         kind_gone r e = not_one (count_for r) (ap count_for e)
+
         by_lane : (line : SourceLine) → line_for rel schema.sources ≡ Some line → (lane after : Lane S) (rest others : List (Lane S)) → LaneGives seen lane.kinds.items after.kinds.items rel access.relation.columns line result →
             others ≡ rest → after.stopped ≡ lane.stopped → Lanes (lane ∷ rest) (after ∷ others) result
         by_lane line is lane after rest others gives e stopped = elim (lane_cases seen lane.kinds.items after.kinds.items rel access.relation.columns line result gives) [
           | inl gone ↦ let Q : List (Lane S) → Type 0 = λ l. Lanes (lane ∷ rest) (after ∷ l) result in
-            subst Q (sym e) (kept lane after rest gone.2 (kind_gone result gone.0))
+              subst Q (sym e) (kept lane after rest gone.2 (kind_gone result gone.0))
           | inr steps ↦ let Q : List (Lane S) → Type 0 = λ l. Lanes (lane ∷ rest) (after ∷ l) result in subst Q (sym e) (at_lane line is lane after rest result steps)
         ]
           where
@@ -158,10 +160,12 @@ module _ (schema : Schema) (statement : Statement) (access : Taken) (one : state
               only = (subst (λ (l : List (Kind S)). AttachesOnly seen schema the_plan lane.kinds.items l) (sym e) (only_refl lane.kinds.items), refl);
               asked = λ instance end ok. (subst (λ (l : List (Kind S)). AskedPart seen schema the_plan instance (IsDone end) lane.kinds.items l) (sym e) (part_none instance (IsDone end) lane.kinds.items (λ d. never (ok d))), refl);
             }
+
         by_lanes : (line : SourceLine) → line_for rel schema.sources ≡ Some line → (before after : List (Lane S)) → FirstLaneGives seen before after rel access.relation.columns line result → Lanes before after result
         by_lanes line is [] after gives = same [] after gives.1 result (kind_gone result gives.0)
         by_lanes line is (lane ∷ rest) [] gives = absurd gives
         by_lanes line is (lane ∷ rest) (after ∷ others) gives = by_lane line is lane after rest others gives.0 gives.1 gives.2
+
         by_line : (found : Option SourceLine) → line_for rel schema.sources ≡ found → LineGives seen old new rel access.relation.columns found result → Lanes old new result
         by_line None is gives = same old new gives.1 result (not_one (count_for result) (ap count_for gives.0))
         by_line (Some line) is gives = by_lanes line is old new gives
@@ -177,6 +181,7 @@ module _ (schema : Schema) (statement : Statement) (access : Taken) (one : state
       where
         names : result_names statement.selects ≡ access.select.names
         names = ap result_names one
+
         text_of : (instance facts : List Fact) → rows ≡ pick facts rel [] [] → SameFacts rel facts instance → AllByRecursion (λ row. (length row ≡ length access.relation.columns) × (agrees [] [] row ≡ true)) rows →
             IsRowText (result_names statement.selects) (IsRow (meaning_of schema) the_plan instance) text
             × (IsModel (meaning_of schema) instance → IsRowText (result_names statement.selects) (Answers statement instance) text)
@@ -184,16 +189,20 @@ module _ (schema : Schema) (statement : Statement) (access : Taken) (one : state
             let N : List (List ℕ) → Type 0 = λ n. IsRowText n (Contains (projected access.select.items rows)) text in
             let here = subst N (sym names) is_text in
             let rows_are = text_alike (result_names statement.selects) (Contains (projected access.select.items rows)) (IsRow (meaning_of schema) the_plan instance) text
-              (row_is schema statement access one asks rows facts instance are same fit) (is_row schema statement access one asks rows facts instance are same fit) here in
-            let equal = (plan_for schema statement access one asks).equivalent in
-            (rows_are, λ model. text_alike (result_names statement.selects) (IsRow (meaning_of schema) the_plan instance) (Answers statement instance) text
-              (λ row is. equal.sound instance row model is) (λ row is. equal.complete instance row model is) rows_are)
+            (row_is schema statement access one asks rows facts instance are same fit) (is_row schema statement access one asks rows facts instance are same fit) here in
+            let equal = (plan_for schema statement access one asks).equivalent in (
+              rows_are,
+              λ model. text_alike (result_names statement.selects) (IsRow (meaning_of schema) the_plan instance) (Answers statement instance) text
+                  (λ row is. equal.sound instance row model is) (λ row is. equal.complete instance row model is) rows_are,
+            )
+
         by_held : (held : Option (List Fact)) (instance : List Fact) → IfSome held (λ facts. rows ≡ pick facts rel [] []) → IsSomeAnd held (λ facts. SameFacts rel facts instance) →
             AllByRecursion (λ row. (length row ≡ length access.relation.columns) × (agrees [] [] row ≡ true)) rows →
             IsRowText (result_names statement.selects) (IsRow (meaning_of schema) the_plan instance) text
             × (IsModel (meaning_of schema) instance → IsRowText (result_names statement.selects) (Answers statement instance) text)
         by_held None instance are same fit = absurd same
         by_held (Some facts) instance are same fit = text_of instance facts are same fit
+
         by_lane : (line : SourceLine) → line_for rel schema.sources ≡ Some line → (lane after : Lane S) (rest others : List (Lane S)) →
             StepsOn lane.kinds.items after.kinds.items line.kind (λ s t. WholeGives (seen s) (seen t) rel access.relation.columns line.locator (Ok rows)) → others ≡ rest → Whole (lane ∷ rest) (after ∷ others) text
         by_lane line is lane after rest others steps e =
@@ -204,14 +213,16 @@ module _ (schema : Schema) (statement : Statement) (access : Taken) (one : state
             record {
               all = (only_source schema statement access one asks line is P attached, e);
               result = λ instance holds.
-                let at : AtKind after.kinds.items line.kind (λ s. IsSomeAnd ((seen s).held) (λ facts. SameFacts rel facts instance)) = holds rel access.relation line (the_source schema statement access one asks line is) in
-                let Q : Option S → Type 0 = λ o. IsSomeAnd o (λ s. IsSomeAnd ((seen s).held) (λ facts. SameFacts rel facts instance)) in
-                by_held ((seen moved.after).held) instance got.held (subst Q moved.now at) got.fit;
+                  let at : AtKind after.kinds.items line.kind (λ s. IsSomeAnd ((seen s).held) (λ facts. SameFacts rel facts instance)) = holds rel access.relation line (the_source schema statement access one asks line is) in
+                  let Q : Option S → Type 0 = λ o. IsSomeAnd o (λ s. IsSomeAnd ((seen s).held) (λ facts. SameFacts rel facts instance)) in
+                  by_held ((seen moved.after).held) instance got.held (subst Q moved.now at) got.fit;
             }
+
         by_lanes : (line : SourceLine) → line_for rel schema.sources ≡ Some line → (before after : List (Lane S)) → FirstLaneGives seen before after rel access.relation.columns line (Ok rows) → Whole before after text
         by_lanes line is [] after gives = absurd (let h = gives.0 in cc)
         by_lanes line is (lane ∷ rest) [] gives = absurd gives
         by_lanes line is (lane ∷ rest) (after ∷ others) gives = by_lane line is lane after rest others gives.0 gives.1
+
         by_line : (found : Option SourceLine) → line_for rel schema.sources ≡ found → LineGives seen old new rel access.relation.columns found (Ok rows) → Whole old new text
         by_line None is gives = absurd (let h = gives.0 in cc)
         by_line (Some line) is gives = by_lanes line is old new gives
@@ -225,8 +236,10 @@ module _ (schema : Schema) (statement : Statement) (access : Taken) (one : state
       where
         at : (e : Stop) → end ≡ e → PlannedFor seen schema the_plan (Some e) before after → PlannedFor seen schema the_plan (Some end) before after
         at e same holds = let P : Stop → Type 0 = λ x. PlannedFor seen schema the_plan (Some x) before after in subst P (sym same) holds
+
         error_same : (e f : Stop) → failed e ≡ failed f → e ≡ f
         error_same e f h = cc
+
         by_step : (line : SourceLine) → line_for rel schema.sources ≡ Some line → (lane next : Lane S) (rest others : List (Lane S)) → before.lanes ≡ lane ∷ rest → after.lanes ≡ next ∷ others → others ≡ rest →
             (e : Stop) → StepsOn lane.kinds.items next.kinds.items line.kind (λ s t. WholeGives (seen s) (seen t) rel access.relation.columns line.locator (Err e)) → PlannedFor seen schema the_plan (Some e) before after
         by_step line is lane next rest others old_is new_is same e steps =
@@ -237,19 +250,26 @@ module _ (schema : Schema) (statement : Statement) (access : Taken) (one : state
             used step s t was now holds =
                 let P : List (Lane S) → List (Lane S) → Type 0 = λ x y. UsedSource x y line.kind step in
                 subst (λ x. P x after.lanes) (sym old_is) (subst (λ y. P (lane ∷ rest) y) (sym new_is) ((s, t, was, now, holds), same))
+
             source : IsPlanSource schema the_plan rel access.relation line
             source = the_source schema statement access one asks line is
+
             by_end : (e : Stop) (s t : S) → source_of lane.kinds.items line.kind ≡ Some s → source_of next.kinds.items line.kind ≡ Some t →
                 WholeGives (seen s) (seen t) rel access.relation.columns line.locator (Err e) → PlannedFor seen schema the_plan (Some e) before after
             by_end stop.Memory s t was now gives = tt
             by_end (stop.Attach its fault) s t was now gives =
                 let P : ℕ → Type 0 = λ n. PlannedFor seen schema the_plan (Some (stop.Attach n fault)) before after in
                 subst P (sym gives.0) (access.relation, line, source, used (AttachRefused seen rel access.relation line fault) s t was now gives.1.cause)
-            by_end (stop.CallFailed branch step) s t was now gives =
-                (rel, access.relation, line, source, used (λ s t. Rose (seen s).faults (seen t).faults) s t was now (elim gives.calls [
-                  | inl failed ↦ rose_later (seen s).faults gives.middle.faults (seen t).faults gives.attaches.later (failed.1.failed refl)
-                  | inr memory ↦ absurd (let h = memory.0 in cc)
-                ]))
+            by_end (stop.CallFailed branch step) s t was now gives = (
+              rel,
+              access.relation,
+              line,
+              source,
+              used (λ s t. Rose (seen s).faults (seen t).faults) s t was now (elim gives.calls [
+                | inl failed ↦ rose_later (seen s).faults gives.middle.faults (seen t).faults gives.attaches.later (failed.1.failed refl)
+                | inr memory ↦ absurd (let h = memory.0 in cc)
+              ]),
+            )
             by_end stop.Words s t was now gives = absurd gives
             by_end (stop.File input fault) s t was now gives = absurd gives
             by_end stop.SchemaForm s t was now gives = absurd gives
@@ -259,17 +279,22 @@ module _ (schema : Schema) (statement : Statement) (access : Taken) (one : state
             by_end (stop.NoSource its) s t was now gives = absurd gives
             by_end (stop.UnknownKind its) s t was now gives = absurd gives
             by_end stop.ResultWrite s t was now gives = absurd gives
+
         by_lanes : (line : SourceLine) → line_for rel schema.sources ≡ Some line → (x y : List (Lane S)) → before.lanes ≡ x → after.lanes ≡ y → FirstLaneGives seen x y rel access.relation.columns line (Err end) → PlannedFor seen schema the_plan (Some end) before after
         by_lanes line is [] y old_is new_is gives =
             at (stop.UnknownKind rel) (error_same end (stop.UnknownKind rel) gives.0)
-              (access.relation, line, the_source schema statement access one asks line is, let P : List (Lane S) → Type 0 = λ l. LacksKind l line.kind in subst P (sym old_is) tt)
+            (access.relation, line, the_source schema statement access one asks line is, let P : List (Lane S) → Type 0 = λ l. LacksKind l line.kind in subst P (sym old_is) tt)
         by_lanes line is (lane ∷ rest) [] old_is new_is gives = absurd gives
         by_lanes line is (lane ∷ rest) (next ∷ others) old_is new_is gives = elim (lane_cases seen lane.kinds.items next.kinds.items rel access.relation.columns line (Err end) gives.0) [
-          | inl gone ↦ at (stop.UnknownKind rel) (error_same end (stop.UnknownKind rel) gone.0)
-            (access.relation, line, the_source schema statement access one asks line is,
-              let P : List (Lane S) → Type 0 = λ l. LacksKind l line.kind in subst P (sym old_is) (source_of-none 0 line.kind lane.kinds.items gone.1))
+          | inl gone ↦ at (stop.UnknownKind rel) (error_same end (stop.UnknownKind rel) gone.0) (
+            access.relation,
+            line,
+            the_source schema statement access one asks line is,
+            let P : List (Lane S) → Type 0 = λ l. LacksKind l line.kind in subst P (sym old_is) (source_of-none 0 line.kind lane.kinds.items gone.1),
+          )
           | inr steps ↦ by_step line is lane next rest others old_is new_is gives.1 end steps
         ]
+
         by_line : (found : Option SourceLine) → line_for rel schema.sources ≡ found → LineGives seen before.lanes after.lanes rel access.relation.columns found (Err end) → PlannedFor seen schema the_plan (Some end) before after
         by_line None is gives = at (stop.NoSource rel) (error_same end (stop.NoSource rel) gives.0) (accessed schema statement access one asks, is)
         by_line (Some line) is gives = by_lanes line is before.lanes after.lanes refl refl gives

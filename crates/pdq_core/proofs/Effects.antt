@@ -112,7 +112,7 @@ module _ (rel : ℕ) where
           absurd (cc)
       taken given facts (Some before) was told offer =
           let takes : Takes before fetches.middle.held rel (length columns) (offered_now old rel columns locator) =
-            subst (λ (h : Option (List Fact)). IfSome h (λ fs. Takes fs fetches.middle.held rel (length columns) (offered_now old rel columns locator))) was fetches.attaches.takes in
+          subst (λ (h : Option (List Fact)). IfSome h (λ fs. Takes fs fetches.middle.held rel (length columns) (offered_now old rel columns locator))) was fetches.attaches.takes in
           let all : facts ≡ _ = some_injective facts _ (sym told ∙ takes.held) in
           let rows_are : pick facts rel [] [] ≡ takes.rows = ap (λ (fs : List Fact). pick fs rel [] []) all ∙ picked_taken rel before takes.rows in
           let now = subst (λ (o : Option (Result RowList AttachFault)). IfSome (option_map (λ g. cond (old.passes rel locator) (Err attach.TooLarge) g) o) (λ o. o ≡ Ok takes.rows)) offer takes.offered in
@@ -121,6 +121,7 @@ module _ (rel : ℕ) where
           given_is : (b : Bool) → {rows : RowList} → cond b (Err attach.TooLarge) given ≡ Ok rows → given ≡ Ok rows
           given_is true h = absurd (cc)
           given_is false h = h
+
       offered : (offer : Option (Result RowList AttachFault)) (held : Option (List Fact)) → old.offer rel columns locator ≡ offer → new.held ≡ held →
           IfSome offer (λ offer. IfSome held (λ facts. offer ≡ Ok (pick facts rel [] [])))
       offered None held is told = tt

@@ -86,21 +86,21 @@ module _ {S : Type 0} (seen : S → Seen) (old mid new : List (Kind S)) (rel : �
   fetched rows a b =
       let both = steps_then old mid new line.kind (Attaches (Ok tt)) (λ s t. CallGives (seen s) (seen t) rel [] [] (Ok rows)) a b in
       steps_map old new line.kind (Both old mid new line.kind (Attaches (Ok tt)) (λ s t. CallGives (seen s) (seen t) rel [] [] (Ok rows))) (λ s t. WholeGives (seen s) (seen t) rel columns line.locator (Ok rows))
-        (λ s t h. record { middle = seen h.0; attaches = h.1; calls = h.2 }) both
+      (λ s t h. record { middle = seen h.0; attaches = h.1; calls = h.2 }) both
 
   pub failed : StepsOn old mid line.kind (Attaches (Ok tt)) → StepsOn mid new line.kind (λ s t. CallGives (seen s) (seen t) rel [] [] (Err call.Failed)) →
       LaneGives seen old new rel columns line (Err (stop.CallFailed 0 0))
   failed a b =
       let both = steps_then old mid new line.kind (Attaches (Ok tt)) (λ s t. CallGives (seen s) (seen t) rel [] [] (Err call.Failed)) a b in
       steps_map old new line.kind (Both old mid new line.kind (Attaches (Ok tt)) (λ s t. CallGives (seen s) (seen t) rel [] [] (Err call.Failed))) (λ s t. WholeGives (seen s) (seen t) rel columns line.locator (Err (stop.CallFailed 0 0)))
-        (λ s t h. record { middle = seen h.0; attaches = h.1; calls = inl (refl, h.2) }) both
+      (λ s t h. record { middle = seen h.0; attaches = h.1; calls = inl (refl, h.2) }) both
 
   pub no_memory : StepsOn old mid line.kind (Attaches (Ok tt)) → StepsOn mid new line.kind (λ s t. CallGives (seen s) (seen t) rel [] [] (Err call.NoMemory)) →
       LaneGives seen old new rel columns line (Err stop.Memory)
   no_memory a b =
       let both = steps_then old mid new line.kind (Attaches (Ok tt)) (λ s t. CallGives (seen s) (seen t) rel [] [] (Err call.NoMemory)) a b in
       steps_map old new line.kind (Both old mid new line.kind (Attaches (Ok tt)) (λ s t. CallGives (seen s) (seen t) rel [] [] (Err call.NoMemory))) (λ s t. WholeGives (seen s) (seen t) rel columns line.locator (Err stop.Memory))
-        (λ s t h. inr (record { middle = seen h.0; attaches = h.1; calls = inr (refl, h.2) })) both
+      (λ s t h. inr (record { middle = seen h.0; attaches = h.1; calls = inr (refl, h.2) })) both
 
   pub not_attached : (fault : AttachFault) → StepsOn old new line.kind (Attaches (Err fault)) → LaneGives seen old new rel columns line (Err (stop.Attach rel fault))
   not_attached fault a = steps_map old new line.kind (Attaches (Err fault)) (λ s t. WholeGives (seen s) (seen t) rel columns line.locator (Err (stop.Attach rel fault))) (λ s t h. (refl, h)) a

@@ -56,6 +56,7 @@ place_named n zero kind (x ∷ kinds) k is got =
         step : (b : Bool) → cond b (Some m) (place_from (m + 1) kind names) ≡ Some p → (place_from (m + 1) kind names ≡ Some p → m + 1 ≤ p) → m ≤ p
         step true h later = let same : m ≡ p = some_injective m p h in omega (arith, same)
         step false h later = let more = later h in omega (arith, more)
+
     go : (b : Bool) → pointwise nat_eq x.name kind ≡ b → cond b (Some n) (place_from (n + 1) kind (names_of kinds)) ≡ Some (n + zero) → x.name ≡ kind
     go true test h = (bytes_eq-Decides x.name kind).0 test
     go false test h = let more = above (n + 1) (names_of kinds) (n + zero) h in absurd (omega (arith, more))
@@ -94,23 +95,23 @@ module _ {S : Type 0} (seen : S → Seen) (schema : Schema) (plan : Plan) (rel :
   attaches_only steps = record {
     stay = StepsOn-stays old new Gives seen line.kind (λ s t gives. (the_effect s t gives).later) steps;
     each = λ place before after got now.
-      let at = placed old new line.kind Gives steps in
-      at_place place before after got now at.0 at.1 at.2;
+        let at = placed old new line.kind Gives steps in
+        at_place place before after got now at.0 at.1 at.2;
   }
     where
       at_place : (place : ℕ) (before after : Kind S) → slice_get old place ≡ Some before → slice_get new place ≡ Some after → (p : ℕ) → place_from 0 line.kind (names_of old) ≡ Some p → StepsAt old new p Gives →
           (after ≡ before) ⊎ ((place_from 0 before.name (names_of old) ≡ Some place) × ((r : ℕ) → ((seen after.object).attached r ≡ (seen before.object).attached r) ⊎ IsTouched schema plan before.name r (seen after.object)))
       at_place place before after got now p is at = elim (cases_eq place p) [
         | inl here ↦
-          let was : before ≡ at.before = some_injective before at.before (sym got ∙ ap (slice_get old) here ∙ at.there) in
-          let became : after ≡ at.after = some_injective after at.after (sym now ∙ ap (slice_get new) here ∙ ap (λ (l : List (Kind S)). slice_get l p) at.now ∙ set_same old p at.before at.after at.there) in
-          let named : at.before.name ≡ line.kind = place_named 0 p line.kind old at.before (is ∙ ap Some (omega arith)) at.there in
-          let name : before.name ≡ line.kind = ap (λ (k : Kind S). k.name) was ∙ named in
-          let P : Kind S → Kind S → Type 0 = λ b a. (r : ℕ) → ((seen a.object).attached r ≡ (seen b.object).attached r) ⊎ IsTouched schema plan before.name r (seen a.object) in
-          inr (
-            ap (λ n. place_from 0 n (names_of old)) name ∙ is ∙ ap Some (sym here),
-            subst (λ b. P b after) (sym was) (subst (λ a. P at.before a) (sym became) (touched before.name (sym name) at.before.object at.after.object at.steps)),
-          )
+            let was : before ≡ at.before = some_injective before at.before (sym got ∙ ap (slice_get old) here ∙ at.there) in
+            let became : after ≡ at.after = some_injective after at.after (sym now ∙ ap (slice_get new) here ∙ ap (λ (l : List (Kind S)). slice_get l p) at.now ∙ set_same old p at.before at.after at.there) in
+            let named : at.before.name ≡ line.kind = place_named 0 p line.kind old at.before (is ∙ ap Some (omega arith)) at.there in
+            let name : before.name ≡ line.kind = ap (λ (k : Kind S). k.name) was ∙ named in
+            let P : Kind S → Kind S → Type 0 = λ b a. (r : ℕ) → ((seen a.object).attached r ≡ (seen b.object).attached r) ⊎ IsTouched schema plan before.name r (seen a.object) in
+            inr (
+              ap (λ n. place_from 0 n (names_of old)) name ∙ is ∙ ap Some (sym here),
+              subst (λ b. P b after) (sym was) (subst (λ a. P at.before a) (sym became) (touched before.name (sym name) at.before.object at.after.object at.steps)),
+            )
         | inr apart ↦ inl (some_injective after before (sym now ∙ ap (λ (l : List (Kind S)). slice_get l place) at.now ∙ set_other old p place at.after apart ∙ got))
       ]
 

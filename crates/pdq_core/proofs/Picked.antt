@@ -52,6 +52,7 @@ module _ (rel : ℕ) where
       here false test same =
           let at : f.rel ≡ rel = ap (λ (x : Fact). x.rel) same in
           absurd (grind (arith, nat_tests, test, at))
+
       step : (b : Bool) → Contains (map row_of (filter is_of facts)) row → Contains (map row_of (cond (b && true) (f ∷ filter is_of facts) (filter is_of facts))) row
       step true later = contains_there f.row (map row_of (filter is_of facts)) row later
       step false later = later

@@ -68,7 +68,7 @@ module _ (schema : Schema) (statement : Statement) (access : Taken) (one : state
   plan_for = record {
     lawful = whole_lawful (meaning_of schema) access.select access.method access.relation asks (constants_of schema statement);
     equivalent = let P : Statement → Type 0 = λ s. IsEquivalent plan s (meaning_of schema) in
-      subst P (sym same_statement) (whole_equivalent (meaning_of schema) access.select access.method access.relation asks (well_formed schema));
+        subst P (sym same_statement) (whole_equivalent (meaning_of schema) access.select access.method access.relation asks (well_formed schema));
   }
 
   -- the plan accesses the relation, and no other

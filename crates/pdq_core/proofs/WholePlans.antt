@@ -137,11 +137,15 @@ module _ (schema : SchemaParts) (select : Select) (method : Method) (relation : 
       let P : Branch → Type 0 = λ b. (length b.output ≡ length select.items) × IsLawfulBranch schema constants b in
       subst P (only_one branch other c) (
         length_outs select.items,
-        (method, record {
-          named = named;
-          arity = record { relation = relation; there = asks.relation_is; width = new_length relation.columns };
-          places = lawful_places constants method.inputs asks.free;
-        }, lawful_out constants),
+        (
+          method,
+          record {
+            named = named;
+            arity = record { relation = relation; there = asks.relation_is; width = new_length relation.columns };
+            places = lawful_places constants method.inputs asks.free;
+          },
+          lawful_out constants,
+        ),
       )
 
   -- a row of the plan, by the fact that it comes from
@@ -179,11 +183,16 @@ module _ (schema : SchemaParts) (select : Select) (method : Method) (relation : 
         projected facts row found.0 found.1.0 found.1.1 found.1.2 found.2
 
     pub row_whole : (facts : List Fact) (row : List (List ℕ)) → IsProjected facts row → IsRow schema (whole_plan method relation select) facts row
-    row_whole facts row (values, among, fits, is) =
-        (branch, contains_here branch [], (values,
-          (values, record { method = method; fact = record { rel = method.rel; row = values }; named = named; of_relation = refl; holds = among; joins = joins_new relation.columns values [] fits }, refl),
-          let P : List (List ℕ) → Type 0 = λ r. AllZip (IsOut values) (map out_of select.items) r in
-          subst P (sym is) (outputs values select.items (columns_of values fits))))
+    row_whole facts row (values, among, fits, is) = (
+      branch,
+      contains_here branch [],
+      (
+        values,
+        (values, record { method = method; fact = record { rel = method.rel; row = values }; named = named; of_relation = refl; holds = among; joins = joins_new relation.columns values [] fits }, refl),
+        let P : List (List ℕ) → Type 0 = λ r. AllZip (IsOut values) (map out_of select.items) r in
+            subst P (sym is) (outputs values select.items (columns_of values fits)),
+      ),
+    )
 
     -- the answers of the select are the projected rows
     projected_answers : (facts : List Fact) (row : List (List ℕ)) → IsProjected facts row → AnswersSelect select facts row
@@ -191,7 +200,7 @@ module _ (schema : SchemaParts) (select : Select) (method : Method) (relation : 
         let choice : IsChoice facts (method.rel ∷ []) (is.0 ∷ []) = (is.1, tt) in
         let P : List ℕ → Type 0 = λ froms. IsChoice facts froms (is.0 ∷ []) in
         let none : MeetsConditions (is.0 ∷ []) select.conditions =
-          λ condition c. let Q : List Condition → Type 0 = λ list. Contains list condition in absurd (let h = subst Q asks.conditions c in omega (arith, h.1)) in
+        λ condition c. let Q : List Condition → Type 0 = λ list. Contains list condition in absurd (let h = subst Q asks.conditions c in omega (arith, h.1)) in
         (is.0 ∷ [], subst P (sym asks.froms) choice, none, is.3)
 
     one_chosen : (facts : List Fact) (rows : List (List (List ℕ))) → IsChoice facts (method.rel ∷ []) rows →
@@ -213,8 +222,8 @@ module _ (schema : SchemaParts) (select : Select) (method : Method) (relation : 
     whole_equivalent = record {
       sound = λ facts row model is. (select, contains_here select [], projected_answers facts row (whole_row facts row is));
       complete = λ facts row model answer.
-        let P : Select → Type 0 = λ s. AnswersSelect s facts row in
-        row_whole facts row (answers_projected facts row model.fits (subst P (sym (only_one select answer.0 answer.1)) answer.2));
+          let P : Select → Type 0 = λ s. AnswersSelect s facts row in
+          row_whole facts row (answers_projected facts row model.fits (subst P (sym (only_one select answer.0 answer.1)) answer.2));
     }
 
     abbrev request : Request

@@ -34,7 +34,7 @@ pub record ResultCut {S : Type 0} (seen : S → Seen) (old new : List (Lane S)) 
   pub fetched : FetchGives seen old new sources access (Ok rows)
   pub cut : ((out_new ≡ out_old) × (end ≡ stop.Memory))
       ⊎ ((text : List ℕ) × IsRowText access.select.names (Contains (projected access.select.items rows)) text × TookPrefix out_old out_new text
-        × ((end ≡ stop.Memory) ⊎ ((end ≡ stop.ResultWrite) × rose)))
+      × ((end ≡ stop.Memory) ⊎ ((end ≡ stop.ResultWrite) × rose)))
 
 -- the fetch stopped, or what came after it
 abbrev pub ResultStopped : {S : Type 0} → (S → Seen) → List (Lane S) → List (Lane S) → List SourceLine → Taken → Option (List ℕ) → Option (List ℕ) → Type 0 → Stop → Type 0

@@ -66,7 +66,7 @@ pub record AttachesOnly {S : Type 0} (seen : S → Seen) (schema : Schema) (plan
   pub stay : KindsStay seen old new
   pub each : (place : ℕ) (before after : Kind S) → slice_get old place ≡ Some before → slice_get new place ≡ Some after →
       (after ≡ before) ⊎ ((place_from 0 before.name (names_of old) ≡ Some place)
-        × ((rel : ℕ) → ((seen after.object).attached rel ≡ (seen before.object).attached rel) ⊎ IsTouched schema plan before.name rel (seen after.object)))
+      × ((rel : ℕ) → ((seen after.object).attached rel ≡ (seen before.object).attached rel) ⊎ IsTouched schema plan before.name rel (seen after.object)))
 
 -- the relation is attached with its columns and its locator, and holds the rows that were offered, where both are told
 pub record IsAttached {S : Type 0} (seen : S → Seen) (rel : ℕ) (relation : Relation) (line : SourceLine) (old new : List (Kind S)) : Type 0 where

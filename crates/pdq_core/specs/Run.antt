@@ -106,7 +106,7 @@ WritesResult seen schema statement plan None before after =
 WritesResult seen schema statement plan (Some end) before after =
     (after.out ≡ before.out)
     ⊎ (((end ≡ stop.Memory) ⊎ (end ≡ stop.ResultWrite))
-      × ((text : List ℕ) × TookPrefix before.out after.out text × IsResult seen schema statement plan after.lanes text))
+    × ((text : List ℕ) × TookPrefix before.out after.out text × IsResult seen schema statement plan after.lanes text))
 
 -- ---- the sources
 

@@ -28,8 +28,16 @@ pub fn line_of(
         Stop::QueryForm => plain(alloc, b"query: not built yet\n"),
         Stop::NoPlanYet => plain(alloc, b"query: no plan yet\n"),
         Stop::DecisionWrite => plain(alloc, b"write failed\n"),
-        Stop::NoSource { rel } => source_line(alloc, relation(relations, rel), b": no source line\n"),
-        Stop::UnknownKind { rel } => source_line(alloc, relation(relations, rel), b": unknown kind\n"),
+        Stop::NoSource { rel } => source_line(
+            alloc,
+            relation(relations, rel),
+            b": no source line\n",
+        ),
+        Stop::UnknownKind { rel } => source_line(
+            alloc,
+            relation(relations, rel),
+            b": unknown kind\n",
+        ),
         Stop::Attach { rel, fault } => data_line(alloc, relation(relations, rel), fault),
         Stop::CallFailed { branch, step } => call_line(alloc, branch, step),
         Stop::ResultWrite => plain(alloc, b"write failed\n"),
@@ -113,7 +121,12 @@ fn data_line(
         AttachFault::Failed => source_line(alloc, relation, b": failed\n"),
         AttachFault::BadHeader { column } => header_line(alloc, relation, column),
         AttachFault::BadRow { number } => row_line(alloc, relation, b": bad row ", number),
-        AttachFault::NotUtf8 { number } => row_line(alloc, relation, b": not UTF-8 in row ", number),
+        AttachFault::NotUtf8 { number } => row_line(
+            alloc,
+            relation,
+            b": not UTF-8 in row ",
+            number,
+        ),
         AttachFault::TooLarge => source_line(alloc, relation, b": too large\n"),
         AttachFault::NoMemory => source_line(alloc, relation, b"out of memory\n"),
     }

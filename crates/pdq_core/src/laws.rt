@@ -25,8 +25,8 @@ pub fn whole_plan_rows()
     ensures { (schema : SchemaParts) (select : Select) (method : Method) (relation : Relation) (facts : List Fact) (row : List (List ℕ)) →
         IsWellFormed schema → AsksWhole schema select method relation →
         (IsRow schema (whole_plan method relation select) facts row ↔
-          ((values : List (List ℕ)) × Contains facts (record { rel = method.rel; row = values }) × (length values ≡ length relation.columns)
-            × (row ≡ map (operand_value (values ∷ [])) select.items))) }
+        ((values : List (List ℕ)) × Contains facts (record { rel = method.rel; row = values }) × (length values ≡ length relation.columns)
+        × (row ≡ map (operand_value (values ∷ [])) select.items))) }
 {}
 
 /// It is equivalent to the statement of that one select.

@@ -20,11 +20,7 @@ pub fn plan_text(alloc: Global, plan: &Plan) -> Result<Bytes, AllocError>
     Ok(Bytes::from_vec(out))
 }
 
-fn push_branches(
-    alloc: Global,
-    out: &mut Vec<u8>,
-    branches: &[Branch],
-) -> Result<(), AllocError>
+fn push_branches(alloc: Global, out: &mut Vec<u8>, branches: &[Branch]) -> Result<(), AllocError>
     ensures { OnOk result (out.new.items ≡ out.old.items ++ flat_map branch_text branches.now) }
 {
     for branch in branches {

@@ -14,7 +14,7 @@ pub fn result_text(alloc: Global, select: &Select, rows: Rows) -> Result<Bytes, 
     ensures { IfOk result (IsRowText select.now.names (Contains (projected select.now.items rows))) }
 {
     let rows = project(alloc, select.items.as_slice(), rows)?;
-    csv_text(alloc, &select.names, rows)
+    csv_text(alloc, &select.names, &rows)
 }
 
 // The items' values of each row.

@@ -42,7 +42,16 @@ pub fn run<F: Files, S: Source + Send + Drop, O: Sink, E: Sink>(
         Ok(statement) => statement,
         Err(stop) => return Err(refuse(alloc, err, stop, schema_name, query_name)),
     };
-    plan_and_deliver(alloc, schema_name, query_name, &schema, &statement, lanes, out, err)
+    plan_and_deliver(
+        alloc,
+        schema_name,
+        query_name,
+        &schema,
+        &statement,
+        lanes,
+        out,
+        err,
+    )
 }
 
 // Writes the line of a stop that comes before there are relations.
