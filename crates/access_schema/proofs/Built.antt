@@ -118,34 +118,34 @@ places_above : (from : ℕ) (names columns : List (List ℕ)) (i p : ℕ) → sl
 places_above from names [] i p at = absurd (cc)
 places_above from names (column ∷ columns) i p at = ⊎_elim
     (λ (yes : is_among names column ≡ true).
-      let here : slice_get (from ∷ places_from (from + 1) names columns) i ≡ Some p = rw yes at at in
-      ⊎_elim (λ same. omega arith) (λ (j, is, later). let le : from + 1 ≤ p = places_above (from + 1) names columns j p later in omega arith) (first_or_later from (places_from (from + 1) names columns) i p here))
+    let here : slice_get (from ∷ places_from (from + 1) names columns) i ≡ Some p = rw yes at at in
+    ⊎_elim (λ same. omega arith) (λ (j, is, later). let le : from + 1 ≤ p = places_above (from + 1) names columns j p later in omega arith) (first_or_later from (places_from (from + 1) names columns) i p here))
     (λ (other : is_among names column ≡ false).
-      let here : slice_get (places_from (from + 1) names columns) i ≡ Some p = rw other at at in
-      let le : from + 1 ≤ p = places_above (from + 1) names columns i p here in omega arith)
+    let here : slice_get (places_from (from + 1) names columns) i ≡ Some p = rw other at at in
+    let le : from + 1 ≤ p = places_above (from + 1) names columns i p here in omega arith)
     (cases_Bool (is_among names column))
 
 places_below : (from : ℕ) (names columns : List (List ℕ)) (i p : ℕ) → slice_get (places_from from names columns) i ≡ Some p → p < from + length columns
 places_below from names [] i p at = absurd (cc)
 places_below from names (column ∷ columns) i p at = ⊎_elim
     (λ (yes : is_among names column ≡ true).
-      let here : slice_get (from ∷ places_from (from + 1) names columns) i ≡ Some p = rw yes at at in
-      ⊎_elim (λ same. omega arith) (λ (j, is, later). let lt : p < from + 1 + length columns = places_below (from + 1) names columns j p later in omega arith) (first_or_later from (places_from (from + 1) names columns) i p here))
+    let here : slice_get (from ∷ places_from (from + 1) names columns) i ≡ Some p = rw yes at at in
+    ⊎_elim (λ same. omega arith) (λ (j, is, later). let lt : p < from + 1 + length columns = places_below (from + 1) names columns j p later in omega arith) (first_or_later from (places_from (from + 1) names columns) i p here))
     (λ (other : is_among names column ≡ false).
-      let here : slice_get (places_from (from + 1) names columns) i ≡ Some p = rw other at at in
-      let lt : p < from + 1 + length columns = places_below (from + 1) names columns i p here in omega arith)
+    let here : slice_get (places_from (from + 1) names columns) i ≡ Some p = rw other at at in
+    let lt : p < from + 1 + length columns = places_below (from + 1) names columns i p here in omega arith)
     (cases_Bool (is_among names column))
 
 places_rise : (from : ℕ) (names columns : List (List ℕ)) (i p q : ℕ) → slice_get (places_from from names columns) i ≡ Some p → slice_get (places_from from names columns) (suc i) ≡ Some q → p < q
 places_rise from names [] i p q at_p at_q = absurd (cc)
 places_rise from names (column ∷ columns) i p q at_p at_q = ⊎_elim
     (λ (yes : is_among names column ≡ true).
-      let here : slice_get (from ∷ places_from (from + 1) names columns) i ≡ Some p = rw yes at at_p in
-      let next : slice_get (from ∷ places_from (from + 1) names columns) (suc i) ≡ Some q = rw yes at at_q in
-      ⊎_elim
-        (λ same. let le : from + 1 ≤ q = places_above (from + 1) names columns i q next in omega arith)
-        (λ (j, is, later). places_rise (from + 1) names columns j p q later (subst (λ n. slice_get (places_from (from + 1) names columns) n ≡ Some q) is next))
-        (first_or_later from (places_from (from + 1) names columns) i p here))
+    let here : slice_get (from ∷ places_from (from + 1) names columns) i ≡ Some p = rw yes at at_p in
+    let next : slice_get (from ∷ places_from (from + 1) names columns) (suc i) ≡ Some q = rw yes at at_q in
+    ⊎_elim
+    (λ same. let le : from + 1 ≤ q = places_above (from + 1) names columns i q next in omega arith)
+    (λ (j, is, later). places_rise (from + 1) names columns j p q later (subst (λ n. slice_get (places_from (from + 1) names columns) n ≡ Some q) is next))
+    (first_or_later from (places_from (from + 1) names columns) i p here))
     (λ (other : is_among names column ≡ false). places_rise (from + 1) names columns i p q (rw other at at_p) (rw other at at_q))
     (cases_Bool (is_among names column))
 
@@ -155,9 +155,9 @@ at_number relations name known =
     let declared : is_declared relations name ≡ true = known_is _ known in
     let (relation, at, holds) = place_holds (is_named name) relations declared in
     (relation, at, text_is relation.name name holds, ap columns_in (find_place (is_named name) relations relation at)) where
-  known_is : (b : Bool) → not b ≡ false → b ≡ true
-  known_is true is = refl
-  known_is false is = absurd (cc)
+      known_is : (b : Bool) → not b ≡ false → b ≡ true
+      known_is true is = refl
+      known_is false is = absurd (cc)
 
 pub columns_at : (relations : List Relation) (name : List ℕ) (relation : Relation) → is_unknown relations name ≡ false → slice_get relations (number_of relations name) ≡ Some relation → columns_of relations name ≡ relation.columns
 columns_at relations name relation known at =
@@ -243,12 +243,12 @@ module _ (parts : List Part) (faultless : AreFaultless parts) (named : AreNamed 
   pub relations_are : AreRelations (relations_of parts)
   relations_are = record {
     few = few_all relation_of MOST_RELATIONS parts (λ k part relation at is.
-      let same = from_relation part relation is in
-      let clean = clean_at parts faultless k (RelationPart relation.name relation.columns) (at ∙ ap Some same) in
-      let room : nat_le MOST_RELATIONS (length (filter is_relation (take k parts))) ≡ false = (two_none _ _ _ _ clean.limit).0 in
-      let lt : length (filter is_relation (take k parts)) < MOST_RELATIONS = less MOST_RELATIONS (length (filter is_relation (take k parts))) room in
-      let e = counted is_relation relation_of relation_agrees (take k parts) in
-      omega arith);
+        let same = from_relation part relation is in
+        let clean = clean_at parts faultless k (RelationPart relation.name relation.columns) (at ∙ ap Some same) in
+        let room : nat_le MOST_RELATIONS (length (filter is_relation (take k parts))) ≡ false = (two_none _ _ _ _ clean.limit).0 in
+        let lt : length (filter is_relation (take k parts)) < MOST_RELATIONS = less MOST_RELATIONS (length (filter is_relation (take k parts))) room in
+        let e = counted is_relation relation_of relation_agrees (take k parts) in
+        omega arith);
     differ = subst AllDiffer (sym (given_mapped (λ (r : Relation). r.name) relation_of parts)) (differ_all (λ p. option_map (λ (r : Relation). r.name) (relation_of p)) parts relation_new);
     named = λ relation there. let (k, at) = relation_part relation there in (named (RelationPart relation.name relation.columns) (contains_got parts k _ at)).0;
     columns = relation_columns;
@@ -276,21 +276,21 @@ module _ (parts : List Part) (faultless : AreFaultless parts) (named : AreNamed 
   pub methods_are : AreMethods (relations_of parts) (methods_of (relations_of parts) parts)
   methods_are = record {
     few = few_all (method_of (relations_of parts)) MOST_METHODS parts (λ k part method at is.
-      let lt : length (filter is_method (take k parts)) < MOST_METHODS = (method_limit k part method at (from_method (relations_of parts) part method is)).0 in
-      let e = counted is_method (method_of (relations_of parts)) (method_agrees (relations_of parts)) (take k parts) in
-      omega arith);
+        let lt : length (filter is_method (take k parts)) < MOST_METHODS = (method_limit k part method at (from_method (relations_of parts) part method is)).0 in
+        let e = counted is_method (method_of (relations_of parts)) (method_agrees (relations_of parts)) (take k parts) in
+        omega arith);
     differ = subst AllDiffer (sym (given_mapped (λ (m : Method). m.name) (method_of (relations_of parts)) parts)) (differ_all (λ p. option_map (λ (m : Method). m.name) (method_of (relations_of parts) p)) parts method_new);
     named = λ method there. let (k, part, at, from) = method_at method there in named (MethodPart method.name from.relation from.inputs method.cost) (contains_got parts k _ (at ∙ ap Some from.part_is));
     placed = λ method there. let (k, part, at, from) = method_at method there in
-      subst (λ n. n < length (relations_of parts)) (sym from.rel) (number_within (relations_of parts) from.relation (method_known k part method at from));
+        subst (λ n. n < length (relations_of parts)) (sym from.rel) (number_within (relations_of parts) from.relation (method_known k part method at from));
     inputs = λ method relation p there owner input. let (k, part, at, from) = method_at method there in
-      let of_columns : Contains (places_from 0 from.inputs (columns_of (relations_of parts) from.relation)) p = subst (λ (ps : List ℕ). Contains ps p) from.places input in
-      let below : p < 0 + length (columns_of (relations_of parts) from.relation) = places_below 0 from.inputs (columns_of (relations_of parts) from.relation) of_columns.0 p (got_contained _ p of_columns) in
-      let columns : columns_of (relations_of parts) from.relation ≡ relation.columns = columns_at (relations_of parts) from.relation relation (method_known k part method at from) (subst (λ n. slice_get (relations_of parts) n ≡ Some relation) from.rel owner) in
-      let e = ap length columns in omega arith;
+        let of_columns : Contains (places_from 0 from.inputs (columns_of (relations_of parts) from.relation)) p = subst (λ (ps : List ℕ). Contains ps p) from.places input in
+        let below : p < 0 + length (columns_of (relations_of parts) from.relation) = places_below 0 from.inputs (columns_of (relations_of parts) from.relation) of_columns.0 p (got_contained _ p of_columns) in
+        let columns : columns_of (relations_of parts) from.relation ≡ relation.columns = columns_at (relations_of parts) from.relation relation (method_known k part method at from) (subst (λ n. slice_get (relations_of parts) n ≡ Some relation) from.rel owner) in
+        let e = ap length columns in omega arith;
     rising = λ method i p q there first second. let (k, part, at, from) = method_at method there in
-      let e : i + 1 ≡ suc i = omega arith in
-      places_rise 0 from.inputs (columns_of (relations_of parts) from.relation) i p q
+        let e : i + 1 ≡ suc i = omega arith in
+        places_rise 0 from.inputs (columns_of (relations_of parts) from.relation) i p q
         (subst (λ (ps : List ℕ). slice_get ps i ≡ Some p) from.places first)
         (subst (λ n. slice_get (places_from 0 from.inputs (columns_of (relations_of parts) from.relation)) n ≡ Some q) e (subst (λ (ps : List ℕ). slice_get ps (i + 1) ≡ Some q) from.places second));
     cost = λ method there. let (k, part, at, from) = method_at method there in (method_limit k part method at from).1;
@@ -314,11 +314,11 @@ module _ (parts : List Part) (faultless : AreFaultless parts) (named : AreNamed 
   sources_are = record {
     differ = subst AllDiffer (sym (given_mapped (λ (s : SourceLine). s.rel) (source_of (relations_of parts)) parts)) (differ_all (λ p. option_map (λ (s : SourceLine). s.rel) (source_of (relations_of parts) p)) parts source_new);
     placed = λ source there.
-      let (k, part, at, is) = given_by (source_of (relations_of parts)) parts source there in
-      let (relation, part_is, of) = from_source (relations_of parts) part source is in
-      subst (λ n. n < length (relations_of parts)) of (number_within (relations_of parts) relation (clean_at parts faultless k (SourcePart relation source.kind source.locator) (at ∙ ap Some part_is)).known);
+        let (k, part, at, is) = given_by (source_of (relations_of parts)) parts source there in
+        let (relation, part_is, of) = from_source (relations_of parts) part source is in
+        subst (λ n. n < length (relations_of parts)) of (number_within (relations_of parts) relation (clean_at parts faultless k (SourcePart relation source.kind source.locator) (at ∙ ap Some part_is)).known);
     named = λ source there.
-      let (k, part, at, is) = given_by (source_of (relations_of parts)) parts source there in
-      let (relation, part_is, of) = from_source (relations_of parts) part source is in
-      named (SourcePart relation source.kind source.locator) (contains_got parts k _ (at ∙ ap Some part_is));
+        let (k, part, at, is) = given_by (source_of (relations_of parts)) parts source there in
+        let (relation, part_is, of) = from_source (relations_of parts) part source is in
+        named (SourcePart relation source.kind source.locator) (contains_got parts k _ (at ∙ ap Some part_is));
   }

@@ -43,9 +43,9 @@ place_front [] back text among = absurd (cc)
 place_front (first ∷ front) back text among = ⊎_elim
     (λ (here : pointwise nat_eq first text ≡ true). rw here refl)
     (λ (other : pointwise nat_eq first text ≡ false).
-      let rest : is_among front text ≡ true = rw other at among in
-      let same : place_of (front ++ back) text ≡ place_of front text = place_front front back text rest in
-      rw other (ap (λ n. 1 + n) same))
+    let rest : is_among front text ≡ true = rw other at among in
+    let same : place_of (front ++ back) text ≡ place_of front text = place_front front back text rest in
+    rw other (ap (λ n. 1 + n) same))
     (cases_Bool (pointwise nat_eq first text))
 
 among_front : (front back : List (List ℕ)) (text : List ℕ) → is_among front text ≡ true → is_among (front ++ back) text ≡ true
@@ -76,21 +76,21 @@ numbered_from known variables [] are = tt
 numbered_from known variables (NamedConst c ∷ terms) are = numbered_from known variables terms are
 numbered_from known variables (NamedVar name ∷ terms) are = ⊎_elim
     (λ (here : is_among known name ≡ true).
-      let same : variables ≡ once_after known (names_in terms) = are ∙ ap (λ (b : Bool). once_after (cond b known (known ++ name ∷ [])) (names_in terms)) here in
-      let lt : place_of known name < length known = place_among known name here in
-      let kept : place_of variables name ≡ place_of known name = ap (λ (vs : List (List ℕ)). place_of vs name) same ∙ place_kept known (names_in terms) name here in
-      let top : max (place_of variables name + 1) (length known) ≡ length known = omega arith in
-      let le : place_of variables name ≤ length known = omega arith in
-      (le, subst (λ n. OrderedFrom n (map (term_of variables) terms)) (sym top) (numbered_from known variables terms same)))
+    let same : variables ≡ once_after known (names_in terms) = are ∙ ap (λ (b : Bool). once_after (cond b known (known ++ name ∷ [])) (names_in terms)) here in
+    let lt : place_of known name < length known = place_among known name here in
+    let kept : place_of variables name ≡ place_of known name = ap (λ (vs : List (List ℕ)). place_of vs name) same ∙ place_kept known (names_in terms) name here in
+    let top : max (place_of variables name + 1) (length known) ≡ length known = omega arith in
+    let le : place_of variables name ≤ length known = omega arith in
+    (le, subst (λ n. OrderedFrom n (map (term_of variables) terms)) (sym top) (numbered_from known variables terms same)))
     (λ (new : is_among known name ≡ false).
-      let more : List (List ℕ) = known ++ name ∷ [] in
-      let same : variables ≡ once_after more (names_in terms) = are ∙ ap (λ (b : Bool). once_after (cond b known (known ++ name ∷ [])) (names_in terms)) new in
-      let long : length more ≡ length known + 1 = length-append known (name ∷ []) in
-      let inside_more : is_among more name ≡ true = contains_among more name (Contains-push known name) in
-      let kept : place_of variables name ≡ length known = ap (λ (vs : List (List ℕ)). place_of vs name) same ∙ place_kept more (names_in terms) name inside_more ∙ place_new known name new in
-      let top : max (place_of variables name + 1) (length known) ≡ length more = omega arith in
-      let le : place_of variables name ≤ length known = omega arith in
-      (le, subst (λ n. OrderedFrom n (map (term_of variables) terms)) (sym top) (numbered_from more variables terms same)))
+    let more : List (List ℕ) = known ++ name ∷ [] in
+    let same : variables ≡ once_after more (names_in terms) = are ∙ ap (λ (b : Bool). once_after (cond b known (known ++ name ∷ [])) (names_in terms)) new in
+    let long : length more ≡ length known + 1 = length-append known (name ∷ []) in
+    let inside_more : is_among more name ≡ true = contains_among more name (Contains-push known name) in
+    let kept : place_of variables name ≡ length known = ap (λ (vs : List (List ℕ)). place_of vs name) same ∙ place_kept more (names_in terms) name inside_more ∙ place_new known name new in
+    let top : max (place_of variables name + 1) (length known) ≡ length more = omega arith in
+    let le : place_of variables name ≤ length known = omega arith in
+    (le, subst (λ n. OrderedFrom n (map (term_of variables) terms)) (sym top) (numbered_from more variables terms same)))
     (cases_Bool (is_among known name))
 
 bounded : (variables : List (List ℕ)) (terms : List NamedTerm) → ((name : List ℕ) → Contains (names_in terms) name → is_among variables name ≡ true) → terms_bound (map (term_of variables) terms) ≤ length variables
@@ -131,7 +131,6 @@ module _ (relations : List Relation) (constants : List (List ℕ)) (line : ℕ) 
     (known : (atom : NamedAtom) → Contains (body ++ head) atom → is_unknown relations atom.relation ≡ false)
     (fits : (atom : NamedAtom) → Contains (body ++ head) atom → length atom.terms ≡ length (columns_of relations atom.relation))
     (of_constants : (c : List ℕ) → Contains (filter_map constant_of (named_terms (body ++ head))) c → is_among constants c ≡ true) where
-
   atom_fits : (atom : NamedAtom) → Contains (body ++ head) atom → AtomFits relations (atom_of relations (variables_of (body ++ head)) atom)
   atom_fits atom there = record {
     placed = number_within relations atom.relation (known atom there);
@@ -154,13 +153,13 @@ module _ (relations : List Relation) (constants : List (List ℕ)) (line : ℕ) 
         head_some = let w = head_within.0 in omega arith;
         head_few = let w = head_within.1 in omega arith;
         atoms = λ atom there.
-          let (named, among, is) = contains_mapped (atom_of relations (variables_of (body ++ head))) (body ++ head) atom (subst (λ (atoms : List Atom). Contains atoms atom) all_atoms there) in
-          subst (AtomFits relations) is (atom_fits named among);
+            let (named, among, is) = contains_mapped (atom_of relations (variables_of (body ++ head))) (body ++ head) atom (subst (λ (atoms : List Atom). Contains atoms atom) all_atoms there) in
+            subst (AtomFits relations) is (atom_fits named among);
         in_order = subst AreInOrder (sym all_terms) (in_order _ (numbered_from [] (variables_of (body ++ head)) (named_terms (body ++ head)) refl));
         variables =
-          let le : terms_bound (map (term_of (variables_of (body ++ head))) (named_terms (body ++ head))) ≤ length (variables_of (body ++ head)) =
+            let le : terms_bound (map (term_of (variables_of (body ++ head))) (named_terms (body ++ head))) ≤ length (variables_of (body ++ head)) =
             bounded (variables_of (body ++ head)) (named_terms (body ++ head)) (λ name there. contains_among (variables_of (body ++ head)) name (once_taken [] (names_in (named_terms (body ++ head))) name there)) in
-          let e = ap terms_bound all_terms in omega arith;
+            let e = ap terms_bound all_terms in omega arith;
         constants_are = λ c there. of_constants c (constants_in_terms (variables_of (body ++ head)) (named_terms (body ++ head)) c (subst (λ (terms : List Term). Contains terms (Const c)) all_terms there));
       }
 
@@ -255,18 +254,18 @@ key_is_rule relations constants line relation columns target targets known known
       head_some = omega arith;
       head_few = omega arith;
       atoms = λ atom there. ⊎_elim
-        (λ same. subst (AtomFits relations) same body_fits)
-        (λ later. ⊎_elim (λ same. subst (AtomFits relations) same head_fits) (λ none. absurd (omega arith)) (contains_cases head [] atom later))
-        (contains_cases body (head ∷ []) atom there);
+          (λ same. subst (AtomFits relations) same body_fits)
+          (λ later. ⊎_elim (λ same. subst (AtomFits relations) same head_fits) (λ none. absurd (omega arith)) (contains_cases head [] atom later))
+          (contains_cases body (head ∷ []) atom there);
       in_order = in_order (body.terms ++ (head.terms ++ [])) (range_ordered 0 (length own) (head.terms ++ [])
-        (key_ordered own columns targets (0 + length own) (length own) others (omega arith) (omega arith)));
+          (key_ordered own columns targets (0 + length own) (length own) others (omega arith) (omega arith)));
       variables = terms_bound-both body.terms (head.terms ++ []) MOST_VARIABLES
-        (let le : terms_bound body.terms ≤ 0 + length own = range_bound 0 (length own) in omega arith)
-        (terms_bound-both head.terms [] MOST_VARIABLES (let le : terms_bound head.terms ≤ length own + length others = key_bound own columns targets (length own) others (omega arith) in omega arith) (omega arith));
+          (let le : terms_bound body.terms ≤ 0 + length own = range_bound 0 (length own) in omega arith)
+          (terms_bound-both head.terms [] MOST_VARIABLES (let le : terms_bound head.terms ≤ length own + length others = key_bound own columns targets (length own) others (omega arith) in omega arith) (omega arith));
       constants_are = λ c there. ⊎_elim
-        (λ first. absurd (no_range_constant 0 (length own) c first))
-        (λ later. ⊎_elim (λ second. absurd (no_key_constant own columns targets (length own) others c second)) (λ none. absurd (omega arith)) (Contains-append_cases head.terms [] (Const c) later))
-        (Contains-append_cases body.terms (head.terms ++ []) (Const c) there);
+          (λ first. absurd (no_range_constant 0 (length own) c first))
+          (λ later. ⊎_elim (λ second. absurd (no_key_constant own columns targets (length own) others c second)) (λ none. absurd (omega arith)) (Contains-append_cases head.terms [] (Const c) later))
+          (Contains-append_cases body.terms (head.terms ++ []) (Const c) there);
     }
 
 -- members of lists that parts give
@@ -307,15 +306,15 @@ each_within : (parts : List Part) (c : List ℕ) → Contains (constants_of part
 each_within parts c there = ⊎_elim
     (λ none. absurd (omega arith))
     (λ among. once_taken [] (flat_map part_constants parts) c (⊎_elim
-      (λ declared. let (part, of, has) = given_somewhere declared_constants parts c declared in given_of part_constants parts part c of (declared_is_constant part c has))
-      (λ used. let (part, of, has) = given_somewhere rule_constants parts c used in given_of part_constants parts part c of (rule_is_constant part c has))
-      (Contains-append_cases (flat_map declared_constants parts) (flat_map rule_constants parts) c among)))
+    (λ declared. let (part, of, has) = given_somewhere declared_constants parts c declared in given_of part_constants parts part c of (declared_is_constant part c has))
+    (λ used. let (part, of, has) = given_somewhere rule_constants parts c used in given_of part_constants parts part c of (rule_is_constant part c has))
+    (Contains-append_cases (flat_map declared_constants parts) (flat_map rule_constants parts) c among)))
     (once_from [] (flat_map declared_constants parts ++ flat_map rule_constants parts) c there)
 
 rule_constant_there : (parts : List Part) (line : ℕ) (body head : List NamedAtom) (c : List ℕ) → Contains parts (RulePart line body head) → Contains (filter_map constant_of (named_terms (body ++ head))) c → is_among (constants_of parts) c ≡ true
 rule_constant_there parts line body head c of has =
     contains_among (constants_of parts) c (once_taken [] (flat_map declared_constants parts ++ flat_map rule_constants parts) c
-      (Contains-append_right (flat_map declared_constants parts) (flat_map rule_constants parts) c (given_of rule_constants parts (RulePart line body head) c of has)))
+    (Contains-append_right (flat_map declared_constants parts) (flat_map rule_constants parts) c (given_of rule_constants parts (RulePart line body head) c of has)))
 
 rule_agrees : (relations : List Relation) (part : Part) → ((rule_of relations part ≡ None) × (is_rule part ≡ false)) ⊎ ((y : Rule) × (rule_of relations part ≡ Some y) × (is_rule part ≡ true))
 rule_agrees relations (RelationPart name columns) = inl (refl, refl)
@@ -347,11 +346,11 @@ module _ (parts : List Part) (faultless : AreFaultless parts) where
   pub constants_few : length (constants_of parts) ≤ MOST_CONSTANTS
   constants_few =
       let all : length (each_once (flat_map part_constants parts)) ≤ MOST_CONSTANTS = prefix_all (λ ps. length (each_once (flat_map part_constants ps)) ≤ MOST_CONSTANTS) parts (omega arith) (λ k part at few. ⊎_elim
-        (λ (none : part_constants part ≡ []).
-          let same : each_once (flat_map part_constants (take k parts ++ part ∷ [])) ≡ each_once (flat_map part_constants (take k parts)) = constants_push (take k parts) part ∙ ap (once_after (each_once (flat_map part_constants (take k parts)))) none in
-          subst (λ (texts : List (List ℕ)). length texts ≤ MOST_CONSTANTS) (sym same) few)
-        (λ many. not_more MOST_CONSTANTS (constant_count (take k parts ++ part ∷ [])) many)
-        (none_many (take k parts) part (clean_at parts faultless k part at).limit)) in
+      (λ (none : part_constants part ≡ []).
+      let same : each_once (flat_map part_constants (take k parts ++ part ∷ [])) ≡ each_once (flat_map part_constants (take k parts)) = constants_push (take k parts) part ∙ ap (once_after (each_once (flat_map part_constants (take k parts)))) none in
+      subst (λ (texts : List (List ℕ)). length texts ≤ MOST_CONSTANTS) (sym same) few)
+      (λ many. not_more MOST_CONSTANTS (constant_count (take k parts ++ part ∷ [])) many)
+      (none_many (take k parts) part (clean_at parts faultless k part at).limit)) in
       let le = length_le (constants_of parts) (each_once (flat_map part_constants parts)) (constants_differ parts) (each_within parts) in
       omega arith
 
@@ -360,10 +359,10 @@ module _ (parts : List Part) (faultless : AreFaultless parts) where
       let clean = clean_at parts faultless k (RulePart line body head) at in
       let (room, in_body, in_head, few, many) = rule_within (take k parts) body head (has_many_constants (take k parts) (RulePart line body head)) clean.limit in
       numbered_is_rule (relations_of parts) (constants_of parts) line body head
-        (inside MOST_BODY_ATOMS (length body) in_body) (inside MOST_HEAD_ATOMS (length head) in_head) (not_more MOST_VARIABLES (length (variables_of (body ++ head))) few)
-        (λ atom there. either_list (λ (a : NamedAtom). is_unknown (relations_of parts) a.relation) body head clean.known atom there)
-        (λ atom there. equal_lengths (length atom.terms) (length (columns_of (relations_of parts) atom.relation)) (either_list (is_misfit (relations_of parts)) body head clean.arity atom there))
-        (λ c has. rule_constant_there parts line body head c (contains_got parts k (RulePart line body head) at) has)
+      (inside MOST_BODY_ATOMS (length body) in_body) (inside MOST_HEAD_ATOMS (length head) in_head) (not_more MOST_VARIABLES (length (variables_of (body ++ head))) few)
+      (λ atom there. either_list (λ (a : NamedAtom). is_unknown (relations_of parts) a.relation) body head clean.known atom there)
+      (λ atom there. equal_lengths (length atom.terms) (length (columns_of (relations_of parts) atom.relation)) (either_list (is_misfit (relations_of parts)) body head clean.arity atom there))
+      (λ c has. rule_constant_there parts line body head c (contains_got parts k (RulePart line body head) at) has)
 
   rule_part : (small : (name : List ℕ) → length (columns_of (relations_of parts) name) ≤ MOST_COLUMNS) (k : ℕ) (part : Part) (rule : Rule) → slice_get parts k ≡ Some part → rule_of (relations_of parts) part ≡ Some rule → IsRule (relations_of parts) (constants_of parts) rule
   rule_part small k (RelationPart name columns) rule at is = absurd (cc)
@@ -373,7 +372,7 @@ module _ (parts : List Part) (faultless : AreFaultless parts) where
       let clean = clean_at parts faultless k (KeyPart line relation columns target target_columns) at in
       let both = neither (is_unknown (relations_of parts) relation) (is_unknown (relations_of parts) target) clean.known in
       subst (IsRule (relations_of parts) (constants_of parts)) (some_injective _ rule is)
-        (key_is_rule (relations_of parts) (constants_of parts) line relation columns target target_columns both.0 both.1 (small relation) (small target))
+      (key_is_rule (relations_of parts) (constants_of parts) line relation columns target target_columns both.0 both.1 (small relation) (small target))
   rule_part small k (ConstantPart text) rule at is = absurd (cc)
   rule_part small k (SourcePart relation kind locator) rule at is = absurd (cc)
 
@@ -391,17 +390,17 @@ module _ (parts : List Part) (faultless : AreFaultless parts) where
   straight_all = prefix_all (λ ps. AreNonRecursive (rules_of (relations_of parts) ps)) parts (no_rules (relations_of parts) []).non_recursive (λ k part at straight. ⊎_elim
       (λ (rule : is_rule part ≡ true). (clean_at parts faultless k part at).straight rule)
       (λ (other : is_rule part ≡ false).
-        let none : rule_of (relations_of parts) part ≡ None = ⊎_elim (λ (gives, fails). gives) (λ (y, gives, holds). absurd (cc)) (rule_agrees (relations_of parts) part) in
-        let same : rules_of (relations_of parts) (take k parts ++ part ∷ []) ≡ rules_of (relations_of parts) (take k parts) = mapped_push (rule_of (relations_of parts)) (take k parts) part ∙ ap (λ (o : Option Rule). rules_of (relations_of parts) (take k parts) ++ option_to_list o) none ∙ append-nil (rules_of (relations_of parts) (take k parts)) in
-        subst AreNonRecursive (sym same) straight)
+      let none : rule_of (relations_of parts) part ≡ None = ⊎_elim (λ (gives, fails). gives) (λ (y, gives, holds). absurd (cc)) (rule_agrees (relations_of parts) part) in
+      let same : rules_of (relations_of parts) (take k parts ++ part ∷ []) ≡ rules_of (relations_of parts) (take k parts) = mapped_push (rule_of (relations_of parts)) (take k parts) part ∙ ap (λ (o : Option Rule). rules_of (relations_of parts) (take k parts) ++ option_to_list o) none ∙ append-nil (rules_of (relations_of parts) (take k parts)) in
+      subst AreNonRecursive (sym same) straight)
       (cases_Bool (is_rule part)))
 
   pub rules_are : ((name : List ℕ) → length (columns_of (relations_of parts) name) ≤ MOST_COLUMNS) → AreRules (relations_of parts) (constants_of parts) (rules_of (relations_of parts) parts)
   rules_are small = record {
     few = few_all (rule_of (relations_of parts)) MOST_RULES parts (λ k part rule at is.
-      let lt : length (filter is_rule (take k parts)) < MOST_RULES = rule_room k part rule at is in
-      let e = counted is_rule (rule_of (relations_of parts)) (rule_agrees (relations_of parts)) (take k parts) in
-      omega arith);
+        let lt : length (filter is_rule (take k parts)) < MOST_RULES = rule_room k part rule at is in
+        let e = counted is_rule (rule_of (relations_of parts)) (rule_agrees (relations_of parts)) (take k parts) in
+        omega arith);
     fit = λ rule there. let (k, part, at, is) = given_by (rule_of (relations_of parts)) parts rule there in rule_part small k part rule at is;
     non_recursive = straight_all;
   }

@@ -154,9 +154,9 @@ unmarked_falls marks (at ∷ numbers) below free =
     let rest : count_by not (with_marks (set marks at true) numbers) ≤ count_by not (set marks at true) = unmarked_all_le (set marks at true) numbers later in
     ⊎_elim
     (λ yes.
-        let others : all_marked marks numbers ≡ false = rw yes at free in
-        let same : set marks at true ≡ marks = ap (λ (m : Bool). set marks at m) (sym yes) ∙ set-get_or marks at false in
-        rw same (unmarked_falls marks numbers (all_tail (λ n. n < length marks) at numbers below) others))
+    let others : all_marked marks numbers ≡ false = rw yes at free in
+    let same : set marks at true ≡ marks = ap (λ (m : Bool). set marks at m) (sym yes) ∙ set-get_or marks at false in
+    rw same (unmarked_falls marks numbers (all_tail (λ n. n < length marks) at numbers below) others))
     (λ no. let one : count_by not (set marks at true) < count_by not marks = unmarked_lt marks at lt no in omega arith)
     (cases_Bool (get_or marks at false))
 
@@ -177,37 +177,37 @@ reaches_on links start source target reached step = inr (⊎_elim
 any_found : (marks : List Bool) (numbers : List ℕ) → any_marked marks numbers ≡ true → (number : ℕ) × Contains numbers number × IsMarked marks number
 any_found marks [] any = absurd (cc)
 any_found marks (at ∷ numbers) any = elim (get_or marks at false) as (λ b. get_or marks at false ≡ b → (b || any_marked marks numbers) ≡ true → (number : ℕ) × Contains (at ∷ numbers) number × IsMarked marks number) [
-    | true ↦ λ here more. (at, contains_here at numbers, here)
-    | false ↦ λ here more. let (number, among, marked) = any_found marks numbers more in (number, contains_there at numbers number among, marked)
-  ] refl any
+  | true ↦ λ here more. (at, contains_here at numbers, here)
+  | false ↦ λ here more. let (number, among, marked) = any_found marks numbers more in (number, contains_there at numbers number among, marked)
+] refl any
 
 none_found : (marks : List Bool) (numbers : List ℕ) → any_marked marks numbers ≡ false → (number : ℕ) → Contains numbers number → IsMarked marks number → ⊥
 none_found marks [] any number among marked = omega arith
 none_found marks (at ∷ numbers) any number among marked = elim (get_or marks at false) as (λ b. get_or marks at false ≡ b → (b || any_marked marks numbers) ≡ false → ⊥) [
-    | true ↦ λ here more. cc
-    | false ↦ λ here more. ⊎_elim (λ same. let e = ap (λ n. get_or marks n false) same in cc) (λ later. none_found marks numbers more number later marked) (contains_cases at numbers number among)
-  ] refl any
+  | true ↦ λ here more. cc
+  | false ↦ λ here more. ⊎_elim (λ same. let e = ap (λ n. get_or marks n false) same in cc) (λ later. none_found marks numbers more number later marked) (contains_cases at numbers number among)
+] refl any
 
 all_found : (marks : List Bool) (numbers : List ℕ) → all_marked marks numbers ≡ true → (number : ℕ) → Contains numbers number → IsMarked marks number
 all_found marks [] all number among = absurd (omega arith)
 all_found marks (at ∷ numbers) all number among = elim (get_or marks at false) as (λ b. get_or marks at false ≡ b → (b && all_marked marks numbers) ≡ true → IsMarked marks number) [
-    | true ↦ λ here more. ⊎_elim (λ same. ap (λ n. get_or marks n false) (sym same) ∙ here) (λ later. all_found marks numbers more number later) (contains_cases at numbers number among)
-    | false ↦ λ here more. absurd (cc)
-  ] refl all
+  | true ↦ λ here more. ⊎_elim (λ same. ap (λ n. get_or marks n false) (sym same) ∙ here) (λ later. all_found marks numbers more number later) (contains_cases at numbers number among)
+  | false ↦ λ here more. absurd (cc)
+] refl all
 
 pub open_found : (p : Link → Bool) (links : List Link) (link : Link) → find p links ≡ Some link → Contains links link × (p link ≡ true)
 open_found p [] link is = absurd (cc)
 open_found p (first ∷ links) link is = elim (p first) as (λ b. p first ≡ b → cond b (Some first) (find p links) ≡ Some link → Contains (first ∷ links) link × (p link ≡ true)) [
-    | true ↦ λ here found. let same : first ≡ link = cc in (subst (λ (l : Link). Contains (first ∷ links) l) same (contains_here first links), ap p (sym same) ∙ here)
-    | false ↦ λ here found. let (among, true_there) = open_found p links link found in (contains_there first links link among, true_there)
-  ] refl is
+  | true ↦ λ here found. let same : first ≡ link = cc in (subst (λ (l : Link). Contains (first ∷ links) l) same (contains_here first links), ap p (sym same) ∙ here)
+  | false ↦ λ here found. let (among, true_there) = open_found p links link found in (contains_there first links link among, true_there)
+] refl is
 
 none_open : (p : Link → Bool) (links : List Link) → find p links ≡ None → (link : Link) → Contains links link → p link ≡ false
 none_open p [] is link among = absurd (omega arith)
 none_open p (first ∷ links) is link among = elim (p first) as (λ b. p first ≡ b → cond b (Some first) (find p links) ≡ None → p link ≡ false) [
-    | true ↦ λ here found. absurd (cc)
-    | false ↦ λ here found. ⊎_elim (λ same. ap p (sym same) ∙ here) (λ later. none_open p links found link later) (contains_cases first links link among)
-  ] refl is
+  | true ↦ λ here found. absurd (cc)
+  | false ↦ λ here found. ⊎_elim (λ same. ap p (sym same) ∙ here) (λ later. none_open p links found link later) (contains_cases first links link among)
+] refl is
 
 pub below_found : (count : ℕ) (links : List Link) (link : Link) → AreBelow count links → Contains links link → IsBelow count link
 below_found count [] link below among = absurd (omega arith)
@@ -253,9 +253,9 @@ closed_from : (marks : List Bool) (link : Link) → is_open marks link ≡ false
 closed_from marks link shut source target reads marked makes = ⊎_elim
     (λ found_all. all_found marks link.head found_all target makes)
     (λ (other : all_marked marks link.head ≡ false). ⊎_elim
-        (λ (any : any_marked marks link.body ≡ true). absurd (shut_open _ _ any other shut))
-        (λ none. absurd (none_found marks link.body none source reads marked))
-        (cases_Bool (any_marked marks link.body)))
+    (λ (any : any_marked marks link.body ≡ true). absurd (shut_open _ _ any other shut))
+    (λ none. absurd (none_found marks link.body none source reads marked))
+    (cases_Bool (any_marked marks link.body)))
     (cases_Bool (all_marked marks link.head))
 
 -- where no link is open the marks are whole
@@ -277,14 +277,15 @@ pub round_exactly : (older : List Link) (last : Link) (count : ℕ) (marks : Lis
 round_exactly older last count marks round below spreads straight is =
     let none : List Bool = replicate count false in
     let long : length none ≡ count = length-replicate count false in
-    let fits : All (λ n. n < length none) last.head = subst (λ (c : ℕ). All (λ n. n < c) last.head) (sym long) below.head in
-    (λ found.
-        let (number, reads, marked) = any_found marks last.body (sym is ∙ found) in
-        let (start, began, reached) = spreads.sound number marked in
-        ⊎_elim (λ before. absurd (none_marked count start before)) (λ makes. circle_closed older last number start reads makes reached) (marks_only none last.head start began),
-    λ leads. ⊎_elim
-        (λ found. found)
-        (λ lacking. absurd (no_circle older last marks spreads.closed
-            (λ number makes. spreads.kept number (marks_made none last.head number fits makes))
-            (none_found marks last.body (sym is ∙ lacking)) straight leads))
-        (cases_Bool round))
+    let fits : All (λ n. n < length none) last.head = subst (λ (c : ℕ). All (λ n. n < c) last.head) (sym long) below.head in (
+      λ found.
+          let (number, reads, marked) = any_found marks last.body (sym is ∙ found) in
+          let (start, began, reached) = spreads.sound number marked in
+          ⊎_elim (λ before. absurd (none_marked count start before)) (λ makes. circle_closed older last number start reads makes reached) (marks_only none last.head start began),
+      λ leads. ⊎_elim
+          (λ found. found)
+          (λ lacking. absurd (no_circle older last marks spreads.closed
+          (λ number makes. spreads.kept number (marks_made none last.head number fits makes))
+          (none_found marks last.body (sym is ∙ lacking)) straight leads))
+          (cases_Bool round),
+    )

@@ -15,9 +15,9 @@ once_grows known [] = omega arith
 once_grows known (text ∷ texts) = ⊎_elim
     (λ (yes : is_among known text ≡ true). rw yes (once_grows known texts))
     (λ (other : is_among known text ≡ false).
-        let more : length (known ++ text ∷ []) ≤ length (once_after (known ++ text ∷ []) texts) = once_grows (known ++ text ∷ []) texts in
-        let long = length-append known (text ∷ []) in
-        rw other (omega (arith, more, long)))
+    let more : length (known ++ text ∷ []) ≤ length (once_after (known ++ text ∷ []) texts) = once_grows (known ++ text ∷ []) texts in
+    let long = length-append known (text ∷ []) in
+    rw other (omega (arith, more, long)))
     (cases_Bool (is_among known text))
 
 pub once_over : (most : ℕ) (known texts : List (List ℕ)) → most < length known → not (nat_lt most (length (once_after known texts))) ≡ false

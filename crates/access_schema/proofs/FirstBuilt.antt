@@ -25,12 +25,12 @@ first_named form is part there =
     ⊎_elim
     (λ (same : one ≡ part). subst IsNamed same one_named)
     (λ (later : Contains (two ∷ three ∷ []) part). ⊎_elim
-      (λ (same : two ≡ part). subst IsNamed same two_named)
-      (λ (last : Contains (three ∷ []) part). ⊎_elim
-        (λ (same : three ≡ part). subst IsNamed same three_named)
-        (λ (none : Contains [] part). let lt = none.1 in absurd (omega arith))
-        (contains_cases three [] part last))
-      (contains_cases two (three ∷ []) part later))
+    (λ (same : two ≡ part). subst IsNamed same two_named)
+    (λ (last : Contains (three ∷ []) part). ⊎_elim
+    (λ (same : three ≡ part). subst IsNamed same three_named)
+    (λ (none : Contains [] part). let lt = none.1 in absurd (omega arith))
+    (contains_cases three [] part last))
+    (contains_cases two (three ∷ []) part later))
     (contains_cases one (two ∷ three ∷ []) part there)
 
 no_inputs : (from : ℕ) (columns : List (List ℕ)) → places_from from [] columns ≡ []
@@ -47,8 +47,8 @@ first_builds form schema builds =
     record {
       relations = builds.relations;
       methods = builds.methods
-        ∙ ap (λ n. let made : Method = record { name = form.method; rel = n; inputs = places_from 0 [] (columns_of (relation ∷ []) form.name); cost = form.cost } in made ∷ []) number
-        ∙ ap (λ (ps : List ℕ). let made : Method = record { name = form.method; rel = 0; inputs = ps; cost = form.cost } in made ∷ []) (no_inputs 0 (columns_of (relation ∷ []) form.name));
+          ∙ ap (λ n. let made : Method = record { name = form.method; rel = n; inputs = places_from 0 [] (columns_of (relation ∷ []) form.name); cost = form.cost } in made ∷ []) number
+          ∙ ap (λ (ps : List ℕ). let made : Method = record { name = form.method; rel = 0; inputs = ps; cost = form.cost } in made ∷ []) (no_inputs 0 (columns_of (relation ∷ []) form.name));
       rules = builds.rules;
       constants = builds.constants;
       sources = builds.sources ∙ ap (λ n. let made : SourceLine = record { rel = n; kind = form.kind; locator = form.locator } in made ∷ []) number;

@@ -32,9 +32,9 @@ stands_none relations = record { constants = refl; few = omega arith; links_are 
 pub faultless_more : (parts : List Part) (index : ℕ) (part : Part) → slice_get parts index ≡ Some part → FaultlessBelow parts index → IsFaultless (relations_of parts) (take index parts) part → FaultlessBelow parts (index + 1)
 faultless_more parts index part at below here before fault lt (other, there, has) = ⊎_elim
     (λ same.
-      let is : other ≡ part = some_injective other part (sym there ∙ ap (slice_get parts) same ∙ at) in
-      let back : IsFaultOf (relations_of parts) (take index parts) part fault = subst (λ (p : Part). IsFaultOf (relations_of parts) (take index parts) p fault) is (subst (λ k. IsFaultOf (relations_of parts) (take k parts) other fault) same has) in
-      here fault back)
+    let is : other ≡ part = some_injective other part (sym there ∙ ap (slice_get parts) same ∙ at) in
+    let back : IsFaultOf (relations_of parts) (take index parts) part fault = subst (λ (p : Part). IsFaultOf (relations_of parts) (take index parts) p fault) is (subst (λ k. IsFaultOf (relations_of parts) (take k parts) other fault) same has) in
+    here fault back)
     (λ apart. below before fault (omega arith) (other, there, has))
     (cases_eq before index)
 

@@ -21,12 +21,12 @@ use Rattle.access_schema.proofs.BuiltRules.{given_of}
 pub well_formed : (schema : Schema) → IsWellFormed (meaning_of schema)
 well_formed schema = record {
   once = λ first second in_first in_second same.
-    let at_first = got_contained schema.methods first in_first in
-    let at_second = got_contained schema.methods second in_second in
-    let name_first = map_got (λ (m : Method). m.name) schema.methods in_first.0 first at_first in
-    let name_second = map_got (λ (m : Method). m.name) schema.methods in_second.0 second at_second in
-    let place = schema.valid.methods_are.differ in_first.0 in_second.0 second.name (name_first ∙ ap Some same) name_second in
-    some_injective first second (sym at_first ∙ ap (slice_get schema.methods) place ∙ at_second);
+      let at_first = got_contained schema.methods first in_first in
+      let at_second = got_contained schema.methods second in_second in
+      let name_first = map_got (λ (m : Method). m.name) schema.methods in_first.0 first at_first in
+      let name_second = map_got (λ (m : Method). m.name) schema.methods in_second.0 second at_second in
+      let place = schema.valid.methods_are.differ in_first.0 in_second.0 second.name (name_first ∙ ap Some same) name_second in
+      some_injective first second (sym at_first ∙ ap (slice_get schema.methods) place ∙ at_second);
   inputs = schema.valid.methods_are.inputs;
 }
 
@@ -49,6 +49,7 @@ rules_fit schema constants within = record {
   numbered = λ rule of_rules. numbered rule (schema.valid.rules_are.fit rule of_rules).in_order;
   have = λ rule of_rules. (
     (λ atom c of_body has. within c (constants_there schema rule of_rules atom c (Contains-append_left rule.body rule.head atom of_body) has)),
-    (λ atom c of_head has. within c (constants_there schema rule of_rules atom c (Contains-append_right rule.body rule.head atom of_head) has)));
+    (λ atom c of_head has. within c (constants_there schema rule of_rules atom c (Contains-append_right rule.body rule.head atom of_head) has)),
+  );
   heads = λ rule atom of_rules of_head. atom_fits schema rule atom of_rules (Contains-append_right rule.body rule.head atom of_head);
 }

@@ -113,12 +113,12 @@ module _ (relations : List Relation) (earlier : List Part) (part : Part) where
   plain_is_least fault is = let Least : SchemaFault → Type 0 = IsLeastFault relations earlier part in ⊎_elim
       (λ (a, same). subst Least (sym same) (record { has = a; least = λ other has. least_1 other }))
       (⊎_elim
-        (λ (a, b, same). subst Least (sym same) (record { has = b; least = least_2 a }))
-        (⊎_elim
-          (λ (a, b, c, same). subst Least (sym same) (record { has = c; least = least_3 a b }))
-          (⊎_elim
-            (λ (a, b, c, d, same). subst Least (sym same) (record { has = d; least = least_4 a b c }))
-            (λ (a, b, c, d, (l, limit, same)). subst Least (sym same) (record { has = limit; least = least_5 a b c d })))))
+      (λ (a, b, same). subst Least (sym same) (record { has = b; least = least_2 a }))
+      (⊎_elim
+      (λ (a, b, c, same). subst Least (sym same) (record { has = c; least = least_3 a b }))
+      (⊎_elim
+      (λ (a, b, c, d, same). subst Least (sym same) (record { has = d; least = least_4 a b c }))
+      (λ (a, b, c, d, (l, limit, same)). subst Least (sym same) (record { has = limit; least = least_5 a b c d })))))
       (chain_cases _ _ _ _ _ fault is)
 
 or_false : (a b : Bool) → (a || b) ≡ false → (a ≡ false) × (b ≡ false)
@@ -212,13 +212,20 @@ feeds_from_joins rules source target joins =
 
 -- the links lead round exactly where the rules are recursive
 pub round_from_recursive : (relations : List Relation) (parts : List Part) → AreRecursive (rules_of relations parts) → LeadRound (links_of relations parts)
-round_from_recursive relations parts (number, between, chain) = (number, between, subst (λ (links : List Link). IsChain (Joins links) number between number) (sym (links_are relations parts))
-    (chain_along (Feeds (rules_of relations parts)) (Joins (map link_of_rule (rules_of relations parts))) (joins_from_feeds (rules_of relations parts)) number between number chain))
+round_from_recursive relations parts (number, between, chain) = (
+  number,
+  between,
+  subst (λ (links : List Link). IsChain (Joins links) number between number) (sym (links_are relations parts))
+      (chain_along (Feeds (rules_of relations parts)) (Joins (map link_of_rule (rules_of relations parts))) (joins_from_feeds (rules_of relations parts)) number between number chain),
+)
 
 pub recursive_from_round : (relations : List Relation) (parts : List Part) → LeadRound (links_of relations parts) → AreRecursive (rules_of relations parts)
-recursive_from_round relations parts (number, between, chain) = (number, between,
-    chain_along (Joins (map link_of_rule (rules_of relations parts))) (Feeds (rules_of relations parts)) (feeds_from_joins (rules_of relations parts)) number between number
-        (subst (λ (links : List Link). IsChain (Joins links) number between number) (links_are relations parts) chain))
+recursive_from_round relations parts (number, between, chain) = (
+  number,
+  between,
+  chain_along (Joins (map link_of_rule (rules_of relations parts))) (Feeds (rules_of relations parts)) (feeds_from_joins (rules_of relations parts)) number between number
+      (subst (λ (links : List Link). IsChain (Joins links) number between number) (links_are relations parts) chain),
+)
 
 cons_none : {X : Type 0} (o : Option X) → cons_option o [] ≡ option_to_list o
 cons_none None = refl
@@ -241,14 +248,16 @@ module _ (relations : List Relation) (earlier : List Part) (part : Part) (links 
 
   pub round_is_least : (LeadRound (links_of relations earlier) → ⊥) → LeadRound links → IsLeastFault relations earlier part Recursive
   round_is_least straight round = record {
-    has = (⊎_elim
-        (λ rule. rule)
-        (λ other.
+    has = (
+      ⊎_elim
+          (λ rule. rule)
+          (λ other.
           let none : option_to_list (link_of relations part) ≡ [] = ap option_to_list (no_link relations part other) in
           let same : links ≡ links_of relations earlier = are ∙ ap (λ more. links_of relations earlier ++ more) none ∙ append-nil (links_of relations earlier) in
           absurd (straight (subst LeadRound same round)))
-        (cases_Bool (is_rule part)),
-      recursive_from_round relations (earlier ++ part ∷ []) (subst LeadRound (sym links_here) round));
+          (cases_Bool (is_rule part)),
+      recursive_from_round relations (earlier ++ part ∷ []) (subst LeadRound (sym links_here) round),
+    );
     least = λ other has. let same = only_6 relations earlier part plain other has in let e : fault_number other ≡ 6 = ap fault_number same in omega arith;
   }
 

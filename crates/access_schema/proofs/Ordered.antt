@@ -34,9 +34,10 @@ in_order terms ordered i x at = let le : x ≤ max 0 (terms_bound (take i terms)
 from_place : (n : ℕ) (terms : List Term) → ((i x : ℕ) → slice_get terms i ≡ Some (Var x) → x ≤ max n (terms_bound (take i terms))) → OrderedFrom n terms
 from_place n [] at = tt
 from_place n (Const c ∷ terms) at = from_place n terms (λ i x got. at (suc i) x got)
-from_place n (Var y ∷ terms) at =
-    (let le : y ≤ max n 0 = at 0 y refl in omega arith,
-     from_place (max (y + 1) n) terms (λ i x got. let le : x ≤ max n (max (y + 1) (terms_bound (take i terms))) = at (suc i) x got in omega arith))
+from_place n (Var y ∷ terms) at = (
+  let le : y ≤ max n 0 = at 0 y refl in omega arith,
+  from_place (max (y + 1) n) terms (λ i x got. let le : x ≤ max n (max (y + 1) (terms_bound (take i terms))) = at (suc i) x got in omega arith),
+)
 
 pub ordered_from : (terms : List Term) → AreInOrder terms → OrderedFrom 0 terms
 ordered_from terms order = from_place 0 terms (λ i x at. let le : x ≤ terms_bound (take i terms) = order i x at in omega arith)
@@ -55,9 +56,9 @@ occurs n [] ordered y le lt = absurd (omega arith)
 occurs n (Const c ∷ terms) ordered y le lt = contains_there (Const c) terms (Var y) (occurs n terms ordered y le lt)
 occurs n (Var x ∷ terms) ordered y le lt = ⊎_elim
     (λ (small : y < x + 1).
-      let top = ordered.0 in
-      let same : x ≡ y = omega arith in
-      subst (λ z. Contains (Var x ∷ terms) (Var z)) same (contains_here (Var x) terms))
+    let top = ordered.0 in
+    let same : x ≡ y = omega arith in
+    subst (λ z. Contains (Var x ∷ terms) (Var z)) same (contains_here (Var x) terms))
     (λ (large : x + 1 ≤ y). contains_there (Var x) terms (Var y) (occurs (max (x + 1) n) terms ordered.1 y (omega arith) (omega arith)))
     (cases_lt y (x + 1))
 
@@ -85,5 +86,5 @@ numbered rule order =
     record {
       body = λ x lt. occurs_in rule.body x (occurs 0 (terms_of rule.body) front x (omega arith) (let e = bound_is rule.body in omega arith));
       head = λ x lt le. occurs_in rule.head x (occurs (max 0 (terms_bound (terms_of rule.body))) (terms_of rule.head) back x
-        (let e = bound_is rule.body in omega arith) (let e = bound_is rule.head in omega arith));
+          (let e = bound_is rule.body in omega arith) (let e = bound_is rule.head in omega arith));
     }

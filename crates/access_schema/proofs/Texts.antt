@@ -40,9 +40,9 @@ module _ {X : Type 0} (p : X → Bool) where
       (λ same. let here : p y ≡ true = ap p same ∙ holds in rw here refl)
       (λ later. let rest : list_any p xs ≡ true = any_at xs x later holds in or_right (p y) (list_any p xs) rest)
       (contains_cases y xs x among) where
-    or_right : (a b : Bool) → b ≡ true → (a || b) ≡ true
-    or_right true b is = refl
-    or_right false b is = is
+        or_right : (a b : Bool) → b ≡ true → (a || b) ≡ true
+        or_right true b is = refl
+        or_right false b is = is
 
   pub none_at : (xs : List X) (x : X) → list_any p xs ≡ false → Contains xs x → p x ≡ false
   none_at xs x none among = ⊎_elim (λ holds. absurd (let any = any_at xs x among holds in cc)) (λ fails. fails) (cases_Bool (p x))
@@ -53,9 +53,9 @@ module _ {X : Type 0} (p : X → Bool) where
   place_holds (x ∷ xs) any = ⊎_elim
       (λ (here : p x ≡ true). (x, (rw here refl), here))
       (λ (other : p x ≡ false).
-        let rest : list_any p xs ≡ true = rw other at any in
-        let (y, at, holds) = place_holds xs rest in
-        (y, (rw other (let e : 1 + position_or_len p xs ≡ suc (position_or_len p xs) = omega arith in rw e at)), holds))
+      let rest : list_any p xs ≡ true = rw other at any in
+      let (y, at, holds) = place_holds xs rest in
+      (y, (rw other (let e : 1 + position_or_len p xs ≡ suc (position_or_len p xs) = omega arith in rw e at)), holds))
       (cases_Bool (p x))
 
   pub find_place : (xs : List X) (x : X) → slice_get xs (position_or_len p xs) ≡ Some x → find p xs ≡ Some x
@@ -63,10 +63,10 @@ module _ {X : Type 0} (p : X → Bool) where
   find_place (y ∷ xs) x at = ⊎_elim
       (λ (here : p y ≡ true). let first : Some y ≡ Some x = rw here at at in rw here first)
       (λ (other : p y ≡ false).
-        let e : 1 + position_or_len p xs ≡ suc (position_or_len p xs) = omega arith in
-        let later : slice_get (y ∷ xs) (1 + position_or_len p xs) ≡ Some x = rw other at at in
-        let rest : slice_get xs (position_or_len p xs) ≡ Some x = rw e at later in
-        rw other (find_place xs x rest))
+      let e : 1 + position_or_len p xs ≡ suc (position_or_len p xs) = omega arith in
+      let later : slice_get (y ∷ xs) (1 + position_or_len p xs) ≡ Some x = rw other at at in
+      let rest : slice_get xs (position_or_len p xs) ≡ Some x = rw e at later in
+      rw other (find_place xs x rest))
       (cases_Bool (p y))
 
 pub among_contains : (texts : List (List ℕ)) (text : List ℕ) → is_among texts text ≡ true → Contains texts text
@@ -106,13 +106,13 @@ got_push_cases (y ∷ xs) x member (suc i) at = ⊎_elim (λ inside. inl inside)
 pub differ_push : {X : Type 0} (xs : List X) (x : X) → AllDiffer xs → (Contains xs x → ⊥) → AllDiffer (xs ++ x ∷ [])
 differ_push xs x differ free i j member at_i at_j = ⊎_elim
     (λ inside. ⊎_elim
-      (λ within. differ i j member inside within)
-      (λ (last, same). absurd (free (subst (Contains xs) (sym same) (contains_got xs i member inside))))
-      (got_push_cases xs x member j at_j))
+    (λ within. differ i j member inside within)
+    (λ (last, same). absurd (free (subst (Contains xs) (sym same) (contains_got xs i member inside))))
+    (got_push_cases xs x member j at_j))
     (λ (end, is). ⊎_elim
-      (λ within. absurd (free (subst (Contains xs) (sym is) (contains_got xs j member within))))
-      (λ (last, same). end ∙ sym last)
-      (got_push_cases xs x member j at_j))
+    (λ within. absurd (free (subst (Contains xs) (sym is) (contains_got xs j member within))))
+    (λ (last, same). end ∙ sym last)
+    (got_push_cases xs x member j at_j))
     (got_push_cases xs x member i at_i)
 
 -- the known texts stay in front
@@ -138,13 +138,13 @@ pub once_taken : (known texts : List (List ℕ)) (text : List ℕ) → Contains 
 once_taken known [] text there = absurd (omega arith)
 once_taken known (other ∷ texts) text there = ⊎_elim
     (λ same. ⊎_elim
-      (λ (here : is_among known other ≡ true). rw here (once_known known texts text (subst (Contains known) same (among_contains known other here))))
-      (λ (new : is_among known other ≡ false). rw new (once_known (known ++ other ∷ []) texts text (subst (Contains (known ++ other ∷ [])) same (Contains-push known other))))
-      (cases_Bool (is_among known other)))
+    (λ (here : is_among known other ≡ true). rw here (once_known known texts text (subst (Contains known) same (among_contains known other here))))
+    (λ (new : is_among known other ≡ false). rw new (once_known (known ++ other ∷ []) texts text (subst (Contains (known ++ other ∷ [])) same (Contains-push known other))))
+    (cases_Bool (is_among known other)))
     (λ later. ⊎_elim
-      (λ (here : is_among known other ≡ true). rw here (once_taken known texts text later))
-      (λ (new : is_among known other ≡ false). rw new (once_taken (known ++ other ∷ []) texts text later))
-      (cases_Bool (is_among known other)))
+    (λ (here : is_among known other ≡ true). rw here (once_taken known texts text later))
+    (λ (new : is_among known other ≡ false). rw new (once_taken (known ++ other ∷ []) texts text later))
+    (cases_Bool (is_among known other)))
     (contains_cases other texts text there)
 
 -- and no other
@@ -152,12 +152,12 @@ pub once_from : (known texts : List (List ℕ)) (text : List ℕ) → Contains (
 once_from known [] text there = inl there
 once_from known (other ∷ texts) text there = ⊎_elim
     (λ (here : is_among known other ≡ true).
-      ⊎_elim (λ before. inl before) (λ later. inr (contains_there other texts text later)) (once_from known texts text (rw here at there)))
+    ⊎_elim (λ before. inl before) (λ later. inr (contains_there other texts text later)) (once_from known texts text (rw here at there)))
     (λ (new : is_among known other ≡ false).
-      ⊎_elim
-        (λ before. ⊎_elim (λ old. inl old) (λ same. inr (subst (Contains (other ∷ texts)) same (contains_here other texts))) (Contains-push_cases known other text before))
-        (λ later. inr (contains_there other texts text later))
-        (once_from (known ++ other ∷ []) texts text (rw new at there)))
+    ⊎_elim
+    (λ before. ⊎_elim (λ old. inl old) (λ same. inr (subst (Contains (other ∷ texts)) same (contains_here other texts))) (Contains-push_cases known other text before))
+    (λ later. inr (contains_there other texts text later))
+    (once_from (known ++ other ∷ []) texts text (rw new at there)))
     (cases_Bool (is_among known other))
 
 not_first : {X : Type 0} (x : X) (xs : List X) → AllDiffer (x ∷ xs) → Contains xs x → ⊥
@@ -175,4 +175,4 @@ distinct_from_differ (text ∷ texts) differ = (apart texts (λ other there same
 pub length_le : (texts others : List (List ℕ)) → AllDiffer texts → ((text : List ℕ) → Contains texts text → Contains others text) → length texts ≤ length others
 length_le texts others differ within = length-le_from_is_member nat_list_eq_equiv texts others (distinct_from_differ texts differ)
     (λ text among. let (member, there, same) = any_found (pointwise nat_eq text) texts among in
-      any_at (pointwise nat_eq text) others text (subst (Contains others) (sym (text_is text member same)) (within member there)) (text_same text))
+    any_at (pointwise nat_eq text) others text (subst (Contains others) (sym (text_is text member same)) (within member there)) (text_same text))

@@ -49,7 +49,11 @@ fn places_of(alloc: Global, names: &[Text], columns: &[Text]) -> Result<Places, 
 }
 
 /// The declared methods, in order.
-pub fn methods_of(alloc: Global, relations: &[Relation], parts: &[Part]) -> Result<Methods, AllocError>
+pub fn methods_of(
+    alloc: Global,
+    relations: &[Relation],
+    parts: &[Part],
+) -> Result<Methods, AllocError>
     requires small { AreSmall relations.now }
     requires within { AreWithin parts.now }
     ensures { IfOk result (λ methods. methods ≡ methods_of relations.now parts.now) }
@@ -57,7 +61,13 @@ pub fn methods_of(alloc: Global, relations: &[Relation], parts: &[Part]) -> Resu
     let mut methods = Vec::new(alloc);
     let mut left = parts;
     while let [part, rest @ ..] = left {
-        if let Part::Method { name, relation, inputs, cost } = part {
+        if let Part::Method {
+            name,
+            relation,
+            inputs,
+            cost,
+        } = part
+        {
             methods.push(Method {
                 name: name.copy(alloc)?,
                 rel: number_of(relations, relation) as u32,
@@ -71,14 +81,23 @@ pub fn methods_of(alloc: Global, relations: &[Relation], parts: &[Part]) -> Resu
 }
 
 /// The source lines, in order.
-pub fn sources_of(alloc: Global, relations: &[Relation], parts: &[Part]) -> Result<SourceLines, AllocError>
+pub fn sources_of(
+    alloc: Global,
+    relations: &[Relation],
+    parts: &[Part],
+) -> Result<SourceLines, AllocError>
     requires { length relations.now ≤ MOST_RELATIONS }
     ensures { IfOk result (λ sources. sources ≡ sources_of relations.now parts.now) }
 {
     let mut sources = Vec::new(alloc);
     let mut left = parts;
     while let [part, rest @ ..] = left {
-        if let Part::Source { relation, kind, locator } = part {
+        if let Part::Source {
+            relation,
+            kind,
+            locator,
+        } = part
+        {
             sources.push(SourceLine {
                 rel: number_of(relations, relation) as u32,
                 kind: kind.copy(alloc)?,
@@ -111,7 +130,12 @@ fn term_of(alloc: Global, variables: &[Text], term: &NamedTerm) -> Result<Term, 
     }
 }
 
-fn atoms_of(alloc: Global, relations: &[Relation], variables: &[Text], atoms: &[NamedAtom]) -> Result<Atoms, AllocError>
+fn atoms_of(
+    alloc: Global,
+    relations: &[Relation],
+    variables: &[Text],
+    atoms: &[NamedAtom],
+) -> Result<Atoms, AllocError>
     requires relations { length relations.now ≤ MOST_RELATIONS }
     requires variables { length variables.now ≤ MOST_VARIABLES }
     ensures { IfOk result (λ made. made ≡ map (atom_of relations.now variables.now) atoms.now) }
@@ -127,7 +151,13 @@ fn atoms_of(alloc: Global, relations: &[Relation], variables: &[Text], atoms: &[
 }
 
 /// A rule with its relations and variables numbered.
-pub fn numbered_rule(alloc: Global, relations: &[Relation], line: u32, body: &[NamedAtom], head: &[NamedAtom]) -> Result<Rule, AllocError>
+pub fn numbered_rule(
+    alloc: Global,
+    relations: &[Relation],
+    line: u32,
+    body: &[NamedAtom],
+    head: &[NamedAtom],
+) -> Result<Rule, AllocError>
     requires relations { length relations.now ≤ MOST_RELATIONS }
     requires variables { length (variables_of (body.now ++ head.now)) ≤ MOST_VARIABLES }
     ensures { IfOk result (λ rule. rule ≡ numbered_rule relations.now line body.now head.now) }
@@ -140,11 +170,22 @@ pub fn numbered_rule(alloc: Global, relations: &[Relation], line: u32, body: &[N
     })
 }
 
-fn variables_of(alloc: Global, body: &[NamedAtom], head: &[NamedAtom]) -> Result<Vec<Text>, AllocError>
+fn variables_of(
+    alloc: Global,
+    body: &[NamedAtom],
+    head: &[NamedAtom],
+) -> Result<Vec<Text>, AllocError>
     requires { length (variables_of (body.now ++ head.now)) ≤ MOST_VARIABLES }
     ensures { IfOk result (λ variables. variables.items ≡ variables_of (body.now ++ head.now)) }
 {
     let mut known = Vec::new(alloc);
-    let _fits = add_rule(alloc, &mut known, Wanted::Variables, MOST_VARIABLES, body, head)?;
+    let _fits = add_rule(
+        alloc,
+        &mut known,
+        Wanted::Variables,
+        MOST_VARIABLES,
+        body,
+        head,
+    )?;
     Ok(known)
 }

@@ -53,7 +53,11 @@ fn one_number(alloc: Global, relations: &[Relation], name: &Text) -> Result<Plac
     Ok(numbers)
 }
 
-fn numbers_of(alloc: Global, relations: &[Relation], atoms: &[NamedAtom]) -> Result<Places, AllocError>
+fn numbers_of(
+    alloc: Global,
+    relations: &[Relation],
+    atoms: &[NamedAtom],
+) -> Result<Places, AllocError>
     requires { length relations.now < 2 ^ 32 }
     ensures { IfOk result (λ numbers. numbers ≡ map (λ atom. number_of relations.now atom.relation) atoms.now) }
 {
@@ -73,7 +77,11 @@ fn link_of(alloc: Global, relations: &[Relation], part: &Part) -> Result<Option<
             body: numbers_of(alloc, relations, body.as_slice())?,
             head: numbers_of(alloc, relations, head.as_slice())?,
         })),
-        Part::ForeignKey { relation, target, .. } => Ok(Some(Link {
+        Part::ForeignKey {
+            relation,
+            target,
+            ..
+        } => Ok(Some(Link {
             body: one_number(alloc, relations, relation)?,
             head: one_number(alloc, relations, target)?,
         })),
@@ -82,7 +90,12 @@ fn link_of(alloc: Global, relations: &[Relation], part: &Part) -> Result<Option<
 }
 
 /// Adds the link of a rule or a foreign key, and says whether the links lead round now.
-fn add_link(alloc: Global, relations: &[Relation], links: &mut Vec<Link>, part: &Part) -> Result<bool, AllocError>
+fn add_link(
+    alloc: Global,
+    relations: &[Relation],
+    links: &mut Vec<Link>,
+    part: &Part,
+) -> Result<bool, AllocError>
     requires few { length relations.now < 2 ^ 32 }
     requires known { uses_unknown relations.now part.now ≡ false }
     requires below { AreBelow (length relations.now) links.old.items }
@@ -134,7 +147,14 @@ pub fn first_fault(alloc: Global, relations: &[Relation], parts: &[Part]) -> Res
     let mut known = Vec::new(alloc);
     let mut links = Vec::new(alloc);
     for index in 0..parts.len() {
-        match check_part(alloc, relations, &parts[..index], &parts[index], &mut known, &mut links)? {
+        match check_part(
+            alloc,
+            relations,
+            &parts[..index],
+            &parts[index],
+            &mut known,
+            &mut links,
+        )? {
             Some(fault) => {
                 return Err(BuildFault::At {
                     index: index as u32,

@@ -21,7 +21,9 @@ mod rules;
 mod schema;
 
 pub use fault::{BuildFault, Limit, SchemaFault};
-pub use laws::{bodies_fit, first_form_builds, first_form_is_named, rules_fit, schemas_are_well_formed};
+pub use laws::{
+    bodies_fit, first_form_builds, first_form_is_named, rules_fit, schemas_are_well_formed,
+};
 pub use limits::{
     MOST_BODY_ATOMS, MOST_COLUMNS, MOST_CONSTANTS, MOST_COST, MOST_HEAD_ATOMS, MOST_METHODS,
     MOST_RELATIONS, MOST_RULES, MOST_VARIABLES,

@@ -96,9 +96,11 @@ pub fn repeats_name(earlier: &[Part], part: &Part) -> bool
         Part::Method { name, inputs, .. } => {
             has_method_named(earlier, name) || repeats(inputs.as_slice())
         }
-        Part::ForeignKey { columns, target_columns, .. } => {
-            repeats(columns.as_slice()) || repeats(target_columns.as_slice())
-        }
+        Part::ForeignKey {
+            columns,
+            target_columns,
+            ..
+        } => { repeats(columns.as_slice()) || repeats(target_columns.as_slice()) }
         Part::Source { relation, .. } => has_source_of(earlier, relation),
         Part::Rule { .. } => false,
         Part::Constant { .. } => false,
@@ -114,7 +116,9 @@ fn is_unknown(relations: &[Relation], name: &Text) -> bool
 fn has_unknown_atom(relations: &[Relation], atoms: &[NamedAtom]) -> bool
     ensures { result ≡ list_any (λ atom. is_unknown relations.now atom.relation) atoms.now }
 {
-    atoms.iter().any(|atom| is_unknown(relations, &atom.relation))
+    atoms
+        .iter()
+        .any(|atom| is_unknown(relations, &atom.relation))
 }
 
 /// Whether the part uses a relation name that no part declares.
@@ -125,11 +129,14 @@ pub fn uses_unknown(relations: &[Relation], part: &Part) -> bool
         Part::Relation { .. } => false,
         Part::Method { relation, .. } => is_unknown(relations, relation),
         Part::Rule { body, head, .. } => {
-            has_unknown_atom(relations, body.as_slice()) || has_unknown_atom(relations, head.as_slice())
+            has_unknown_atom(relations, body.as_slice())
+                || has_unknown_atom(relations, head.as_slice())
         }
-        Part::ForeignKey { relation, target, .. } => {
-            is_unknown(relations, relation) || is_unknown(relations, target)
-        }
+        Part::ForeignKey {
+            relation,
+            target,
+            ..
+        } => { is_unknown(relations, relation) || is_unknown(relations, target) }
         Part::Constant { .. } => false,
         Part::Source { relation, .. } => is_unknown(relations, relation),
     }
@@ -155,7 +162,11 @@ pub fn has_wrong_arity(relations: &[Relation], part: &Part) -> bool
         Part::Rule { body, head, .. } => {
             has_misfit(relations, body.as_slice()) || has_misfit(relations, head.as_slice())
         }
-        Part::ForeignKey { columns, target_columns, .. } => columns.len() != target_columns.len(),
+        Part::ForeignKey {
+            columns,
+            target_columns,
+            ..
+        } => columns.len() != target_columns.len(),
         _ => false,
     }
 }
@@ -172,9 +183,20 @@ pub fn has_unknown_column(relations: &[Relation], part: &Part) -> bool
     ensures { result ≡ has_unknown_column relations.now part.now }
 {
     match part {
-        Part::Method { relation, inputs, .. } => lacks(relations, relation, inputs.as_slice()),
-        Part::ForeignKey { relation, columns, target, target_columns, .. } => {
-            lacks(relations, relation, columns.as_slice()) || lacks(relations, target, target_columns.as_slice())
+        Part::Method {
+            relation,
+            inputs,
+            ..
+        } => lacks(relations, relation, inputs.as_slice()),
+        Part::ForeignKey {
+            relation,
+            columns,
+            target,
+            target_columns,
+            ..
+        } => {
+            lacks(relations, relation, columns.as_slice())
+                || lacks(relations, target, target_columns.as_slice())
         }
         _ => false,
     }

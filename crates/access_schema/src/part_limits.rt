@@ -7,7 +7,8 @@ ghost use Rattle.access_schema.specs.Faults.{is_relation, is_method, is_rule, is
 use crate::collect::{Wanted, add_rule};
 use crate::fault::Limit;
 use crate::limits::{
-    MOST_BODY_ATOMS, MOST_COLUMNS, MOST_CONSTANTS, MOST_COST, MOST_HEAD_ATOMS, MOST_METHODS, MOST_RELATIONS, MOST_RULES, MOST_VARIABLES,
+    MOST_BODY_ATOMS, MOST_COLUMNS, MOST_CONSTANTS, MOST_COST, MOST_HEAD_ATOMS, MOST_METHODS,
+    MOST_RELATIONS, MOST_RULES, MOST_VARIABLES,
 };
 use crate::names::add_once;
 use crate::part::{NamedAtom, Part};
@@ -63,11 +64,22 @@ fn is_outside(most: usize, count: usize) -> bool
     count == 0 || most < count
 }
 
-fn has_many_variables(alloc: Global, body: &[NamedAtom], head: &[NamedAtom]) -> Result<bool, AllocError>
+fn has_many_variables(
+    alloc: Global,
+    body: &[NamedAtom],
+    head: &[NamedAtom],
+) -> Result<bool, AllocError>
     ensures { IfOk result (λ many. many ≡ nat_lt MOST_VARIABLES (length (variables_of (body.now ++ head.now)))) }
 {
     let mut known = Vec::new(alloc);
-    let fits = add_rule(alloc, &mut known, Wanted::Variables, MOST_VARIABLES, body, head)?;
+    let fits = add_rule(
+        alloc,
+        &mut known,
+        Wanted::Variables,
+        MOST_VARIABLES,
+        body,
+        head,
+    )?;
     Ok(!fits)
 }
 
@@ -82,14 +94,27 @@ pub fn add_constants(alloc: Global, known: &mut Vec<Text>, part: &Part) -> Resul
             Ok(known.len() <= MOST_CONSTANTS)
         }
         Part::Rule { body, head, .. } => {
-            let fits = add_rule(alloc, known, Wanted::Constants, MOST_CONSTANTS, body.as_slice(), head.as_slice())?;
+            let fits = add_rule(
+                alloc,
+                known,
+                Wanted::Constants,
+                MOST_CONSTANTS,
+                body.as_slice(),
+                head.as_slice(),
+            )?;
             Ok(fits)
         }
         _ => Ok(known.len() <= MOST_CONSTANTS),
     }
 }
 
-fn rule_limit(alloc: Global, earlier: &[Part], body: &[NamedAtom], head: &[NamedAtom], many_constants: bool) -> Result<Option<Limit>, AllocError>
+fn rule_limit(
+    alloc: Global,
+    earlier: &[Part],
+    body: &[NamedAtom],
+    head: &[NamedAtom],
+    many_constants: bool,
+) -> Result<Option<Limit>, AllocError>
     ensures { IfOk result (λ limit. limit ≡ rule_limit earlier.now body.now head.now many_constants) }
 {
     if MOST_RULES <= count_rules(earlier) {
@@ -111,16 +136,31 @@ fn rule_limit(alloc: Global, earlier: &[Part], body: &[NamedAtom], head: &[Named
 }
 
 /// The first limit that the part passes after the earlier ones, given whether the constants pass theirs.
-pub fn passed_limit(alloc: Global, earlier: &[Part], part: &Part, many_constants: bool) -> Result<Option<Limit>, AllocError>
+pub fn passed_limit(
+    alloc: Global,
+    earlier: &[Part],
+    part: &Part,
+    many_constants: bool,
+) -> Result<Option<Limit>, AllocError>
     requires { many_constants ≡ has_many_constants earlier.now part.now }
     ensures { IfOk result (λ limit. limit ≡ passed_limit earlier.now part.now) }
 {
     match part {
         Part::Relation { columns, .. } => Ok(relation_limit(earlier, columns.len())),
         Part::Method { cost, .. } => Ok(method_limit(earlier, *cost)),
-        Part::Rule { body, head, .. } => rule_limit(alloc, earlier, body.as_slice(), head.as_slice(), many_constants),
+        Part::Rule { body, head, .. } => rule_limit(
+            alloc,
+            earlier,
+            body.as_slice(),
+            head.as_slice(),
+            many_constants,
+        ),
         Part::ForeignKey { .. } => Ok(key_limit(earlier)),
-        Part::Constant { .. } => Ok(if many_constants { Some(Limit::Constants) } else { None }),
+        Part::Constant { .. } => Ok(if many_constants {
+            Some(Limit::Constants)
+        } else {
+            None
+        }),
         Part::Source { .. } => Ok(None),
     }
 }
@@ -152,5 +192,9 @@ fn method_limit(earlier: &[Part], cost: u64) -> Option<Limit>
 fn key_limit(earlier: &[Part]) -> Option<Limit>
     ensures { result ≡ key_limit earlier.now }
 {
-    if MOST_RULES <= count_rules(earlier) { Some(Limit::Rules) } else { None }
+    if MOST_RULES <= count_rules(earlier) {
+        Some(Limit::Rules)
+    } else {
+        None
+    }
 }

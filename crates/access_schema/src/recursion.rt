@@ -77,7 +77,12 @@ fn no_marks(alloc: Global, count: usize) -> Result<Vec<bool>, AllocError>
 }
 
 /// Whether the links lead round, where those before the last do not: what they lead to from its head meets its body.
-pub fn leads_round(alloc: Global, count: usize, older: &[Link], last: &Link) -> Result<bool, AllocError>
+pub fn leads_round(
+    alloc: Global,
+    count: usize,
+    older: &[Link],
+    last: &Link,
+) -> Result<bool, AllocError>
     requires older { AreBelow count older.now }
     requires last { IsBelow count last.now }
     requires straight { LeadRound older.now → ⊥ }

@@ -30,7 +30,12 @@ fn distinct_terms(alloc: Global, count: usize) -> Result<Terms, AllocError>
 
 /// The variable of the column that matches a target column.
 #[tactic(auto, using(crate::proofs::Numbering::place_among))]
-fn matching_variable(own: &[Text], columns: &[Text], target_columns: &[Text], column: &Text) -> usize
+fn matching_variable(
+    own: &[Text],
+    columns: &[Text],
+    target_columns: &[Text],
+    column: &Text,
+) -> usize
     requires lists { length columns.now ≡ length target_columns.now }
     requires among { is_among target_columns.now column.now ≡ true }
     ensures place { result ≡ place_of own.now (slice_index_or columns.now (place_of target_columns.now column.now) []) }
@@ -40,7 +45,13 @@ fn matching_variable(own: &[Text], columns: &[Text], target_columns: &[Text], co
     place_of(own, &columns[place])
 }
 
-fn key_number(own: &[Text], columns: &[Text], target_columns: &[Text], next: usize, column: &Text) -> usize
+fn key_number(
+    own: &[Text],
+    columns: &[Text],
+    target_columns: &[Text],
+    next: usize,
+    column: &Text,
+) -> usize
     requires lists { length columns.now ≡ length target_columns.now }
     requires own { length own.now ≤ next }
     ensures number { result ≡ key_number own.now columns.now target_columns.now next column.now }
@@ -59,7 +70,11 @@ fn next_number(target_columns: &[Text], next: usize, column: &Text) -> usize
     ensures above { next ≤ result }
     ensures within { result ≤ next + 1 }
 {
-    if is_among(target_columns, column) { next } else { next + 1 }
+    if is_among(target_columns, column) {
+        next
+    } else {
+        next + 1
+    }
 }
 
 fn key_terms(
@@ -109,7 +124,13 @@ fn key_rule(
 {
     let own = columns_of(relations, relation);
     let body = distinct_terms(alloc, own.len())?;
-    let head = key_terms(alloc, own, columns, target_columns, columns_of(relations, target))?;
+    let head = key_terms(
+        alloc,
+        own,
+        columns,
+        target_columns,
+        columns_of(relations, target),
+    )?;
     Ok(Rule {
         line,
         body: one_atom(alloc, number_of(relations, relation) as u32, body)?,
@@ -126,7 +147,13 @@ fn rule_of(alloc: Global, relations: &[Relation], part: &Part) -> Result<Option<
         Part::Rule { line, body, head } => {
             Ok(Some(numbered_rule(alloc, relations, *line, body.as_slice(), head.as_slice())?))
         }
-        Part::ForeignKey { line, relation, columns, target, target_columns } => Ok(Some(key_rule(
+        Part::ForeignKey {
+            line,
+            relation,
+            columns,
+            target,
+            target_columns,
+        } => Ok(Some(key_rule(
             alloc,
             relations,
             *line,
@@ -174,7 +201,14 @@ fn add_of_rule(alloc: Global, known: &mut Vec<Text>, part: &Part) -> Result<(), 
     ensures { OnOk result (known.new.items ≡ once_after known.old.items (rule_constants part.now)) }
 {
     if let Part::Rule { body, head, .. } = part {
-        let _fits = add_rule(alloc, known, Wanted::Constants, MOST_CONSTANTS, body.as_slice(), head.as_slice())?;
+        let _fits = add_rule(
+            alloc,
+            known,
+            Wanted::Constants,
+            MOST_CONSTANTS,
+            body.as_slice(),
+            head.as_slice(),
+        )?;
     }
     Ok(())
 }

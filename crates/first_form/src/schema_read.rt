@@ -9,7 +9,9 @@ ghost use Rattle.first_form.specs.FirstSchema.{IsFirstSchema, HasForm};
 
 use crate::fault::FormFault;
 use crate::schema_form::{FirstForm, schema_lines};
-use access_schema::{Copies, NoMemory, Part, Parts, Schema, Seq, first_form_builds, first_form_is_named};
+use access_schema::{
+    Copies, NoMemory, Part, Parts, Schema, Seq, first_form_builds, first_form_is_named,
+};
 use std::alloc::Global;
 
 /// Reads the three lines of a schema of the first form.

@@ -168,10 +168,11 @@ number_case t (d ∷ ds) rest all stops =
     let low = leb-true 48 d (and-first (nat_le 48 d) (nat_le d 57) all.0) in
     record {
       token = λ n.
-        let k : n + 1 + length ds ≡ n + length (d ∷ ds) = omega arith in
-        let r = run-digits (n + 1) ds rest all.1 (clean_digit rest stops) in
-        rw (digit_no_letter d all.0, all.0, r, k) refl;
-      no_gap = λ n. far_gap n d (ds ++ rest) (omega (arith, low)) }
+          let k : n + 1 + length ds ≡ n + length (d ∷ ds) = omega arith in
+          let r = run-digits (n + 1) ds rest all.1 (clean_digit rest stops) in
+          rw (digit_no_letter d all.0, all.0, r, k) refl;
+      no_gap = λ n. far_gap n d (ds ++ rest) (omega (arith, low));
+    }
 
 pub number_is_lexed : (t : Bool) (n : ℕ) (rest : List ℕ) → n < 2 ^ 64 → Stops goes_on rest → IsLexed Lines (number_piece t n) rest
 number_is_lexed t n rest fits stops = number_case t (decimal n) rest (decimal_digits n fits) stops
@@ -203,9 +204,9 @@ Reads xs slots = (rest : List Lexeme) → Takes (map piece_lexeme xs ++ rest) sl
 pub Reads-append : (xs ys : List Piece) (a b : List Slot) → Reads xs a → Reads ys b → Reads (xs ++ ys) (a ++ b)
 Reads-append xs ys a b p q = λ rest.
     let same : map piece_lexeme xs ++ (map piece_lexeme ys ++ rest) ≡ map piece_lexeme (xs ++ ys) ++ rest =
-      sym (append_assoc (map piece_lexeme xs) (map piece_lexeme ys) rest) ∙ ap (λ (ls : List Lexeme). ls ++ rest) (sym (map-append piece_lexeme xs ys)) in
+    sym (append_assoc (map piece_lexeme xs) (map piece_lexeme ys) rest) ∙ ap (λ (ls : List Lexeme). ls ++ rest) (sym (map-append piece_lexeme xs ys)) in
     subst (λ (ls : List Lexeme). Takes ls (a ++ b) rest) same
-      (Takes-append (map piece_lexeme xs ++ (map piece_lexeme ys ++ rest)) a b (map piece_lexeme ys ++ rest) rest (p (map piece_lexeme ys ++ rest)) (q rest))
+    (Takes-append (map piece_lexeme xs ++ (map piece_lexeme ys ++ rest)) a b (map piece_lexeme ys ++ rest) rest (p (map piece_lexeme ys ++ rest)) (q rest))
 
 -- ---- names and values
 
@@ -219,9 +220,11 @@ some_length (x ∷ xs) some = ap not (ne_eqb (length (x ∷ xs)) 0 (λ e. omega 
 
 pub name_fits : (t : Bool) (name : List ℕ) → IsSome name → (is_name (piece_lexeme (name_piece t name)) ≡ true) × ((piece_lexeme (name_piece t name)).text ≡ name)
 name_fits t name some =
-    let stands = name_stands name in
-    (and-true (kind_names (printed_kind name)) (not (length (stands_for (printed_kind name) (printed_name name)) == 0)) (names_are (is_bare name))
-      (ap (λ (xs : List ℕ). not (length xs == 0)) stands ∙ some_length name some), stands)
+    let stands = name_stands name in (
+      and-true (kind_names (printed_kind name)) (not (length (stands_for (printed_kind name) (printed_name name)) == 0)) (names_are (is_bare name))
+          (ap (λ (xs : List ℕ). not (length xs == 0)) stands ∙ some_length name some),
+      stands,
+    )
 
 pub name_reads : (t : Bool) (name : List ℕ) → IsSome name → Reads (name_piece t name ∷ []) (Name name ∷ [])
 name_reads t name some = λ rest. (name_fits t name some, refl)
@@ -253,9 +256,10 @@ further_stops item (x ∷ xs) rest stops = refl
 
 further_lexed : {X : Type 0} (item : Bool → X → List Piece) (slots : X → List Slot) (xs : List X) (rest : List ℕ) → AllByRecursion (IsPrinted item slots) xs → Stops goes_on rest → AreLexed Lines (further_pieces item xs) rest
 further_lexed item slots [] rest all stops = tt
-further_lexed item slots (x ∷ xs) rest all stops =
-    (comma_is_lexed false (text_of (item true x ++ further_pieces item xs) ++ rest),
-      AreLexed-append (item true x) (further_pieces item xs) rest (all.0.lexed true (text_of (further_pieces item xs) ++ rest) (further_stops item xs rest stops)) (further_lexed item slots xs rest all.1 stops))
+further_lexed item slots (x ∷ xs) rest all stops = (
+  comma_is_lexed false (text_of (item true x ++ further_pieces item xs) ++ rest),
+  AreLexed-append (item true x) (further_pieces item xs) rest (all.0.lexed true (text_of (further_pieces item xs) ++ rest) (further_stops item xs rest stops)) (further_lexed item slots xs rest all.1 stops),
+)
 
 pub list_lexed : {X : Type 0} (item : Bool → X → List Piece) (slots : X → List Slot) (t : Bool) (xs : List X) (rest : List ℕ) → AllByRecursion (IsPrinted item slots) xs → Stops goes_on rest → AreLexed Lines (list_pieces item t xs) rest
 list_lexed item slots t [] rest all stops = tt
@@ -269,7 +273,7 @@ further_reads : {X : Type 0} (item : Bool → X → List Piece) (slots : X → L
 further_reads item slots [] all = λ rest. refl
 further_reads item slots (x ∷ xs) all =
     Reads-append (mark_piece false (codes ",") ∷ []) (item true x ++ further_pieces item xs) (Mark comma ∷ []) (slots x ++ further_form slots xs) comma_reads
-      (Reads-append (item true x) (further_pieces item xs) (slots x) (further_form slots xs) (all.0.reads true) (further_reads item slots xs all.1))
+    (Reads-append (item true x) (further_pieces item xs) (slots x) (further_form slots xs) (all.0.reads true) (further_reads item slots xs all.1))
 
 pub list_reads : {X : Type 0} (item : Bool → X → List Piece) (slots : X → List Slot) (t : Bool) (xs : List X) → AllByRecursion (IsPrinted item slots) xs → Reads (list_pieces item t xs) (list_form slots xs)
 list_reads item slots t [] all = λ rest. refl

@@ -22,7 +22,7 @@ method_rows facts step row method found name = exactly_same (FromOne (JoinsFact 
 pub step_rows : (schema : SchemaParts) (facts : List Fact) (step : Step) (row : List (List ℕ)) (found : List (List (List ℕ))) →
     Exactly (FromOne (JoinsMethod facts step row) schema.methods) found → Exactly (StepsTo schema facts step row) found
 step_rows schema facts step row found = exactly_same (FromOne (JoinsMethod facts step row) schema.methods) (StepsTo schema facts step row) found
-    (λ next (method, among, (name, (fact, in_facts, (rel, joins)))). record { method = method; fact = fact; named = (among, name); of_relation = rel; holds = in_facts; joins = joins; })
+    (λ next (method, among, (name, (fact, in_facts, (rel, joins)))). record { method = method; fact = fact; named = (among, name); of_relation = rel; holds = in_facts; joins = joins })
     (λ next s. (s.method, s.named.0, (s.named.1, (s.fact, s.holds, (s.of_relation, s.joins)))))
 
 -- no steps, and one step before others

@@ -87,7 +87,7 @@ inputs_cases ls None xs rest next e =
     let n = names_found ls a.0.0 a.0.1 a.1 in
     let made : List (List ℕ) × List Lexeme = (a.0.0, d.0) in
     subst (λ (y : List (List ℕ) × List Lexeme). Takes ls (list_form name_form y.0 ++ Mark (codes ")") ∷ []) y.1) (some_is made (xs, rest) d.2)
-      (Takes-append ls (list_form name_form a.0.0) (Mark (codes ")") ∷ []) a.0.1 d.0 n.1 (symbol_found (codes ")") a.0.1 d.0 d.1))
+    (Takes-append ls (list_form name_form a.0.0) (Mark (codes ")") ∷ []) a.0.1 d.0 n.1 (symbol_found (codes ")") a.0.1 d.0 d.1))
 
 -- where a name stands, no symbol does
 name_no_symbol : (text n : List ℕ) (ls : List Lexeme) (ss : List Slot) (rest : List Lexeme) → Takes ls (Name n ∷ ss) rest → symbol_at text ls ≡ None
@@ -213,7 +213,7 @@ foreign_found number ls part rest e =
     let inner = Takes-append k.0 (listing_form s.0.0.relation s.0.0.columns) end s.0.1 rest f.1 t.3 in
     let keyed = Takes-append a.0 (Key (codes "key") ∷ []) (listing_form s.0.0.relation s.0.0.columns ++ end) k.0 rest (word_found (codes "key") a.0 k.0 k.1) inner in
     let whole : Takes ls (foreign_key_form s.0.0.relation s.0.0.columns t.0.relation t.0.columns) rest =
-      Takes-append ls (Key (codes "foreign") ∷ []) (Key (codes "key") ∷ (listing_form s.0.0.relation s.0.0.columns ++ end)) a.0 rest (word_found (codes "foreign") ls a.0 a.1) keyed in
+    Takes-append ls (Key (codes "foreign") ∷ []) (Key (codes "key") ∷ (listing_form s.0.0.relation s.0.0.columns ++ end)) a.0 rest (word_found (codes "foreign") ls a.0 a.1) keyed in
     subst (λ (y : Part). Declares number ls y rest) t.1 (f.0, t.2, refl, whole)
 
 foreign_again : (number : ℕ) (ls : List Lexeme) (relation : List ℕ) (columns : List (List ℕ)) (target : List ℕ) (target_columns : List (List ℕ)) (rest : List Lexeme) → IsSome columns → IsSome target_columns →
@@ -321,7 +321,7 @@ declaration_again number ls (ForeignKey line relation columns target target_colu
     let c = other_word (codes "foreign") (codes "rule") ls ss [] refl d.3 in
     let k = this_word (codes "foreign") ls ss [] d.3 in
     let r : foreign_key_at number ls ≡ Some (ForeignKey line relation columns target target_columns, []) =
-      subst (λ (n : ℕ). foreign_key_at number ls ≡ Some (ForeignKey n relation columns target target_columns, [])) (sym d.2) (foreign_again number ls relation columns target target_columns [] d.0 d.1 d.3) in
+    subst (λ (n : ℕ). foreign_key_at number ls ≡ Some (ForeignKey n relation columns target target_columns, [])) (sym d.2) (foreign_again number ls relation columns target target_columns [] d.0 d.1 d.3) in
     whole_line number ls (ForeignKey line relation columns target target_columns) (rw (a, b, c, k) r)
 declaration_again number ls (Constant text) d =
     let ss : List Slot = Value text ∷ [] in

@@ -44,8 +44,13 @@ line_found P go number done numbers x [] read is again e =
 line_found P go number done numbers x (t ∷ ts) None is again e = absurd cc
 line_found P go number done numbers x (t ∷ ts) (Some p) is again e =
     let r = again (done ++ p.0 ∷ []) (numbers ++ number ∷ []) e in
-    record { parts = p.0 ∷ r.parts; lines = number ∷ r.lines; parts_are = r.parts_are ∙ append_assoc done (p.0 ∷ []) r.parts; lines_are = r.lines_are ∙ append_assoc numbers (number ∷ []) r.lines;
-      more = (declaration_found number (t ∷ ts) p.0 p.1 is, refl, r.more) }
+    record {
+      parts = p.0 ∷ r.parts;
+      lines = number ∷ r.lines;
+      parts_are = r.parts_are ∙ append_assoc done (p.0 ∷ []) r.parts;
+      lines_are = r.lines_are ∙ append_assoc numbers (number ∷ []) r.lines;
+      more = (declaration_found number (t ∷ ts) p.0 p.1 is, refl, r.more);
+    }
 
 parts_found : (lines : List Line) (done : List Part) (numbers : List ℕ) (x : Declared) → parts_from done numbers lines ≡ Ok x → Found (AreParts lines) done numbers x
 parts_found [] done numbers x e =
@@ -64,8 +69,8 @@ line_again P go number done (part ∷ more) numbers [] (t ∷ ts) again h = absu
 line_again P go number done (part ∷ more) numbers (n ∷ ns) (t ∷ ts) again h =
     let same : number ≡ n = sym h.1 in
     ap (next_parts go number done numbers (t ∷ ts)) (declaration_again number (t ∷ ts) part h.0) ∙ again (done ++ part ∷ []) (numbers ++ number ∷ []) more ns h.2
-      ∙ ap (λ (ps : List Part). good ps ((numbers ++ number ∷ []) ++ ns)) (append_assoc done (part ∷ []) more)
-      ∙ ap (λ (ks : List ℕ). good (done ++ part ∷ more) ks) (append_assoc numbers (number ∷ []) ns ∙ ap (λ (k : ℕ). numbers ++ k ∷ ns) same)
+    ∙ ap (λ (ps : List Part). good ps ((numbers ++ number ∷ []) ++ ns)) (append_assoc done (part ∷ []) more)
+    ∙ ap (λ (ks : List ℕ). good (done ++ part ∷ more) ks) (append_assoc numbers (number ∷ []) ns ∙ ap (λ (k : ℕ). numbers ++ k ∷ ns) same)
 
 parts_again : (lines : List Line) (done : List Part) (numbers : List ℕ) (more : List Part) (ns : List ℕ) → AreParts lines more ns → parts_from done numbers lines ≡ good (done ++ more) (numbers ++ ns)
 parts_again [] done numbers more ns h =
@@ -81,12 +86,30 @@ line_fault line lines go n done numbers [] read is found again e =
     let r = again done numbers e in
     record { before = line ∷ r.before; line = r.line; after = r.after; declared = r.declared; whole = ap (λ ls. line ∷ ls) r.whole; are = subst (λ ts. HasPart line.number ts r.declared.parts r.declared.lines (AreParts r.before)) (sym is) r.are; number_is = r.number_is; none = r.none; some = r.some }
 line_fault line lines go n done numbers (t ∷ ts) None is found again e =
-    record { before = []; line = line; after = lines; declared = record { parts = []; lines = [] }; whole = refl; are = (refl, refl); number_is = err_is line.number n e;
-      none = subst (λ tokens. (part : Part) → IsDeclaration line.number tokens part → ⊥) (sym is) (none_is line.number (t ∷ ts) found); some = subst IsSome (sym is) tt }
+    record {
+      before = [];
+      line = line;
+      after = lines;
+      declared = record { parts = []; lines = [] };
+      whole = refl;
+      are = (refl, refl);
+      number_is = err_is line.number n e;
+      none = subst (λ tokens. (part : Part) → IsDeclaration line.number tokens part → ⊥) (sym is) (none_is line.number (t ∷ ts) found);
+      some = subst IsSome (sym is) tt;
+    }
 line_fault line lines go n done numbers (t ∷ ts) (Some p) is found again e =
     let r = again (done ++ p.0 ∷ []) (numbers ++ line.number ∷ []) e in
-    record { before = line ∷ r.before; line = r.line; after = r.after; declared = record { parts = p.0 ∷ r.declared.parts; lines = line.number ∷ r.declared.lines }; whole = ap (λ ls. line ∷ ls) r.whole;
-      are = subst (λ ts. HasPart line.number ts (p.0 ∷ r.declared.parts) (line.number ∷ r.declared.lines) (AreParts r.before)) (sym is) (declaration_found line.number (t ∷ ts) p.0 p.1 found, refl, r.are); number_is = r.number_is; none = r.none; some = r.some }
+    record {
+      before = line ∷ r.before;
+      line = r.line;
+      after = r.after;
+      declared = record { parts = p.0 ∷ r.declared.parts; lines = line.number ∷ r.declared.lines };
+      whole = ap (λ ls. line ∷ ls) r.whole;
+      are = subst (λ ts. HasPart line.number ts (p.0 ∷ r.declared.parts) (line.number ∷ r.declared.lines) (AreParts r.before)) (sym is) (declaration_found line.number (t ∷ ts) p.0 p.1 found, refl, r.are);
+      number_is = r.number_is;
+      none = r.none;
+      some = r.some;
+    }
 
 parts_fault : (lines : List Line) (n : ℕ) (done : List Part) (numbers : List ℕ) → parts_from done numbers lines ≡ Err n → HasMisfit lines n
 parts_fault [] n done numbers e = absurd cc

@@ -29,22 +29,22 @@ pub returns-in-Some-clause-fault : goal.returns-in-Some-clause-fault
 returns-in-Some-clause-fault c =
     let at : slice_get c.args.parts.now c.loop-index.index ≡ Some c.index-parts-index.result = slice_get_read _ _ _ _ refl c.loop-index-test.true c.index-parts-index.is in
     let least : IsLeastFault c.args.relations.now (take c.loop-index.index c.args.parts.now) c.index-parts-index.result c.in-Some.fault =
-      subst (λ (found : Option SchemaFault). IfSome found (IsLeastFault c.args.relations.now (take c.loop-index.index c.args.parts.now) c.index-parts-index.result)) c.in-Some.is c.in_ok-fault.ensures.fault in
+    subst (λ (found : Option SchemaFault). IfSome found (IsLeastFault c.args.relations.now (take c.loop-index.index c.args.parts.now) c.index-parts-index.result)) c.in-Some.is c.in_ok-fault.ensures.fault in
     first_is c.args.parts.now c.loop-index.index c.index-parts-index.result c.in-Some.fault at c.loop-index.invariant.faultless
-      (subst (λ (relations : List Relation). IsLeastFault relations (take c.loop-index.index c.args.parts.now) c.index-parts-index.result c.in-Some.fault) c.requires.relations least)
+    (subst (λ (relations : List Relation). IsLeastFault relations (take c.loop-index.index c.args.parts.now) c.index-parts-index.result c.in-Some.fault) c.requires.relations least)
 
 pub loop-index-preserved : goal.loop-index-preserved
 loop-index-preserved c =
     let at : slice_get c.args.parts.now c.loop-index.index ≡ Some c.index-parts-index.result = slice_get_read _ _ _ _ refl c.loop-index-test.true c.index-parts-index.is in
     let free : IsFaultless c.args.relations.now (take c.loop-index.index c.args.parts.now) c.index-parts-index.result =
-      subst (λ (found : Option SchemaFault). IfNone found (IsFaultless c.args.relations.now (take c.loop-index.index c.args.parts.now) c.index-parts-index.result)) c.in-None.is c.in_ok-fault.ensures.none in
+    subst (λ (found : Option SchemaFault). IfNone found (IsFaultless c.args.relations.now (take c.loop-index.index c.args.parts.now) c.index-parts-index.result)) c.in-None.is c.in_ok-fault.ensures.none in
     let stands : StandsFor c.args.relations.now (take c.loop-index.index c.args.parts.now ++ c.index-parts-index.result ∷ []) c.check_part.new.known.items c.check_part.new.links.items =
-      subst (λ (found : Option SchemaFault). IfNone found (StandsFor c.args.relations.now (take c.loop-index.index c.args.parts.now ++ c.index-parts-index.result ∷ []) c.check_part.new.known.items c.check_part.new.links.items)) c.in-None.is c.in_ok-fault.ensures.stands in
+    subst (λ (found : Option SchemaFault). IfNone found (StandsFor c.args.relations.now (take c.loop-index.index c.args.parts.now ++ c.index-parts-index.result ∷ []) c.check_part.new.known.items c.check_part.new.links.items)) c.in-None.is c.in_ok-fault.ensures.stands in
     record {
       faultless = faultless_more c.args.parts.now c.loop-index.index c.index-parts-index.result at c.loop-index.invariant.faultless
-        (subst (λ (relations : List Relation). IsFaultless relations (take c.loop-index.index c.args.parts.now) c.index-parts-index.result) c.requires.relations free);
+          (subst (λ (relations : List Relation). IsFaultless relations (take c.loop-index.index c.args.parts.now) c.index-parts-index.result) c.requires.relations free);
       stands = subst (λ (parts : List Part). StandsFor c.args.relations.now parts c.check_part.new.known.items c.check_part.new.links.items)
-        (sym (taken_on c.args.parts.now c.loop-index.index c.index-parts-index.result at)) stands;
+          (sym (taken_on c.args.parts.now c.loop-index.index c.index-parts-index.result at)) stands;
     }
 
 pub returns-clause-ok : goal.returns-clause-ok

@@ -28,4 +28,4 @@ returns c =
     let begun : c.mark_all.new.marks.items ≡ with_marks (replicate c.args.count false) c.args.last.now.head = let h = c.as_slice.ensures in let m = c.mark_all.ensures in let n : c.in_ok-marks.marks.items ≡ replicate c.args.count false = c.in_ok-marks.ensures in cc in
     let met : c.any_marked.result ≡ any_marked c.spread.new.marks.items c.args.last.now.body = c.any_marked.ensures ∙ ap (λ marks. any_marked marks c.as_slice-3.result.now) c.as_slice-2.ensures.value ∙ ap (any_marked c.spread.new.marks.items) c.as_slice-3.ensures in
     round_exactly c.args.older.now c.args.last.now c.args.count c.spread.new.marks.items c.any_marked.result c.requires.last
-        (subst (λ (marks : List Bool). Spreads c.args.older.now marks c.spread.new.marks.items) begun c.spread.ensures) c.requires.straight met
+    (subst (λ (marks : List Bool). Spreads c.args.older.now marks c.spread.new.marks.items) begun c.spread.ensures) c.requires.straight met

@@ -28,7 +28,7 @@ loop-link-preserved c =
     let below : AreBelow (length c.loop-link.marks.items) c.args.links.now = subst (λ n. AreBelow n c.args.links.now) (sym c.loop-link.invariant.long) c.requires in
     let same : c.mark_all.new.marks.items ≡ with_marks c.loop-link.marks.items c.in-Some.link.now.head = c.mark_all.ensures ∙ ap (with_marks c.loop-link.marks.items) c.as_slice-in-Some.ensures in
     subst (λ (marks : List Bool). SpreadsSoFar c.args.links.now c.args.marks.now.items marks) (sym same)
-        (spread_more c.args.links.now c.args.marks.now.items c.loop-link.marks.items c.in-Some.link.now below found c.loop-link.invariant)
+    (spread_more c.args.links.now c.args.marks.now.items c.loop-link.marks.items c.in-Some.link.now below found c.loop-link.invariant)
 
 pub returns : goal.returns
 returns c =

@@ -12,4 +12,4 @@ returns-clause-place c =
     let lists = c.requires.lists in
     let lt : c.place_of-place.result < length c.args.columns.now = omega arith in
     c.place_of.ensures.place ∙ ap (place_of c.args.own.now)
-      (c.index-columns-place.is ∙ get_or_default c.args.columns.now c.place_of-place.result c.index-columns-place.result [] lt ∙ ap (λ k. get_or c.args.columns.now k []) place)
+    (c.index-columns-place.is ∙ get_or_default c.args.columns.now c.place_of-place.result c.index-columns-place.result [] lt ∙ ap (λ k. get_or c.args.columns.now k []) place)
