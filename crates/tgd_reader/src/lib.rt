@@ -13,3 +13,6 @@ pub use declaration::read_declaration;
 pub use fault::PartsFault;
 pub use listed::Listing;
 pub use parts::{Declared, read_parts};
+
+#[cfg(test)]
+mod tests;
