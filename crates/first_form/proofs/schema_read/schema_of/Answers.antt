@@ -12,8 +12,8 @@ returns-in-Ok-clause-schema c =
       columns = c.args.form.relation.columns;
       method = c.args.form.method.name;
       cost = c.args.form.method.cost;
-      kind = c.args.form.held.kind;
-      locator = c.args.form.held.locator;
+      kind = c.args.form.source.kind;
+      locator = c.args.form.source.locator;
     } in
     let builds : Builds (first_parts form) c.in-Ok.schema = subst (λ (parts : List Part). Builds parts c.in-Ok.schema) c.in_ok-parts.ensures c.in-Ok.ensures.schema in
     let is = c.first_form_builds.ensures form c.in-Ok.schema builds in
