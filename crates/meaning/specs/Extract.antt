@@ -163,10 +163,13 @@ pub record IsQueryRival (schema : SchemaParts) (constants : List Value) (queries
   pub complete : (facts : List Fact) (row : Row) → IsModel schema facts →
       AnswersQuery query facts row → IsBranchRow schema branch facts row
 
--- Exposures have a goal where every quiet state that firings reach from their facts has the head.
-abbrev pub HasGoalAfter : SchemaParts → List Query → List Val → ℕ → List Exposure → Type 0
-HasGoalAfter schema queries head next exposures =
-    (copy : List Trigger) (end : State) →
-    IsFiringRun schema.rules (record { facts = exposed_facts exposures; next = next }) copy end →
+-- Facts have a goal where every quiet state that firings reach from them has the head.
+abbrev pub HasGoalFrom : SchemaParts → List Query → List Val → ℕ → List Ground → Type 0
+HasGoalFrom schema queries head next facts =
+    (copy : List Trigger) (end : State) → IsFiringRun schema.rules (record { facts = facts; next = next }) copy end →
     IsQuiet schema.rules end →
     (goal : Query) × Contains queries goal × IsQueryAnswer Known (GroundsOf end.facts) goal head
+
+-- Exposures have a goal where their facts have one.
+abbrev pub HasGoalAfter : SchemaParts → List Query → List Val → ℕ → List Exposure → Type 0
+HasGoalAfter schema queries head next exposures = HasGoalFrom schema queries head next (exposed_facts exposures)

@@ -98,6 +98,11 @@ part_of (Base trigger) = 0
 part_of (Expose number fact) = 1
 part_of (Copy trigger) = 2
 
+-- The part that a log has reached, from a part on.
+abbrev pub last_part : ℕ → List Firing → ℕ
+last_part part [] = part
+last_part part (firing ∷ log) = last_part (part_of firing) log
+
 -- A run fires one firing after another, and never goes back to an earlier part.
 abbrev pub IsRun : SchemaParts → List Value → ℕ → Proof → List Firing → Proof → Type 0
 IsRun schema constants part proof [] end = end ≡ proof

@@ -23,3 +23,7 @@ pub mod Feeding
 pub mod Closing
 pub mod SameSets
 pub mod Members
+pub mod Running
+pub mod Trimming
+pub mod Everywhere
+pub mod Costing

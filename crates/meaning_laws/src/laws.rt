@@ -1,6 +1,6 @@
 // Laws of the definitions: each is the contract of a function that does nothing.
 
-ghost use Rattle.std.specs.Prelude.{◌≡◌, ◌^◌, ◌<◌, ◌≤◌, List, [], ℕ, Bool, Contains, length, map, slice_index_or, take};
+ghost use Rattle.std.specs.Prelude.{◌≡◌, ◌++◌, ◌∷◌, ◌^◌, ◌<◌, ◌≤◌, List, [], ℕ, Bool, Contains, length, map, slice_index_or, take};
 ghost use Rattle.std.specs.List.{AllZip};
 ghost use Rattle.meaning.specs.declared.types.Rule.{Rule};
 ghost use Rattle.meaning.specs.declared.types.SchemaParts.{SchemaParts};
@@ -26,13 +26,14 @@ ghost use Rattle.meaning.specs.Claims.{IsModel, IsEquivalent, Refutes};
 ghost use Rattle.meaning.specs.Costs.{IsCost, IsRival, IsLeast};
 ghost use Rattle.meaning.specs.Homomorphisms.{image, renamed, Carries};
 ghost use Rattle.meaning.specs.Triggers.{AreNumbered, State, LabelsBelow, IsTrigger, IsQuiet, fired, IsFiringRun};
-ghost use Rattle.meaning.specs.Runs.{IsBaseRun, Proof, IsRun, IsOrderedRun, opening, opening_state, frozen_head, HasGoal, IsStuck};
-ghost use Rattle.meaning.specs.Naming.{IsNaming};
-ghost use Rattle.meaning.specs.Fitting.{QueryHasConstants, RulesFit, QueryFits, IsKept};
+ghost use Rattle.meaning.specs.Runs.{IsBaseRun, Proof, NoExposure, Fires, part_of, IsRun, IsOrderedRun, opening, opening_state, frozen_head, HasGoal, IsStuck, last_part};
+ghost use Rattle.meaning.specs.Naming.{IsNaming, IsNamed, AreNamed};
+ghost use Rattle.meaning.specs.Fitting.{QueryHasConstants, Fit, RulesFit, QueryFits, IsKept};
 ghost use Rattle.meaning.specs.Conjunctive.{SelectFits, IsConjunctive, StandFor};
-ghost use Rattle.meaning.specs.Extract.{Exposure, exposed_facts, branch_of, IsDerivation, IsHeadKnown, IsExposing, exposures_cost, IsBase, IsQueryRival, HasGoalAfter};
+ghost use Rattle.meaning.specs.Extract.{Exposure, exposed_facts, branch_of, IsDerivation, IsHeadKnown, IsExposing, exposures_cost, IsBase, IsQueryRival, HasGoalAfter, HasGoalFrom};
 ghost use Rattle.meaning.specs.Judge.{IsBranchQuery};
 ghost use Rattle.meaning.specs.Search.{AreDistinct, AreSets};
+ghost use Rattle.meaning_laws.specs.Trims.{AreIn, Serves};
 
 /// The rows of a lawful plan depend on the accessible part alone, and grow with it.
 pub fn rows_grow()
@@ -301,4 +302,75 @@ pub fn select_complete()
     ensures { (schema : SchemaParts) (select : Select) (query : Query) → IsConjunctive schema select query →
         (facts : List Fact) (row : Row) → SelectFits schema select → IsInstance schema facts →
         AnswersSelect select facts row → AnswersQuery query facts row }
+{}
+
+/// A run goes on by one firing, where its part does not stand before that of the last firing.
+pub fn run_goes_on()
+    ensures run { (schema : SchemaParts) (constants : List Value) (part : ℕ) (proof : Proof) (log : List Firing)
+        (end : Proof) (firing : Firing) (next : Proof) → IsRun schema constants part proof log end →
+        last_part part log ≤ part_of firing → Fires schema constants end firing next →
+        IsRun schema constants part proof (log ++ firing ∷ []) next }
+    ensures ordered { (schema : SchemaParts) (constants : List Value) (part : ℕ) (proof : Proof) (log : List Firing)
+        (end : Proof) (firing : Firing) (next : Proof) → IsOrderedRun schema constants part proof log end →
+        last_part part log ≤ part_of firing → (part_of firing ≡ 2 → NoExposure schema constants end) →
+        Fires schema constants end firing next → IsOrderedRun schema constants part proof (log ++ firing ∷ []) next }
+{}
+
+/// The first firings of a run are a run, and the rest is one from there.
+pub fn run_splits()
+    ensures run { (schema : SchemaParts) (constants : List Value) (part : ℕ) (proof : Proof) (log more : List Firing)
+        (end : Proof) → IsRun schema constants part proof (log ++ more) end →
+        (middle : Proof) × IsRun schema constants part proof log middle
+        × IsRun schema constants (last_part part log) middle more end }
+    ensures ordered { (schema : SchemaParts) (constants : List Value) (part : ℕ) (proof : Proof)
+        (log more : List Firing) (end : Proof) → IsOrderedRun schema constants part proof (log ++ more) end →
+        (middle : Proof) × IsOrderedRun schema constants part proof log middle
+        × IsOrderedRun schema constants (last_part part log) middle more end }
+{}
+
+/// A log leads to one proof.
+pub fn run_once()
+    ensures { (schema : SchemaParts) (constants : List Value) (part other : ℕ) (proof : Proof) (log : List Firing)
+        (first second : Proof) → IsRun schema constants part proof log first →
+        IsRun schema constants other proof log second → first ≡ second }
+{}
+
+/// A run of firings can be cut down to those that the wanted facts rest on.
+pub fn firings_trim()
+    ensures { (rules : List Rule) (state end : State) (log : List Trigger) (wanted : List Ground) →
+        IsFiringRun rules state log end → AreIn wanted end.facts →
+        (kept : List Trigger) × (needed : List Ground) × AreIn needed state.facts
+        × Serves rules state.next needed kept wanted }
+{}
+
+/// Exposures and copy firings can be cut down to those that a match rests on, at no greater cost.
+pub fn match_trims()
+    ensures { (schema : SchemaParts) (constants : List Value) (base : List Ground) (next : ℕ)
+        (exposures : List Exposure) (copy : List Trigger) (end : State) (goal : Query) (head : List Val) →
+        IsExposing schema constants base [] exposures →
+        IsFiringRun schema.rules (record { facts = exposed_facts exposures; next = next }) copy end →
+        IsQueryAnswer Const (GroundsOf end.facts) goal head →
+        (kept : List Exposure) × (less : List Trigger) × (last : State)
+        × IsExposing schema constants base [] kept
+        × IsFiringRun schema.rules (record { facts = exposed_facts kept; next = next }) less last
+        × IsQueryAnswer Const (GroundsOf last.facts) goal head × (exposures_cost kept ≤ exposures_cost exposures) }
+{}
+
+/// A match in some run of firings is one in every run that ends in a quiet state.
+pub fn goal_everywhere()
+    ensures { (schema : SchemaParts) (constants : List Value) (queries : List Query) (state : State)
+        (head : List Val) (log : List Trigger) (some : State) (goal : Query) →
+        RulesFit schema constants → ((q : Query) → Contains queries q → QueryHasConstants constants q) →
+        AreNamed constants state.next state.facts → Fit schema state.facts →
+        ((v : Val) → Contains head v → IsNamed constants state.next v) →
+        IsFiringRun schema.rules state log some → Contains queries goal →
+        IsQueryAnswer Const (GroundsOf some.facts) goal head →
+        HasGoalFrom schema queries head state.next state.facts }
+{}
+
+/// The branch that is read off exposures costs what they cost.
+pub fn branch_cost()
+    ensures { (schema : SchemaParts) (exposures : List Exposure) (head : List Val) →
+        ((e : Exposure) → Contains exposures e → Contains schema.methods e.method) →
+        IsCost schema (branch_of exposures head) (exposures_cost exposures) }
 {}
