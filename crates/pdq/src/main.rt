@@ -19,6 +19,7 @@ use std::alloc::Global;
 use std::env;
 use std::env::Env;
 use std::io::ErrorKind;
+use std::mem::forget;
 use std::process::ExitCode;
 
 fn main(rt: HostRuntime) -> ExitCode {
@@ -38,6 +39,8 @@ fn main(rt: HostRuntime) -> ExitCode {
     let mut files = RealFiles::new(rt);
     let words = words.as_slice();
     let status = run_words(alloc, words, &mut files, &mut lanes, &mut out, &mut err);
+    // the rows are not freed one by one: the system takes them back with the process
+    forget(lanes);
     ExitCode::from(status.code())
 }
 
