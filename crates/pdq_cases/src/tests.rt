@@ -34,9 +34,12 @@ fn words(alloc: Global, listed: &[&str]) -> Result<Vec<Text>, AllocError> {
     Ok(words)
 }
 
-// Files in memory, which fail at the listed reads.
-fn memory(rt: HostRuntime, files: &[(&str, &[u8])], failing: &[u64]) -> Result<MemoryFiles, Fail> {
-    let alloc = rt.alloc();
+// Files in memory, which fail at the listed reads. Two of one name are refused.
+fn memory(
+    alloc: Global,
+    files: &[(&str, &[u8])],
+    failing: &[u64],
+) -> Result<MemoryFiles, AllocError> {
     let mut list = Seq::new(alloc);
     for (name, bytes) in files {
         list.push(NamedFile {
@@ -44,7 +47,9 @@ fn memory(rt: HostRuntime, files: &[(&str, &[u8])], failing: &[u64]) -> Result<M
             bytes: Seq::from_vec(bytes.to_vec(alloc)?),
         })?;
     }
-    assert!(rt; names_differ(&list));
+    if !names_differ(&list) {
+        return Err(AllocError);
+    }
     Ok(MemoryFiles::new(alloc, list, numbers(alloc, failing)?))
 }
 
@@ -72,17 +77,16 @@ struct Outcome {
 }
 
 // A run over a folder of files in memory, where the data's reads and the writes to standard output fail as listed.
-fn outcome(
-    rt: HostRuntime,
+fn outcome_of(
+    alloc: Global,
     listed: &[&str],
     files: &[(&str, &[u8])],
     failing_data: &[u64],
     failing_out: &[u64],
-) -> Result<Outcome, Fail> {
-    let alloc = rt.alloc();
+) -> Result<Outcome, AllocError> {
     let words = words(alloc, listed)?;
-    let mut texts = memory(rt, files, &[])?;
-    let folder = CsvFolder::new(alloc, memory(rt, files, failing_data)?);
+    let mut texts = memory(alloc, files, &[])?;
+    let folder = CsvFolder::new(alloc, memory(alloc, files, failing_data)?);
     let mut lanes = one_lane(alloc, "csv", folder)?;
     let mut out = MemorySink::new(alloc, 4, numbers(alloc, failing_out)?);
     let mut err = MemorySink::new(alloc, 7, numbers(alloc, &[])?);
@@ -97,7 +101,7 @@ fn outcome(
 #[test]
 fn a_relation_is_asked_whole_and_projected(rt: HostRuntime) -> Result<(), Fail> {
     let files: [(&str, &[u8]); 3] = [("s", SCHEMA), ("q", QUERY), ("r.csv", DATA)];
-    let got = outcome(rt, &["run", "s", "q"], &files, &[], &[])?;
+    let got = outcome_of(rt.alloc(), &["run", "s", "q"], &files, &[], &[])?;
     assert_eq!(rt; got.code, 0);
     assert_eq!(rt; got.out.as_slice(), b"b\nx\ny\n".as_slice());
     assert_eq!(rt; got.err.as_slice(), PLAN);
@@ -116,7 +120,7 @@ fn words_that_are_no_command_are_not_understood(rt: HostRuntime) -> Result<(), F
         &["walk", "s", "q"],
     ];
     for list in lists {
-        let got = outcome(rt, list, &files, &[], &[])?;
+        let got = outcome_of(rt.alloc(), list, &files, &[], &[])?;
         assert_eq!(rt; got.code, 3);
         assert_eq!(rt; got.out.len(), 0);
         assert_eq!(rt; got.err.as_slice(), b"words: not understood\n".as_slice());
@@ -180,7 +184,7 @@ fn each_refusal_has_its_status_and_its_line(rt: HostRuntime) -> Result<(), Fail>
     ];
     for (schema, query, data, code, planned, line) in cases {
         let files: [(&str, &[u8]); 3] = [("s", schema), ("q", query), ("r.csv", data)];
-        let got = outcome(rt, &["run", "s", "q"], &files, &[], &[])?;
+        let got = outcome_of(rt.alloc(), &["run", "s", "q"], &files, &[], &[])?;
         assert_eq!(rt; got.code, code);
         assert_eq!(rt; got.out.len(), 0);
         let plan: &[u8] = if planned { PLAN } else { b"" };
@@ -190,25 +194,36 @@ fn each_refusal_has_its_status_and_its_line(rt: HostRuntime) -> Result<(), Fail>
 }
 
 #[test]
-fn missing_and_failed_files_are_faults(rt: HostRuntime) -> Result<(), Fail> {
-    let texts: [(&str, &[u8]); 2] = [("s", SCHEMA), ("q", QUERY)];
-    let got = outcome(rt, &["run", "s", "q"], &texts, &[], &[])?;
+fn a_missing_data_file_is_a_fault(rt: HostRuntime) -> Result<(), Fail> {
+    let files: [(&str, &[u8]); 2] = [("s", SCHEMA), ("q", QUERY)];
+    let got = outcome_of(rt.alloc(), &["run", "s", "q"], &files, &[], &[])?;
     assert_eq!(rt; got.code, 5);
     assert_eq!(rt;
         got.err.strip_prefix(PLAN),
         Some(b"source r: missing\n".as_slice())
     );
+    Ok(())
+}
+
+#[test]
+fn a_data_file_that_fails_is_a_fault(rt: HostRuntime) -> Result<(), Fail> {
     let files: [(&str, &[u8]); 3] = [("s", SCHEMA), ("q", QUERY), ("r.csv", DATA)];
-    let got = outcome(rt, &["run", "s", "q"], &files, &[1], &[])?;
+    let got = outcome_of(rt.alloc(), &["run", "s", "q"], &files, &[1], &[])?;
     assert_eq!(rt; got.code, 5);
     assert_eq!(rt;
         got.err.strip_prefix(PLAN),
         Some(b"source r: failed\n".as_slice())
     );
-    let got = outcome(rt, &["run", "t", "q"], &files, &[], &[])?;
+    Ok(())
+}
+
+#[test]
+fn a_missing_text_is_a_fault(rt: HostRuntime) -> Result<(), Fail> {
+    let files: [(&str, &[u8]); 3] = [("s", SCHEMA), ("q", QUERY), ("r.csv", DATA)];
+    let got = outcome_of(rt.alloc(), &["run", "t", "q"], &files, &[], &[])?;
     assert_eq!(rt; got.code, 5);
     assert_eq!(rt; got.err.as_slice(), b"read t: missing\n".as_slice());
-    let got = outcome(rt, &["run", "s", "t"], &files, &[], &[])?;
+    let got = outcome_of(rt.alloc(), &["run", "s", "t"], &files, &[], &[])?;
     assert_eq!(rt; got.code, 5);
     assert_eq!(rt; got.err.as_slice(), b"read t: missing\n".as_slice());
     Ok(())
@@ -217,7 +232,7 @@ fn missing_and_failed_files_are_faults(rt: HostRuntime) -> Result<(), Fail> {
 #[test]
 fn an_output_that_fails_took_a_first_part(rt: HostRuntime) -> Result<(), Fail> {
     let files: [(&str, &[u8]); 3] = [("s", SCHEMA), ("q", QUERY), ("r.csv", DATA)];
-    let got = outcome(rt, &["run", "s", "q"], &files, &[], &[2])?;
+    let got = outcome_of(rt.alloc(), &["run", "s", "q"], &files, &[], &[2])?;
     assert_eq!(rt; got.code, 6);
     assert_eq!(rt; got.out.as_slice(), b"b\nx\n".as_slice());
     assert_eq!(rt;
@@ -231,7 +246,7 @@ fn an_output_that_fails_took_a_first_part(rt: HostRuntime) -> Result<(), Fail> {
 fn a_failed_call_names_its_step(rt: HostRuntime) -> Result<(), Fail> {
     let alloc = rt.alloc();
     let words = words(alloc, &["run", "s", "q"])?;
-    let mut texts = memory(rt, &[("s", SCHEMA), ("q", QUERY)], &[])?;
+    let mut texts = memory(alloc, &[("s", SCHEMA), ("q", QUERY)], &[])?;
     let mut tables = Seq::new(alloc);
     tables.push(Table {
         locator: Text::from_str(alloc, "r.csv")?,
