@@ -1,3 +1,4 @@
 pub mod Stores
 pub mod LaneSteps
 pub mod Tables
+pub mod Indexing

@@ -1,5 +1,5 @@
 -- Attached relations with their rows.
-use Rattle.std.specs.Prelude.{◌≡◌, ℕ, List, [], ◌∷◌, ◌++◌, length, Option, None, Some, option_map, not, nat_eq, if◌then◌else◌}
+use Rattle.std.specs.Prelude.{◌≡◌, ℕ, List, [], ◌∷◌, ◌++◌, length, map, Option, None, Some, option_map, not, nat_eq, if◌then◌else◌}
 use Rattle.std.specs.List.{filter}
 use Rattle.meaning.specs.declared.types.Fact.{Fact}
 use Rattle.source_trait.specs.Asking.{HaveArity, facts_of}
@@ -21,6 +21,10 @@ attached_in list rel = option_map (λ a. (a.columns, a.locator)) (attachment_in 
 -- what is attached under other relations
 abbrev pub others_than : ℕ → List Attachment → List Attachment
 others_than rel list = filter (λ a. not (nat_eq a.rel rel)) list
+
+-- of how many bytes of data the attached relations came, each
+abbrev pub sizes_of : List Attachment → List ℕ
+sizes_of list = map (λ a. a.size) list
 
 -- each relation is attached once, and its rows have its arity
 abbrev pub IsStore : List Attachment → Type 0

@@ -3,6 +3,7 @@ pub mod Outside
 pub mod Asking
 pub mod Lanes
 pub mod Holding
+pub mod Index
 pub mod Failing
 pub mod Memory
 pub mod Tables

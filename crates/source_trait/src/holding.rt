@@ -1,9 +1,12 @@
 // The attached relations of a source, with their rows.
-ghost use Rattle.std.specs.Prelude.{◌≡◌, ◌++◌, ◌∷◌, ◌≢◌, ℕ, true, [], None, Some, IfSome, length, option_copied, IfOk, OnOk, OnErr};
+ghost use Rattle.std.specs.Prelude.{◌≡◌, ◌++◌, ◌∷◌, ◌≢◌, ◌+◌, ◌≤◌, ◌↔◌, IsTrue, ℕ, sum, not, nat_eq, true, [], None, Some, IfSome, length, option_copied, IfOk, OnOk, OnErr};
 ghost use Rattle.std.specs.List.{AllByRecursion, filter};
 ghost use Rattle.source_trait.specs.Asking.{agrees, pick, without, facts_of, HaveArity};
-ghost use Rattle.source_trait.specs.Holding.{facts_held, attachment_in, attached_in, others_than};
+ghost use Rattle.source_trait.specs.Index.{IndexesOf, OneMore};
+ghost use Rattle.source_trait.specs.Holding.{facts_held, attachment_in, attached_in, others_than, sizes_of};
 
+use crate::index::{Index, find_index};
+use crate::matching::matching;
 use lists::{Copies, Row, Rows, Seq, Text, Texts};
 use std::alloc::{AllocError, Global};
 use std::marker::Model;
@@ -15,24 +18,29 @@ pub struct Attachment {
     pub columns: Texts,
     pub locator: Text,
     pub rows: Rows,
+    /// How many bytes of data the rows came from.
+    pub size: u64,
 }
 
 /// The attached relations of a source, each once, with rows of its arity.
 #[derive(Drop)]
 pub struct Holding {
     list: Vec<Attachment>,
+    // one for each relation and each list of positions that it was asked by
+    indexes: Vec<Index>,
 }
 
 impl Model for Holding {
     ghost use Rattle.std.specs.Prelude.{List};
     ghost use Rattle.source_trait.specs.declared.holding.Attachment.{Attachment};
     ghost use Rattle.source_trait.specs.Holding.{IsStore};
+    ghost use Rattle.source_trait.specs.Index.{AreIndexes};
 
     ghost Value = { List Attachment };
 
     ghost view = { λ h. h.list.items };
 
-    ghost invariant = { λ h. IsStore h.list.items };
+    ghost invariant = { λ h. IsStore h.list.items × AreIndexes h.list.items h.indexes.items };
 }
 
 impl Holding {
@@ -42,6 +50,7 @@ impl Holding {
     {
         Holding {
             list: Vec::new(alloc),
+            indexes: Vec::new(alloc),
         }
     }
 
@@ -51,8 +60,10 @@ impl Holding {
         ensures absent { attachment_in self.new rel ≡ None }
         ensures others { (r : ℕ) → r ≢ rel → attached_in self.new r ≡ attached_in self.old r }
         ensures facts { facts_held self.new ≡ without rel (facts_held self.old) }
+        ensures left { self.new ≡ others_than rel self.old }
     {
         take_away(&mut self.list, rel);
+        take_indexes(&mut self.indexes, rel);
     }
 
     // Adds a relation that is not attached.
@@ -74,37 +85,47 @@ impl Holding {
         columns: &Texts,
         locator: &Text,
         rows: Rows,
+        size: u64,
     ) -> Result<(), AllocError>
         requires absent { attachment_in self.old rel ≡ None }
         requires fit { HaveArity (length columns.now) rows }
         ensures attached { OnOk result (attached_in self.new rel ≡ Some (columns.now, locator.now)) }
         ensures others { (r : ℕ) → r ≢ rel → attached_in self.new r ≡ attached_in self.old r }
         ensures facts { OnOk result (facts_held self.new ≡ facts_held self.old ++ facts_of rel rows) }
+        ensures sizes { OnOk result (sizes_of self.new ≡ sizes_of self.old ++ size ∷ []) }
         ensures err { OnErr result (self.new ≡ self.old) }
     {
-        let attachment = copy_attachment(alloc, rel, columns, locator, rows)?;
+        let attachment = copy_attachment(alloc, rel, columns, locator, rows, size)?;
         self.attach(attachment)?;
         Ok(())
     }
 
-    /// The rows of the relation that have the values at the positions.
+    /// Whether the data of all relations and so many bytes more keep a limit. Takes no memory.
+    pub fn has_room(&self, more: u64, limit: u64) -> bool
+        ensures { IsTrue result ↔ (sum (sizes_of self.now) + more ≤ limit) }
+    {
+        have_room(&self.list, more, limit)
+    }
+
+    /// The rows of the relation that have the values at the positions. The first call with these positions makes an index
+    /// on them, in time linear in the relation's rows; a later one takes the time of its own rows.
     pub fn ask(
-        &self,
+        &mut self,
         alloc: Global,
         rel: u32,
         positions: &[u32],
         values: &[Text],
     ) -> Result<Rows, AllocError>
-        ensures picks { IfOk result (λ rows. rows ≡ pick (facts_held self.now) rel positions.now values.now) }
-        ensures fits { IfOk result (λ rows. IfSome (attached_in self.now rel) (λ a. AllByRecursion (λ row. (length row ≡ length a.0) × (agrees positions.now values.now row ≡ true)) rows)) }
+        ensures picks { IfOk result (λ rows. rows ≡ pick (facts_held self.old) rel positions.now values.now) }
+        ensures fits { IfOk result (λ rows. IfSome (attached_in self.old rel) (λ a. AllByRecursion (λ row. (length row ≡ length a.0) × (agrees positions.now values.now row ≡ true)) rows)) }
+        ensures same { self.new ≡ self.old }
     {
-        match find(&self.list, rel) {
-            Some(attachment) => {
-                let rows = matching(alloc, attachment.rows.as_slice(), positions, values)?;
-                Ok(Seq::from_vec(rows))
-            }
-            None => Ok(Seq::new(alloc)),
-        }
+        let Some(attachment) = find(&self.list, rel) else {
+            return Ok(Seq::new(alloc));
+        };
+        let rows = attachment.rows.as_slice();
+        let found = indexed(alloc, &mut self.indexes, rel, rows, positions, values)?;
+        Ok(Seq::from_vec(found))
     }
 }
 
@@ -114,8 +135,9 @@ fn copy_attachment(
     columns: &Texts,
     locator: &Text,
     rows: Rows,
+    size: u64,
 ) -> Result<Attachment, AllocError>
-    ensures { IfOk result (λ a. a ≡ record { rel = rel; columns = columns.now; locator = locator.now; rows = rows }) }
+    ensures { IfOk result (λ a. a ≡ record { rel = rel; columns = columns.now; locator = locator.now; rows = rows; size = size }) }
 {
     let columns = columns.copy(alloc)?;
     let locator = locator.copy(alloc)?;
@@ -124,7 +146,23 @@ fn copy_attachment(
         columns,
         locator,
         rows,
+        size,
     })
+}
+
+fn have_room(list: &[Attachment], more: u64, limit: u64) -> bool
+    ensures { IsTrue result ↔ (sum (sizes_of list.now) + more ≤ limit) }
+{
+    let mut room = limit;
+    let mut left = list;
+    while let [attachment, rest @ ..] = left {
+        if attachment.size > room {
+            return false;
+        }
+        room -= attachment.size;
+        left = rest;
+    }
+    more <= room
 }
 
 fn take_away(list: &mut Vec<Attachment>, rel: u32)
@@ -146,44 +184,34 @@ fn find(list: &[Attachment], rel: u32) -> Option<&Attachment>
     None
 }
 
-// Whether the row has the values at the positions.
-fn row_agrees(row: &[Text], positions: &[u32], values: &[Text]) -> bool
-    ensures { result ≡ agrees positions.now values.now row.now }
+fn take_indexes(indexes: &mut Vec<Index>, rel: u32)
+    ensures { indexes.new.items ≡ filter (λ x. not (nat_eq x.rel rel)) indexes.old.items }
 {
-    let mut places = positions;
-    let mut wanted = values;
-    while let [place, places_left @ ..] = places {
-        let [value, values_left @ ..] = wanted else {
-            return false;
-        };
-        match row.get(*place as usize) {
-            Some(found) => {
-                if !(*found == *value) {
-                    return false;
-                }
-            }
-            None => return false,
-        }
-        places = places_left;
-        wanted = values_left;
-    }
-    true
+    indexes.retain(|index| index.rel != rel);
 }
 
-// The rows that have the values at the positions, in order.
-fn matching(
+// The rows that have the values at the positions, by the index of the relation on them, which is made where there is none;
+// with no position all rows, which need no index.
+fn indexed(
     alloc: Global,
+    indexes: &mut Vec<Index>,
+    rel: u32,
     rows: &[Row],
     positions: &[u32],
     values: &[Text],
 ) -> Result<Vec<Row>, AllocError>
-    ensures { IfOk result (λ found. found.items ≡ filter (agrees positions.now values.now) rows.now) }
+    requires { IndexesOf rel rows.now indexes.old.items }
+    ensures found { IfOk result (λ found. found.items ≡ filter (agrees positions.now values.now) rows.now) }
+    ensures made { OneMore rel rows.now indexes.old.items indexes.new.items }
 {
-    let mut found = Vec::new(alloc);
-    for row in rows {
-        if row_agrees(row.as_slice(), positions, values) {
-            found.push(row.copy(alloc)?)?;
-        }
+    if positions.is_empty() {
+        return matching(alloc, rows, positions, values);
     }
+    if let Some(index) = find_index(indexes, rel, positions) {
+        return index.rows_with(alloc, rows, values);
+    }
+    let index = Index::build(alloc, rel, positions, rows)?;
+    let found = index.rows_with(alloc, rows, values)?;
+    indexes.push(index)?;
     Ok(found)
 }

@@ -8,7 +8,9 @@
 mod failing;
 mod files;
 mod holding;
+mod index;
 mod lanes;
+mod matching;
 mod memory_files;
 mod memory_sink;
 mod memory_source;

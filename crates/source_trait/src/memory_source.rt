@@ -94,7 +94,7 @@ impl Source for MemorySource {
             return Err(AttachFault::Failed);
         }
         match offered_rows(alloc, self.tables.as_slice(), columns.len(), locator) {
-            Ok(rows) => match self.holding.take(alloc, rel, columns, locator, rows) {
+            Ok(rows) => match self.holding.take(alloc, rel, columns, locator, rows, 0) {
                 Ok(()) => Ok(()),
                 Err(_) => Err(AttachFault::NoMemory),
             },
@@ -117,7 +117,7 @@ impl Source for MemorySource {
         let fails = self.calls.fails_next();
         match answer(
             alloc,
-            &self.holding,
+            &mut self.holding,
             &mut self.asked,
             rel,
             positions,
@@ -142,14 +142,15 @@ impl Source for MemorySource {
 // The rows that a request is answered with, and the request noted behind those before it.
 fn answer(
     alloc: Global,
-    holding: &Holding,
+    holding: &mut Holding,
     asked: &mut Requests,
     rel: u32,
     positions: &Places,
     values: &Row,
 ) -> Result<Rows, NoMemory>
-    ensures picks { IfOk result (λ rows. rows ≡ pick (facts_held holding.now) rel positions.now values.now) }
-    ensures fits { IfOk result (λ rows. IfSome (attached_in holding.now rel) (λ a. AllByRecursion (λ row. (length row ≡ length a.0) × (agrees positions.now values.now row ≡ true)) rows)) }
+    ensures picks { IfOk result (λ rows. rows ≡ pick (facts_held holding.old) rel positions.now values.now) }
+    ensures fits { IfOk result (λ rows. IfSome (attached_in holding.old rel) (λ a. AllByRecursion (λ row. (length row ≡ length a.0) × (agrees positions.now values.now row ≡ true)) rows)) }
+    ensures held { holding.new ≡ holding.old }
     ensures noted { OnOk result (asked.new ≡ asked.old ++ record { rel = rel; positions = positions.now; values = values.now } ∷ []) }
     ensures stays { OnErr result (asked.new ≡ asked.old) }
 {

@@ -189,3 +189,61 @@ fn the_first_kind_of_a_name_is_asked(rt: HostRuntime) -> Result<(), Fail> {
     assert_eq!(rt; rows.len(), 3);
     Ok(())
 }
+
+// Two tables of numbers and letters, with repeated rows and values.
+fn letters(alloc: Global) -> Result<Seq<Table>, AllocError> {
+    let mut tables = Seq::new(alloc);
+    let lines: [&[&str]; 8] = [
+        &["1", "a"],
+        &["2", "b"],
+        &["1", "b"],
+        &["", "a"],
+        &["1", "a"],
+        &["12", ""],
+        &["2", "a"],
+        &["1", "2"],
+    ];
+    tables.push(table(alloc, "many", &lines)?)?;
+    let lines: [&[&str]; 2] = [&["2", "a"], &["1", "c"]];
+    tables.push(table(alloc, "few", &lines)?)?;
+    Ok(tables)
+}
+
+#[test]
+fn an_index_answers_each_row_that_has_the_values(rt: HostRuntime) -> Result<(), Fail> {
+    let alloc = rt.alloc();
+    let tables = letters(alloc)?;
+    assert!(rt; locators_differ(&tables));
+    let mut source = MemorySource::new(alloc, tables, Seq::new(alloc), Seq::new(alloc));
+    let columns = row(alloc, &["number", "letter"])?;
+    let many = Text::from_str(alloc, "many")?;
+    let few = Text::from_str(alloc, "few")?;
+    source.attach(alloc, 1, &columns, &many)?;
+    source.attach(alloc, 2, &columns, &few)?;
+    let asked: [(u32, &[u32], &[&str], usize); 13] = [
+        (1, &[0], &["1"], 4),
+        (1, &[0], &["2"], 2),
+        (1, &[0], &["12"], 1),
+        (1, &[0], &["3"], 0),
+        (1, &[0], &[""], 1),
+        (1, &[1], &["a"], 4),
+        (1, &[1], &["2"], 1),
+        (1, &[0, 1], &["1", "a"], 2),
+        (1, &[0, 1], &["12", ""], 1),
+        (1, &[0, 1], &["", "12"], 0),
+        (2, &[0], &["1"], 1),
+        (2, &[1], &["a"], 1),
+        (2, &[], &[], 2),
+    ];
+    for (rel, positions, values, count) in asked {
+        let positions = places(alloc, positions)?;
+        let rows = source.call(alloc, rel, &positions, &row(alloc, values)?)?;
+        assert_eq!(rt; rows.len(), count, "{rel} {positions:?} {values:?}");
+    }
+    source.attach(alloc, 1, &columns, &few)?;
+    let first = places(alloc, &[0])?;
+    let one = row(alloc, &["1"])?;
+    let rows = source.call(alloc, 1, &first, &one)?;
+    assert!(rt; rows.same(&Seq::from_vec(vec![in alloc; row(alloc, &["1", "c"])?]?)));
+    Ok(())
+}

@@ -1,9 +1,13 @@
 use Rattle.std.proofs.Common.{refl}
 use Rattle.source_trait.proofs.Stores.{store_without, gone, others_stay, facts_without}
+use Rattle.source_trait.proofs.Indexing.{indexes_without}
 use Rattle.source_trait.proofs.holding.Holding.detach.Goals as goal
 
 pub invariant_of-self : goal.invariant_of-self
-invariant_of-self c = rw c.take_away.ensures (store_without c.args.rel c.self.inside.list.items c.self.invariant)
+invariant_of-self c = (
+  rw c.take_away.ensures (store_without c.args.rel c.self.inside.list.items c.self.invariant.0),
+  rw (c.take_away.ensures, c.take_indexes.ensures) (indexes_without c.args.rel c.self.inside.list.items c.self.inside.indexes.items c.self.invariant.1),
+)
 
 pub returns-clause-absent : goal.returns-clause-absent
 returns-clause-absent c = rw (c.take_away.ensures) (gone c.args.rel c.self.inside.list.items)
@@ -16,3 +20,6 @@ returns-clause-others c = λ r apart. rw (c.take_away.ensures, ← c.self.view_i
 
 pub returns-clause-facts : goal.returns-clause-facts
 returns-clause-facts c = rw (c.take_away.ensures, ← c.self.view_is) (facts_without c.args.rel c.self.inside.list.items)
+
+pub returns-clause-left : goal.returns-clause-left
+returns-clause-left c = rw (c.take_away.ensures, ← c.self.view_is) refl

@@ -1,0 +1,25 @@
+use Rattle.std.proofs.Common.{◌≡◌, ◌%◌, ◌++◌, ◌∷◌, [], get_or, length, refl}
+use Rattle.std.specs.List.{filter}
+use Rattle.source_trait.specs.Asking.{agrees}
+use Rattle.source_trait.specs.Index.{key_hash}
+use Rattle.source_trait.proofs.Indexing.{found_first, found_more}
+use Rattle.source_trait.proofs.index.Index.rows_with.Goals as goal
+
+pub loop-number-init : goal.loop-number-init
+loop-number-init c =
+    let index = c.args.self.now in
+    let code = c.key_hash.result % length c.as_slice-heads.result.now in
+    let code_is : code ≡ key_hash 0 index.positions c.args.values.now % length index.heads.items = rw (c.key_hash.ensures, c.as_slice-heads.ensures.value, c.as_slice-positions.ensures) refl in
+    let at : get_or c.as_slice-heads.result.now code 0 ≡ get_or index.heads.items code 0 = rw c.as_slice-heads.ensures.value refl in
+    rw c.new-found.ensures.items
+    (found_first index.positions c.args.values.now c.args.rows.now (length index.heads.items) index.heads.items index.next.items code (get_or c.as_slice-heads.result.now code 0) refl c.requires.0 c.requires.1 code_is at)
+
+pub loop-number-preserved : goal.loop-number-preserved
+loop-number-preserved c =
+    let index = c.args.self.now in
+    let row = c.index-rows-number.result in
+    let at : get_or c.as_slice-next.result.now c.loop-number.number 0 ≡ get_or index.next.items c.loop-number.number 0 = rw c.as_slice-next.ensures.value refl in
+    let found : c.push_matching.new.found.items ≡ c.loop-number.found.items ++ filter (agrees index.positions c.args.values.now) (row ∷ []) = rw (← c.as_slice-positions.ensures) c.in_ok-push_matching.ensures in
+    rw found
+    (found_more index.positions c.args.values.now c.args.rows.now (length index.heads.items) index.heads.items index.next.items c.loop-number.number (get_or c.as_slice-next.result.now c.loop-number.number 0) c.loop-number.found.items row c.loop-number.invariant c.requires.1
+    c.loop-number-test.true c.index-rows-number.is at)

@@ -1,0 +1,167 @@
+// An index of a relation's rows on positions.
+ghost use Rattle.std.specs.Prelude.{◌≡◌, ◌<◌, ◌≤◌, ◌%◌, ℕ, [], length, map, IfOk, option_copied, slice_index};
+ghost use Rattle.std.specs.List.{AllByRecursion, filter};
+ghost use Rattle.source_trait.specs.Asking.{agrees};
+ghost use Rattle.source_trait.specs.Index.{AreChains, Indexes, codes_of, index_in, key_hash, mix, row_hash};
+
+use crate::matching::push_matching;
+use lists::{Places, Row, Text};
+use std::alloc::{AllocError, Global};
+
+/// An index of the rows of a relation on positions: chains of the rows whose values there hash to one code.
+#[derive(Drop)]
+pub struct Index {
+    pub rel: u32,
+    pub positions: Places,
+    /// The number of the first row of each chain, or the number of rows.
+    pub heads: Vec<usize>,
+    /// The number of the row behind each row in its chain, or the number of rows.
+    pub next: Vec<usize>,
+}
+
+impl Index {
+    /// The index of these rows, with as many chains as rows.
+    pub(crate) fn build(
+        alloc: Global,
+        rel: u32,
+        positions: &[u32],
+        rows: &[Row],
+    ) -> Result<Index, AllocError>
+        ensures indexes { IfOk result (λ index. Indexes index rows.now) }
+        ensures rel { IfOk result (λ index. index.rel ≡ rel) }
+        ensures positions { IfOk result (λ index. index.positions ≡ positions.now) }
+    {
+        let count = rows.len().max(1);
+        let codes = codes(alloc, positions, rows, count)?;
+        let (heads, next) = chains(alloc, &codes, count)?;
+        Ok(Index {
+            rel,
+            positions: Places::from_vec(Vec::from_slice(alloc, positions)?),
+            heads,
+            next,
+        })
+    }
+
+    /// The rows that have the values at the positions of the index, in order.
+    pub(crate) fn rows_with(
+        &self,
+        alloc: Global,
+        rows: &[Row],
+        values: &[Text],
+    ) -> Result<Vec<Row>, AllocError>
+        requires { Indexes self.now rows.now }
+        ensures { IfOk result (λ found. found.items ≡ filter (agrees self.now.positions values.now) rows.now) }
+    {
+        let positions = self.positions.as_slice();
+        let heads = self.heads.as_slice();
+        let next = self.next.as_slice();
+        let code = (key_hash(positions, values) % heads.len() as u64) as usize;
+        let mut found = Vec::new(alloc);
+        let mut number = heads[code];
+        while number < rows.len() {
+            push_matching(alloc, &mut found, &rows[number], positions, values)?;
+            number = next[number];
+        }
+        Ok(found)
+    }
+}
+
+/// The index of a relation on positions.
+pub(crate) fn find_index<'a>(indexes: &'a [Index], rel: u32, positions: &[u32]) -> Option<&'a Index>
+    ensures { option_copied result ≡ index_in indexes.now rel positions.now }
+{
+    let mut left = indexes;
+    while let [index, rest @ ..] = left {
+        if index.rel == rel && index.positions.as_slice() == positions {
+            return Some(index);
+        }
+        left = rest;
+    }
+    None
+}
+
+// The code of each row.
+fn codes(
+    alloc: Global,
+    positions: &[u32],
+    rows: &[Row],
+    count: usize,
+) -> Result<Vec<usize>, AllocError>
+    requires { 0 < count }
+    ensures { IfOk result (λ codes. codes.items ≡ codes_of positions.now count rows.now) }
+{
+    let mut codes = Vec::with_capacity(alloc, rows.len())?;
+    for row in rows {
+        let code = row_hash(row.as_slice(), positions) % count as u64;
+        codes.push(code as usize)?;
+    }
+    Ok(codes)
+}
+
+// The chains of the codes, by their heads and by what stands behind each place.
+fn chains(
+    alloc: Global,
+    codes: &[usize],
+    count: usize,
+) -> Result<(Vec<usize>, Vec<usize>), AllocError>
+    requires { AllByRecursion (λ code. code < count) codes.now }
+    ensures heads { IfOk result (λ made. length made.0.items ≡ count) }
+    ensures chains { IfOk result (λ made. AreChains codes.now made.0.items made.1.items) }
+{
+    let mut heads = vec![in alloc; codes.len(); count]?;
+    let mut next = vec![in alloc; codes.len(); codes.len()]?;
+    let mut number = codes.len();
+    while number > 0 {
+        number -= 1;
+        let code = codes[number];
+        next[number] = heads[code];
+        heads[code] = number;
+    }
+    Ok((heads, next))
+}
+
+// The hash of a row's values at the positions.
+fn row_hash(row: &[Text], positions: &[u32]) -> u64
+    ensures { result ≡ row_hash 0 positions.now row.now }
+{
+    let mut hash: u64 = 0;
+    let mut places = positions;
+    while let [place, rest @ ..] = places {
+        if let Some(value) = row.get(*place as usize) {
+            hash = mix(hash, value.as_bytes());
+        }
+        places = rest;
+    }
+    hash
+}
+
+// The hash of values that are asked for.
+fn key_hash(positions: &[u32], values: &[Text]) -> u64
+    ensures { result ≡ key_hash 0 positions.now values.now }
+{
+    let mut hash: u64 = 0;
+    let mut places = positions;
+    let mut wanted = values;
+    while let [_, places_left @ ..] = places {
+        let [value, values_left @ ..] = wanted else {
+            return hash;
+        };
+        hash = mix(hash, value.as_bytes());
+        places = places_left;
+        wanted = values_left;
+    }
+    hash
+}
+
+// A hash with a text mixed in.
+fn mix(hash: u64, bytes: &[u8]) -> u64
+    ensures { result ≡ mix hash bytes.now }
+{
+    let mut mixed = hash;
+    for byte in bytes {
+        mixed = mixed
+            .wrapping_mul(1099511628211)
+            .wrapping_add(u64::from(*byte));
+    }
+    mixed
+}
