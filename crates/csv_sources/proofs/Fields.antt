@@ -1,11 +1,13 @@
--- The fields of a record by their places, and the mark at a text's front.
-use Rattle.std.proofs.Common.{◌≡◌, ◌+◌, ◌&&◌, ℕ, zero, suc, List, [], ◌∷◌, ◌++◌, take, drop, None, Some, Bool, true, false, cond, refl, ◌∙◌, ap, arith}
+-- The fields of a record by their places.
+use Rattle.std.proofs.Common.{◌≡◌, ◌+◌, ◌<◌, ◌≤◌, ◌&&◌, ℕ, zero, suc, List, [], ◌∷◌, length, drop, get_or, cond, nat_eq, None, Some, Bool, true, false, refl, ◌∙◌, ap, arith}
+use Rattle.std.specs.Cmp.Lexicographic.{pointwise}
 use Rattle.std.specs.Str.{is_utf8, IsUtf8}
 use Rattle.std.proofs.lemmas.Str.{IsUtf8-from_is_utf8, is_utf8-from_IsUtf8}
 use Rattle.std.proofs.lemmas.Grind.{common_steps}
-use Rattle.csv.specs.Reading.{default_config, records, strip_bom}
+use Rattle.std.proofs.lemmas.Bool.Decides.{nat_tests}
+use Rattle.std.proofs.lemmas.List.Sums.{sum_by-cons}
 use Rattle.csv.specs.Records.{field_at}
-use Rattle.csv_sources.specs.FirstForm.{all_text, form_rows, has_mark, rows_under}
+use Rattle.csv_sources.specs.DataFile.{all_text, bad_column, place_in, times_in}
 
 pub field_drop : (fs : List (List ℕ)) (i : ℕ) (f : List ℕ) → field_at fs i ≡ Some f → drop i fs ≡ f ∷ drop (i + 1) fs
 unfolding field_at
@@ -19,11 +21,24 @@ field_none [] i h = grind (arith, common_steps)
 field_none (x ∷ fs) zero h = absurd (cc)
 field_none (x ∷ fs) (suc i) h = grind (arith, common_steps, field_none fs i h)
 
-pub field_take : (fs : List (List ℕ)) (i : ℕ) (f : List ℕ) → field_at fs i ≡ Some f → take (i + 1) fs ≡ take i fs ++ f ∷ []
+pub field_below : (fs : List (List ℕ)) (i : ℕ) (f : List ℕ) → field_at fs i ≡ Some f → i < length fs
 unfolding field_at
-field_take [] i f h = absurd (cc)
-field_take (x ∷ fs) zero f h = grind (arith, common_steps, h)
-field_take (x ∷ fs) (suc i) f h = let e : suc i + 1 ≡ suc (i + 1) = omega arith in rw e (ap (λ (l : List (List ℕ)). x ∷ l) (field_take fs i f h))
+field_below [] i f h = absurd (cc)
+field_below (x ∷ fs) zero f h = omega arith
+field_below (x ∷ fs) (suc i) f h = omega (arith, field_below fs i f h)
+
+-- the field at a place, and the empty one where there is none
+pub field_get : (fs : List (List ℕ)) (i : ℕ) (f : List ℕ) → field_at fs i ≡ Some f → get_or fs i [] ≡ f
+unfolding field_at
+field_get [] i f h = absurd (cc)
+field_get (x ∷ fs) zero f h = cc
+field_get (x ∷ fs) (suc i) f h = field_get fs i f h
+
+pub field_get_none : (fs : List (List ℕ)) (i : ℕ) → field_at fs i ≡ None → get_or fs i [] ≡ []
+unfolding field_at
+field_get_none [] i h = refl
+field_get_none (x ∷ fs) zero h = absurd (cc)
+field_get_none (x ∷ fs) (suc i) h = field_get_none fs i h
 
 -- a field that is no text
 pub not_text : (fs : List (List ℕ)) (i : ℕ) (f : List ℕ) → field_at fs i ≡ Some f → ¬ (IsUtf8 f) → all_text (drop i fs) ≡ false
@@ -36,12 +51,39 @@ not_text fs i f h bad = ap all_text (field_drop fs i f h) ∙ step (is_utf8 f) r
 pub more_text : (fs : List (List ℕ)) (i : ℕ) (f : List ℕ) → field_at fs i ≡ Some f → IsUtf8 f → all_text (drop i fs) ≡ all_text (drop (i + 1) fs)
 more_text fs i f h good = ap all_text (field_drop fs i f h) ∙ ap (λ b. b && all_text (drop (i + 1) fs)) (is_utf8-from_IsUtf8 f good)
 
-pub no_mark : (xs : List ℕ) → has_mark xs ≡ false → strip_bom xs ≡ xs
-unfolding strip_bom
-no_mark [] h = refl
-no_mark (a ∷ []) h = refl
-no_mark (a ∷ b ∷ []) h = refl
-no_mark (a ∷ b ∷ c ∷ rest) h = ap (λ m. cond m rest (a ∷ b ∷ c ∷ rest)) h
+-- a field of a record of text is text
+pub text_field : (fs : List (List ℕ)) (i : ℕ) (f : List ℕ) → all_text fs ≡ true → field_at fs i ≡ Some f → IsUtf8 f
+unfolding field_at
+text_field [] i f all h = absurd (cc)
+text_field (x ∷ fs) zero f all h = IsUtf8-from_is_utf8 f (grind (arith, h, all))
+text_field (x ∷ fs) (suc i) f all h = text_field fs i f (grind (arith, all)) h
 
-pub form_plain : (bytes : List ℕ) (columns : List (List ℕ)) → has_mark bytes ≡ false → rows_under columns (records default_config (strip_bom bytes)) ≡ form_rows bytes columns
-form_plain bytes columns plain = rw (no_mark bytes plain, plain) refl
+-- behind the last field there is nothing that is no text
+pub end_text : (fs : List (List ℕ)) (i : ℕ) → field_at fs i ≡ None → all_text (drop i fs) ≡ true
+end_text fs i h = ap all_text (field_none fs i h)
+
+-- a name against the field at a place
+pub times_step : (fs : List (List ℕ)) (i : ℕ) (f name : List ℕ) (b : Bool) → field_at fs i ≡ Some f → pointwise nat_eq f name ≡ b
+    → times_in (drop i fs) name ≡ cond b 1 0 + times_in (drop (i + 1) fs) name
+times_step fs i f name b at test =
+    ap (λ (l : List (List ℕ)). times_in l name) (field_drop fs i f at)
+    ∙ sum_by-cons (λ field. cond (pointwise nat_eq field name) 1 0) f (drop (i + 1) fs)
+    ∙ ap (λ t. cond t 1 0 + times_in (drop (i + 1) fs) name) test
+
+pub times_end : (fs : List (List ℕ)) (i : ℕ) (name : List ℕ) → field_at fs i ≡ None → times_in (drop i fs) name ≡ 0
+times_end fs i name h = ap (λ (l : List (List ℕ)). times_in l name) (field_none fs i h)
+
+pub place_step : (fs : List (List ℕ)) (i : ℕ) (f name : List ℕ) (b : Bool) → field_at fs i ≡ Some f → pointwise nat_eq f name ≡ b
+    → place_in (drop i fs) name ≡ cond b 0 (place_in (drop (i + 1) fs) name + 1)
+place_step fs i f name b at test = ap (λ (l : List (List ℕ)). place_in l name) (field_drop fs i f at) ∙ ap (λ t. cond t 0 (place_in (drop (i + 1) fs) name + 1)) test
+
+pub place_end : (fs : List (List ℕ)) (i : ℕ) (name : List ℕ) → field_at fs i ≡ None → place_in (drop i fs) name ≡ 0
+place_end fs i name h = ap (λ (l : List (List ℕ)). place_in l name) (field_none fs i h)
+
+-- a column whose name does not stand in the header exactly once
+pub bad_here : (header : List (List ℕ)) (n : ℕ) (left : List (List ℕ)) (name d : List ℕ) → 1 ≤ length left → name ≡ get_or left 0 d → (times_in header name ≡ 1 → ⊥) → bad_column header n left ≡ Some n
+bad_here header n [] name d some is bad = absurd (omega (arith, some))
+bad_here header n (x ∷ left) name d some is bad =
+    let apart : times_in header x ≡ 1 → ⊥ = λ e. bad (ap (times_in header) is ∙ e) in
+    let test : nat_eq (times_in header x) 1 ≡ false = grind (arith, nat_tests, apart) in
+    ap (λ t. cond t (bad_column header (n + 1) left) (Some n)) test

@@ -1,4 +1,4 @@
 pub mod Counted
 pub mod Fields
-pub mod Header
 pub mod Offers
+pub mod Rows

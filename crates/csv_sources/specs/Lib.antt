@@ -1,4 +1,4 @@
-pub mod FirstForm
+pub mod DataFile
 pub mod Folder
 pub mod Loading
 pub mod Records

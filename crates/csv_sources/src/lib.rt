@@ -1,14 +1,15 @@
 //! Sources of rows over CSV files.
 //!
 //! A crate above gives `CsvFolder` its files, attaches relations by the names of data files and asks requests, as of
-//! any `Source`. Begin at `specs/FirstForm.antt`, which says what the bytes of a data file offer.
+//! any `Source`. Begin at `specs/DataFile.antt`, which says what the bytes of a data file offer.
 #![tactic(auto)]
 
-mod first_form;
+mod data_file;
 mod folder;
+mod header;
 mod records;
 
-pub use folder::{CsvFolder, FILE_LIMIT};
+pub use folder::{CsvFolder, FILE_LIMIT, SUM_LIMIT};
 
 #[cfg(test)]
 mod tests;
