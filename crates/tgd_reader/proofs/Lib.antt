@@ -1,3 +1,16 @@
 pub mod ReadLists
 pub mod Declarations
 pub mod PartLaws
+pub mod Counts
+pub mod Named
+pub mod Exactly
+pub mod Writing
+pub mod PrintedParts
+pub mod Plain
+pub mod Rebuilt
+pub mod Places
+pub mod Redeclared
+pub mod Reprinted
+pub mod Faultless
+pub mod Sound
+pub mod Again

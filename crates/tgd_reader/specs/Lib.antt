@@ -1,2 +1,5 @@
 pub mod Reading
 pub mod Grammar
+pub mod SchemaText
+pub mod Printed
+pub mod Printing

@@ -6,13 +6,22 @@
 
 mod declaration;
 mod fault;
+mod laws;
 mod listed;
 mod parts;
+mod pieces;
+mod print;
+mod read;
 
 pub use declaration::read_declaration;
-pub use fault::PartsFault;
+pub use fault::{PartsFault, ReadFault};
+pub use laws::printed_schemas_are_read;
 pub use listed::Listing;
 pub use parts::{Declared, read_parts};
+pub use print::schema_text;
+pub use read::read_schema;
 
+#[cfg(test)]
+mod schema_tests;
 #[cfg(test)]
 mod tests;

@@ -1,0 +1,98 @@
+-- Bytes are the text of one schema at most, and then no fault is theirs.
+use Rattle.std.proofs.Common.{◌≡◌, ℕ, ◌<◌, Bool, true, false, List, [], ◌∷◌, length, take, drop, arith, slice_get, Option, None, Some, Result, Ok, Err, refl, sym, ap, subst, ◌∙◌}
+use Rattle.std.specs.Prelude.{IfOk, IfErr, ◌&&◌, encode_utf8_all}
+use Rattle.std.specs.Str.{IsUtf8, StartsWithNoChar}
+use Rattle.std.proofs.Math.Utf8.{scalar, scalars}
+use Rattle.std.proofs.Props.{props}
+use Rattle.std.proofs.lemmas.Str.{IsCharBoundary-from_take, IsUtf8-drop}
+use Rattle.std.proofs.lemmas.List.{length-drop}
+use Rattle.meaning.specs.declared.types.Relation.{Relation}
+use Rattle.meaning.specs.declared.types.Method.{Method}
+use Rattle.meaning.specs.declared.types.Rule.{Rule}
+use Rattle.pq_text.specs.Utf8.{IsFirstBad}
+use Rattle.access_schema.specs.declared.fault.SchemaFault.{SchemaFault}
+use Rattle.access_schema.specs.declared.part.Part.{Part}
+use Rattle.access_schema.specs.declared.schema.SourceLine.{SourceLine}
+use Rattle.access_schema.specs.declared.schema.Schema.{Schema}
+use Rattle.access_schema.specs.Content.{Builds}
+use Rattle.access_schema.specs.Faults.{AreFaultless, HasFault}
+use Rattle.access_schema.specs.Invariant.{IsSchema}
+use Rattle.tgd_reader.specs.declared.parts.Declared.{Declared}
+use Rattle.tgd_reader.specs.declared.fault.PartsFault.{PartsFault}
+use Rattle.tgd_reader.specs.declared.fault.PartsFault.TheVariants as faulty
+use Rattle.tgd_reader.specs.declared.fault.ReadFault.{ReadFault}
+use Rattle.tgd_reader.specs.declared.fault.ReadFault.TheVariants as faults
+use Rattle.tgd_reader.specs.Grammar.{HasParts, HasFaultyLine}
+use Rattle.tgd_reader.specs.SchemaText.{DeclaresSchema, IsSchemaText, IsReadFault, IsReadAs}
+use Rattle.tgd_reader.proofs.PartLaws.{text_only}
+
+-- ---- a schema is its fields
+
+abbrev Fields : Type 0
+Fields = record { relations : List Relation; methods : List Method; rules : List Rule; constants : List (List ℕ); sources : List SourceLine }
+
+abbrev Holds : Fields → Type 0
+Holds f = IsSchema f.relations f.methods f.rules f.constants f.sources
+
+holds_once : (f : Fields) (v w : Holds f) → v ≡ w
+holds_once f = hlevel props
+
+abbrev fields_of : Schema → Fields
+fields_of s = record { relations = s.relations; methods = s.methods; rules = s.rules; constants = s.constants; sources = s.sources }
+
+abbrev made_of : (f : Fields) → Holds f → Schema
+made_of f v = record { relations = f.relations; methods = f.methods; rules = f.rules; constants = f.constants; sources = f.sources; valid = v }
+
+same_made : (b : Schema) (v : Holds (fields_of b)) → made_of (fields_of b) v ≡ b
+same_made b v = ap (made_of (fields_of b)) (holds_once (fields_of b) v b.valid)
+
+same_schema : (a b : Schema) → fields_of a ≡ fields_of b → a ≡ b
+same_schema a b e = subst (λ (f : Fields). (v : Holds f) → made_of f v ≡ b) (sym e) (same_made b) a.valid
+
+-- parts build one schema
+built_once : (parts : List Part) (a b : Schema) → Builds parts a → Builds parts b → a ≡ b
+built_once parts a b p q =
+    let e : a.relations ≡ b.relations = p.relations ∙ sym q.relations in
+    let f : a.methods ≡ b.methods = p.methods ∙ sym q.methods in
+    let g : a.rules ≡ b.rules = p.rules ∙ sym q.rules in
+    let h : a.constants ≡ b.constants = p.constants ∙ sym q.constants in
+    let k : a.sources ≡ b.sources = p.sources ∙ sym q.sources in
+    same_schema a b cc
+
+-- ---- texts
+
+-- a text has one list of parts
+declared_once : (text : List ℕ) (x y : Declared) → HasParts text x → HasParts text y → x ≡ y
+declared_once text x y p q = text_only text (Ok x) p tt y q
+
+and-first : (x y : Bool) → (x && y) ≡ true → x ≡ true
+and-first true y e = refl
+and-first false y e = absurd cc
+
+-- a character begins where some text is
+no_text : (cs bytes : List ℕ) → scalars cs ≡ true → encode_utf8_all cs ≡ bytes → 0 < length bytes → StartsWithNoChar bytes → ⊥
+no_text [] bytes are spell some none = let e = ap length spell in omega (arith, e, some)
+no_text (c ∷ cs) bytes are spell some none = none c (encode_utf8_all cs) (and-first (scalar c) (scalars cs) are) (sym spell)
+
+text_not_bad : (bytes : List ℕ) (offset : ℕ) → IsUtf8 bytes → IsFirstBad bytes offset → ⊥
+text_not_bad bytes offset utf8 bad =
+    let cut = IsCharBoundary-from_take bytes offset utf8 (let w = bad.within in omega arith) bad.before in
+    let rest : IsUtf8 (drop offset bytes) = IsUtf8-drop bytes offset utf8 cut in
+    let long = length-drop offset bytes in
+    no_text rest.0 (drop offset bytes) rest.1.0 rest.1.1 (let w = bad.within in omega (arith, long, w)) bad.none
+
+text_not_faulty : (text : List ℕ) (line : ℕ) (x : Declared) → HasParts text x → HasFaultyLine text (faulty.Line line) → ⊥
+text_not_faulty text line x has fault =
+    let r : Result Declared PartsFault = Err (faulty.Line line) in
+    text_only text r tt fault x has
+
+pub read_only : (bytes : List ℕ) (r : Result Schema ReadFault) → IfOk r (λ schema. IsSchemaText bytes schema) → IfErr r (λ fault. IsReadFault bytes fault) → (schema : Schema) → IsSchemaText bytes schema → IsReadAs schema r
+read_only bytes (Ok found) ok err schema is =
+    let same : ok.1.declared ≡ is.1.declared = declared_once bytes ok.1.declared is.1.declared ok.1.parts is.1.parts in
+    built_once is.1.declared.parts found schema (subst (λ (d : Declared). Builds d.parts found) same ok.1.builds) is.1.builds
+read_only bytes (Err faults.NoMemory) ok err schema is = tt
+read_only bytes (Err (faults.NotUtf8 offset)) ok err schema is = text_not_bad bytes offset is.0 err
+read_only bytes (Err (faults.Line line)) ok err schema is = text_not_faulty bytes line is.1.declared is.1.parts err.1
+read_only bytes (Err (faults.Schema line fault)) ok err schema is =
+    let same : err.1.declared ≡ is.1.declared = declared_once bytes err.1.declared is.1.declared err.1.parts is.1.parts in
+    is.1.faultless err.1.first.index fault (subst (λ (d : Declared). HasFault d.parts err.1.first.index fault) same err.1.first.first.has)

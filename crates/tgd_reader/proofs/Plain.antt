@@ -1,0 +1,109 @@
+-- The declarations of a schema can be printed: no name is empty, and lists have members.
+use Rattle.std.proofs.Common.{◌≡◌, ◌≢◌, ℕ, ◌<◌, ◌≤◌, List, [], ◌∷◌, ◌++◌, length, slice_get, get_or, Option, Some, refl, sym, ap, subst, ◌∙◌, arith}
+use Rattle.std.specs.Prelude.{Contains, map, slice_index_or}
+use Rattle.std.specs.List.{AllByRecursion}
+use Rattle.std.proofs.lemmas.List.Elements.{All-contains_itself, Contains-append_left, Contains-append_right}
+use Rattle.std.proofs.lemmas.List.{length-map}
+use Rattle.meaning.specs.declared.types.Relation.{Relation}
+use Rattle.meaning.specs.declared.types.Method.{Method}
+use Rattle.meaning.specs.declared.types.Rule.{Rule}
+use Rattle.meaning.specs.declared.types.Atom.{Atom}
+use Rattle.meaning.specs.declared.types.Term.{Term}
+use Rattle.meaning.specs.declared.types.Term.TheVariants.{Var, Const}
+use Rattle.pq_text.specs.Forms.{IsSome}
+use Rattle.lists.proofs.Members.{contains_here, contains_there, contains_got, got_below}
+use Rattle.access_schema.specs.declared.part.Part.{Part}
+use Rattle.access_schema.specs.declared.part.Part.TheVariants.{Constant as ConstantPart}
+use Rattle.access_schema.specs.declared.schema.SourceLine.{SourceLine}
+use Rattle.access_schema.specs.declared.schema.Schema.{Schema}
+use Rattle.access_schema.specs.Invariant.{AtomFits}
+use Rattle.tgd_reader.specs.Printed.{name_in, columns_in, name_at, columns_at, named_term, named_atom, relation_part, method_part, rule_part, source_part, parts_of}
+use Rattle.tgd_reader.proofs.Writing.{by_recursion}
+use Rattle.tgd_reader.proofs.PrintedParts.{IsPlainTerm, IsPlainAtom, IsPlain}
+
+some_of : {X : Type 0} (xs : List X) → xs ≢ [] → IsSome xs
+some_of [] some = some refl
+some_of (x ∷ xs) some = tt
+
+some_long : {X : Type 0} (xs : List X) → 1 ≤ length xs → IsSome xs
+some_long [] some = omega arith
+some_long (x ∷ xs) some = tt
+
+pub all_appended : {X : Type 0} (P : X → Type 0) (xs ys : List X) → AllByRecursion P xs → AllByRecursion P ys → AllByRecursion P (xs ++ ys)
+all_appended P [] ys front behind = behind
+all_appended P (x ∷ xs) ys front behind = (front.0, all_appended P xs ys front.1 behind)
+
+pub all_mapped : {X Y : Type 0} (P : Y → Type 0) (f : X → Y) (xs : List X) → ((x : X) → Contains xs x → P (f x)) → AllByRecursion P (map f xs)
+all_mapped P f [] all = tt
+all_mapped P f (x ∷ xs) all = (all x (contains_here x xs), all_mapped P f xs (λ y there. all y (contains_there x xs y there)))
+
+module _ (schema : Schema) where
+  name_some : (number : ℕ) → number < length schema.relations → IsSome (name_at schema.relations number)
+  name_some number lt =
+      let (relation, at) = got_below schema.relations number lt in
+      let some : IsSome relation.name = some_of relation.name (schema.valid.relations_are.named relation (contains_got schema.relations number relation at)) in
+      subst (λ (o : Option Relation). IsSome (name_in o)) (sym at) some
+
+  relation_plain : (relation : Relation) → Contains schema.relations relation → IsPlain (relation_part relation)
+  relation_plain relation there =
+      let columns = schema.valid.relations_are.columns relation there in (
+        some_of relation.name (schema.valid.relations_are.named relation there),
+        some_long relation.columns columns.some,
+        by_recursion (λ (column : List ℕ). IsSome column) relation.columns (λ column among. some_of column (columns.named column among)),
+      )
+
+  method_plain : (method : Method) → Contains schema.methods method → IsPlain (method_part schema.relations method)
+  method_plain method there =
+      let placed = schema.valid.methods_are.placed method there in
+      let (relation, at) = got_below schema.relations method.rel placed in
+      let columns = schema.valid.relations_are.columns relation (contains_got schema.relations method.rel relation at) in
+      let names : AllByRecursion IsSome (map (λ place. slice_index_or relation.columns place []) method.inputs) =
+      all_mapped IsSome (λ place. slice_index_or relation.columns place []) method.inputs (λ place among.
+      let lt = schema.valid.methods_are.inputs method relation place there at among in
+      some_of (get_or relation.columns place []) (columns.named (get_or relation.columns place []) (All-contains_itself relation.columns place [] lt))) in
+      let inputs : AllByRecursion IsSome (columns_at schema.relations method.rel method.inputs) =
+      subst (λ (o : Option Relation). AllByRecursion IsSome (map (λ place. slice_index_or (columns_in o) place []) method.inputs)) (sym at) names in
+      (some_of method.name (schema.valid.methods_are.named method there), name_some method.rel placed, inputs, schema.valid.methods_are.cost method there)
+
+  term_plain : (term : Term) → IsPlainTerm (named_term term)
+  term_plain (Var k) = tt
+  term_plain (Const text) = tt
+
+  atom_plain : (atom : Atom) → AtomFits schema.relations atom → IsPlainAtom (named_atom schema.relations atom)
+  atom_plain atom fits =
+      let (relation, at) = got_below schema.relations atom.rel fits.placed in
+      let columns = schema.valid.relations_are.columns relation (contains_got schema.relations atom.rel relation at) in
+      let some = columns.some in
+      let arity = fits.arity relation at in
+      let long = length-map atom.terms named_term in (
+        name_some atom.rel fits.placed,
+        some_long (map named_term atom.terms) (omega (arith, some, arity, long)),
+        all_mapped IsPlainTerm named_term atom.terms (λ term among. term_plain term),
+      )
+
+  rule_plain : (rule : Rule) → Contains schema.rules rule → IsPlain (rule_part schema.relations rule)
+  rule_plain rule there =
+      let fits = schema.valid.rules_are.fit rule there in
+      let body_long = length-map rule.body (named_atom schema.relations) in
+      let head_long = length-map rule.head (named_atom schema.relations) in
+      let body_some = fits.body_some in
+      let head_some = fits.head_some in (
+        some_long (map (named_atom schema.relations) rule.body) (omega (arith, body_long, body_some)),
+        all_mapped IsPlainAtom (named_atom schema.relations) rule.body (λ atom among. atom_plain atom (fits.atoms atom (Contains-append_left rule.body rule.head atom among))),
+        some_long (map (named_atom schema.relations) rule.head) (omega (arith, head_long, head_some)),
+        all_mapped IsPlainAtom (named_atom schema.relations) rule.head (λ atom among. atom_plain atom (fits.atoms atom (Contains-append_right rule.body rule.head atom among))),
+      )
+
+  source_plain : (source : SourceLine) → Contains schema.sources source → IsPlain (source_part schema.relations source)
+  source_plain source there = (name_some source.rel (schema.valid.sources_are.placed source there), some_of source.kind (schema.valid.sources_are.named source there))
+
+  pub schema_plain : AllByRecursion IsPlain (parts_of schema)
+  schema_plain =
+      let sources : List Part = map (source_part schema.relations) schema.sources in
+      let constants : List Part = map ConstantPart schema.constants in
+      let rules : List Part = map (rule_part schema.relations) schema.rules in
+      let methods : List Part = map (method_part schema.relations) schema.methods in
+      all_appended IsPlain (map relation_part schema.relations) (methods ++ (rules ++ (constants ++ sources))) (all_mapped IsPlain relation_part schema.relations relation_plain)
+      (all_appended IsPlain methods (rules ++ (constants ++ sources)) (all_mapped IsPlain (method_part schema.relations) schema.methods method_plain)
+      (all_appended IsPlain rules (constants ++ sources) (all_mapped IsPlain (rule_part schema.relations) schema.rules rule_plain)
+      (all_appended IsPlain constants sources (all_mapped IsPlain ConstantPart schema.constants (λ text there. tt)) (all_mapped IsPlain (source_part schema.relations) schema.sources source_plain))))

@@ -1,0 +1,12 @@
+// What the printing of schemas promises their readers: laws on the definitions alone, as functions that do nothing.
+ghost use Rattle.access_schema.specs.declared.schema.Schema.{Schema};
+ghost use Rattle.tgd_reader.specs.Grammar.{HasParts};
+ghost use Rattle.tgd_reader.specs.SchemaText.{DeclaresSchema};
+ghost use Rattle.tgd_reader.specs.Printed.{parts_of, text_of_schema, printed_parts, AreSameButLines};
+
+/// The text of a schema has exactly the schema's declarations as its parts, each on the line on which it is printed;
+/// and it declares the same schema again, but for the lines of its rules.
+pub fn printed_schemas_are_read()
+    ensures parts { (schema : Schema) → HasParts (text_of_schema schema) (printed_parts (parts_of schema)) }
+    ensures schema { (schema : Schema) → (again : Schema) × DeclaresSchema (text_of_schema schema) again × AreSameButLines again schema }
+{}

@@ -1,0 +1,169 @@
+// The text of a schema.
+ghost use Rattle.std.specs.Prelude.{◌≡◌, ◌<◌, ◌∷◌, [], map, length, IfOk, OnOk, All, slice_index_or};
+ghost use Rattle.std.specs.List.{AllByRecursion};
+ghost use Rattle.access_schema.specs.declared.part.Part.TheVariants.{Constant as ConstantPart};
+ghost use Rattle.tgd_reader.specs.Printed.{relation_part, method_part, rule_part, source_part, text_of_schema};
+ghost use Rattle.tgd_reader.specs.Printing.{WritesLines, IsMethodPlaced, IsRulePlaced, IsSourcePlaced};
+
+use crate::pieces::{atoms, end_line, listing, mark, name, number, relation_at, value, word};
+use access_schema::{Method, NoMemory, Relation, Rule, Schema, SourceLine, Text, Texts};
+use lists::{Bytes, Copies, Seq};
+use std::alloc::Global;
+
+/// The text of a schema: its declarations, one on a line, each with a line feed at its end.
+///
+/// Foreign keys are printed as the rules that they became, and all constants are printed, those of rules too. The text
+/// is read as the same schema again, but for the lines of its rules; it may be longer than the text that was read.
+pub fn schema_text(alloc: Global, schema: &Schema) -> Result<Bytes, NoMemory>
+    ensures { IfOk result (λ bytes. bytes ≡ text_of_schema schema.now) }
+{
+    let relations = schema.relations.as_slice();
+    let mut out = Vec::new(alloc);
+    print_relations(&mut out, relations)?;
+    print_methods(alloc, &mut out, relations, schema.methods.as_slice())?;
+    print_rules(&mut out, relations, schema.rules.as_slice())?;
+    print_constants(&mut out, schema.constants.as_slice())?;
+    print_sources(&mut out, relations, schema.sources.as_slice())?;
+    Ok(Seq::from_vec(out))
+}
+
+fn print_relations(out: &mut Vec<u8>, relations: &[Relation]) -> Result<(), NoMemory>
+    ensures { OnOk result (WritesLines out.old.items out.new.items (map relation_part relations.now)) }
+{
+    let mut left = relations;
+    while let [relation, after @ ..] = left {
+        print_relation(out, relation)?;
+        left = after;
+    }
+    Ok(())
+}
+
+fn print_relation(out: &mut Vec<u8>, relation: &Relation) -> Result<(), NoMemory>
+    ensures { OnOk result (WritesLines out.old.items out.new.items (relation_part relation.now ∷ [])) }
+{
+    word(out, false, b"relation")?;
+    listing(out, &relation.name, relation.columns.as_slice())?;
+    end_line(out)
+}
+
+fn print_methods(
+    alloc: Global,
+    out: &mut Vec<u8>,
+    relations: &[Relation],
+    methods: &[Method],
+) -> Result<(), NoMemory>
+    requires { AllByRecursion (IsMethodPlaced relations.now) methods.now }
+    ensures { OnOk result (WritesLines out.old.items out.new.items (map (method_part relations.now) methods.now)) }
+{
+    let mut left = methods;
+    while let [method, after @ ..] = left {
+        print_method(alloc, out, relations, method)?;
+        left = after;
+    }
+    Ok(())
+}
+
+fn print_method(
+    alloc: Global,
+    out: &mut Vec<u8>,
+    relations: &[Relation],
+    method: &Method,
+) -> Result<(), NoMemory>
+    requires { IsMethodPlaced relations.now method.now }
+    ensures { OnOk result (WritesLines out.old.items out.new.items (method_part relations.now method.now ∷ [])) }
+{
+    let relation = relation_at(relations, method.rel);
+    let inputs = names_at(alloc, relation.columns.as_slice(), method.inputs.as_slice())?;
+    word(out, false, b"method")?;
+    name(out, true, &method.name)?;
+    word(out, true, b"on")?;
+    listing(out, &relation.name, inputs.as_slice())?;
+    word(out, true, b"cost")?;
+    number(out, method.cost)?;
+    end_line(out)
+}
+
+// The names at some places of a list of columns.
+fn names_at(alloc: Global, columns: &[Text], places: &[u32]) -> Result<Texts, NoMemory>
+    requires { All (λ place. place < length columns.now) places.now }
+    ensures { IfOk result (λ names. names ≡ map (λ place. slice_index_or columns.now place []) places.now) }
+{
+    let mut names = Seq::new(alloc);
+    for place in places {
+        names.push(columns[*place as usize].copy(alloc)?)?;
+    }
+    Ok(names)
+}
+
+fn print_rules(out: &mut Vec<u8>, relations: &[Relation], rules: &[Rule]) -> Result<(), NoMemory>
+    requires { AllByRecursion (IsRulePlaced relations.now) rules.now }
+    ensures { OnOk result (WritesLines out.old.items out.new.items (map (rule_part relations.now) rules.now)) }
+{
+    let mut left = rules;
+    while let [rule, after @ ..] = left {
+        print_rule(out, relations, rule)?;
+        left = after;
+    }
+    Ok(())
+}
+
+fn print_rule(out: &mut Vec<u8>, relations: &[Relation], rule: &Rule) -> Result<(), NoMemory>
+    requires { IsRulePlaced relations.now rule.now }
+    ensures { OnOk result (WritesLines out.old.items out.new.items (rule_part relations.now rule.now ∷ [])) }
+{
+    word(out, false, b"rule")?;
+    atoms(out, relations, rule.body.as_slice())?;
+    mark(out, true, b"->")?;
+    atoms(out, relations, rule.head.as_slice())?;
+    end_line(out)
+}
+
+fn print_constants(out: &mut Vec<u8>, constants: &[Text]) -> Result<(), NoMemory>
+    ensures { OnOk result (WritesLines out.old.items out.new.items (map ConstantPart constants.now)) }
+{
+    let mut left = constants;
+    while let [text, after @ ..] = left {
+        print_constant(out, text)?;
+        left = after;
+    }
+    Ok(())
+}
+
+fn print_constant(out: &mut Vec<u8>, text: &Text) -> Result<(), NoMemory>
+    ensures { OnOk result (WritesLines out.old.items out.new.items (ConstantPart text.now ∷ [])) }
+{
+    word(out, false, b"constant")?;
+    value(out, true, text)?;
+    end_line(out)
+}
+
+fn print_sources(
+    out: &mut Vec<u8>,
+    relations: &[Relation],
+    sources: &[SourceLine],
+) -> Result<(), NoMemory>
+    requires { AllByRecursion (IsSourcePlaced relations.now) sources.now }
+    ensures { OnOk result (WritesLines out.old.items out.new.items (map (source_part relations.now) sources.now)) }
+{
+    let mut left = sources;
+    while let [source, after @ ..] = left {
+        print_source(out, relations, source)?;
+        left = after;
+    }
+    Ok(())
+}
+
+fn print_source(
+    out: &mut Vec<u8>,
+    relations: &[Relation],
+    source: &SourceLine,
+) -> Result<(), NoMemory>
+    requires { IsSourcePlaced relations.now source.now }
+    ensures { OnOk result (WritesLines out.old.items out.new.items (source_part relations.now source.now ∷ [])) }
+{
+    word(out, false, b"source")?;
+    name(out, true, &relation_at(relations, source.rel).name)?;
+    name(out, true, &source.kind)?;
+    value(out, true, &source.locator)?;
+    end_line(out)
+}
