@@ -1,0 +1,112 @@
+-- A statement that is read fits the schema and the limits.
+use Rattle.std.proofs.Common.{◌≡◌, ℕ, suc, ◌≤◌, ◌<◌, ◌+◌, List, [], ◌∷◌, length, map, ap, subst, sym, ◌∙◌, refl, arith, ⊎_elim}
+use Rattle.std.specs.Prelude.{Contains, Some, slice_get}
+use Rattle.std.specs.List.{AllZip}
+use Rattle.std.proofs.lemmas.Slice.Zip.{AllZip-long}
+use Rattle.std.proofs.lemmas.Option.{slice_get_within}
+use Rattle.lists.proofs.Members.{contains_cases, got_mapped}
+use Rattle.meaning.specs.declared.types.Relation.{Relation}
+use Rattle.meaning.specs.declared.types.Operand.{Operand}
+use Rattle.meaning.specs.declared.types.Operand.TheVariants.{Column, Literal}
+use Rattle.meaning.specs.declared.types.Condition.{Condition}
+use Rattle.meaning.specs.declared.types.Select.{Select}
+use Rattle.meaning.specs.declared.types.Statement.{Statement}
+use Rattle.meaning.specs.Conjunctive.{OperandFits, SelectFits}
+use Rattle.access_schema.specs.declared.schema.Schema.{Schema}
+use Rattle.access_schema.specs.Meaning.{meaning_of}
+use Rattle.access_schema.specs.Names.{relation_names}
+use Rattle.sql_select.specs.declared.piece.RawItem.{RawItem}
+use Rattle.sql_select.specs.declared.piece.RawFrom.{RawFrom}
+use Rattle.sql_select.specs.declared.piece.RawSelect.{RawSelect}
+use Rattle.sql_select.specs.declared.named.NamedOperand.{NamedOperand}
+use Rattle.sql_select.specs.declared.named.NamedOperand.TheVariants as named
+use Rattle.sql_select.specs.declared.named.NamedItem.{NamedItem}
+use Rattle.sql_select.specs.declared.named.NamedFrom.{NamedFrom}
+use Rattle.sql_select.specs.declared.named.NamedCondition.{NamedCondition}
+use Rattle.sql_select.specs.declared.named.NamedSelect.{NamedSelect}
+use Rattle.sql_select.specs.Grammar.{IsText}
+use Rattle.sql_select.specs.Naming.{named_from, named_items, named_condition, named_select}
+use Rattle.sql_select.specs.Names.{AreFroms, IsMeant, IsMeaning}
+use Rattle.sql_select.specs.Limits.{IsWithinLimits}
+use Rattle.sql_select.specs.Statements.{IsStatementText, IsBounded, StatementFits}
+use Rattle.sql_select.proofs.FromFaults.{nothing_in}
+
+map_long : {X Y : Type 0} (f : X → Y) (xs : List X) → length (map f xs) ≡ length xs
+map_long f [] = refl
+map_long f (x ∷ xs) = ap (λ n. suc n) (map_long f xs)
+
+items_long : (text : List ℕ) (place : ℕ) (items : List RawItem) → length (named_items text place items) ≡ length items
+items_long text place [] = refl
+items_long text place (item ∷ items) = ap (λ n. suc n) (items_long text (place + 1) items)
+
+some_long : {X : Type 0} (xs : List X) → (xs ≡ [] → ⊥) → 1 ≤ length xs
+some_long [] some = absurd (some refl)
+some_long (x ∷ xs) some = omega arith
+
+module _ (schema : Schema) (parts : NamedSelect) (select : Select) (is : IsMeaning schema.relations parts select) where
+  operand_fits : (o : NamedOperand) (p : Operand) → IsMeant schema.relations select.froms parts.froms o p → OperandFits (meaning_of schema) select p
+  operand_fits o (Literal text) means = tt
+  operand_fits (named.Literal v) (Column from column) means = absurd means
+  operand_fits (named.Plain n) (Column from column) ((rel, relation, got, got', at), only) = (rel, relation, got, got', slice_get_within relation.columns column n.text at)
+  operand_fits (named.Prefixed p n) (Column from column) (name, (rel, relation, got, got', at)) = (rel, relation, got, got', slice_get_within relation.columns column n.text at)
+
+  froms_fit : (froms : List NamedFrom) (rels : List ℕ) (rel : ℕ) → AllZip (λ (from : NamedFrom) (rel : ℕ). slice_get (relation_names schema.relations) rel ≡ Some from.relation.text) froms rels → Contains rels rel →
+      (relation : Relation) × (slice_get schema.relations rel ≡ Some relation)
+  froms_fit froms [] rel zip c = absurd (nothing_in rel c)
+  froms_fit [] (r ∷ rels) rel zip c = absurd zip
+  froms_fit (from ∷ froms) (r ∷ rels) rel (at, zip) c = ⊎_elim
+      (λ e. let (relation, got, _) = got_mapped (λ (relation : Relation). relation.name) schema.relations r from.relation.text at in (relation, subst (λ k. slice_get schema.relations k ≡ Some relation) e got))
+      (λ later. froms_fit froms rels rel zip later)
+      (contains_cases r rels rel c)
+
+  items_fit : (items : List NamedItem) (os : List Operand) (o : Operand) → AllZip (λ (item : NamedItem) (p : Operand). IsMeant schema.relations select.froms parts.froms item.operand p) items os → Contains os o → OperandFits (meaning_of schema) select o
+  items_fit items [] o zip c = absurd (nothing_in o c)
+  items_fit [] (p ∷ os) o zip c = absurd zip
+  items_fit (item ∷ items) (p ∷ os) o (h, zip) c = ⊎_elim (λ e. subst (λ (q : Operand). OperandFits (meaning_of schema) select q) e (operand_fits item.operand p h)) (λ later. items_fit items os o zip later) (contains_cases p os o c)
+
+  conditions_fit : (cs : List NamedCondition) (ds : List Condition) (d : Condition) →
+      AllZip (λ (c : NamedCondition) (d : Condition). IsMeant schema.relations select.froms parts.froms c.left d.left × IsMeant schema.relations select.froms parts.froms c.right d.right) cs ds → Contains ds d →
+      OperandFits (meaning_of schema) select d.left × OperandFits (meaning_of schema) select d.right
+  conditions_fit cs [] d zip c = absurd (nothing_in d c)
+  conditions_fit [] (e ∷ ds) d zip c = absurd zip
+  conditions_fit (c ∷ cs) (e ∷ ds) d (h, zip) m = ⊎_elim
+      (λ same. subst (λ (q : Condition). OperandFits (meaning_of schema) select q.left × OperandFits (meaning_of schema) select q.right) same (operand_fits c.left e.left h.0, operand_fits c.right e.right h.1))
+      (λ later. conditions_fit cs ds d zip later)
+      (contains_cases e ds d m)
+
+  pub select_fits : SelectFits (meaning_of schema) select
+  select_fits = record {
+    froms = λ rel c. froms_fit parts.froms select.froms rel is.froms.relations_are c;
+    conditions = λ d c. conditions_fit parts.conditions select.conditions d is.conditions c;
+    items = λ o c. items_fit parts.items select.items o is.items c;
+  }
+
+bounded : (schema : Schema) (bytes : List ℕ) (statement : Statement) (is : IsStatementText schema bytes statement) → IsBounded is.select
+bounded schema bytes statement is =
+    let items : length is.select.items ≡ length is.raw.items = AllZip-long _ (named_select bytes is.raw).items is.select.items is.means.items ∙ items_long bytes 1 is.raw.items in
+    let froms : length is.select.froms ≡ length is.raw.froms = AllZip-long _ (named_select bytes is.raw).froms is.select.froms is.means.froms.relations_are ∙ map_long (named_from bytes) is.raw.froms in
+    let conditions : length is.select.conditions ≡ length is.raw.conditions = AllZip-long _ (named_select bytes is.raw).conditions is.select.conditions is.means.conditions ∙ map_long (named_condition bytes) is.raw.conditions in
+    let names : length is.select.names ≡ length is.raw.items = ap length is.means.names ∙ map_long (λ (item : NamedItem). item.name) (named_select bytes is.raw).items ∙ items_long bytes 1 is.raw.items in
+    let some_items = some_long is.raw.items is.written.text.items in
+    let some_froms = some_long is.raw.froms is.written.text.froms in
+    let few_items = is.within.items in
+    let few_froms = is.within.froms in
+    let few_conditions = is.within.conditions in
+    record {
+      some_items = omega (arith, items, some_items);
+      items = omega (arith, items, few_items);
+      names = names ∙ sym items;
+      some_froms = omega (arith, froms, some_froms);
+      froms = omega (arith, froms, few_froms);
+      conditions = omega (arith, conditions, few_conditions);
+    }
+
+pub statement_fits : (schema : Schema) (bytes : List ℕ) (statement : Statement) → IsStatementText schema bytes statement → StatementFits schema statement
+statement_fits schema bytes statement is = record {
+  one = ap (λ (s : Statement). length s.selects) is.whole;
+  fits = λ select c. subst (λ (s : Select). SelectFits (meaning_of schema) s) (only select c) (select_fits schema (named_select bytes is.raw) is.select is.means);
+  bounded = λ select c. subst (λ (s : Select). IsBounded s) (only select c) (bounded schema bytes statement is);
+}
+  where
+    only : (select : Select) → Contains statement.selects select → is.select ≡ select
+    only select c = ⊎_elim (λ e. e) (λ h. absurd (nothing_in select h)) (contains_cases is.select [] select (subst (λ (s : Statement). Contains s.selects select) is.whole c))

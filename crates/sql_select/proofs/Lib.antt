@@ -1,0 +1,17 @@
+pub mod Said
+pub mod Complete
+pub mod Leading
+pub mod Faults
+pub mod Earliest
+pub mod FromFaults
+pub mod Finding
+pub mod ColumnFaults
+pub mod Stand
+pub mod Resolved
+pub mod Meanings
+pub mod Utf8
+pub mod Unique
+pub mod Fitting
+pub mod Answering
+pub mod Literals
+pub mod Nonempty

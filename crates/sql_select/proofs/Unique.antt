@@ -1,0 +1,210 @@
+-- Bytes are one statement at most, and have one fault at most.
+use Rattle.std.proofs.Common.{◌≡◌, ◌≢◌, ℕ, suc, ◌<◌, ◌≤◌, ◌+◌, List, [], ◌∷◌, ◌++◌, length, drop, ap, subst, sym, ◌∙◌, refl, arith, true, false, Ok, Err, Result, length-append}
+use Rattle.std.specs.Prelude.{MatchResult}
+use Rattle.std.specs.Str.{IsUtf8}
+use Rattle.access_schema.specs.declared.fault.Limit.{Limit}
+use Rattle.access_schema.specs.declared.fault.Limit.TheVariants as limit
+use Rattle.access_schema.specs.declared.schema.Schema.{Schema}
+use Rattle.meaning.specs.declared.types.Select.{Select}
+use Rattle.meaning.specs.declared.types.Statement.{Statement}
+use Rattle.pq_text.specs.declared.token.Token.{Token}
+use Rattle.pq_text.specs.declared.token.TokenKind.{TokenKind}
+use Rattle.pq_text.specs.declared.token.Style.TheVariants.{Sql}
+use Rattle.pq_text.specs.declared.token.LexFault.{LexFault}
+use Rattle.pq_text.specs.declared.token.LexFault.TheVariants as lex
+use Rattle.pq_text.specs.declared.scan.Found.{Found}
+use Rattle.pq_text.specs.declared.scan.Found.TheVariants.{Begins, Bad, Open}
+use Rattle.pq_text.specs.Tokens.{Lexes, HasFault, token_at}
+use Rattle.pq_text.proofs.Lexing.{tokens_only, Lexes-one}
+use Rattle.sql_select.specs.declared.piece.RawSelect.{RawSelect}
+use Rattle.sql_select.specs.declared.named.NameFault.{NameFault}
+use Rattle.sql_select.specs.declared.named.NameFault.TheVariants as name
+use Rattle.sql_select.specs.declared.fault.SqlFault.{SqlFault}
+use Rattle.sql_select.specs.declared.fault.SqlFault.TheVariants as fault
+use Rattle.sql_select.specs.Words.{pieces_of}
+use Rattle.sql_select.specs.Grammar.{IsText, S0, StopsAt}
+use Rattle.sql_select.specs.Limits.{IsWithinLimits, IsOver}
+use Rattle.sql_select.specs.Naming.{named_select}
+use Rattle.sql_select.specs.Names.{IsMeaning, IsNameFault}
+use Rattle.sql_select.specs.Statements.{AreTokens, IsWritten, IsStatementText, IsLexFault, IsMisfit, offset_of, begins_unsupported, first_written, IsSqlFault}
+use Rattle.sql_select.proofs.Complete.{one_reading}
+use Rattle.sql_select.proofs.Leading.{one_rest}
+use Rattle.sql_select.proofs.Faults.{no_misfit, pieces_long}
+use Rattle.sql_select.proofs.Meanings.{one_select, no_name_fault, one_name_fault}
+use Rattle.sql_select.proofs.Utf8.{utf8_clash, one_bad}
+
+module _ (bytes : List ℕ) where
+  one_tokens : (ts us : List Token) → AreTokens bytes ts → AreTokens bytes us → ts ≡ us
+  one_tokens ts us are are' = tokens_only Sql bytes (Ok ts) are.lexes tt us are'.lexes
+
+  one_raw : (raw raw' : RawSelect) → IsWritten bytes raw → IsWritten bytes raw' → raw ≡ raw'
+  one_raw raw raw' w w' = one_reading raw raw' (pieces_of bytes w'.tokens) (subst (λ ts. IsText raw (pieces_of bytes ts)) (one_tokens w.tokens w'.tokens w.lexed w'.lexed) w.text) w'.text
+
+  -- bytes with a fault of tokens have none
+  lex_clash : (f : LexFault) (ts : List Token) → IsLexFault bytes f → AreTokens bytes ts → ⊥
+  lex_clash lex.NoMemory ts h are = h
+  lex_clash (lex.BadByte o) ts h are = let e : lex.BadByte o ≡ lex.NoMemory = tokens_only Sql bytes (Err (lex.BadByte o)) tt h ts are.lexes in absurd (cc)
+  lex_clash (lex.OpenQuote o) ts h are = let e : lex.OpenQuote o ≡ lex.NoMemory = tokens_only Sql bytes (Err (lex.OpenQuote o)) tt h ts are.lexes in absurd (cc)
+
+  no_bad : (o : ℕ) (found : Found) → found ≡ Bad → (k : TokenKind) (e : ℕ) → found ≡ Begins k e → ⊥
+  no_bad o found is k e h = absurd (cc)
+
+  no_open : (o : ℕ) (found : Found) → found ≡ Open → (k : TokenKind) (e : ℕ) → found ≡ Begins k e → ⊥
+  no_open o found is k e h = absurd (cc)
+
+  bad_or_open : (found : Found) → found ≡ Bad → found ≡ Open → ⊥
+  bad_or_open found is is' = absurd (cc)
+
+  one_lex : (f g : LexFault) → IsLexFault bytes f → IsLexFault bytes g → f ≡ g
+  one_lex lex.NoMemory g h h' = absurd h
+  one_lex (lex.BadByte o) lex.NoMemory h h' = absurd h'
+  one_lex (lex.OpenQuote o) lex.NoMemory h h' = absurd h'
+  one_lex (lex.BadByte o) (lex.BadByte p) (l, bad, ts, lexes) (l', bad', us, lexes') =
+      ap (λ n. lex.BadByte n) (Lexes-one Sql bytes 0 ts us o p lexes (no_bad o _ bad) lexes' (no_bad p _ bad')).1
+  one_lex (lex.OpenQuote o) (lex.OpenQuote p) (l, open_, ts, lexes) (l', open', us, lexes') =
+      ap (λ n. lex.OpenQuote n) (Lexes-one Sql bytes 0 ts us o p lexes (no_open o _ open_) lexes' (no_open p _ open')).1
+  one_lex (lex.BadByte o) (lex.OpenQuote p) (l, bad, ts, lexes) (l', open', us, lexes') =
+      let same : o ≡ p = (Lexes-one Sql bytes 0 ts us o p lexes (no_bad o _ bad) lexes' (no_open p _ open')).1 in
+      absurd (bad_or_open _ (subst (λ n. token_at Sql n (drop n bytes) ≡ Bad) same bad) open')
+  one_lex (lex.OpenQuote o) (lex.BadByte p) (l, open_, ts, lexes) (l', bad', us, lexes') =
+      let same : p ≡ o = (Lexes-one Sql bytes 0 us ts p o lexes' (no_bad p _ bad') lexes (no_open o _ open_)).1 in
+      absurd (bad_or_open _ (subst (λ n. token_at Sql n (drop n bytes) ≡ Bad) same bad') open_)
+
+  -- a select that is written stops nowhere
+  misfit_clash : (raw : RawSelect) (after : List Token) → IsWritten bytes raw → IsMisfit bytes after → ⊥
+  misfit_clash raw after w m =
+      no_misfit raw (pieces_of bytes w.tokens) (pieces_of bytes after) w.text
+      (subst (λ ts. StopsAt S0 (pieces_of bytes ts) (pieces_of bytes after)) (one_tokens m.tokens w.tokens m.lexed w.lexed) m.stops)
+
+  -- what is left of one list, as long as something else that is left of it, is that
+  same_suffix : (before before' after after' : List Token) → before ++ after ≡ before' ++ after' → length after ≡ length after' → after ≡ after'
+  same_suffix [] [] after after' e l = e
+  same_suffix [] (x ∷ before') after after' e l =
+      let long : length after ≡ length (x ∷ before' ++ after') = ap length e in let sum = length-append before' after' in absurd (omega (arith, long, sum))
+  same_suffix (x ∷ before) [] after after' e l =
+      let long : length (x ∷ before ++ after) ≡ length after' = ap length e in let sum = length-append before after in absurd (omega (arith, long, sum))
+  same_suffix (x ∷ before) (y ∷ before') after after' e l = same_suffix before before' after after' (let rest : before ++ after ≡ before' ++ after' = cc in rest) l
+
+  one_after : (after after' : List Token) → IsMisfit bytes after → IsMisfit bytes after' → after ≡ after'
+  one_after after after' m m' =
+      let tokens : m.tokens ≡ m'.tokens = one_tokens m.tokens m'.tokens m.lexed m'.lexed in
+      let pieces : pieces_of bytes after ≡ pieces_of bytes after' = one_rest (pieces_of bytes m'.tokens) (pieces_of bytes after) (pieces_of bytes after')
+      (subst (λ ts. StopsAt S0 (pieces_of bytes ts) (pieces_of bytes after)) tokens m.stops) m'.stops in
+      same_suffix m.before m'.before after after' (sym m.whole ∙ tokens ∙ m'.whole) (sym (pieces_long bytes after) ∙ ap length pieces ∙ pieces_long bytes after')
+
+  over_clash : (raw : RawSelect) (l : Limit) → IsOver raw l → IsWithinLimits raw → ⊥
+  over_clash raw limit.Froms h w = let f = w.froms in omega (arith, f, h)
+  over_clash raw limit.Conditions h w = let f = w.conditions in let over = h.1 in omega (arith, f, over)
+  over_clash raw limit.Items h w = let f = w.items in let over = h.2 in omega (arith, f, over)
+  over_clash raw _ h w = absurd h
+
+  one_limit : (raw : RawSelect) (l m : Limit) → IsOver raw l → IsOver raw m → l ≡ m
+  one_limit raw limit.Froms limit.Froms h h' = refl
+  one_limit raw limit.Conditions limit.Conditions h h' = refl
+  one_limit raw limit.Items limit.Items h h' = refl
+  one_limit raw limit.Froms limit.Conditions h h' = let few = h'.0 in absurd (omega (arith, h, few))
+  one_limit raw limit.Froms limit.Items h h' = let few = h'.0 in absurd (omega (arith, h, few))
+  one_limit raw limit.Conditions limit.Froms h h' = let few = h.0 in absurd (omega (arith, h', few))
+  one_limit raw limit.Items limit.Froms h h' = let few = h.0 in absurd (omega (arith, h', few))
+  one_limit raw limit.Conditions limit.Items h h' = let over = h.1 in let few = h'.1 in absurd (omega (arith, over, few))
+  one_limit raw limit.Items limit.Conditions h h' = let over = h'.1 in let few = h.1 in absurd (omega (arith, over, few))
+  one_limit raw limit.Froms _ h h' = absurd h'
+  one_limit raw limit.Conditions _ h h' = absurd h'
+  one_limit raw limit.Items _ h h' = absurd h'
+  one_limit raw _ m h h' = absurd h
+
+module _ (schema : Schema) (bytes : List ℕ) where
+  pub one_statement : (s t : Statement) → IsStatementText schema bytes s → IsStatementText schema bytes t → s ≡ t
+  one_statement s t is is' =
+      let same : is'.raw ≡ is.raw = one_raw bytes is'.raw is.raw is'.written is.written in
+      let select : is.select ≡ is'.select = one_select schema.relations schema.valid.relations_are (named_select bytes is.raw) is.select is'.select is.means
+      (subst (λ r. IsMeaning schema.relations (named_select bytes r) is'.select) same is'.means) in
+      is.whole ∙ ap (λ (x : Select). record { selects = x ∷ [] }) select ∙ sym is'.whole
+
+  name_clash : (s : Statement) (raw : RawSelect) (f : NameFault) → IsStatementText schema bytes s → IsWritten bytes raw → IsNameFault schema.relations (named_select bytes raw) f → ⊥
+  name_clash s raw f is w h =
+      let same : raw ≡ is.raw = one_raw bytes raw is.raw w is.written in
+      no_name_fault schema.relations schema.valid.relations_are (named_select bytes is.raw) is.select f is.means (subst (λ r. IsNameFault schema.relations (named_select bytes r) f) same h)
+
+  pub no_fault : (s : Statement) (f : SqlFault) → IsStatementText schema bytes s → IsSqlFault schema bytes f → f ≡ fault.NoMemory
+  no_fault s fault.NoMemory is h = refl
+  no_fault s (fault.NotUtf8 o) is h = absurd (utf8_clash bytes o h is.written.lexed.utf8)
+  no_fault s (fault.Lex f) is h = absurd (lex_clash bytes f is.written.tokens h.1 is.written.lexed)
+  no_fault s (fault.Syntax o) is h = absurd (misfit_clash bytes is.raw h.0 is.written h.1)
+  no_fault s (fault.Unsupported word o) is h = absurd (misfit_clash bytes is.raw h.0 is.written h.1)
+  no_fault s (fault.OverLimit l) is h = absurd (over_clash bytes h.0 l h.2 (subst IsWithinLimits (one_raw bytes is.raw h.0 is.written h.1) is.within))
+  no_fault s (fault.UnknownName o) is h = absurd (name_clash s h.0 (name.Unknown o) is h.1 h.3)
+  no_fault s (fault.Ambiguous o) is h = absurd (name_clash s h.0 (name.Ambiguous o) is h.1 h.3)
+
+  -- two faults of names are one
+  names_one : (raw raw' : RawSelect) (f g : NameFault) → IsWritten bytes raw → IsWritten bytes raw' → IsNameFault schema.relations (named_select bytes raw) f → IsNameFault schema.relations (named_select bytes raw') g → f ≡ g
+  names_one raw raw' f g w w' h h' = one_name_fault schema.relations schema.valid.relations_are (named_select bytes raw) f g h
+      (subst (λ r. IsNameFault schema.relations (named_select bytes r) g) (one_raw bytes raw' raw w' w) h')
+
+  unknown_ambiguous : (o p : ℕ) → name.Unknown o ≡ name.Ambiguous p → ⊥
+  unknown_ambiguous o p e = absurd (cc)
+
+  unknown_same : (o p : ℕ) → name.Unknown o ≡ name.Unknown p → o ≡ p
+  unknown_same o p e = cc
+
+  ambiguous_same : (o p : ℕ) → name.Ambiguous o ≡ name.Ambiguous p → o ≡ p
+  ambiguous_same o p e = cc
+
+  pub one_fault : (f g : SqlFault) → IsSqlFault schema bytes f → IsSqlFault schema bytes g → f ≢ fault.NoMemory → g ≢ fault.NoMemory → f ≡ g
+  one_fault fault.NoMemory g h h' some some' = absurd (some refl)
+  one_fault (fault.NotUtf8 ao) fault.NoMemory h h' some some' = absurd (some' refl)
+  one_fault (fault.Lex ao) fault.NoMemory h h' some some' = absurd (some' refl)
+  one_fault (fault.Syntax ao) fault.NoMemory h h' some some' = absurd (some' refl)
+  one_fault (fault.Unsupported aw ao) fault.NoMemory h h' some some' = absurd (some' refl)
+  one_fault (fault.OverLimit ao) fault.NoMemory h h' some some' = absurd (some' refl)
+  one_fault (fault.UnknownName ao) fault.NoMemory h h' some some' = absurd (some' refl)
+  one_fault (fault.Ambiguous ao) fault.NoMemory h h' some some' = absurd (some' refl)
+  one_fault (fault.NotUtf8 ao) (fault.NotUtf8 bo) h h' some some' = ap (λ n. fault.NotUtf8 n) (one_bad bytes ao bo h h')
+  one_fault (fault.NotUtf8 ao) (fault.Lex bo) h h' some some' = absurd (utf8_clash bytes ao h h'.0)
+  one_fault (fault.NotUtf8 ao) (fault.Syntax bo) h h' some some' = absurd (utf8_clash bytes ao h h'.1.lexed.utf8)
+  one_fault (fault.NotUtf8 ao) (fault.Unsupported bw bo) h h' some some' = absurd (utf8_clash bytes ao h h'.1.lexed.utf8)
+  one_fault (fault.NotUtf8 ao) (fault.OverLimit bo) h h' some some' = absurd (utf8_clash bytes ao h h'.1.lexed.utf8)
+  one_fault (fault.NotUtf8 ao) (fault.UnknownName bo) h h' some some' = absurd (utf8_clash bytes ao h h'.1.lexed.utf8)
+  one_fault (fault.NotUtf8 ao) (fault.Ambiguous bo) h h' some some' = absurd (utf8_clash bytes ao h h'.1.lexed.utf8)
+  one_fault (fault.Lex ao) (fault.NotUtf8 bo) h h' some some' = absurd (utf8_clash bytes bo h' h.0)
+  one_fault (fault.Lex ao) (fault.Lex bo) h h' some some' = ap (λ n. fault.Lex n) (one_lex bytes ao bo h.1 h'.1)
+  one_fault (fault.Lex ao) (fault.Syntax bo) h h' some some' = absurd (lex_clash bytes ao h'.1.tokens h.1 h'.1.lexed)
+  one_fault (fault.Lex ao) (fault.Unsupported bw bo) h h' some some' = absurd (lex_clash bytes ao h'.1.tokens h.1 h'.1.lexed)
+  one_fault (fault.Lex ao) (fault.OverLimit bo) h h' some some' = absurd (lex_clash bytes ao h'.1.tokens h.1 h'.1.lexed)
+  one_fault (fault.Lex ao) (fault.UnknownName bo) h h' some some' = absurd (lex_clash bytes ao h'.1.tokens h.1 h'.1.lexed)
+  one_fault (fault.Lex ao) (fault.Ambiguous bo) h h' some some' = absurd (lex_clash bytes ao h'.1.tokens h.1 h'.1.lexed)
+  one_fault (fault.Syntax ao) (fault.NotUtf8 bo) h h' some some' = absurd (utf8_clash bytes bo h' h.1.lexed.utf8)
+  one_fault (fault.Syntax ao) (fault.Lex bo) h h' some some' = absurd (lex_clash bytes bo h.1.tokens h'.1 h.1.lexed)
+  one_fault (fault.Syntax ao) (fault.Syntax bo) h h' some some' = ap (λ n. fault.Syntax n) (h.3 ∙ ap (λ ts. offset_of bytes ts) (one_after bytes h.0 h'.0 h.1 h'.1) ∙ sym h'.3)
+  one_fault (fault.Syntax ao) (fault.Unsupported bw bo) h h' some some' = let same = one_after bytes h.0 h'.0 h.1 h'.1 in let never : false ≡ true = sym h.2 ∙ ap (λ ts. begins_unsupported bytes ts) same ∙ h'.2 in absurd (cc)
+  one_fault (fault.Syntax ao) (fault.OverLimit bo) h h' some some' = absurd (misfit_clash bytes h'.0 h.0 h'.1 h.1)
+  one_fault (fault.Syntax ao) (fault.UnknownName bo) h h' some some' = absurd (misfit_clash bytes h'.0 h.0 h'.1 h.1)
+  one_fault (fault.Syntax ao) (fault.Ambiguous bo) h h' some some' = absurd (misfit_clash bytes h'.0 h.0 h'.1 h.1)
+  one_fault (fault.Unsupported aw ao) (fault.NotUtf8 bo) h h' some some' = absurd (utf8_clash bytes bo h' h.1.lexed.utf8)
+  one_fault (fault.Unsupported aw ao) (fault.Lex bo) h h' some some' = absurd (lex_clash bytes bo h.1.tokens h'.1 h.1.lexed)
+  one_fault (fault.Unsupported aw ao) (fault.Syntax bo) h h' some some' = let same = one_after bytes h.0 h'.0 h.1 h'.1 in let never : true ≡ false = sym h.2 ∙ ap (λ ts. begins_unsupported bytes ts) same ∙ h'.2 in absurd (cc)
+  one_fault (fault.Unsupported aw ao) (fault.Unsupported bw bo) h h' some some' = let same = one_after bytes h.0 h'.0 h.1 h'.1 in ap (λ w. fault.Unsupported w ao) (h.4 ∙ ap (λ ts. first_written bytes ts) same ∙ sym h'.4) ∙ ap (λ n. fault.Unsupported bw n) (h.3 ∙ ap (λ ts. offset_of bytes ts) same ∙ sym h'.3)
+  one_fault (fault.Unsupported aw ao) (fault.OverLimit bo) h h' some some' = absurd (misfit_clash bytes h'.0 h.0 h'.1 h.1)
+  one_fault (fault.Unsupported aw ao) (fault.UnknownName bo) h h' some some' = absurd (misfit_clash bytes h'.0 h.0 h'.1 h.1)
+  one_fault (fault.Unsupported aw ao) (fault.Ambiguous bo) h h' some some' = absurd (misfit_clash bytes h'.0 h.0 h'.1 h.1)
+  one_fault (fault.OverLimit ao) (fault.NotUtf8 bo) h h' some some' = absurd (utf8_clash bytes bo h' h.1.lexed.utf8)
+  one_fault (fault.OverLimit ao) (fault.Lex bo) h h' some some' = absurd (lex_clash bytes bo h.1.tokens h'.1 h.1.lexed)
+  one_fault (fault.OverLimit ao) (fault.Syntax bo) h h' some some' = absurd (misfit_clash bytes h.0 h'.0 h.1 h'.1)
+  one_fault (fault.OverLimit ao) (fault.Unsupported bw bo) h h' some some' = absurd (misfit_clash bytes h.0 h'.0 h.1 h'.1)
+  one_fault (fault.OverLimit ao) (fault.OverLimit bo) h h' some some' = ap (λ l. fault.OverLimit l) (one_limit bytes h.0 ao bo h.2 (subst (λ r. IsOver r bo) (one_raw bytes h'.0 h.0 h'.1 h.1) h'.2))
+  one_fault (fault.OverLimit ao) (fault.UnknownName bo) h h' some some' = absurd (over_clash bytes h.0 ao h.2 (subst IsWithinLimits (one_raw bytes h'.0 h.0 h'.1 h.1) h'.2))
+  one_fault (fault.OverLimit ao) (fault.Ambiguous bo) h h' some some' = absurd (over_clash bytes h.0 ao h.2 (subst IsWithinLimits (one_raw bytes h'.0 h.0 h'.1 h.1) h'.2))
+  one_fault (fault.UnknownName ao) (fault.NotUtf8 bo) h h' some some' = absurd (utf8_clash bytes bo h' h.1.lexed.utf8)
+  one_fault (fault.UnknownName ao) (fault.Lex bo) h h' some some' = absurd (lex_clash bytes bo h.1.tokens h'.1 h.1.lexed)
+  one_fault (fault.UnknownName ao) (fault.Syntax bo) h h' some some' = absurd (misfit_clash bytes h.0 h'.0 h.1 h'.1)
+  one_fault (fault.UnknownName ao) (fault.Unsupported bw bo) h h' some some' = absurd (misfit_clash bytes h.0 h'.0 h.1 h'.1)
+  one_fault (fault.UnknownName ao) (fault.OverLimit bo) h h' some some' = absurd (over_clash bytes h'.0 bo h'.2 (subst IsWithinLimits (one_raw bytes h.0 h'.0 h.1 h'.1) h.2))
+  one_fault (fault.UnknownName ao) (fault.UnknownName bo) h h' some some' = ap (λ n. fault.UnknownName n) (unknown_same ao bo (names_one h.0 h'.0 (name.Unknown ao) (name.Unknown bo) h.1 h'.1 h.3 h'.3))
+  one_fault (fault.UnknownName ao) (fault.Ambiguous bo) h h' some some' = absurd (unknown_ambiguous ao bo (names_one h.0 h'.0 (name.Unknown ao) (name.Ambiguous bo) h.1 h'.1 h.3 h'.3))
+  one_fault (fault.Ambiguous ao) (fault.NotUtf8 bo) h h' some some' = absurd (utf8_clash bytes bo h' h.1.lexed.utf8)
+  one_fault (fault.Ambiguous ao) (fault.Lex bo) h h' some some' = absurd (lex_clash bytes bo h.1.tokens h'.1 h.1.lexed)
+  one_fault (fault.Ambiguous ao) (fault.Syntax bo) h h' some some' = absurd (misfit_clash bytes h.0 h'.0 h.1 h'.1)
+  one_fault (fault.Ambiguous ao) (fault.Unsupported bw bo) h h' some some' = absurd (misfit_clash bytes h.0 h'.0 h.1 h'.1)
+  one_fault (fault.Ambiguous ao) (fault.OverLimit bo) h h' some some' = absurd (over_clash bytes h'.0 bo h'.2 (subst IsWithinLimits (one_raw bytes h.0 h'.0 h.1 h'.1) h.2))
+  one_fault (fault.Ambiguous ao) (fault.UnknownName bo) h h' some some' = absurd (unknown_ambiguous bo ao (sym (names_one h.0 h'.0 (name.Ambiguous ao) (name.Unknown bo) h.1 h'.1 h.3 h'.3)))
+  one_fault (fault.Ambiguous ao) (fault.Ambiguous bo) h h' some some' = ap (λ n. fault.Ambiguous n) (ambiguous_same ao bo (names_one h.0 h'.0 (name.Ambiguous ao) (name.Ambiguous bo) h.1 h'.1 h.3 h'.3))

@@ -1,0 +1,11 @@
+use Rattle.std.proofs.Common.{◌≡◌, ◌+◌, length}
+use Rattle.sql_select.specs.Names.{from_names}
+use Rattle.sql_select.specs.Resolving.{place_from}
+use Rattle.sql_select.proofs.columns.from_place.Given as goal
+
+-- the place is counted on from those that were passed
+abbrev pub invariant-loop-left : goal.invariant-loop-left
+invariant-loop-left l = record { rest : place_from l.number (from_names l.left) l.name ≡ place_from 0 (from_names l.froms) l.name; count : l.number + length l.left ≡ length l.froms }
+
+abbrev pub decreases-loop-left : goal.decreases-loop-left
+decreases-loop-left l = length l.left

@@ -1,0 +1,14 @@
+pub mod Words
+pub mod Grammar
+pub mod Limits
+pub mod Naming
+pub mod Names
+pub mod Statements
+pub mod Known
+pub mod Steps
+pub mod Reading
+pub mod Misfits
+pub mod Spanning
+pub mod Resolving
+pub mod Select
+pub mod Nonempty

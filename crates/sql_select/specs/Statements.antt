@@ -1,0 +1,106 @@
+-- Which bytes are a statement over a schema, and which fault other bytes have.
+use Rattle.std.specs.Prelude.{◌≡◌, ◌≤◌, ◌++◌, ℕ, List, [], ◌∷◌, Bool, true, false, Contains, length}
+use Rattle.std.specs.Str.{IsUtf8}
+use Rattle.pq_text.specs.declared.token.Token.{Token}
+use Rattle.pq_text.specs.declared.token.Style.TheVariants.{Sql}
+use Rattle.pq_text.specs.declared.token.LexFault.{LexFault}
+use Rattle.pq_text.specs.declared.token.LexFault.TheVariants as lex
+use Rattle.pq_text.specs.Tokens.{Lexes, HasFault}
+use Rattle.pq_text.specs.Utf8.{IsFirstBad}
+use Rattle.meaning.specs.declared.types.Select.{Select}
+use Rattle.meaning.specs.declared.types.Statement.{Statement}
+use Rattle.meaning.specs.Conjunctive.{SelectFits}
+use Rattle.access_schema.specs.declared.schema.Schema.{Schema}
+use Rattle.access_schema.specs.Meaning.{meaning_of}
+use Rattle.sql_select.specs.declared.limits.TheConstants.{MOST_FROMS, MOST_CONDITIONS, MOST_ITEMS}
+use Rattle.sql_select.specs.declared.piece.RawSelect.{RawSelect}
+use Rattle.sql_select.specs.declared.named.NameFault.TheVariants as name
+use Rattle.sql_select.specs.declared.fault.SqlFault.{SqlFault}
+use Rattle.sql_select.specs.declared.fault.SqlFault.TheVariants as fault
+use Rattle.sql_select.specs.Words.{written, is_unsupported, pieces_of}
+use Rattle.sql_select.specs.Grammar.{IsText, S0, StopsAt}
+use Rattle.sql_select.specs.Limits.{IsWithinLimits, IsOver}
+use Rattle.sql_select.specs.Naming.{named_select}
+use Rattle.sql_select.specs.Names.{IsMeaning, IsNameFault}
+
+-- The bytes are UTF-8, and their tokens, up to the end, are these.
+pub record AreTokens (bytes : List ℕ) (tokens : List Token) : Type 0 where
+  pub utf8 : IsUtf8 bytes
+  pub lexes : Lexes Sql bytes 0 tokens (length bytes)
+
+-- The bytes are written as this select.
+pub record IsWritten (bytes : List ℕ) (raw : RawSelect) : Type 0 where
+  pub tokens : List Token
+  pub lexed : AreTokens bytes tokens
+  pub text : IsText raw (pieces_of bytes tokens)
+
+-- The bytes are the statement over the schema: one select, within the limits, with each name one that is there.
+pub record IsStatementText (schema : Schema) (bytes : List ℕ) (statement : Statement) : Type 0 where
+  pub raw : RawSelect
+  pub select : Select
+  pub written : IsWritten bytes raw
+  pub within : IsWithinLimits raw
+  pub means : IsMeaning schema.relations (named_select bytes raw) select
+  pub whole : statement ≡ record { selects = select ∷ [] }
+
+-- ---- what a statement keeps
+
+-- One or more items and as many names, one or more FROM items, and no limit passed.
+pub record IsBounded (select : Select) : Type 0 where
+  pub some_items : 1 ≤ length select.items
+  pub items : length select.items ≤ MOST_ITEMS
+  pub names : length select.names ≡ length select.items
+  pub some_froms : 1 ≤ length select.froms
+  pub froms : length select.froms ≤ MOST_FROMS
+  pub conditions : length select.conditions ≤ MOST_CONDITIONS
+
+-- The statement is one select, over the schema and within the limits.
+pub record StatementFits (schema : Schema) (statement : Statement) : Type 0 where
+  pub one : length statement.selects ≡ 1
+  pub fits : (select : Select) → Contains statement.selects select → SelectFits (meaning_of schema) select
+  pub bounded : (select : Select) → Contains statement.selects select → IsBounded select
+
+-- ---- faults
+
+-- The first place of the bytes that begins no token has this fault.
+abbrev pub IsLexFault : List ℕ → LexFault → Type 0
+IsLexFault bytes lex.NoMemory = ⊥
+IsLexFault bytes (lex.BadByte offset) = HasFault Sql bytes (lex.BadByte offset)
+IsLexFault bytes (lex.OpenQuote offset) = HasFault Sql bytes (lex.OpenQuote offset)
+
+-- The tokens before these are those of the beginning of a query, and the first of these, or the end, goes on with none.
+pub record IsMisfit (bytes : List ℕ) (after : List Token) : Type 0 where
+  pub tokens : List Token
+  pub lexed : AreTokens bytes tokens
+  pub stops : StopsAt S0 (pieces_of bytes tokens) (pieces_of bytes after)
+  pub before : List Token
+  pub whole : tokens ≡ before ++ after
+
+-- where the first of the tokens begins, or the end of the text
+abbrev pub offset_of : List ℕ → List Token → ℕ
+offset_of bytes [] = length bytes
+offset_of bytes (t ∷ ts) = t.start
+
+abbrev pub begins_unsupported : List ℕ → List Token → Bool
+begins_unsupported bytes [] = false
+begins_unsupported bytes (t ∷ ts) = is_unsupported bytes t
+
+-- the first of the tokens as it is written
+abbrev pub first_written : List ℕ → List Token → List ℕ
+first_written bytes [] = []
+first_written bytes (t ∷ ts) = written bytes t
+
+-- The bytes have the fault. Faults are looked for in the order: no UTF-8, no tokens, no query, limits, names.
+abbrev pub IsSqlFault : Schema → List ℕ → SqlFault → Type 0
+IsSqlFault schema bytes fault.NoMemory = Unit {0}
+IsSqlFault schema bytes (fault.NotUtf8 offset) = IsFirstBad bytes offset
+IsSqlFault schema bytes (fault.Lex f) = IsUtf8 bytes × IsLexFault bytes f
+IsSqlFault schema bytes (fault.Syntax offset) =
+    (after : List Token) × IsMisfit bytes after × (begins_unsupported bytes after ≡ false) × (offset ≡ offset_of bytes after)
+IsSqlFault schema bytes (fault.Unsupported word offset) =
+    (after : List Token) × IsMisfit bytes after × (begins_unsupported bytes after ≡ true) × (offset ≡ offset_of bytes after) × (word ≡ first_written bytes after)
+IsSqlFault schema bytes (fault.OverLimit limit) = (raw : RawSelect) × IsWritten bytes raw × IsOver raw limit
+IsSqlFault schema bytes (fault.UnknownName offset) =
+    (raw : RawSelect) × IsWritten bytes raw × IsWithinLimits raw × IsNameFault schema.relations (named_select bytes raw) (name.Unknown offset)
+IsSqlFault schema bytes (fault.Ambiguous offset) =
+    (raw : RawSelect) × IsWritten bytes raw × IsWithinLimits raw × IsNameFault schema.relations (named_select bytes raw) (name.Ambiguous offset)
