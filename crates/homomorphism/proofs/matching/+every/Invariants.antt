@@ -1,0 +1,9 @@
+use Rattle.std.proofs.Common.{length, take}
+use Rattle.homomorphism.proofs.AtomByAtom.{Collected}
+use Rattle.homomorphism.proofs.matching.+every.Given as goal
+
+abbrev pub decreases-every : goal.decreases-every
+decreases-every l = length l.atoms.now
+
+abbrev pub invariant-loop-way : goal.invariant-loop-way
+invariant-loop-way l = Collected l.facts l.rest l.given (take l.way-index l.way-items) l.found.items

@@ -1,0 +1,8 @@
+pub mod Bindings
+pub mod Matches
+pub mod Rules
+pub mod Growing
+pub mod Instances
+pub mod Narrowing
+pub mod Ways
+pub mod Covering

@@ -1,0 +1,23 @@
+//! Stores of labelled facts, and the assignments that make atoms facts of a store.
+//!
+//! Crates above use this: `first_match` and `all_matches` are exactly the assignments that agree with given values, and
+//! `first_unmet` answers none exactly where the facts meet a rule. Begin at `specs/Matches.antt`.
+#![tactic(auto)]
+
+mod assignment;
+mod bind;
+mod conditions;
+mod find;
+mod instance;
+mod matching;
+mod rules;
+mod store;
+
+pub use assignment::{Assignment, Assignments, Bindings};
+pub use conditions::{is_covered, is_numbered};
+pub use find::{all_matches, first_match};
+pub use rules::{body_matches, first_unmet, is_met, variables_width};
+pub use store::Store;
+
+#[cfg(test)]
+mod tests;

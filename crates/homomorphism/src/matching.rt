@@ -1,0 +1,125 @@
+// The assignments that make atoms facts.
+ghost use Rattle.std.specs.Prelude.{◌≡◌, ◌≤◌, ◌⊎◌, [], ◌∷◌, length, map, IfOk, IfSome, IfNone};
+ghost use Rattle.meaning.specs.Triggers.{terms_bound, bound};
+ghost use Rattle.meaning.specs.Search.{AreDistinct};
+ghost use Rattle.homomorphism.specs.Narrowing.{value_or_none};
+ghost use Rattle.homomorphism.specs.Matches.{IsMatch, NoMatch, AreMatches, AreCovered};
+ghost use Rattle.homomorphism.specs.Ways.{IsWayIf, AreWays};
+
+use crate::assignment::{Assignment, Bindings};
+use crate::bind::{could_be, unify};
+use lists::{Copies, NoMemory, Seq};
+use meaning::types::{Atom, Ground, Val};
+use std::alloc::Global;
+
+/// The way to make the atom this fact, if there is one.
+fn way(
+    alloc: Global,
+    atom: &Atom,
+    fact: &Ground,
+    given: &Bindings,
+) -> Result<Option<Bindings>, NoMemory>
+    requires { terms_bound atom.now.terms ≤ length given.now }
+    ensures { IfOk result (λ way. IsWayIf fact.now atom.now given.now way) }
+{
+    if fact.rel != atom.rel
+        || !could_be(
+            given.as_slice(),
+            atom.terms.as_slice(),
+            fact.vals.as_slice(),
+        )
+    {
+        return Ok(None);
+    }
+    unify(
+        alloc,
+        given.copy(alloc)?,
+        atom.terms.as_slice(),
+        fact.vals.as_slice(),
+    )
+}
+
+/// The ways to make the atom one of the facts.
+fn ways(
+    alloc: Global,
+    atom: &Atom,
+    facts: &[Ground],
+    given: &Bindings,
+) -> Result<Vec<Bindings>, NoMemory>
+    requires fits { terms_bound atom.now.terms ≤ length given.now }
+    requires once { AreDistinct facts.now }
+    ensures { IfOk result (λ ways. AreWays facts.now atom.now given.now ways.items) }
+{
+    let mut ways = Vec::new(alloc);
+    for fact in facts {
+        if let Some(way) = way(alloc, atom, fact, given)? {
+            ways.push(way)?;
+        }
+    }
+    Ok(ways)
+}
+
+/// The values; a variable without one gets any.
+fn assignment(alloc: Global, given: &[Option<Val>]) -> Result<Assignment, NoMemory>
+    ensures { IfOk result (λ made. made.vals ≡ map value_or_none given.now) }
+{
+    let mut values = Vec::new(alloc);
+    for value in given {
+        match value {
+            Some(value) => values.push(value.copy(alloc)?)?,
+            None => values.push(Val::Label(0))?,
+        }
+    }
+    Ok(Assignment {
+        vals: Seq::from_vec(values),
+    })
+}
+
+/// The first match, going through the facts for one atom after another.
+pub fn first(
+    alloc: Global,
+    atoms: &[Atom],
+    facts: &[Ground],
+    given: &Bindings,
+) -> Result<Option<Assignment>, NoMemory>
+    requires fits { bound atoms.now ≤ length given.now }
+    requires once { AreDistinct facts.now }
+    ensures some { IfOk result (λ found. IfSome found (λ m. IsMatch facts.now atoms.now given.now m.vals)) }
+    ensures none { IfOk result (λ found. IfNone found (NoMatch facts.now atoms.now given.now)) }
+{
+    let [atom, rest @ ..] = atoms else {
+        return Ok(Some(assignment(alloc, given.as_slice())?));
+    };
+    let ways = ways(alloc, atom, facts, given)?;
+    for way in &ways {
+        if let Some(values) = first(alloc, rest, facts, way)? {
+            return Ok(Some(values));
+        }
+    }
+    Ok(None)
+}
+
+/// All matches.
+pub fn every(
+    alloc: Global,
+    atoms: &[Atom],
+    facts: &[Ground],
+    given: &Bindings,
+) -> Result<Vec<Assignment>, NoMemory>
+    requires fits { bound atoms.now ≤ length given.now }
+    requires covered { AreCovered atoms.now given.now }
+    requires once { AreDistinct facts.now }
+    ensures { IfOk result (λ found. AreMatches facts.now atoms.now given.now found.items) }
+{
+    let mut found = Vec::new(alloc);
+    let [atom, rest @ ..] = atoms else {
+        found.push(assignment(alloc, given.as_slice())?)?;
+        return Ok(found);
+    };
+    let ways = ways(alloc, atom, facts, given)?;
+    for way in &ways {
+        let mut more = every(alloc, rest, facts, way)?;
+        found.append(&mut more)?;
+    }
+    Ok(found)
+}

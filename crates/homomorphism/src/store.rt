@@ -1,0 +1,140 @@
+// Distinct facts, by number.
+ghost use Rattle.std.specs.Prelude.{◌≡◌, ◌↔◌, IsTrue, ◌⊎◌, [], ◌∷◌, ◌++◌, Contains, IfOk, OnErr, OnOk, slice_get, option_copied, true, false, if◌then◌else◌, take, length};
+ghost use Rattle.meaning.specs.Search.{AreDistinct};
+ghost use Rattle.homomorphism.specs.Growing.{Grows};
+ghost use Rattle.homomorphism.specs.Instances.{AreFactsOf};
+
+use crate::instance::distinct_grounds;
+use lists::{Copies, Exact, NoMemory};
+use meaning::types::{Ground, Instance};
+use std::alloc::Global;
+use std::marker::Model;
+
+/// Labelled facts, of which none stands twice. Contracts see the list of the facts, by number.
+#[derive(Drop)]
+pub struct Store {
+    facts: Vec<Ground>,
+}
+
+impl Model for Store {
+    ghost use Rattle.std.specs.Prelude.{List};
+    ghost use Rattle.meaning.specs.declared.types.Ground.{Ground};
+    ghost use Rattle.meaning.specs.Search.{AreDistinct};
+
+    ghost Value = { List Ground };
+
+    ghost view = { λ s. s.facts.items };
+
+    ghost invariant = { λ s. AreDistinct s.facts.items };
+}
+
+impl Store {
+    /// The store without facts. Takes no memory.
+    pub fn new(alloc: Global) -> Store
+        ensures { result ≡ [] }
+    {
+        Store {
+            facts: Vec::new(alloc),
+        }
+    }
+
+    /// A store of exactly the facts of an instance, each text as a constant.
+    pub fn of_instance(alloc: Global, instance: &Instance) -> Result<Store, NoMemory>
+        ensures { IfOk result (λ store. AreFactsOf instance.now store) }
+    {
+        Ok(Store {
+            facts: distinct_grounds(alloc, instance)?,
+        })
+    }
+
+    /// How many facts there are. Takes no memory.
+    pub fn len(&self) -> usize
+        ensures { result ≡ length self.now }
+    {
+        self.facts.len()
+    }
+
+    /// Whether there is no fact. Takes no memory.
+    pub fn is_empty(&self) -> bool
+        ensures { IsTrue result ↔ (length self.now ≡ 0) }
+    {
+        self.facts.len() == 0
+    }
+
+    /// The fact with this number, counted from 0; none comes exactly where the store has no such number. Takes no memory.
+    pub fn get(&self, number: usize) -> Option<&Ground>
+        ensures { option_copied result ≡ slice_get self.now number }
+    {
+        self.facts.get(number)
+    }
+
+    /// Whether the fact is there. Takes no memory.
+    pub fn contains(&self, fact: &Ground) -> bool
+        ensures { IsTrue result ↔ Contains self.now fact.now }
+    {
+        among(self.facts.as_slice(), fact)
+    }
+
+    /// Adds the fact as the last one where it is not there yet, and says whether it did. Where memory is refused,
+    /// nothing changes.
+    pub fn insert(&mut self, _alloc: Global, fact: Ground) -> Result<bool, NoMemory>
+        ensures there { IfOk result (λ added. (added ≡ false) ↔ Contains self.old fact) }
+        ensures kept { IfOk result (λ added. self.new ≡ (if added then self.old ++ fact ∷ [] else self.old)) }
+        ensures refused { OnErr result (self.new ≡ self.old) }
+    {
+        if self.contains(&fact) {
+            return Ok(false);
+        }
+        self.facts.push(fact)?;
+        Ok(true)
+    }
+
+    /// Adds copies of the facts that are not there yet, behind those that are. Where memory is refused, nothing changes.
+    pub fn add_all(&mut self, alloc: Global, news: &[Ground]) -> Result<(), NoMemory>
+        ensures front { OnOk result (take (length self.old) self.new ≡ self.old) }
+        ensures grows { OnOk result (Grows self.old news.now self.new) }
+        ensures refused { OnErr result (self.new ≡ self.old) }
+    {
+        let count = self.facts.len();
+        match self.add_copies(alloc, news) {
+            Ok(()) => Ok(()),
+            Err(fault) => {
+                self.facts.truncate(count);
+                Err(fault)
+            }
+        }
+    }
+
+    /// The facts, lent.
+    pub(crate) fn facts(&self) -> &[Ground]
+        ensures facts { result.now ≡ self.now }
+        ensures once { AreDistinct self.now }
+    {
+        self.facts.as_slice()
+    }
+
+    /// Adds the facts that are not there yet; where memory is refused, some of them stand at the end.
+    fn add_copies(&mut self, alloc: Global, news: &[Ground]) -> Result<(), NoMemory>
+        ensures front { take (length self.old) self.new ≡ self.old }
+        ensures grows { OnOk result (Grows self.old news.now self.new) }
+    {
+        for fact in news {
+            self.insert(alloc, fact.copy(alloc)?)?;
+        }
+        Ok(())
+    }
+}
+
+/// Whether the fact is one of these.
+fn among(facts: &[Ground], fact: &Ground) -> bool
+    ensures { IsTrue result ↔ Contains facts.now fact.now }
+{
+    let mut left = facts;
+    while let [other, rest @ ..] = left {
+        if other.same(fact) {
+            return true;
+        }
+        left = rest;
+    }
+    false
+}
