@@ -1,0 +1,6 @@
+pub mod Form
+pub mod Rows
+pub mod Fits
+pub mod Merging
+pub mod Numbering
+pub mod Making

@@ -1,0 +1,123 @@
+// The answers of a statement, select by select.
+ghost use Rattle.std.specs.Prelude.{◌≡◌, ◌≤◌, ◌↔◌, IfOk, All, List, ℕ, Contains, length, map};
+ghost use Rattle.std.specs.List.Sorted.{IsStrictlySortedBy};
+ghost use Rattle.meaning.specs.declared.types.Fact.{Fact};
+ghost use Rattle.meaning.specs.declared.types.Term.TheVariants.{Var};
+ghost use Rattle.meaning.specs.Values.{Row};
+ghost use Rattle.meaning.specs.Instances.{IsInstance};
+ghost use Rattle.meaning.specs.Matching.{OccursIn, AnswersQuery, itself, value_of};
+ghost use Rattle.meaning.specs.Answers.{Answers, AnswersSelect};
+ghost use Rattle.meaning.specs.Conjunctive.{SelectFits};
+ghost use Rattle.access_schema.specs.Meaning.{meaning_of};
+ghost use Rattle.row_text.specs.RowText.{row_cmp};
+ghost use Rattle.homomorphism.specs.Instances.{AreFactsOf};
+ghost use Rattle.sql_conjunctive.specs.Form.{IsNumbered};
+ghost use Rattle.sql_conjunctive.specs.Rows.{AreFree, FitsWithFew, HasFew, head_of, head_under, text_at};
+
+use crate::conjoin::conjunctive;
+use crate::form::Conjunctive;
+use access_schema::Schema;
+use homomorphism::{Assignment, Bindings, Store, all_matches};
+use lists::{Copies, NoMemory, Row, Rows, Seq, Text};
+use meaning::types::{Instance, Query, Select, Statement, Term, Val};
+use row_text::ascending_distinct;
+use std::alloc::Global;
+
+/// The answers of the statement on the instance, ascending column by column by their bytes, each once.
+pub fn answers(
+    alloc: Global,
+    statement: &Statement,
+    schema: &Schema,
+    instance: &Instance,
+) -> Result<Rows, NoMemory>
+    requires fits { All (FitsWithFew (meaning_of schema.now)) statement.now.selects }
+    requires instance { IsInstance (meaning_of schema.now) instance.now }
+    ensures members { IfOk result (λ rows. (row : Row) → Contains rows row ↔ Answers statement.now instance.now row) }
+    ensures ascends { IfOk result (λ rows. IsStrictlySortedBy row_cmp rows) }
+{
+    let store = Store::of_instance(alloc, instance)?;
+    let mut rows = Vec::new(alloc);
+    for select in statement.selects.as_slice() {
+        let mut more = select_rows(alloc, select, schema, &store)?;
+        rows.append(&mut more)?;
+    }
+    ascending_distinct(&mut rows);
+    Ok(Seq::from_vec(rows))
+}
+
+/// The answers of the select on the facts of the store, in any order.
+fn select_rows(
+    alloc: Global,
+    select: &Select,
+    schema: &Schema,
+    store: &Store,
+) -> Result<Vec<Row>, NoMemory>
+    requires fits { SelectFits (meaning_of schema.now) select.now }
+    requires froms { HasFew select.now }
+    ensures { IfOk result (λ rows. (facts : List Fact) → IsInstance (meaning_of schema.now) facts → AreFactsOf facts store.now →
+        (row : Row) → Contains rows.items row ↔ AnswersSelect select.now facts row) }
+{
+    let form = conjunctive(alloc, select, schema)?;
+    match form {
+        Conjunctive::Never => Ok(Vec::new(alloc)),
+        Conjunctive::Query(query) => query_rows(alloc, &query, store),
+    }
+}
+
+/// The answers of the query on the facts of the store, in any order.
+fn query_rows(alloc: Global, query: &Query, store: &Store) -> Result<Vec<Row>, NoMemory>
+    requires numbered { IsNumbered query.now }
+    requires head { (x : ℕ) → Contains query.now.head (Var x) → OccursIn query.now.atoms x }
+    ensures { IfOk result (λ rows. (facts : List Fact) → AreFactsOf facts store.now →
+        (row : Row) → Contains rows.items row ↔ AnswersQuery query.now facts row) }
+{
+    let fixed = no_values(alloc, query.variables)?;
+    let found = all_matches(alloc, &query.atoms, store, &fixed)?;
+    head_rows(alloc, query.head.as_slice(), found.as_slice())
+}
+
+/// No value for so many variables.
+fn no_values(alloc: Global, variables: u32) -> Result<Bindings, NoMemory>
+    ensures width { IfOk result (λ fixed. length fixed ≡ variables) }
+    ensures free { IfOk result AreFree }
+{
+    let mut fixed = Seq::new(alloc);
+    while fixed.len() < variables as usize {
+        fixed.push(None)?;
+    }
+    Ok(fixed)
+}
+
+/// The row of the head under each assignment.
+fn head_rows(alloc: Global, head: &[Term], assignments: &[Assignment]) -> Result<Vec<Row>, NoMemory>
+    ensures { IfOk result (λ rows. rows.items ≡ map (head_under head.now) assignments.now) }
+{
+    let mut rows = Vec::with_capacity(alloc, assignments.len())?;
+    for assignment in assignments {
+        rows.push(head_row(alloc, head, assignment.vals.as_slice())?)?;
+    }
+    Ok(rows)
+}
+
+fn head_row(alloc: Global, head: &[Term], values: &[Val]) -> Result<Row, NoMemory>
+    ensures { IfOk result (λ row. row ≡ head_of head.now values.now) }
+{
+    let mut row = Vec::with_capacity(alloc, head.len())?;
+    for term in head {
+        row.push(term_text(alloc, term, values)?)?;
+    }
+    Ok(Seq::from_vec(row))
+}
+
+/// The text of a term; a variable without one has the empty text.
+fn term_text(alloc: Global, term: &Term, values: &[Val]) -> Result<Text, NoMemory>
+    ensures { IfOk result (λ text. text ≡ value_of itself (text_at values.now) term.now) }
+{
+    match term {
+        Term::Const(text) => text.copy(alloc),
+        Term::Var(variable) => match values.get(*variable as usize) {
+            Some(Val::Const(text)) => text.copy(alloc),
+            _ => Text::from_str(alloc, ""),
+        },
+    }
+}
