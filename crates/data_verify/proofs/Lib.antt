@@ -1,0 +1,6 @@
+pub mod Texts
+pub mod Choosing
+pub mod Pairing
+pub mod First
+pub mod Written
+pub mod Each
