@@ -1,0 +1,249 @@
+-- Why one pass in the rule order leaves nothing active: a rule that was gone through stays met, since no later rule
+-- feeds it; and the matches of a rule's body, taken before its firings, are all that there are after them, since it does
+-- not feed itself.
+use Rattle.std.proofs.Common.{◌≡◌, ℕ, ◌+◌, ◌-◌, ◌*◌, ◌<◌, ◌≤◌, List, [], ◌∷◌, ◌++◌, length, Some, refl, sym, ap, ◌∙◌, subst, ⊎_elim, arith, Contains, map, take, slice_get, slice_index_or}
+use Rattle.std.proofs.lemmas.List.{take_more}
+use Rattle.std.proofs.lemmas.List.Elements.{Contains-append_left, Contains-append_right, Contains-append_cases, Contains-push, Contains-push_cases}
+use Rattle.std.proofs.lemmas.List.FromFn.{get_or-map-range_with_len}
+use Rattle.std.proofs.lemmas.Option.{slice_get-get_or}
+use Rattle.lists.proofs.Members.{contains_map, contains_mapped, contains_got, some_injective}
+use Rattle.meaning.specs.declared.types.Val.{Val}
+use Rattle.meaning.specs.declared.types.Val.TheVariants.{Const, Label}
+use Rattle.meaning.specs.declared.types.Atom.{Atom}
+use Rattle.meaning.specs.declared.types.Ground.{Ground}
+use Rattle.meaning.specs.declared.types.Rule.{Rule}
+use Rattle.meaning.specs.declared.types.Trigger.{Trigger}
+use Rattle.meaning.specs.Matching.{OccursIn, AreFacts, GroundsOf, MeetsRule, MeetsAll}
+use Rattle.meaning.specs.Triggers.{State, ground, bound, assigned, fired, IsActive, IsQuiet}
+use Rattle.meaning.specs.RuleOrder.{StandsBefore}
+use Rattle.meaning.specs.Runs.{IsFirstActive, IsBaseRun}
+use Rattle.meaning_laws.proofs.Joined.{joined_below}
+use Rattle.meaning_laws.proofs.Carrying.{occurs_below}
+use Rattle.meaning_laws.proofs.Deciding.{same_facts}
+use Rattle.homomorphism.specs.declared.assignment.Assignment.{Assignment}
+use Rattle.homomorphism.specs.Bindings.{at, values_of}
+use Rattle.homomorphism.specs.Rules.{AreBodyMatches, IsMet, IsUnmet, IsUnmetMatch}
+use Rattle.homomorphism.specs.Growing.{Grows}
+use Rattle.access_schema.specs.declared.limits.TheConstants.{MOST_VARIABLES}
+use Rattle.rule_pass.specs.Orderly.{AreOrderly}
+use Rattle.rule_pass.specs.Order.{IsRuleOrder}
+use Rattle.rule_pass.specs.States.{AreAlike, LeadsTo, SomeActive}
+use Rattle.rule_pass.specs.Passing.{AreMet, Goes}
+use Rattle.rule_pass.proofs.Ordered.{FeedsNot, stands_earlier, feeds_no_earlier}
+use Rattle.rule_pass.proofs.Bounds.{alike_grown}
+
+-- what a firing adds
+abbrev made : Trigger → Rule → List Ground
+made trigger rule = map (ground (assigned trigger)) rule.head
+
+-- a body that the rule does not feed is matched after the firing only where it was before
+pull : (facts grown : List Ground) (trigger : Trigger) (rule other : Rule) (a : ℕ → Val) → FeedsNot rule other → Grows facts (made trigger rule) grown → AreFacts Const (GroundsOf grown) a other.body → AreFacts Const (GroundsOf facts) a other.body
+pull facts grown trigger rule other a not g are atom among =
+    ⊎_elim (λ h. h) (λ h. let (head, in_head, e) = contains_mapped (ground (assigned trigger)) rule.head (ground a atom) h in absurd (not head atom in_head among (ap (λ (f : Ground). f.rel) e)))
+    (g.only (ground a atom) (are atom among))
+
+-- a rule that is met and not fed stays met
+met_stays : (facts grown : List Ground) (trigger : Trigger) (rule other : Rule) → FeedsNot rule other → Grows facts (made trigger rule) grown → MeetsRule Const (GroundsOf facts) other → MeetsRule Const (GroundsOf grown) other
+met_stays facts grown trigger rule other not g meets a body =
+    let (b, ext) = meets a (pull facts grown trigger rule other a not g body) in
+    (b, record { agrees = ext.agrees; head = λ atom c. g.kept (ground b atom) (ext.head atom c) })
+
+is_met_stays : (facts grown news : List Ground) (rule : Rule) (values : List Val) → Grows facts news grown → IsMet facts rule values → IsMet grown rule values
+is_met_stays facts grown news rule values g (b, ext) = (b, record { agrees = ext.agrees; head = λ atom c. g.kept (ground b atom) (ext.head atom c) })
+
+-- the assignment of a trigger is its values on the body
+values_first : (trigger : Trigger) (rule : Rule) → length trigger.values ≡ bound rule.body → (x : ℕ) → OccursIn rule.body x → assigned trigger x ≡ at trigger.values x
+values_first trigger rule width x occurs = joined_below (length trigger.values) (λ y. slice_index_or trigger.values y (Label 0)) (λ i. Label (trigger.fresh + i)) x (let l = occurs_below rule.body x occurs in omega arith)
+
+-- after the firing its own match is met
+fired_met : (facts grown : List Ground) (trigger : Trigger) (rule : Rule) → length trigger.values ≡ bound rule.body → Grows facts (made trigger rule) grown → IsMet grown rule trigger.values
+fired_met facts grown trigger rule width g = (
+  assigned trigger,
+  record {
+    agrees = λ x occurs. values_first trigger rule width x occurs;
+    head = λ atom c. g.added (ground (assigned trigger) atom) (contains_map (ground (assigned trigger)) rule.head atom c);
+  },
+)
+
+-- the run with one firing more
+run_more : (rules : List Rule) (start middle : State) (log : List Trigger) (trigger : Trigger) (rule : Rule) → IsBaseRun rules start log middle → IsFirstActive rules middle trigger rule → IsBaseRun rules start (log ++ trigger ∷ []) (fired middle trigger rule)
+run_more rules start middle [] trigger rule e first = (rule, subst (λ s. IsFirstActive rules s trigger rule) e first, ap (λ s. fired s trigger rule) e)
+run_more rules start middle (t ∷ log) trigger rule (r, is, run) first = (r, is, run_more rules (fired start t r) middle log trigger rule run first)
+
+-- states that are alike
+alike_back : (first second : State) → AreAlike first second → AreAlike second first
+alike_back first second alike = record { to = alike.from; from = alike.to; next = sym alike.next }
+
+alike_on : (first second third : State) → AreAlike first second → AreAlike second third → AreAlike first third
+alike_on first second third a b = record { to = λ fact c. b.to fact (a.to fact c); from = λ fact c. a.from fact (b.from fact c); next = a.next ∙ b.next }
+
+alike_fired : (first second : State) (trigger : Trigger) (rule : Rule) → AreAlike first second → AreAlike (fired first trigger rule) (fired second trigger rule)
+alike_fired first second trigger rule alike = record {
+  to = λ fact c. ⊎_elim (λ h. Contains-append_left second.facts (made trigger rule) fact (alike.to fact h)) (λ h. Contains-append_right second.facts (made trigger rule) fact h) (Contains-append_cases first.facts (made trigger rule) fact c);
+  from = λ fact c. ⊎_elim (λ h. Contains-append_left first.facts (made trigger rule) fact (alike.from fact h)) (λ h. Contains-append_right first.facts (made trigger rule) fact h) (Contains-append_cases second.facts (made trigger rule) fact c);
+  next = refl;
+}
+
+active_alike : (rules : List Rule) (first second : State) (trigger : Trigger) (rule : Rule) → AreAlike first second → IsActive rules first trigger rule → IsActive rules second trigger rule
+active_alike rules first second trigger rule alike active = record {
+  trigger_is = record {
+    numbered = active.trigger_is.numbered;
+    width = active.trigger_is.width;
+    fresh = subst (λ n. n ≤ trigger.fresh) alike.next active.trigger_is.fresh;
+    body = λ atom c. alike.to (ground (assigned trigger) atom) (active.trigger_is.body atom c);
+  };
+  next = active.next ∙ alike.next;
+  unmet = λ b ext. active.unmet b (record { agrees = ext.agrees; head = λ atom c. alike.from (ground b atom) (ext.head atom c) });
+}
+
+-- rules that are met have no active trigger
+met_inactive : (rules : List Rule) (now : State) (other : Trigger) (its : Rule) → MeetsRule Const (GroundsOf now.facts) its → IsActive rules now other its → ⊥
+met_inactive rules now other its meets active = let (b, ext) = meets (assigned other) active.trigger_is.body in active.unmet b ext
+
+pub met_quiet : (rules : List Rule) (now : State) → MeetsAll Const (GroundsOf now.facts) rules → IsQuiet rules now
+met_quiet rules now meets trigger rule active = met_inactive rules now trigger rule (meets rule (contains_got rules trigger.rule rule active.trigger_is.numbered)) active
+
+-- an unmet match of a rule, where all that stand before are met, is the first active trigger
+first_active : (rules : List Rule) (now : State) (trigger : Trigger) (rule : Rule) → slice_get rules trigger.rule ≡ Some rule → length trigger.values ≡ bound rule.body → trigger.fresh ≡ now.next →
+    AreFacts Const (GroundsOf now.facts) (at trigger.values) rule.body → IsUnmet now.facts rule trigger.values →
+    ((j : ℕ) (other : Rule) → StandsBefore rules j trigger.rule → slice_get rules j ≡ Some other → MeetsRule Const (GroundsOf now.facts) other) →
+    IsFirstActive rules now trigger rule
+first_active rules now trigger rule numbered width next body unmet before = record {
+  active = record {
+    trigger_is = record {
+      numbered = numbered;
+      width = width;
+      fresh = subst (λ n. now.next ≤ n) (sym next) (omega arith);
+      body = same_facts now.facts (at trigger.values) (assigned trigger) rule.body (λ x occurs. sym (values_first trigger rule width x occurs)) body;
+    };
+    next = next;
+    unmet = λ b ext. unmet b (record { agrees = λ x occurs. ext.agrees x occurs ∙ values_first trigger rule width x occurs; head = ext.head });
+  };
+  first = λ other its active stands. met_inactive rules now other its (before other.rule its stands active.trigger_is.numbered) active;
+}
+
+-- the log with the firing
+leads_more : (rules : List Rule) (start now after : State) (log : List Trigger) (trigger : Trigger) (rule : Rule) → LeadsTo rules start log now → IsFirstActive rules now trigger rule → AreAlike (fired now trigger rule) after
+    → LeadsTo rules start (log ++ trigger ∷ []) after
+leads_more rules start now after log trigger rule l first alike = record {
+  end = fired l.end trigger rule;
+  run = run_more rules start l.end log trigger rule l.run (record {
+    active = active_alike rules now l.end trigger rule (alike_back l.end now l.alike) first.active;
+    first = λ other its active stands. first.first other its (active_alike rules l.end now other its l.alike active) stands;
+  });
+  alike = alike_on (fired l.end trigger rule) (fired now trigger rule) after (alike_fired l.end now trigger rule l.alike) alike;
+}
+
+-- nothing fired yet
+pub leads_start : (rules : List Rule) (start : State) (log : List Trigger) → log ≡ [] → LeadsTo rules start log start
+leads_start rules start log e = subst (λ z. LeadsTo rules start z start) (sym e) (record { end = start; run = refl; alike = record { to = λ fact c. c; from = λ fact c. c; next = refl } })
+
+-- the trigger of an unmet match of the rule at a place of the order
+pub unmet_first : (rules : List Rule) (order : List ℕ) (k : ℕ) (rule : Rule) (now : State) (values : List Val) (fresh : ℕ) → IsRuleOrder rules order → k < length order →
+    slice_get rules (slice_index_or order k 0) ≡ Some rule → AreMet rules now.facts (take k order) → IsUnmetMatch now.facts rule values → fresh ≡ now.next →
+    IsFirstActive rules now (record { rule = slice_index_or order k 0; values = values; fresh = fresh }) rule
+unmet_first rules order k rule now values fresh ordered l numbered before u next =
+    first_active rules now (record { rule = slice_index_or order k 0; values = values; fresh = fresh }) rule numbered u.width next u.body u.unmet
+    (λ j other stands e. before j other (stands_earlier rules order ordered k (slice_index_or order k 0) j l refl stands) e)
+
+-- what holds after some of the matches of the rule at place k of the order
+pub record Passing (rules : List Rule) (order : List ℕ) (first : State) (begun : List Trigger) (k budget : ℕ) (rule : Rule) (found done : List Assignment) (log : List Trigger) (now : State) : Type 0 where
+  pub goes : Goes rules first begun now log
+  pub before : AreMet rules now.facts (take k order)
+  pub width : (m : Assignment) → Contains found m → length m.vals ≡ bound rule.body
+  pub each : (m : Assignment) → Contains found m → AreFacts Const (GroundsOf now.facts) (at m.vals) rule.body
+  pub all : (a : ℕ → Val) → AreFacts Const (GroundsOf now.facts) a rule.body → Contains found (record { vals = values_of (bound rule.body) a })
+  pub met : (m : Assignment) → Contains done m → IsMet now.facts rule m.vals
+  pub budget_kept : length log ≤ budget
+  pub labels_kept : now.next + length begun * MOST_VARIABLES ≤ first.next + length log * MOST_VARIABLES
+
+pub passing_start : (rules : List Rule) (order : List ℕ) (first : State) (begun : List Trigger) (k budget : ℕ) (rule : Rule) (found : List Assignment) →
+    AreMet rules first.facts (take k order) → AreBodyMatches first.facts rule found → length begun ≤ budget → Passing rules order first begun k budget rule found [] begun first
+passing_start rules order first begun k budget rule found m b spare = record {
+  goes = λ start z. z;
+  before = m;
+  width = b.width;
+  each = b.each;
+  all = b.all;
+  met = λ one c. absurd (omega arith);
+  budget_kept = spare;
+  labels_kept = omega arith;
+}
+
+-- a match that is met is passed over
+pub passing_met : (rules : List Rule) (order : List ℕ) (first : State) (begun : List Trigger) (k budget : ℕ) (rule : Rule) (found done : List Assignment) (one : Assignment) (log : List Trigger) (now : State) →
+    Passing rules order first begun k budget rule found done log now → IsMet now.facts rule one.vals → Passing rules order first begun k budget rule found (done ++ one ∷ []) log now
+passing_met rules order first begun k budget rule found done one log now p m = record {
+  goes = p.goes;
+  before = p.before;
+  width = p.width;
+  each = p.each;
+  all = p.all;
+  met = λ other c. ⊎_elim (λ h. p.met other h) (λ e. subst (λ (x : Assignment). IsMet now.facts rule x.vals) e m) (Contains-push_cases done one other c);
+  budget_kept = p.budget_kept;
+  labels_kept = p.labels_kept;
+}
+
+module _ (rules : List Rule) (order : List ℕ) (first : State) (begun : List Trigger) (k budget : ℕ) (rule : Rule) (found done : List Assignment) (log : List Trigger) (now : State) (one : Assignment) (fresh : ℕ)
+    (orderly : AreOrderly rules) (ordered : IsRuleOrder rules order) (l : k < length order) (numbered : slice_get rules (slice_index_or order k 0) ≡ Some rule)
+    (p : Passing rules order first begun k budget rule found done log now) (among : Contains found one) (next : fresh ≡ now.next) (unmet : IsUnmet now.facts rule one.vals) where
+  abbrev plain : Trigger
+  plain = record { rule = slice_index_or order k 0; values = one.vals; fresh = fresh }
+
+  pub passing_first : IsFirstActive rules now plain rule
+  passing_first = unmet_first rules order k rule now one.vals fresh ordered l numbered p.before (record { width = p.width one among; body = p.each one among; unmet = unmet }) next
+
+  pub passing_room : (trigger : Trigger) (other : Rule) → trigger ≡ plain → slice_get rules trigger.rule ≡ Some other → budget ≤ 100000 → first.next ≤ 1048576 + length begun * MOST_VARIABLES → (fired now trigger other).next < 4294967296
+  passing_room trigger other is got few low =
+      let small = orderly.variables other (contains_got rules trigger.rule other got) in
+      let same : trigger.fresh ≡ now.next = ap (λ (t : Trigger). t.fresh) is ∙ next in
+      let a = p.budget_kept in let b = p.labels_kept in omega arith
+
+  pub passing_fired : (trigger : Trigger) (after : State) → trigger ≡ plain → length log < budget → AreAlike (fired now trigger rule) after → Passing rules order first begun k budget rule found (done ++ one ∷ []) (log ++ trigger ∷ []) after
+  passing_fired trigger after is spare = subst (λ t. AreAlike (fired now t rule) after → Passing rules order first begun k budget rule found (done ++ one ∷ []) (log ++ t ∷ []) after) (sym is)
+      (λ alike. let g = alike_grown now after plain rule alike in record {
+        goes = λ start z. leads_more rules start now after log plain rule (p.goes start z) passing_first alike;
+        before = λ j other c e. met_stays now.facts after.facts plain rule other (feeds_no_earlier rules order ordered k (slice_index_or order k 0) j rule other l refl (earlier j c) numbered e) g (p.before j other c e);
+        width = p.width;
+        each = λ m c atom d. g.kept (ground (at m.vals) atom) (p.each m c atom d);
+        all = λ a are. p.all a (pull now.facts after.facts plain rule rule a (feeds_no_earlier rules order ordered k (slice_index_or order k 0) (slice_index_or order k 0) rule rule l refl self numbered numbered) g are);
+        met = λ m c. ⊎_elim (λ h. is_met_stays now.facts after.facts (made plain rule) rule m.vals g (p.met m h))
+            (λ e. subst (λ (x : Assignment). IsMet after.facts rule x.vals) e (fired_met now.facts after.facts plain rule (p.width one among) g)) (Contains-push_cases done one m c);
+        budget_kept = let n = length_push log plain in omega arith;
+        labels_kept =
+            let n = length_push log plain in let b = p.labels_kept in let small = orderly.variables rule (contains_got rules (slice_index_or order k 0) rule numbered) in let up = alike.next in omega arith;
+      })
+    where
+      earlier : (j : ℕ) → Contains (take k order) j → Contains (take (k + 1) order) j
+      earlier j c = subst (λ z. Contains z j) (sym (take_more order k 0 l)) (Contains-append_left (take k order) (slice_index_or order k 0 ∷ []) j c)
+
+      self : Contains (take (k + 1) order) (slice_index_or order k 0)
+      self = subst (λ z. Contains z (slice_index_or order k 0)) (sym (take_more order k 0 l)) (Contains-push (take k order) (slice_index_or order k 0))
+
+      length_push : (xs : List Trigger) (x : Trigger) → length (xs ++ x ∷ []) ≡ length xs + 1
+      length_push [] x = refl
+      length_push (y ∷ xs) x = let e = length_push xs x in omega arith
+
+-- after all matches the rule is met
+pub passing_all : (rules : List Rule) (order : List ℕ) (first : State) (begun : List Trigger) (k budget : ℕ) (rule : Rule) (found : List Assignment) (log : List Trigger) (now : State) →
+    Passing rules order first begun k budget rule found found log now → MeetsRule Const (GroundsOf now.facts) rule
+passing_all rules order first begun k budget rule found log now p a body =
+    let (b, ext) = p.met (record { vals = values_of (bound rule.body) a }) (p.all a body) in
+    (b, record { agrees = λ x occurs. ext.agrees x occurs ∙ listed x (occurs_below rule.body x occurs); head = ext.head })
+  where
+    listed : (x : ℕ) → x < bound rule.body → at (values_of (bound rule.body) a) x ≡ a x
+    listed x l = get_or-map-range_with_len a 0 (bound rule.body) x x (Label 0) l (omega arith)
+
+-- one rule more of the order is met
+pub met_more : (rules : List Rule) (order : List ℕ) (facts : List Ground) (k : ℕ) (rule : Rule) → k < length order → slice_get rules (slice_index_or order k 0) ≡ Some rule →
+    AreMet rules facts (take k order) → MeetsRule Const (GroundsOf facts) rule → AreMet rules facts (take (k + 1) order)
+met_more rules order facts k rule l numbered before now j other c e =
+    ⊎_elim (λ h. before j other h e) (λ same. subst (MeetsRule Const (GroundsOf facts)) (some_injective rule other (sym numbered ∙ ap (slice_get rules) same ∙ e)) now)
+    (Contains-push_cases (take k order) (slice_index_or order k 0) j (subst (λ z. Contains z j) (take_more order k 0 l) c))
+
+-- where all rules of the order are met, the facts meet the rules
+pub met_all : (rules : List Rule) (order : List ℕ) (facts : List Ground) → IsRuleOrder rules order → AreMet rules facts order → MeetsAll Const (GroundsOf facts) rules
+met_all rules order facts ordered met rule (i, l, e) = met i rule (ordered.each i l) (slice_get-get_or rules i rule l ∙ ap Some e)
+
+pub numbered_at : (rules : List Rule) (number : ℕ) (rule : Rule) → number < length rules → rule ≡ slice_index_or rules number rule → slice_get rules number ≡ Some rule
+numbered_at rules number rule l e = slice_get-get_or rules number rule l ∙ ap Some (sym e)

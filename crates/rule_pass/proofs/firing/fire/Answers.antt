@@ -1,0 +1,37 @@
+use Rattle.std.proofs.Common.{◌≡◌, ◌∙◌, ◌+◌, ◌-◌, ◌<◌, ℕ, Some, List, map, length, slice_get, slice_index_or, sym, ap, subst, arith}
+use Rattle.std.proofs.lemmas.Option.{slice_get_within}
+use Rattle.lists.proofs.Members.{some_injective}
+use Rattle.meaning.specs.declared.types.Ground.{Ground}
+use Rattle.meaning.specs.declared.types.Rule.{Rule}
+use Rattle.meaning.specs.Triggers.{IsTrigger, LabelsBelow, assigned, ground, bound, fired}
+use Rattle.homomorphism.specs.Growing.{Grows}
+use Rattle.rule_pass.proofs.Bounds.{made_below, grown_alike}
+use Rattle.rule_pass.proofs.OnePass.{numbered_at}
+use Rattle.rule_pass.proofs.firing.fire.Goals as goal
+
+pub add-requires-clause-labels : goal.add-requires-clause-labels
+add-requires-clause-labels c below =
+    let its : IsTrigger c.args.rules.now c.args.state.now c.args.trigger.now c.requires.active.0 = c.requires.active.1.trigger_is in
+    let fits : c.args.trigger.now.rule < length c.args.rules.now = slice_get_within c.args.rules.now c.args.trigger.now.rule c.requires.active.0 its.numbered in
+    let got : slice_get c.args.rules.now c.args.trigger.now.rule ≡ Some c.index-as_slice-trigger.result = numbered_at c.args.rules.now c.args.trigger.now.rule c.index-as_slice-trigger.result fits (rw c.as_slice.ensures at c.index-as_slice-trigger.is) in
+    let one : c.requires.active.0 ≡ c.index-as_slice-trigger.result = some_injective c.requires.active.0 c.index-as_slice-trigger.result (sym its.numbered ∙ got) in
+    let is : IsTrigger c.args.rules.now c.args.state.now c.args.trigger.now c.index-as_slice-trigger.result = subst (IsTrigger c.args.rules.now c.args.state.now c.args.trigger.now) one its in
+    let news : c.as_slice-4.result.now ≡ map (ground (assigned c.args.trigger.now)) c.index-as_slice-trigger.result.head = c.as_slice-4.ensures.value ∙ c.in_ok-news.ensures ∙ ap (map (ground (assigned c.args.trigger.now))) c.as_slice-2.ensures in
+    let width : c.variables_width-width.result ≡ bound c.index-as_slice-trigger.result.head = c.variables_width-width.ensures ∙ ap bound c.as_slice-3.ensures in
+    let next : c.args.trigger.now.fresh + c.saturating_sub-labels.result ≡ (fired c.args.state.now c.args.trigger.now c.index-as_slice-trigger.result).next = let a = c.saturating_sub-labels.ensures in let b = c.len.ensures in let d = is.width in omega arith in
+    subst (λ (facts : List Ground). LabelsBelow facts (c.args.trigger.now.fresh + c.saturating_sub-labels.result)) (sym news)
+    (subst (LabelsBelow (map (ground (assigned c.args.trigger.now)) c.index-as_slice-trigger.result.head)) (sym next)
+    (made_below c.args.rules.now c.args.state.now c.args.trigger.now c.index-as_slice-trigger.result c.requires.numbered is below))
+
+pub returns-clause-fired : goal.returns-clause-fired
+returns-clause-fired c rule got =
+    let its : IsTrigger c.args.rules.now c.args.state.now c.args.trigger.now c.requires.active.0 = c.requires.active.1.trigger_is in
+    let fits : c.args.trigger.now.rule < length c.args.rules.now = slice_get_within c.args.rules.now c.args.trigger.now.rule c.requires.active.0 its.numbered in
+    let here : slice_get c.args.rules.now c.args.trigger.now.rule ≡ Some c.index-as_slice-trigger.result = numbered_at c.args.rules.now c.args.trigger.now.rule c.index-as_slice-trigger.result fits (rw c.as_slice.ensures at c.index-as_slice-trigger.is) in
+    let one : c.index-as_slice-trigger.result ≡ rule = some_injective c.index-as_slice-trigger.result rule (sym here ∙ got) in
+    let same : c.requires.active.0 ≡ rule = some_injective c.requires.active.0 rule (sym its.numbered ∙ got) in
+    let is : IsTrigger c.args.rules.now c.args.state.now c.args.trigger.now rule = subst (IsTrigger c.args.rules.now c.args.state.now c.args.trigger.now) same its in
+    let news : c.as_slice-4.result.now ≡ map (ground (assigned c.args.trigger.now)) rule.head = c.as_slice-4.ensures.value ∙ c.in_ok-news.ensures ∙ ap (map (ground (assigned c.args.trigger.now))) (c.as_slice-2.ensures ∙ ap (λ (r : Rule). r.head) one) in
+    let width : c.variables_width-width.result ≡ bound rule.head = c.variables_width-width.ensures ∙ ap bound (c.as_slice-3.ensures ∙ ap (λ (r : Rule). r.head) one) in
+    let next : (fired c.args.state.now c.args.trigger.now rule).next ≡ c.add.new.self.next = let a = c.saturating_sub-labels.ensures in let b = c.len.ensures in let d = is.width in let e = c.in_ok-add.ensures.next in omega arith in
+    grown_alike c.args.state.now c.add.new.self c.args.trigger.now rule (subst (λ (facts : List Ground). Grows c.args.state.now.facts facts c.add.new.self.facts) news c.in_ok-add.ensures.grows) next

@@ -1,0 +1,6 @@
+pub mod Orderly
+pub mod Order
+pub mod States
+pub mod Levels
+pub mod Ranks
+pub mod Passing

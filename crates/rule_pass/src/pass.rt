@@ -1,0 +1,163 @@
+// One pass through the rules.
+ghost use Rattle.std.specs.Prelude.{◌≡◌, ◌+◌, ◌*◌, ◌<◌, ◌≤◌, ◌^◌, [], ◌∷◌, ◌++◌, length, take, OnOk, OnErr, IfOk, Ok, Some, slice_get, slice_index_or};
+ghost use Rattle.meaning.specs.declared.types.Rule.{Rule};
+ghost use Rattle.meaning.specs.declared.types.Val.TheVariants.{Const};
+ghost use Rattle.meaning.specs.Matching.{MeetsAll, GroundsOf};
+ghost use Rattle.meaning.specs.Triggers.{AreNumbered, fired, IsQuiet};
+ghost use Rattle.access_schema.specs.declared.limits.TheConstants.{MOST_VARIABLES};
+ghost use Rattle.rule_pass.specs.Orderly.{AreOrderly};
+ghost use Rattle.rule_pass.specs.Order.{IsRuleOrder};
+ghost use Rattle.rule_pass.specs.States.{AreAlike, LeadsTo, IsActiveTrigger, SomeActive};
+ghost use Rattle.rule_pass.specs.Passing.{AreMet, Goes};
+ghost use Rattle.rule_pass.specs.declared.pass.Stopped.TheVariants.{Ended, Spent};
+
+use crate::firing::fire;
+use crate::order::rule_order;
+use crate::state::State;
+use homomorphism::{body_matches, is_met};
+use lists::{Copies, NoMemory};
+use meaning::types::{Rules, Trigger, Triggers, Vals};
+use std::alloc::Global;
+
+/// The most firings that a pass may be given.
+pub const MOST_FIRINGS: u32 = 100_000;
+
+/// The highest next label that a pass may begin with.
+pub const HIGHEST_FIRST_LABEL: u32 = 1_048_576;
+
+/// How a pass ends: with nothing active, or with its budget spent and a trigger that is active.
+#[derive(Debug, Drop)]
+pub enum Stopped {
+    Ended,
+    Spent,
+}
+
+/// Goes through the rules once, in the rule order, and fires the active triggers of each before it goes on to the next.
+///
+/// The firings stand in the log, at most `budget` of them. Ended comes exactly where nothing is active at the end, and
+/// then the facts meet the rules. Where memory is refused, the state is that of the firings in the log, each whole.
+pub fn run_rules(
+    alloc: Global,
+    state: &mut State,
+    rules: &Rules,
+    budget: u32,
+    log: &mut Triggers,
+) -> Result<Stopped, NoMemory>
+    requires orderly { AreOrderly rules.now }
+    requires empty { log.old ≡ [] }
+    requires budget { budget ≤ MOST_FIRINGS }
+    requires labels { state.old.next ≤ HIGHEST_FIRST_LABEL }
+    ensures run { LeadsTo rules.now state.old log.new state.new }
+    ensures budget { length log.new ≤ budget }
+    ensures labels { state.new.next ≤ state.old.next + length log.new * MOST_VARIABLES }
+    ensures met { result ≡ Ok Ended → MeetsAll Const (GroundsOf state.new.facts) rules.now }
+    ensures ended { result ≡ Ok Ended → IsQuiet rules.now state.new }
+    ensures spent { result ≡ Ok Spent → (length log.new ≡ budget) × SomeActive rules.now state.new }
+{
+    let order = rule_order(alloc, rules)?;
+    Ok(run_in_order(alloc, state, rules, order.as_slice(), budget as usize, log)?)
+}
+
+/// Goes through the rules once, in this order.
+fn run_in_order(
+    alloc: Global,
+    state: &mut State,
+    rules: &Rules,
+    order: &[u32],
+    budget: usize,
+    log: &mut Triggers,
+) -> Result<Stopped, NoMemory>
+    requires orderly { AreOrderly rules.now }
+    requires ordered { IsRuleOrder rules.now order.now }
+    requires empty { log.old ≡ [] }
+    requires budget { budget ≤ MOST_FIRINGS }
+    requires labels { state.old.next ≤ HIGHEST_FIRST_LABEL }
+    ensures run { LeadsTo rules.now state.old log.new state.new }
+    ensures budget { length log.new ≤ budget }
+    ensures labels { state.new.next ≤ state.old.next + length log.new * MOST_VARIABLES }
+    ensures met { result ≡ Ok Ended → MeetsAll Const (GroundsOf state.new.facts) rules.now }
+    ensures spent { result ≡ Ok Spent → (length log.new ≡ budget) × SomeActive rules.now state.new }
+{
+    for place in 0..order.len() {
+        if let Stopped::Spent = run_rule(alloc, state, rules, order, place, budget, log)? {
+            return Ok(Stopped::Spent);
+        }
+    }
+    Ok(Stopped::Ended)
+}
+
+/// Fires the matches of one rule that have no extension, until the budget is spent.
+fn run_rule(
+    alloc: Global,
+    state: &mut State,
+    rules: &Rules,
+    order: &[u32],
+    place: usize,
+    budget: usize,
+    log: &mut Triggers,
+) -> Result<Stopped, NoMemory>
+    requires orderly { AreOrderly rules.now }
+    requires ordered { IsRuleOrder rules.now order.now }
+    requires place { place < length order.now }
+    requires met { AreMet rules.now state.old.facts (take place order.now) }
+    requires spare { length log.old ≤ budget }
+    requires budget { budget ≤ MOST_FIRINGS }
+    requires labels { state.old.next ≤ HIGHEST_FIRST_LABEL + length log.old * MOST_VARIABLES }
+    ensures run { Goes rules.now state.old log.old state.new log.new }
+    ensures budget { length log.new ≤ budget }
+    ensures labels { state.new.next + length log.old * MOST_VARIABLES ≤ state.old.next + length log.new * MOST_VARIABLES }
+    ensures ended { result ≡ Ok Ended → AreMet rules.now state.new.facts (take (place + 1) order.now) }
+    ensures spent { result ≡ Ok Spent → (length log.new ≡ budget) × SomeActive rules.now state.new }
+{
+    let number = order[place];
+    let rule = &rules.as_slice()[number as usize];
+    let found = body_matches(alloc, rule, state.store())?;
+    for one in found.as_slice() {
+        if !is_met(alloc, rule, state.store(), one.vals.as_slice())? {
+            if log.len() >= budget {
+                return Ok(Stopped::Spent);
+            }
+            let trigger = trigger_of(alloc, number, &one.vals, state.next())?;
+            step(alloc, state, rules, &trigger, log)?;
+        }
+    }
+    Ok(Stopped::Ended)
+}
+
+/// A trigger with a copy of these values.
+fn trigger_of(alloc: Global, rule: u32, values: &Vals, fresh: u32) -> Result<Trigger, NoMemory>
+    ensures { IfOk result (λ trigger. trigger ≡ record { rule = rule; values = values.now; fresh = fresh }) }
+{
+    Ok(Trigger {
+        rule,
+        values: values.copy(alloc)?,
+        fresh,
+    })
+}
+
+/// Fires one trigger and writes it down; where memory is refused, nothing changes.
+fn step(
+    alloc: Global,
+    state: &mut State,
+    rules: &Rules,
+    trigger: &Trigger,
+    log: &mut Triggers,
+) -> Result<(), NoMemory>
+    requires numbered { AreNumbered rules.now }
+    requires active { IsActiveTrigger rules.now state.old trigger.now }
+    requires labels { (rule : Rule) → slice_get rules.now trigger.now.rule ≡ Some rule → (fired state.old trigger.now rule).next < 2 ^ 32 }
+    ensures logged { OnOk result (log.new ≡ log.old ++ trigger.now ∷ []) }
+    ensures fired { OnOk result ((rule : Rule) → slice_get rules.now trigger.now.rule ≡ Some rule → AreAlike (fired state.old trigger.now rule) state.new) }
+    ensures unlogged { OnErr result (log.new ≡ log.old) }
+    ensures refused { OnErr result (state.new ≡ state.old) }
+{
+    let count = log.len();
+    log.push(trigger.copy(alloc)?)?;
+    match fire(alloc, state, rules, trigger) {
+        Ok(()) => Ok(()),
+        Err(fault) => {
+            log.truncate(count);
+            Err(fault)
+        }
+    }
+}
