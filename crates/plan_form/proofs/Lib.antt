@@ -1,0 +1,9 @@
+pub mod Texts
+pub mod Judged
+pub mod FirstFaults
+pub mod Numbers
+pub mod ReadLines
+pub mod Following
+pub mod TextLaws
+pub mod Sizes
+pub mod PrintLaws

@@ -1,0 +1,7 @@
+use Rattle.std.proofs.Common.{◌≡◌, ◌++◌, take}
+use Rattle.std.specs.Prelude.{flat_map, codes}
+use Rattle.plan_form.specs.Printing.{place_text}
+use Rattle.plan_form.proofs.print.push_further_places.Given as goal
+
+abbrev pub invariant-loop-place : goal.invariant-loop-place
+invariant-loop-place l = l.out.items ≡ l.initial.out.items ++ flat_map (λ y. codes ", " ++ place_text y) (take l.place-index l.places)

@@ -1,0 +1,6 @@
+pub mod Fitting
+pub mod Printing
+pub mod Grammar
+pub mod Faults
+pub mod Reading
+pub mod Judging

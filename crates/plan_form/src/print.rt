@@ -1,0 +1,132 @@
+// The text of a plan.
+ghost use Rattle.std.specs.Prelude.{◌≡◌, ◌++◌, OnOk, IfOk, codes, flat_map};
+ghost use Rattle.plan_form.specs.Printing.{listed, place_text, out_text, column_text, step_text, branch_text, plan_text};
+
+use lists::Bytes;
+use meaning::types::{Branch, Out, Place, Plan, Step};
+use pq_text::{print_name, print_number, print_value};
+use std::alloc::{AllocError, Global};
+
+/// The text of a plan: its width, its branches with their access lines and output lines, and the line `end`.
+pub fn plan_text(alloc: Global, plan: &Plan) -> Result<Bytes, AllocError>
+    ensures { IfOk result (λ text. text ≡ plan_text plan.now) }
+{
+    let mut out = Vec::new(alloc);
+    out.extend_from_slice(b"plan ")?;
+    print_number(&mut out, plan.width as u64)?;
+    out.extend_from_slice(b"\n")?;
+    push_branches(&mut out, plan.branches.as_slice())?;
+    out.extend_from_slice(b"end\n")?;
+    Ok(Bytes::from_vec(out))
+}
+
+fn push_branches(out: &mut Vec<u8>, branches: &[Branch]) -> Result<(), AllocError>
+    ensures { OnOk result (out.new.items ≡ out.old.items ++ flat_map branch_text branches.now) }
+{
+    for branch in branches {
+        push_branch(out, branch)?;
+    }
+    Ok(())
+}
+
+fn push_branch(out: &mut Vec<u8>, branch: &Branch) -> Result<(), AllocError>
+    ensures { OnOk result (out.new.items ≡ out.old.items ++ branch_text branch.now) }
+{
+    out.extend_from_slice(b"branch\n")?;
+    push_steps(out, branch.steps.as_slice())?;
+    out.extend_from_slice(b"output ")?;
+    push_outs(out, branch.output.as_slice())?;
+    out.extend_from_slice(b"\n")?;
+    Ok(())
+}
+
+fn push_steps(out: &mut Vec<u8>, steps: &[Step]) -> Result<(), AllocError>
+    ensures { OnOk result (out.new.items ≡ out.old.items ++ flat_map step_text steps.now) }
+{
+    for step in steps {
+        push_step(out, step)?;
+    }
+    Ok(())
+}
+
+fn push_step(out: &mut Vec<u8>, step: &Step) -> Result<(), AllocError>
+    ensures { OnOk result (out.new.items ≡ out.old.items ++ step_text step.now) }
+{
+    out.extend_from_slice(b"access ")?;
+    print_name(out, &step.method)?;
+    out.extend_from_slice(b"(")?;
+    push_places(out, step.places.as_slice())?;
+    out.extend_from_slice(b")\n")?;
+    Ok(())
+}
+
+fn push_places(out: &mut Vec<u8>, places: &[Place]) -> Result<(), AllocError>
+    ensures { OnOk result (out.new.items ≡ out.old.items ++ listed place_text places.now) }
+{
+    let [first, rest @ ..] = places else {
+        return Ok(());
+    };
+    push_place(out, first)?;
+    push_further_places(out, rest)
+}
+
+// Appends a comma, a blank and a place, for each.
+fn push_further_places(out: &mut Vec<u8>, places: &[Place]) -> Result<(), AllocError>
+    ensures { OnOk result (out.new.items ≡ out.old.items ++ flat_map (λ y. codes ", " ++ place_text y) places.now) }
+{
+    for place in places {
+        out.extend_from_slice(b", ")?;
+        push_place(out, place)?;
+    }
+    Ok(())
+}
+
+fn push_place(out: &mut Vec<u8>, place: &Place) -> Result<(), AllocError>
+    ensures { OnOk result (out.new.items ≡ out.old.items ++ place_text place.now) }
+{
+    match place {
+        Place::Const(text) => print_value(out, text),
+        Place::Col(column) => push_column(out, *column),
+        Place::New => {
+            out.extend_from_slice(b"new")?;
+            Ok(())
+        }
+    }
+}
+
+fn push_outs(out: &mut Vec<u8>, outs: &[Out]) -> Result<(), AllocError>
+    ensures { OnOk result (out.new.items ≡ out.old.items ++ listed out_text outs.now) }
+{
+    let [first, rest @ ..] = outs else {
+        return Ok(());
+    };
+    push_out(out, first)?;
+    push_further_outs(out, rest)
+}
+
+// Appends a comma, a blank and an output place, for each.
+fn push_further_outs(out: &mut Vec<u8>, outs: &[Out]) -> Result<(), AllocError>
+    ensures { OnOk result (out.new.items ≡ out.old.items ++ flat_map (λ y. codes ", " ++ out_text y) outs.now) }
+{
+    for member in outs {
+        out.extend_from_slice(b", ")?;
+        push_out(out, member)?;
+    }
+    Ok(())
+}
+
+fn push_out(out: &mut Vec<u8>, member: &Out) -> Result<(), AllocError>
+    ensures { OnOk result (out.new.items ≡ out.old.items ++ out_text member.now) }
+{
+    match member {
+        Out::Const(text) => print_value(out, text),
+        Out::Col(column) => push_column(out, *column),
+    }
+}
+
+fn push_column(out: &mut Vec<u8>, column: u32) -> Result<(), AllocError>
+    ensures { OnOk result (out.new.items ≡ out.old.items ++ column_text column) }
+{
+    out.extend_from_slice(b"$")?;
+    print_number(out, column as u64)
+}
