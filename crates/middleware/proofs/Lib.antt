@@ -1,0 +1,12 @@
+pub mod Orders
+pub mod LaneRuns
+pub mod Answering
+pub mod Steps
+pub mod Existing
+pub mod Laning
+pub mod Finding
+pub mod Branching
+pub mod Attached
+pub mod Planning
+pub mod Accessing
+pub mod Finished

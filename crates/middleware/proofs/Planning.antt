@@ -1,0 +1,268 @@
+-- The branches of a plan: one more, one that stopped, and all.
+use Rattle.std.proofs.Common.{◌≡◌, ◌↔◌, inl, inr, ⊎_elim, ℕ, suc, ◌+◌, ◌-◌, ◌^◌, ◌<◌, ◌≤◌, min, List, [], ◌∷◌, ◌++◌, length, length-append, take, drop, get_or, Some, refl, sym, ◌∙◌, ap, subst, append_assoc, arith}
+use Rattle.std.specs.Prelude.{Contains, slice_get}
+use Rattle.std.proofs.lemmas.List.{take_more, take_all, take-append-drop}
+use Rattle.std.proofs.lemmas.Option.{slice_get_read, slice_get_within}
+use Rattle.lists.proofs.Members.{contains_here, contains_cases, contains_got, got_below}
+use Rattle.meaning.specs.declared.types.Fact.{Fact}
+use Rattle.meaning.specs.declared.types.Method.{Method}
+use Rattle.meaning.specs.declared.types.Relation.{Relation}
+use Rattle.meaning.specs.declared.types.SchemaParts.{SchemaParts}
+use Rattle.meaning.specs.declared.types.Step.{Step}
+use Rattle.meaning.specs.declared.types.Branch.{Branch}
+use Rattle.meaning.specs.declared.types.Plan.{Plan}
+use Rattle.meaning.specs.declared.types.Request.{Request}
+use Rattle.meaning.specs.Plans.{IsMethod}
+use Rattle.meaning.specs.Rows.{IsBranchRow}
+use Rattle.meaning.specs.Requests.{AreBranchesRequests}
+use Rattle.access_schema.specs.declared.schema.Schema.{Schema}
+use Rattle.access_schema.specs.Meaning.{meaning_of}
+use Rattle.source_trait.specs.Asking.{RowList, Seen}
+use Rattle.source_trait.specs.declared.lanes.Kind.{Kind}
+use Rattle.middleware.specs.PlanSources.{IsAccessed}
+use Rattle.middleware.specs.Held.{HoldPlan}
+use Rattle.middleware.specs.Asked.{AskedJust}
+use Rattle.middleware.specs.Branches.{IsReadyBranch, AreAskable, HoldSteps, AsksLane, BranchCause, BranchStops, BranchGoes, Done, RoundsCause, PlanStops, fault_of, StepFits}
+use Rattle.middleware.specs.declared.branch.BranchFault.{BranchFault}
+use Rattle.middleware.specs.declared.branch.BranchFault.TheVariants as branch
+use Rattle.middleware.proofs.Finding.{well_formed}
+use Rattle.middleware.proofs.Steps.{in_append, append_first, append_second}
+use Rattle.middleware.proofs.Existing.{split_at, branches_exist, branches_append, branches_one}
+use Rattle.middleware.proofs.Laning.{AsksLane-refl, AsksLane-trans}
+use Rattle.middleware.proofs.Branching.{relation_later, relation_earlier, steps_earlier, askable_later}
+
+take_whole : {X : Type 0} (xs ys : List X) (n : ℕ) → n ≡ length xs → take n (xs ++ ys) ≡ xs
+take_whole [] ys n e = ap (λ k. take k ys) e
+take_whole (x ∷ xs) ys n e = ap (λ k. take k (x ∷ (xs ++ ys))) e ∙ ap (λ (l : List _). x ∷ l) (take_whole xs ys (length xs) refl)
+
+take_further : {X : Type 0} (xs ys : List X) (i : ℕ) → take (length xs + i) (xs ++ ys) ≡ xs ++ take i ys
+take_further [] ys i = ap (λ n. take n ys) (omega arith)
+take_further (x ∷ xs) ys i = let e : length (x ∷ xs) + i ≡ suc (length xs + i) = omega arith in rw e (ap (λ (l : List _). x ∷ l) (take_further xs ys i))
+
+no_branch : {X : Type 0} (b : X) → Contains [] b → ⊥
+no_branch b n = omega arith
+
+-- a relation that a step accesses is one of the schema
+pub relation_there : (schema : Schema) (method : Method) → Contains schema.methods method → (relation : Relation) × (slice_get schema.relations method.rel ≡ Some relation)
+relation_there schema method among = got_below schema.relations method.rel (schema.valid.methods_are.placed method among)
+
+pub accessed_by : (schema : Schema) (plan : Plan) (its : Branch) (step : Step) (method : Method) → Contains plan.branches its → Contains its.steps step → IsMethod (meaning_of schema) step.method method → IsAccessed schema plan method.rel
+accessed_by schema plan its step method of_plan of_branch named = record { branch = its; step = step; method = method; of_plan = of_plan; of_branch = of_branch; named = named; of_relation = refl }
+
+module _ {S : Type 0} (seen : S → Seen) (schema : Schema) (plan : Plan) where
+  abbrev parts : SchemaParts
+  parts = meaning_of schema
+
+  pub hold_steps : (kinds : List (Kind S)) (instance : List Fact) → HoldPlan seen schema plan kinds instance → (its : Branch) → Contains plan.branches its → HoldSteps seen schema its.steps kinds instance
+  hold_steps kinds instance holds its of_plan step method line among named line_is =
+      let (relation, there) = relation_there schema method named.0 in
+      holds method.rel relation line (record { accessed = accessed_by schema plan its step method of_plan among named; relation_is = there; line_is = line_is })
+
+  steps_later : (requests : List Request) (old new : List (Kind S)) → AsksLane seen schema requests old new → (steps : List Step) (instance : List Fact) → HoldSteps seen schema steps old instance → HoldSteps seen schema steps new instance
+  steps_later requests old new asks steps instance holds step method line among named line_is =
+      relation_later seen schema requests old new asks line.kind method.rel instance (holds step method line among named line_is)
+
+  pub plan_later : (requests : List Request) (old new : List (Kind S)) → AsksLane seen schema requests old new → (instance : List Fact) → HoldPlan seen schema plan old instance → HoldPlan seen schema plan new instance
+  plan_later requests old new asks instance holds rel relation line source = relation_later seen schema requests old new asks line.kind rel instance (holds rel relation line source)
+
+  pub plan_earlier : (requests : List Request) (old new : List (Kind S)) → AsksLane seen schema requests old new → (instance : List Fact) → HoldPlan seen schema plan new instance → HoldPlan seen schema plan old instance
+  plan_earlier requests old new asks instance holds rel relation line source = relation_earlier seen schema requests old new asks line.kind rel instance (holds rel relation line source)
+
+  pub done_none : (rows : RowList) → rows ≡ [] → (kinds : List (Kind S)) → Done seen schema plan [] rows 0 kinds kinds
+  done_none rows e kinds = record {
+    list = [];
+    asks = AsksLane-refl seen schema kinds;
+    count = refl;
+    of_branches = λ request c. absurd (no_branch request c);
+    means = λ instance holds. record {
+      exactly = λ row. ((λ c. absurd (no_branch row (subst (λ (l : RowList). Contains l row) e c))), (λ (b, among, of). absurd (no_branch b among)));
+      are = refl;
+    };
+  }
+
+  goes_over : (before : List Branch) (its : Branch) → Contains plan.branches its → (rows next : RowList) (count after : ℕ) (old mid new : List (Kind S)) → Done seen schema plan before rows count old mid
+      → BranchGoes seen schema its rows next count after mid new → Done seen schema plan (before ++ its ∷ []) next after old new
+  goes_over before its of_plan rows next count after old mid new d g = record {
+    list = d.list ++ g.list;
+    asks = AsksLane-trans seen schema d.list g.list old mid new d.asks g.asks;
+    count = let a = d.count in let b = g.count in omega (arith, a, b, length-append d.list g.list);
+    of_branches = λ request c. elim (in_append d.list g.list request c) [
+      | inl first ↦ let (b, step, among, of, is) = d.of_branches request first in (b, step, append_first before (its ∷ []) b among, of, is)
+      | inr second ↦ let (step, of, is) = g.of_steps request second in (its, step, append_second before (its ∷ []) its (contains_here its []), of, is)
+    ];
+    means = λ instance holds.
+        let m = d.means instance holds in
+        let a = g.means instance (steps_later d.list old mid d.asks its.steps instance (hold_steps old instance holds its of_plan)) in
+        record {
+          exactly = λ row. (
+            (λ c. ⊎_elim (λ h. let (b, among, of) = (m.exactly row).0 h in (b, append_first before (its ∷ []) b among, of))
+                (λ h. (its, append_second before (its ∷ []) its (contains_here its []), h)) ((a.exactly row).0 c)),
+            (λ (b, among, of). (a.exactly row).1 (elim (in_append before (its ∷ []) b among) [
+              | inl first ↦ inl ((m.exactly row).1 (b, first, of))
+              | inr second ↦ inr (subst (λ (x : Branch). IsBranchRow parts x instance row) (sym (only b second)) of)
+            ])),
+          );
+          are = branches_append parts (well_formed schema) instance before (its ∷ []) d.list g.list m.are (branches_one parts (well_formed schema) instance its g.list a.are);
+        };
+  }
+    where
+      only : (b : Branch) → Contains (its ∷ []) b → its ≡ b
+      only b h = ⊎_elim (λ e. e) (λ n. absurd (no_branch b n)) (contains_cases its [] b h)
+
+  pub done_more : (branches : List Branch) → branches ≡ plan.branches → (i : ℕ) (its : Branch) → i < length branches → its ≡ get_or branches i its → (rows next : RowList) (count after : ℕ) (old mid new : List (Kind S))
+      → Done seen schema plan (take i branches) rows count old mid → BranchGoes seen schema its rows next count after mid new → Done seen schema plan (take (i + 1) branches) next after old new
+  done_more branches be i its less at rows next count after old mid new d g =
+      let more : take (i + 1) branches ≡ take i branches ++ its ∷ [] = take_more branches i its less ∙ ap (λ (b : Branch). take i branches ++ b ∷ []) (sym at) in
+      let among : Contains plan.branches its = subst (λ (l : List Branch). Contains l its) be (i, less, sym at) in
+      subst (λ (b : List Branch). Done seen schema plan b next after old new) (sym more) (goes_over (take i branches) its among rows next count after old mid new d g)
+
+  pub done_all : (branches : List Branch) → branches ≡ plan.branches → (i : ℕ) → length branches ≤ i → (rows : RowList) (count : ℕ) (old new : List (Kind S)) → Done seen schema plan (take i branches) rows count old new → Done seen schema plan plan.branches rows count old new
+  done_all branches be i over rows count old new d =
+      subst (λ (b : List Branch). Done seen schema plan b rows count old new) be (subst (λ (b : List Branch). Done seen schema plan b rows count old new) (take_all i branches over) d)
+
+  -- the same rows, put in order
+  pub done_same : (rows next : RowList) (count : ℕ) (old new : List (Kind S)) → ((row : List (List ℕ)) → Contains next row ↔ Contains rows row) → Done seen schema plan plan.branches rows count old new → Done seen schema plan plan.branches next count old new
+  done_same rows next count old new same d = record {
+    list = d.list;
+    asks = d.asks;
+    count = d.count;
+    of_branches = d.of_branches;
+    means = λ instance holds. let m = d.means instance holds in record {
+      exactly = λ row. ((λ c. (m.exactly row).0 ((same row).0 c)), (λ h. (same row).1 ((m.exactly row).1 h)));
+      are = m.are;
+    };
+  }
+
+  -- the number of the step at which a branch stopped
+  pub step_fits : (its : Branch) → length its.steps < 2 ^ 32 → (before most : ℕ) (fault : BranchFault) (old new : List (Kind S)) → BranchStops seen schema its.steps before most fault old new → StepFits fault
+  step_fits its short before most fault old new stops = go fault stops.cause
+    where
+      go : (fault : BranchFault) → BranchCause seen schema its.steps before most stops.list old new fault → StepFits fault
+      go branch.NoMemory cause = tt
+      go (branch.Failed step) cause = let w = slice_get_within its.steps step cause.step cause.at in omega (arith, w)
+      go (branch.OverCalls total wanted) cause = tt
+
+  -- a branch stopped
+  pub plan_stop : ((its : Branch) → Contains plan.branches its → IsReadyBranch parts its) → (branches : List Branch) → branches ≡ plan.branches → (i number : ℕ) → number ≡ i → (its : Branch) → i < length branches → its ≡ get_or branches i its
+      → (rows : RowList) (count cap : ℕ) → cap ≤ 1000000 → (fault : BranchFault) (old mid new : List (Kind S)) → Done seen schema plan (take i branches) rows count old mid → BranchStops seen schema its.steps count cap fault mid new
+      → PlanStops seen schema plan cap (fault_of number cap fault) old new
+  plan_stop ready branches be i number ne its less at rows count cap small fault old mid new done s = record {
+    list = d.list ++ s.list;
+    asks = all_asks;
+    of_branches = λ request c. elim (in_append d.list s.list request c) [
+      | inl first ↦ let (b, step, among, of, is) = d.of_branches request first in (b, step, in_take b among, of, is)
+      | inr second ↦ let (step, of, is) = s.of_steps request second in (its, step, of_plan, of, is)
+    ];
+    part = λ instance holds.
+        let m = d.means instance holds in
+        let (rest, here) = s.part instance (steps_later d.list old mid d.asks its.steps instance (hold_steps old instance holds its of_plan)) in
+        let (later, after) = branches_exist parts (well_formed schema) instance (drop (i + 1) plan.branches) (λ b c. (ready b (in_drop b c)).steps) in
+        let to_here = branches_append parts (well_formed schema) instance (take i plan.branches) (its ∷ []) d.list (s.list ++ rest) m.are (branches_one parts (well_formed schema) instance its (s.list ++ rest) here) in
+        let all = branches_append parts (well_formed schema) instance (take i plan.branches ++ its ∷ []) (drop (i + 1) plan.branches) (d.list ++ (s.list ++ rest)) later to_here after in
+        (rest ++ later, subst (λ (l : List Request). AreBranchesRequests parts instance plan.branches l) (joined rest later) (subst (λ (l : List Branch). AreBranchesRequests parts instance l ((d.list ++ (s.list ++ rest)) ++ later)) (sym around) all));
+    cause = subst (λ k. RoundsCause seen schema plan cap old new (fault_of k cap fault)) (sym ne) (cause_of fault s.cause);
+  }
+    where
+      got : slice_get plan.branches i ≡ Some its
+      got = subst (λ (l : List Branch). slice_get l i ≡ Some its) be (slice_get_read branches (length branches) i its refl less at)
+
+      d : Done seen schema plan (take i plan.branches) rows count old mid
+      d = subst (λ (l : List Branch). Done seen schema plan (take i l) rows count old mid) be done
+
+      of_plan : Contains plan.branches its
+      of_plan = contains_got plan.branches i its got
+
+      all_asks : AsksLane seen schema (d.list ++ s.list) old new
+      all_asks = AsksLane-trans seen schema d.list s.list old mid new d.asks s.asks
+
+      in_take : (b : Branch) → Contains (take i plan.branches) b → Contains plan.branches b
+      in_take b c = subst (λ (l : List Branch). Contains l b) (take-append-drop i plan.branches) (append_first (take i plan.branches) (drop i plan.branches) b c)
+
+      in_drop : (b : Branch) → Contains (drop (i + 1) plan.branches) b → Contains plan.branches b
+      in_drop b c = subst (λ (l : List Branch). Contains l b) (take-append-drop (i + 1) plan.branches) (append_second (take (i + 1) plan.branches) (drop (i + 1) plan.branches) b c)
+
+      around : plan.branches ≡ (take i plan.branches ++ its ∷ []) ++ drop (i + 1) plan.branches
+      around = split_at plan.branches i its got ∙ sym (append_assoc (take i plan.branches) (its ∷ []) (drop (i + 1) plan.branches))
+
+      joined : (rest later : List Request) → (d.list ++ (s.list ++ rest)) ++ later ≡ (d.list ++ s.list) ++ (rest ++ later)
+      joined rest later = ap (λ (l : List Request). l ++ later) (sym (append_assoc d.list s.list rest)) ∙ append_assoc (d.list ++ s.list) rest later
+
+      before_all : (instance : List Fact) → HoldPlan seen schema plan new instance → HoldPlan seen schema plan old instance
+      before_all instance holds = plan_earlier (d.list ++ s.list) old new all_asks instance holds
+
+      at_branch : (instance : List Fact) → HoldPlan seen schema plan new instance → HoldSteps seen schema its.steps mid instance
+      at_branch instance holds = steps_later d.list old mid d.asks its.steps instance (hold_steps old instance (before_all instance holds) its of_plan)
+
+      cause_of : (fault : BranchFault) → BranchCause seen schema its.steps count cap s.list mid new fault → RoundsCause seen schema plan cap old new (fault_of i cap fault)
+      cause_of branch.NoMemory why = tt
+      cause_of (branch.Failed step) why =
+          let (relation, there) = relation_there schema why.method why.named.0 in
+          record {
+            rel = why.method.rel;
+            relation = relation;
+            line = why.rose.line;
+            of_step = record { its_branch = its; its_step = why.step; method = why.method; there = record { of_plan = got; of_branch = why.at }; named = why.named; of_relation = refl };
+            is_source = record { accessed = accessed_by schema plan its why.step why.method of_plan (contains_got its.steps step why.step why.at) why.named; relation_is = there; line_is = why.rose.line_is };
+            rose = steps_earlier seen old mid new why.rose.line.kind d.asks.stay why.rose.rose;
+            asked = λ instance holds.
+                let m = d.means instance (before_all instance holds) in
+                let b = why.means instance (at_branch instance holds) in
+                let a = d.count in let f = b.fits in
+                let e : d.list ++ s.list ≡ take (length (d.list ++ b.earlier) + b.count) ((d.list ++ b.earlier) ++ b.now) =
+                ap (λ (l : List Request). d.list ++ l) b.asked_is ∙ sym (append_assoc d.list b.earlier (take b.count b.now)) ∙ sym (take_further (d.list ++ b.earlier) b.now b.count) in
+                record {
+                  earlier = d.list ++ b.earlier;
+                  now = b.now;
+                  round = record {
+                    its_branch = its;
+                    its_step = b.step;
+                    there = record { of_plan = got; of_branch = b.at };
+                    of_branches = d.list;
+                    of_steps = b.earlier;
+                    branches_are = m.are;
+                    steps_are = b.earlier_are;
+                    earlier_is = refl;
+                    now_is = b.now_is;
+                  };
+                  fits = omega (arith, a, f, length-append d.list b.earlier);
+                  count = b.count;
+                  some = b.some;
+                  within = b.within;
+                  asked = subst (λ (l : List Request). AskedJust seen schema l old new) e all_asks.asked;
+                };
+          }
+      cause_of (branch.OverCalls total wanted) why = (
+        refl,
+        record {
+          within = why.within;
+          over = let o = why.over in omega (arith, o, small);
+          asked = λ instance holds.
+              let m = d.means instance (before_all instance holds) in
+              let f = why.means instance (at_branch instance holds) in
+              let t : total ≡ length (d.list ++ s.list) = let a = d.count in let b = why.total_is in omega (arith, a, b, length-append d.list s.list) in
+              record {
+                branch = i;
+                step = f.n;
+                earlier = d.list ++ s.list;
+                now = f.now;
+                round = record {
+                  its_branch = its;
+                  its_step = f.step;
+                  there = record { of_plan = got; of_branch = f.at };
+                  of_branches = d.list;
+                  of_steps = s.list;
+                  branches_are = m.are;
+                  steps_are = f.asked_are;
+                  earlier_is = refl;
+                  now_is = f.now_is;
+                };
+                made_is = t;
+                wanted_is = ap (λ n. min n (2 ^ 32 - 1)) f.wanted_is;
+                asked = subst (λ (l : List Request). AskedJust seen schema l old new) (sym (take_whole (d.list ++ s.list) f.now total t)) all_asks.asked;
+              };
+        },
+      )
+
+  -- the methods of a branch may be asked later on
+  pub askable_steps : (requests : List Request) (old new : List (Kind S)) → AsksLane seen schema requests old new → (steps : List Step) → AreAskable seen schema old steps → AreAskable seen schema new steps
+  askable_steps requests old new asks steps are step method among named = askable_later seen schema requests old new asks method (are step method among named)

@@ -1,0 +1,25 @@
+use Rattle.std.proofs.Common.{List, subst}
+use Rattle.std.specs.Prelude.{Contains}
+use Rattle.meaning.specs.declared.types.Step.{Step}
+use Rattle.middleware.proofs.Finding.{well_formed}
+use Rattle.middleware.proofs.Branching.{branch_none, branch_full, branch_goes}
+use Rattle.middleware.proofs.branch.next_branch.Goals as goal
+
+pub returns-in-Err-clause-stops : goal.returns-in-Err-clause-stops
+returns-in-Err-clause-stops g c =
+    branch_none g.S.Source.seen c.args.schema.now (well_formed c.args.schema.now) c.args.branch.now.steps c.requires.ready.steps c.args.progress.made c.args.cap c.args.lane.now.kinds.items
+
+pub run_steps-requires-clause-askable : goal.run_steps-requires-clause-askable
+run_steps-requires-clause-askable g c κs within = λ step method among named.
+    c.requires.askable step method (subst (λ (s : List Step). Contains s step) c.as_slice.ensures among) named
+
+pub returns-in-Ok-add_outputs-clause-goes : goal.returns-in-Ok-add_outputs-clause-goes
+returns-in-Ok-add_outputs-clause-goes g c =
+    branch_goes g.S.Source.seen c.args.schema.now (well_formed c.args.schema.now) c.args.branch.now c.requires.ready c.as_slice.result.now c.as_slice.ensures c.as_slice-outs.result.now c.as_slice-outs.ensures
+    c.in-Ok-run_steps.reached.rows.items c.as_slice-in-Ok-run_steps.result.now c.args.progress.rows.items c.add_outputs.new.into.items c.as_slice-in-Ok-run_steps.ensures.value
+    c.args.progress.made c.in-Ok-run_steps.reached.made c.args.lane.now.kinds.items c.run_steps.new.lane.kinds.items c.in-Ok-run_steps.ensures.reached c.in-Ok-add_outputs.ensures
+
+pub returns-in-Err-add_outputs-clause-stops : goal.returns-in-Err-add_outputs-clause-stops
+returns-in-Err-add_outputs-clause-stops g c =
+    branch_full g.S.Source.seen c.args.schema.now (well_formed c.args.schema.now) c.args.branch.now.steps c.as_slice.result.now c.as_slice.ensures c.in-Ok-run_steps.reached.rows.items c.args.progress.made c.in-Ok-run_steps.reached.made c.args.cap
+    c.args.lane.now.kinds.items c.run_steps.new.lane.kinds.items c.in-Ok-run_steps.ensures.reached

@@ -1,0 +1,46 @@
+use Rattle.std.proofs.Common.{◌≡◌, Some, refl, ◌+◌, ◌∙◌, ap, sym, arith, ℕ}
+use Rattle.std.specs.Prelude.{Contains, slice_get}
+use Rattle.std.proofs.lemmas.Option.{slice_get_read}
+use Rattle.middleware.proofs.Finding.{well_formed}
+use Rattle.middleware.proofs.Branching.{reached_none, one_more, all_reached, steps_stop, askable_later}
+use Rattle.middleware.proofs.branch.run_steps.Goals as goal
+
+pub loop-step-init : goal.loop-step-init
+loop-step-init g c = record {
+  reached = reached_none g.S.Source.seen c.args.schema.now (well_formed c.args.schema.now) c.args.first.rows.items c.requires.empty c.args.first.made c.args.lane.now.kinds.items;
+  number = refl;
+  within = c.requires.cap;
+  stopped = refl;
+}
+
+pub next_round-requires-clause-named : goal.next_round-requires-clause-named
+next_round-requires-clause-named g c κs within =
+    let got : slice_get c.args.steps.now c.loop-step.step-index ≡ Some c.step-item.result = slice_get_read c.args.steps.now _ c.loop-step.step-index _ refl (omega arith) c.step-item.is in
+    let ready = c.requires.ready c.loop-step.step-index c.step-item.result got in (ready.method, ready.named)
+
+pub next_round-requires-clause-askable : goal.next_round-requires-clause-askable
+next_round-requires-clause-askable g c κs within = λ method named.
+    let there : Contains c.args.steps.now c.step-item.result = (c.loop-step.step-index, omega arith, sym c.step-item.is) in
+    let r = c.loop-step.invariant.reached in
+    askable_later g.S.Source.seen c.args.schema.now r.list c.args.lane.now.kinds.items c.loop-step.lane.kinds.items r.asks method (c.requires.askable c.step-item.result method there named)
+
+pub loop-step-preserved : goal.loop-step-preserved
+loop-step-preserved g c = record {
+  reached = one_more g.S.Source.seen c.args.schema.now (well_formed c.args.schema.now) c.args.steps.now c.requires.ready c.loop-step.step-index c.step-item.result (omega arith) c.step-item.is
+      c.loop-step.progress.rows.items c.in-Ok.progress.rows.items c.args.first.made c.loop-step.progress.made c.in-Ok.progress.made c.args.lane.now.kinds.items c.loop-step.lane.kinds.items c.next_round.new.lane.kinds.items
+      c.loop-step.invariant.reached c.in-Ok.ensures.goes;
+  number = ap (λ (n : ℕ). n + 1) c.loop-step.invariant.number;
+  within = c.in-Ok.ensures.within;
+  stopped = c.next_round.ensures.stopped ∙ c.loop-step.invariant.stopped;
+}
+
+pub returns-in-Err-clause-stops : goal.returns-in-Err-clause-stops
+returns-in-Err-clause-stops g c =
+    rw c.stop_at.ensures (steps_stop g.S.Source.seen c.args.schema.now (well_formed c.args.schema.now) c.args.steps.now c.requires.ready c.loop-step.step-index c.loop-step.number c.loop-step.invariant.number c.step-item.result (omega arith) c.step-item.is
+    c.loop-step.progress.rows.items c.args.first.made c.loop-step.progress.made c.args.cap c.loop-step.invariant.within c.in-Err.fault c.args.lane.now.kinds.items c.loop-step.lane.kinds.items c.next_round.new.lane.kinds.items
+    c.loop-step.invariant.reached c.in-Err.ensures.stops)
+
+pub returns-clause-reached : goal.returns-clause-reached
+returns-clause-reached g c =
+    all_reached g.S.Source.seen c.args.schema.now (well_formed c.args.schema.now) c.args.steps.now c.loop-step.step-index (omega arith) c.loop-step.progress.rows.items c.args.first.made c.loop-step.progress.made c.args.lane.now.kinds.items c.loop-step.lane.kinds.items
+    c.loop-step.invariant.reached

@@ -1,0 +1,91 @@
+-- Which requests the sources of the used lane are asked.
+use Rattle.std.specs.Prelude.{◌≡◌, ℕ, Bool, false, List, [], ◌++◌, Contains, Option, None, Some, option_map, slice_get, take, nat_eq}
+use Rattle.std.specs.List.{filter, AllZip}
+use Rattle.std.specs.Cmp.Lexicographic.{pointwise}
+use Rattle.meaning.specs.declared.types.Fact.{Fact}
+use Rattle.meaning.specs.declared.types.Method.{Method}
+use Rattle.meaning.specs.declared.types.Place.{Place}
+use Rattle.meaning.specs.declared.types.Place.TheVariants.{Const, Col, New}
+use Rattle.meaning.specs.declared.types.Step.{Step}
+use Rattle.meaning.specs.declared.types.Branch.{Branch}
+use Rattle.meaning.specs.declared.types.Plan.{Plan}
+use Rattle.meaning.specs.declared.types.Request.{Request}
+use Rattle.meaning.specs.declared.types.SchemaParts.{SchemaParts}
+use Rattle.meaning.specs.Plans.{IsMethod}
+use Rattle.meaning.specs.Requests.{AreRequests, AreStepsRequests, AreBranchesRequests, IsRound}
+use Rattle.access_schema.specs.declared.schema.Schema.{Schema}
+use Rattle.access_schema.specs.declared.schema.SourceLine.{SourceLine}
+use Rattle.access_schema.specs.Meaning.{meaning_of}
+use Rattle.source_trait.specs.Asking.{Seen}
+use Rattle.source_trait.specs.Lanes.{source_of}
+use Rattle.source_trait.specs.declared.lanes.Kind.{Kind}
+use Rattle.middleware.specs.PlanSources.{line_for}
+
+-- whether a relation's source line has the kind
+abbrev pub has_kind : Option SourceLine → List ℕ → Bool
+has_kind None kind = false
+has_kind (Some line) kind = pointwise nat_eq line.kind kind
+
+-- the requests whose relations have the kind
+abbrev pub of_kind : Schema → List ℕ → List Request → List Request
+of_kind schema kind requests = filter (λ request. has_kind (line_for request.rel schema.sources) kind) requests
+
+-- The first source of each kind was asked just the requests of its kind, in order.
+abbrev pub AskedJust : {S : Type 0} → (S → Seen) → Schema → List Request → List (Kind S) → List (Kind S) → Type 0
+AskedJust {S} seen schema requests old new = (kind : List ℕ) (before after : S) → source_of old kind ≡ Some before → source_of new kind ≡ Some after →
+    (seen after).asked ≡ option_map (λ asked. asked ++ of_kind schema kind requests) ((seen before).asked)
+
+-- the same, up to the nth request
+abbrev pub AskedTo : {S : Type 0} → (S → Seen) → Schema → ℕ → List Request → List (Kind S) → List (Kind S) → Type 0
+AskedTo seen schema n requests old new = AskedJust seen schema (take n requests) old new
+
+-- some first part of the plan's requests on the instance was asked; all of them where the run is done
+pub record AskedPart {S : Type 0} (seen : S → Seen) (schema : Schema) (plan : Plan) (instance : List Fact) (done : Type 0) (old new : List (Kind S)) : Type 0 where
+  pub requests : List Request
+  pub are : AreRequests (meaning_of schema) plan instance requests
+  pub count : ℕ
+  pub asked : AskedTo seen schema count requests old new
+  pub all : done → take count requests ≡ requests
+
+-- a constant at an input place is the request's value there
+abbrev pub HasConstant : Option Place → List ℕ → Type 0
+HasConstant None value = ⊥
+HasConstant (Some (Const c)) value = value ≡ c
+HasConstant (Some (Col k)) value = Unit {0}
+HasConstant (Some New) value = ⊥
+
+-- the request has the relation and the input positions of the step's method, and the step's constants at them
+pub record IsStepRequest (schema : SchemaParts) (step : Step) (request : Request) : Type 0 where
+  pub method : Method
+  pub named : IsMethod schema step.method method
+  pub of_relation : request.rel ≡ method.rel
+  pub positions : request.positions ≡ method.inputs
+  pub constants : AllZip (λ p value. HasConstant (slice_get step.places p) value) request.positions request.values
+
+-- the request is one of some step of the plan
+abbrev pub IsPlanRequest : SchemaParts → Plan → Request → Type 0
+IsPlanRequest schema plan request = (branch : Branch) × (step : Step) × Contains plan.branches branch × Contains branch.steps step × IsStepRequest schema step request
+
+-- Whatever is held, the first source of each kind was asked nothing but requests of the plan's steps, on relations of its kind.
+pub record AsksOnly {S : Type 0} (seen : S → Seen) (schema : Schema) (plan : Plan) (old new : List (Kind S)) : Type 0 where
+  pub requests : List Request
+  pub asked : AskedJust seen schema requests old new
+  pub of_plan : (request : Request) → Contains requests request → IsPlanRequest (meaning_of schema) plan request
+
+-- the branch and the step of these numbers
+pub record IsStepAt (plan : Plan) (branch step : ℕ) (its_branch : Branch) (its_step : Step) : Type 0 where
+  pub of_plan : slice_get plan.branches branch ≡ Some its_branch
+  pub of_branch : slice_get its_branch.steps step ≡ Some its_step
+
+-- the requests of all rounds before that of a step, and those of its own round
+pub record IsRoundAt (schema : SchemaParts) (plan : Plan) (instance : List Fact) (branch step : ℕ) (earlier now : List Request) : Type 0 where
+  pub its_branch : Branch
+  pub its_step : Step
+  pub there : IsStepAt plan branch step its_branch its_step
+  -- those of the branches before, and those of the branch's steps before
+  pub of_branches : List Request
+  pub of_steps : List Request
+  pub branches_are : AreBranchesRequests schema instance (take branch plan.branches) of_branches
+  pub steps_are : AreStepsRequests schema instance [] (take step its_branch.steps) of_steps
+  pub earlier_is : earlier ≡ of_branches ++ of_steps
+  pub now_is : IsRound schema instance (take step its_branch.steps) its_step now

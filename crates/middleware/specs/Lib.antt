@@ -1,0 +1,10 @@
+pub mod PlanSources
+pub mod Held
+pub mod Attaching
+pub mod Asked
+pub mod Causes
+pub mod Joining
+pub mod Rounds
+pub mod Branches
+pub mod Sources
+pub mod Running

@@ -1,0 +1,40 @@
+// The requests of one round, asked of one source of a lane.
+ghost use Rattle.std.specs.Prelude.{◌≡◌, List, ℕ, Contains};
+ghost use Rattle.source_trait.specs.Asking.{CanAsk};
+ghost use Rattle.source_trait.specs.Lanes.{AtKind, StepsOn};
+ghost use Rattle.middleware.specs.Rounds.{AnswersAll};
+
+use lists::{Places, Row, Rows, Seq, Text};
+use source_trait::{CallFault, Lane, Source, call_on};
+use std::alloc::Global;
+
+/// The answers to requests, in their order.
+pub type Answers = Seq<Rows>;
+
+/// The answers of the lane's source of the kind to the requests, which are asked in order, each once.
+pub fn ask_all<S: Source + Send + Drop>(
+    alloc: Global,
+    lane: &mut Lane<S>,
+    kind: &Text,
+    rel: u32,
+    positions: &Places,
+    requests: &[Row],
+) -> Result<Answers, CallFault>
+    requires there { AtKind lane.old.kinds.items kind.now (λ s. Unit {0}) }
+    requires ready { (values : List (List ℕ)) → Contains requests.now values → AtKind lane.old.kinds.items kind.now (λ s. CanAsk ((S.seen s).attached rel) positions.now values) }
+    ensures steps { StepsOn lane.old.kinds.items lane.new.kinds.items kind.now (λ s t. AnswersAll rel positions.now requests.now result (S.seen s) (S.seen t)) }
+    ensures stopped { lane.new.stopped ≡ lane.old.stopped }
+{
+    let mut answers = Vec::new(alloc);
+    for values in requests {
+        let answer = match call_on(alloc, lane, kind, rel, positions, values) {
+            Ok(answer) => answer,
+            Err(fault) => return Err(fault),
+        };
+        match answers.push(answer) {
+            Ok(()) => {}
+            Err(_) => return Err(CallFault::NoMemory),
+        }
+    }
+    Ok(Seq::from_vec(answers))
+}

@@ -1,0 +1,143 @@
+// The rounds of one branch.
+ghost use Rattle.std.specs.Prelude.{◌≡◌, ◌≤◌, ◌++◌, IfOk, IfErr, OnOk, [], ◌∷◌, map};
+ghost use Rattle.access_schema.specs.Meaning.{meaning_of};
+ghost use Rattle.middleware.specs.Branches.{AreReady, IsReadyBranch, AreAskable, Reached, BranchStops, BranchGoes, stop_of, out_value, output_of};
+
+use crate::partial_rows::value_at;
+use crate::round::{Progress, RoundFault, next_round};
+use access_schema::Schema;
+use lists::{Copies, Row, Text};
+use meaning::types::{Branch, Out, Step};
+use source_trait::{Lane, Source};
+use std::alloc::{AllocError, Global};
+
+/// Why the rounds of a branch stop.
+#[derive(Clone, Copy, Debug, PartialEq, Eq)]
+pub enum BranchFault {
+    NoMemory,
+    Failed { step: usize },
+    OverCalls { made: u32, wanted: usize },
+}
+
+/// Executes one branch more, and adds its rows.
+pub fn next_branch<S: Source + Send + Drop>(
+    alloc: Global,
+    schema: &Schema,
+    lane: &mut Lane<S>,
+    branch: &Branch,
+    progress: Progress,
+    cap: u32,
+) -> Result<Progress, BranchFault>
+    requires ready { IsReadyBranch (meaning_of schema.now) branch.now }
+    requires askable { AreAskable S.seen schema.now lane.old.kinds.items branch.now.steps }
+    requires cap { progress.made ≤ cap }
+    ensures goes { IfOk result (λ p. BranchGoes S.seen schema.now branch.now progress.rows.items p.rows.items progress.made p.made lane.old.kinds.items lane.new.kinds.items) }
+    ensures within { IfOk result (λ p. p.made ≤ cap) }
+    ensures stops { IfErr result (λ fault. BranchStops S.seen schema.now branch.now.steps progress.made cap fault lane.old.kinds.items lane.new.kinds.items) }
+    ensures stopped { lane.new.stopped ≡ lane.old.stopped }
+{
+    let made = progress.made;
+    let mut rows = progress.rows;
+    let first = match no_columns(alloc) {
+        Ok(first) => Progress { rows: first, made },
+        Err(_) => return Err(BranchFault::NoMemory),
+    };
+    match run_steps(alloc, schema, lane, branch.steps.as_slice(), first, cap) {
+        Ok(reached) => {
+            let outs = branch.output.as_slice();
+            match add_outputs(alloc, outs, reached.rows.as_slice(), &mut rows) {
+                Ok(()) => Ok(Progress {
+                    rows,
+                    made: reached.made,
+                }),
+                Err(_) => Err(BranchFault::NoMemory),
+            }
+        }
+        Err(fault) => Err(fault),
+    }
+}
+
+// The one partial row before the first step.
+fn no_columns(alloc: Global) -> Result<Vec<Row>, AllocError>
+    ensures { IfOk result (λ rows. rows.items ≡ [] ∷ []) }
+{
+    let mut rows = Vec::new(alloc);
+    rows.push(Row::new(alloc))?;
+    Ok(rows)
+}
+
+// Asks the rounds of the steps in order.
+fn run_steps<S: Source + Send + Drop>(
+    alloc: Global,
+    schema: &Schema,
+    lane: &mut Lane<S>,
+    steps: &[Step],
+    first: Progress,
+    cap: u32,
+) -> Result<Progress, BranchFault>
+    requires ready { AreReady (meaning_of schema.now) steps.now }
+    requires askable { AreAskable S.seen schema.now lane.old.kinds.items steps.now }
+    requires empty { first.rows.items ≡ [] ∷ [] }
+    requires cap { first.made ≤ cap }
+    ensures reached { IfOk result (λ p. Reached S.seen schema.now steps.now p.rows.items first.made p.made lane.old.kinds.items lane.new.kinds.items) }
+    ensures within { IfOk result (λ p. p.made ≤ cap) }
+    ensures stops { IfErr result (λ fault. BranchStops S.seen schema.now steps.now first.made cap fault lane.old.kinds.items lane.new.kinds.items) }
+    ensures stopped { lane.new.stopped ≡ lane.old.stopped }
+{
+    let mut progress = first;
+    let mut number: usize = 0;
+    for step in steps {
+        let made = progress.made;
+        progress = match next_round(alloc, schema, lane, step, progress, cap) {
+            Ok(progress) => progress,
+            Err(fault) => return Err(stop_at(number, made, fault)),
+        };
+        number += 1;
+    }
+    Ok(progress)
+}
+
+fn stop_at(step: usize, made: u32, fault: RoundFault) -> BranchFault
+    ensures { result ≡ stop_of step made fault }
+{
+    match fault {
+        RoundFault::NoMemory => BranchFault::NoMemory,
+        RoundFault::Failed => BranchFault::Failed { step },
+        RoundFault::OverCalls { wanted } => BranchFault::OverCalls { made, wanted },
+    }
+}
+
+// Adds the outputs of the partial rows.
+fn add_outputs(
+    alloc: Global,
+    outs: &[Out],
+    rows: &[Row],
+    into: &mut Vec<Row>,
+) -> Result<(), AllocError>
+    ensures { OnOk result (into.new.items ≡ into.old.items ++ map (output_of outs.now) rows.now) }
+{
+    for row in rows {
+        into.push(output_row(alloc, outs, row)?)?;
+    }
+    Ok(())
+}
+
+// The values of the output places.
+fn output_row(alloc: Global, outs: &[Out], row: &Row) -> Result<Row, AllocError>
+    ensures { IfOk result (λ values. values ≡ output_of outs.now row.now) }
+{
+    let mut values = Row::new(alloc);
+    for out in outs {
+        values.push(out_text(alloc, out, row)?)?;
+    }
+    Ok(values)
+}
+
+fn out_text(alloc: Global, out: &Out, row: &Row) -> Result<Text, AllocError>
+    ensures { IfOk result (λ value. value ≡ out_value row.now out.now) }
+{
+    match out {
+        Out::Const(text) => text.copy(alloc),
+        Out::Col(column) => value_at(alloc, row, *column),
+    }
+}

@@ -1,0 +1,26 @@
+// What an execution gives, and why it stops.
+use lists::Rows;
+use source_trait::AttachFault;
+
+/// The rows of a plan, ascending and each once, and how many requests were made for them.
+#[derive(Drop)]
+pub struct Run {
+    pub rows: Rows,
+    pub made: u32,
+}
+
+/// Why an execution stops. Relations, branches and steps count from 0.
+#[derive(Clone, Copy, Debug, PartialEq, Eq)]
+pub enum RunFault {
+    NoMemory,
+    /// The relation has no source line.
+    NoSource { rel: u32 },
+    /// The used lane has no source of the kind of the relation's source line.
+    UnknownKind { rel: u32 },
+    /// The relation was not attached.
+    Attach { rel: u32, fault: AttachFault },
+    /// A call of the step's round failed.
+    CallFailed { branch: u32, step: u32 },
+    /// So many requests were made, and the next round wants so many more, which together pass the cap.
+    OverCalls { made: u32, wanted: u32, cap: u32 },
+}

@@ -1,0 +1,20 @@
+//! Plans executed over sources: relations attached, requests asked round by round, and answers joined.
+//!
+//! Crates above call `execute` with a lawful plan, and print its rows with `csv_text`. Begin at the clauses of `execute` in
+//! `src/run_plan.rt`; the words that they use are in `specs/`, in the order of `specs/Lib.antt`.
+#![tactic(auto)]
+
+mod accesses;
+mod ask;
+mod attach;
+mod branch;
+mod fault;
+mod lookup;
+mod partial_rows;
+mod round;
+mod rounds;
+mod run_plan;
+
+pub use fault::{Run, RunFault};
+pub use row_text::csv_text;
+pub use run_plan::execute;

@@ -1,0 +1,192 @@
+// One round: the requests of a step, their answers, and the next partial rows.
+ghost use Rattle.std.specs.Prelude.{◌≡◌, ◌≤◌, ◌<◌, ◌-◌, ◌↔◌, List, ℕ, Contains, IfOk, IfErr, map, flat_map, length, true, false};
+ghost use Rattle.std.specs.List.Sorted.{IsStrictlySortedBy};
+ghost use Rattle.meaning.specs.declared.types.Method.{Method};
+ghost use Rattle.meaning.specs.Plans.{IsMethod};
+ghost use Rattle.access_schema.specs.Meaning.{meaning_of};
+ghost use Rattle.source_trait.specs.Asking.{RowList};
+ghost use Rattle.source_trait.specs.Lanes.{AtKind, StepsOn};
+ghost use Rattle.row_text.specs.RowText.{row_cmp};
+ghost use Rattle.middleware.specs.Joining.{grown, input_row_of};
+ghost use Rattle.middleware.specs.Rounds.{IsWanted, CanAskAll, RoundAnswers, RoundRefused};
+ghost use Rattle.middleware.specs.Branches.{IsAskable, RoundGoes, RoundStops};
+
+use crate::ask::ask_all;
+use crate::lookup::{find_line, find_method};
+use crate::partial_rows::{input_row, join};
+use access_schema::{Method, Schema};
+use lists::{Row, Rows, Text};
+use meaning::types::{Place, Step};
+use row_text::ascending_distinct;
+use source_trait::{CallFault, Lane, Source};
+use std::alloc::{AllocError, Global};
+
+/// The rows so far, and how many requests were made for them.
+#[derive(Drop)]
+pub struct Progress {
+    pub rows: Vec<Row>,
+    pub made: u32,
+}
+
+/// Why a round stops.
+#[derive(Clone, Copy, Debug, PartialEq, Eq)]
+pub enum RoundFault {
+    NoMemory,
+    Failed,
+    OverCalls { wanted: usize },
+}
+
+/// Asks the round of a step, and goes on to the next partial rows.
+pub fn next_round<S: Source + Send + Drop>(
+    alloc: Global,
+    schema: &Schema,
+    lane: &mut Lane<S>,
+    step: &Step,
+    progress: Progress,
+    cap: u32,
+) -> Result<Progress, RoundFault>
+    requires named { (method : Method) × IsMethod (meaning_of schema.now) step.now.method method }
+    requires askable { (method : Method) → IsMethod (meaning_of schema.now) step.now.method method → IsAskable S.seen schema.now lane.old.kinds.items method }
+    requires cap { progress.made ≤ cap }
+    ensures goes { IfOk result (λ p. RoundGoes S.seen schema.now step.now progress.rows.items p.rows.items progress.made p.made lane.old.kinds.items lane.new.kinds.items) }
+    ensures within { IfOk result (λ p. p.made ≤ cap) }
+    ensures stops { IfErr result (λ fault. RoundStops S.seen schema.now step.now progress.rows.items (cap - progress.made) fault lane.old.kinds.items lane.new.kinds.items) }
+    ensures stopped { lane.new.stopped ≡ lane.old.stopped }
+{
+    let Some(method) = find_method(schema, &step.method) else {
+        return Err(RoundFault::NoMemory);
+    };
+    let Some(line) = find_line(schema.sources.as_slice(), method.rel) else {
+        return Err(RoundFault::NoMemory);
+    };
+    let made = progress.made;
+    let room = (cap - made) as usize;
+    match ask_step(
+        alloc,
+        lane,
+        &line.kind,
+        method,
+        step.places.as_slice(),
+        progress.rows.as_slice(),
+        room,
+    ) {
+        Ok(round) => {
+            let asked = round.requests.len() as u32;
+            Ok(Progress {
+                rows: round.rows,
+                made: made + asked,
+            })
+        }
+        Err(fault) => Err(fault),
+    }
+}
+
+/// The input rows that a round asked for, and the partial rows after it.
+#[derive(Drop)]
+struct Round {
+    requests: Vec<Row>,
+    rows: Vec<Row>,
+}
+
+// Asks the requests of one step, each once and in ascending order, and joins the answers with the partial rows.
+fn ask_step<S: Source + Send + Drop>(
+    alloc: Global,
+    lane: &mut Lane<S>,
+    kind: &Text,
+    method: &Method,
+    places: &[Place],
+    rows: &[Row],
+    room: usize,
+) -> Result<Round, RoundFault>
+    requires ready { AtKind lane.old.kinds.items kind.now (λ s. CanAskAll ((S.seen s).attached method.now.rel) method.now) }
+    ensures wanted { IfOk result (λ r. IsWanted places.now method.now.inputs rows.now r.requests.items) }
+    ensures fits { IfOk result (λ r. length r.requests.items ≤ room) }
+    ensures answers { IfOk result (λ r. StepsOn lane.old.kinds.items lane.new.kinds.items kind.now
+        (λ s t. RoundAnswers places.now method.now rows.now r.requests.items r.rows.items (S.seen s) (S.seen t))) }
+    ensures refused { IfErr result (λ fault. StepsOn lane.old.kinds.items lane.new.kinds.items kind.now
+        (λ s t. RoundRefused places.now method.now rows.now room fault (S.seen s) (S.seen t))) }
+    ensures stopped { lane.new.stopped ≡ lane.old.stopped }
+{
+    let inputs = method.inputs.as_slice();
+    let requests = match wanted_rows(alloc, places, inputs, rows) {
+        Ok(requests) => requests,
+        Err(_) => return Err(RoundFault::NoMemory),
+    };
+    let wanted = requests.len();
+    if wanted > room {
+        return Err(RoundFault::OverCalls { wanted });
+    }
+    match ask_all(
+        alloc,
+        lane,
+        kind,
+        method.rel,
+        &method.inputs,
+        requests.as_slice(),
+    ) {
+        Ok(answers) => {
+            match joined_rows(
+                alloc,
+                places,
+                inputs,
+                requests.as_slice(),
+                answers.as_slice(),
+                rows,
+            ) {
+                Ok(rows) => Ok(Round { requests, rows }),
+                Err(_) => Err(RoundFault::NoMemory),
+            }
+        }
+        Err(CallFault::Failed) => Err(RoundFault::Failed),
+        Err(CallFault::NoMemory) => Err(RoundFault::NoMemory),
+    }
+}
+
+// The distinct input rows of the partial rows, ascending.
+fn wanted_rows(
+    alloc: Global,
+    places: &[Place],
+    inputs: &[u32],
+    rows: &[Row],
+) -> Result<Vec<Row>, AllocError>
+    ensures { IfOk result (λ list. IsWanted places.now inputs.now rows.now list.items) }
+{
+    let mut list = input_rows(alloc, places, inputs, rows)?;
+    ascending_distinct(&mut list);
+    Ok(list)
+}
+
+// The input row of each partial row.
+fn input_rows(
+    alloc: Global,
+    places: &[Place],
+    inputs: &[u32],
+    rows: &[Row],
+) -> Result<Vec<Row>, AllocError>
+    ensures { IfOk result (λ list. list.items ≡ map (input_row_of places.now inputs.now) rows.now) }
+{
+    let mut list = Vec::with_capacity(alloc, rows.len())?;
+    for row in rows {
+        list.push(input_row(alloc, places, inputs, row)?)?;
+    }
+    Ok(list)
+}
+
+// The partial rows joined with the answers, each once.
+fn joined_rows(
+    alloc: Global,
+    places: &[Place],
+    inputs: &[u32],
+    requests: &[Row],
+    answers: &[Rows],
+    rows: &[Row],
+) -> Result<Vec<Row>, AllocError>
+    requires ascends { IsStrictlySortedBy row_cmp requests.now }
+    requires asked { (row : List (List ℕ)) → Contains rows.now row → Contains requests.now (input_row_of places.now inputs.now row) }
+    ensures { (answer : List (List ℕ) → RowList) → answers.now ≡ map answer requests.now
+        → IfOk result (λ next. (row : List (List ℕ)) → Contains next.items row ↔ Contains (flat_map (λ row. grown places.now (answer (input_row_of places.now inputs.now row)) row) rows.now) row) }
+{
+    let mut next = join(alloc, places, inputs, requests, answers, rows)?;
+    ascending_distinct(&mut next);
+    Ok(next)
+}

@@ -1,0 +1,107 @@
+// The rounds of a plan, branch by branch.
+ghost use Rattle.std.specs.Prelude.{◌≡◌, ◌≤◌, ◌<◌, ◌^◌, ℕ, Contains, IfOk, IfErr, length};
+ghost use Rattle.std.specs.List.Sorted.{IsStrictlySortedBy};
+ghost use Rattle.meaning.specs.declared.types.Branch.{Branch};
+ghost use Rattle.access_schema.specs.Meaning.{meaning_of};
+ghost use Rattle.row_text.specs.RowText.{row_cmp};
+ghost use Rattle.middleware.specs.Branches.{IsReadyBranch, AreAskable, Done, PlanStops, fault_of, StepFits};
+ghost use Rattle.middleware.specs.Causes.{LeavesStopped};
+ghost use Rattle.middleware.specs.Sources.{RoundsGive};
+
+use crate::branch::{BranchFault, next_branch};
+use crate::fault::{Run, RunFault};
+use crate::round::Progress;
+use access_schema::Schema;
+use lists::Seq;
+use meaning::types::Plan;
+use row_text::ascending_distinct;
+use source_trait::{Lane, Source};
+use std::alloc::Global;
+
+/// The rows of a plan whose relations are attached, and how many requests were made for them.
+pub fn run_rounds<S: Source + Send + Drop>(
+    alloc: Global,
+    schema: &Schema,
+    lane: &mut Lane<S>,
+    plan: &Plan,
+    cap: u32,
+) -> Result<Run, RunFault>
+    requires ready { (branch : Branch) → Contains plan.now.branches branch → IsReadyBranch (meaning_of schema.now) branch }
+    requires askable { (branch : Branch) → Contains plan.now.branches branch → AreAskable S.seen schema.now lane.old.kinds.items branch.steps }
+    requires few { length plan.now.branches < 2 ^ 32 }
+    requires short { (branch : Branch) → Contains plan.now.branches branch → length branch.steps < 2 ^ 32 }
+    requires cap { cap ≤ 1000000 }
+    ensures gives { RoundsGive S.seen schema.now plan.now cap lane.old.kinds.items lane.new.kinds.items result }
+    ensures ascends { IfOk result (λ run. IsStrictlySortedBy row_cmp run.rows) }
+    ensures within { IfOk result (λ run. run.made ≤ cap) }
+    ensures stopped { LeavesStopped result lane.new.stopped }
+{
+    lane.stopped = false;
+    match run_branches(alloc, schema, lane, plan, cap) {
+        Ok(progress) => {
+            let made = progress.made;
+            let mut rows = progress.rows;
+            ascending_distinct(&mut rows);
+            Ok(Run {
+                rows: Seq::from_vec(rows),
+                made,
+            })
+        }
+        Err(fault) => {
+            lane.stopped = matches!(fault, RunFault::CallFailed { .. });
+            Err(fault)
+        }
+    }
+}
+
+// Executes the branches in order.
+fn run_branches<S: Source + Send + Drop>(
+    alloc: Global,
+    schema: &Schema,
+    lane: &mut Lane<S>,
+    plan: &Plan,
+    cap: u32,
+) -> Result<Progress, RunFault>
+    requires ready { (branch : Branch) → Contains plan.now.branches branch → IsReadyBranch (meaning_of schema.now) branch }
+    requires askable { (branch : Branch) → Contains plan.now.branches branch → AreAskable S.seen schema.now lane.old.kinds.items branch.steps }
+    requires few { length plan.now.branches < 2 ^ 32 }
+    requires short { (branch : Branch) → Contains plan.now.branches branch → length branch.steps < 2 ^ 32 }
+    requires cap { cap ≤ 1000000 }
+    ensures done { IfOk result (λ p. Done S.seen schema.now plan.now plan.now.branches p.rows.items p.made lane.old.kinds.items lane.new.kinds.items) }
+    ensures within { IfOk result (λ p. p.made ≤ cap) }
+    ensures stops { IfErr result (λ fault. PlanStops S.seen schema.now plan.now cap fault lane.old.kinds.items lane.new.kinds.items) }
+    ensures stopped { lane.new.stopped ≡ lane.old.stopped }
+{
+    let mut progress = Progress {
+        rows: Vec::new(alloc),
+        made: 0,
+    };
+    let mut number: usize = 0;
+    for branch in plan.branches.as_slice() {
+        progress = match next_branch(alloc, schema, lane, branch, progress, cap) {
+            Ok(progress) => progress,
+            Err(fault) => return Err(run_fault(number, cap, fault)),
+        };
+        number += 1;
+    }
+    Ok(progress)
+}
+
+fn run_fault(branch: usize, cap: u32, fault: BranchFault) -> RunFault
+    requires branch { branch < 2 ^ 32 }
+    requires step { StepFits fault }
+    ensures { result ≡ fault_of branch cap fault }
+{
+    match fault {
+        BranchFault::NoMemory => RunFault::NoMemory,
+        BranchFault::Failed { step } => RunFault::CallFailed {
+            branch: branch as u32,
+            step: step as u32,
+        },
+        BranchFault::OverCalls { made, wanted } => RunFault::OverCalls {
+            made,
+            wanted: wanted.min(u32::MAX as usize) as u32,
+            cap,
+        },
+    }
+}
