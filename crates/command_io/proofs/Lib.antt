@@ -1,0 +1,5 @@
+pub mod SinkTakes
+pub mod FileTexts
+pub mod Delivering
+pub mod Lines
+pub mod Later

@@ -1,0 +1,84 @@
+-- The text files that a command reads, and why one is not read.
+use Rattle.std.specs.Prelude.{◌≡◌, ◌&&◌, ◌<◌, ℕ, Bool, true, false, List, [], ◌∷◌, drop, Option, None, Some, IfSome, IsSomeAnd, MatchOption, length, nat_eq, if◌then◌else◌}
+use Rattle.meaning.specs.declared.types.Statement.{Statement}
+use Rattle.meaning.specs.declared.types.Plan.{Plan}
+use Rattle.access_schema.specs.declared.schema.Schema.{Schema}
+use Rattle.tgd_reader.specs.SchemaText.{IsSchemaText, IsReadFault}
+use Rattle.tgd_reader.specs.declared.fault.ReadFault.{ReadFault}
+use Rattle.sql_select.specs.Statements.{IsStatementText, IsSqlFault}
+use Rattle.sql_select.specs.declared.fault.SqlFault.{SqlFault}
+use Rattle.plan_form.specs.Grammar.{IsPlanText, IsPlanReadFault}
+use Rattle.plan_form.specs.declared.fault.PlanReadFault.{PlanReadFault}
+use Rattle.source_trait.specs.Outside.{bytes_of}
+use Rattle.source_trait.specs.declared.files.FileFault.{FileFault}
+use Rattle.source_trait.specs.declared.files.FileFault.TheVariants as file
+use Rattle.command_io.specs.declared.inputs.TheConstants.{SCHEMA_LIMIT, QUERY_LIMIT, PLAN_LIMIT}
+use Rattle.command_io.specs.declared.stop.Input.{Input}
+use Rattle.command_io.specs.declared.stop.Input.TheVariants as input
+use Rattle.command_io.specs.declared.stop.Stop.{Stop}
+use Rattle.command_io.specs.declared.stop.Stop.TheVariants as stop
+
+-- Names with their bytes.
+abbrev pub Contents : Type 0
+Contents = List (List ℕ × List ℕ)
+
+-- The bytes begin with a byte order mark.
+abbrev pub has_mark : List ℕ → Bool
+has_mark (a ∷ b ∷ c ∷ rest) = nat_eq a 239 && (nat_eq b 187 && nat_eq c 191)
+has_mark _ = false
+
+-- The bytes behind the byte order mark, if they begin with one.
+abbrev pub without_mark : List ℕ → List ℕ
+without_mark bytes = if has_mark bytes then drop 3 bytes else bytes
+
+-- A fact holds of the file's text, where it is told.
+abbrev pub OfText : Option Contents → List ℕ → (List ℕ → Type 0) → Type 0
+OfText told name P = IfSome told (λ files. IsSomeAnd (bytes_of files name) (λ bytes. P (without_mark bytes)))
+
+-- A text has the fact, and it is the file's text where that is told.
+pub record IsText (told : Option Contents) (name : List ℕ) (P : List ℕ → Type 0) : Type 0 where
+  pub bytes : List ℕ
+  pub holds : P (without_mark bytes)
+  pub of_file : IfSome told (λ files. bytes_of files name ≡ Some bytes)
+
+-- The schema file's text is that of the schema.
+abbrev pub SchemaIsRead : Option Contents → List ℕ → Schema → Type 0
+SchemaIsRead told name schema = IsText told name (λ text. IsSchemaText text schema)
+
+-- The query file's text is that of the statement over the schema.
+abbrev pub QueryIsRead : Option Contents → List ℕ → Schema → Statement → Type 0
+QueryIsRead told name schema statement = IsText told name (λ text. IsStatementText schema text statement)
+
+-- The plan file's text is that of the plan.
+abbrev pub PlanIsRead : Option Contents → List ℕ → Plan → Type 0
+PlanIsRead told name plan = IsText told name (λ text. IsPlanText text plan)
+
+-- Why a file is not read: a told file is missing or longer than the limit, or the count of faults rose.
+abbrev pub FileCause : FileFault → Option Contents → List ℕ → ℕ → Type 0 → Type 0
+FileCause file.Missing told name limit rose = MatchOption told rose (λ files. bytes_of files name ≡ None)
+FileCause file.TooLarge told name limit rose = MatchOption told rose (λ files. IsSomeAnd (bytes_of files name) (λ bytes. limit < length bytes))
+FileCause file.Failed told name limit rose = rose
+FileCause file.NoMemory told name limit rose = ⊥
+
+-- Why a file is not read: memory was wanted, or the fault of the file has its cause.
+pub data FileStop (told : Option Contents) (name : List ℕ) (limit : ℕ) (rose : Type 0) (which : Input) : Stop → Type 0 where
+  no_memory : FileStop told name limit rose which stop.Memory
+  not_read : (fault : FileFault) → FileCause fault told name limit rose → FileStop told name limit rose which (stop.File which fault)
+
+-- Why no schema is read from the file of this name.
+pub data SchemaStop (told : Option Contents) (name : List ℕ) (rose : Type 0) : Stop → Type 0 where
+  no_memory : SchemaStop told name rose stop.Memory
+  no_file : (end : Stop) → FileStop told name SCHEMA_LIMIT rose input.Schema end → SchemaStop told name rose end
+  no_schema : (fault : ReadFault) → OfText told name (λ text. IsReadFault text fault) → SchemaStop told name rose (stop.Schema fault)
+
+-- Why no statement over the schema is read from the file of this name.
+pub data QueryStop (told : Option Contents) (name : List ℕ) (schema : Schema) (rose : Type 0) : Stop → Type 0 where
+  no_memory : QueryStop told name schema rose stop.Memory
+  no_file : (end : Stop) → FileStop told name QUERY_LIMIT rose input.Query end → QueryStop told name schema rose end
+  no_statement : (fault : SqlFault) → OfText told name (λ text. IsSqlFault schema text fault) → QueryStop told name schema rose (stop.Query fault)
+
+-- Why no plan is read from the file of this name.
+pub data PlanStop (told : Option Contents) (name : List ℕ) (rose : Type 0) : Stop → Type 0 where
+  no_memory : PlanStop told name rose stop.Memory
+  no_file : (end : Stop) → FileStop told name PLAN_LIMIT rose input.Plan end → PlanStop told name rose end
+  no_plan : (fault : PlanReadFault) → OfText told name (λ text. IsPlanReadFault text fault) → PlanStop told name rose (stop.Plan fault)

@@ -1,0 +1,136 @@
+// The texts of the files that a command names.
+ghost use Rattle.std.specs.Prelude.{◌≡◌, ◌≤◌, Some, IfOk, IfErr, IfSome, length};
+ghost use Rattle.source_trait.specs.Causes.{Rose};
+ghost use Rattle.source_trait.specs.Outside.{bytes_of};
+ghost use Rattle.command_io.specs.Inputs.{has_mark, without_mark as text_behind, SchemaIsRead, QueryIsRead, PlanIsRead, SchemaStop, QueryStop, PlanStop, FileStop};
+ghost use Rattle.sql_select.specs.Statements.{StatementFits};
+ghost use Rattle.plan_form.specs.Fitting.{PlanFits};
+
+use crate::stop::{Input, Stop};
+use access_schema::Schema;
+use lists::{Bytes, Text};
+use meaning::types::{Plan, Statement};
+use plan_form::{PlanReadFault, read_plan};
+use source_trait::{FileFault, Files};
+use sql_select::{SqlFault, read_select};
+use std::alloc::Global;
+use tgd_reader::{ReadFault, read_schema};
+
+/// The longest schema file, in bytes.
+pub const SCHEMA_LIMIT: u64 = 1048576;
+
+/// The longest query file, in bytes.
+pub const QUERY_LIMIT: u64 = 65536;
+
+/// The longest plan file, in bytes.
+pub const PLAN_LIMIT: u64 = 1048576;
+
+// Whether the bytes begin with a byte order mark.
+fn has_mark(bytes: &[u8]) -> bool
+    ensures { result ≡ has_mark bytes.now }
+{
+    match bytes {
+        [first, second, third, ..] => *first == 239 && (*second == 187 && *third == 191),
+        _ => false,
+    }
+}
+
+// The bytes behind the byte order mark, if they begin with one.
+fn without_mark(bytes: &[u8]) -> &[u8]
+    ensures { result.now ≡ text_behind bytes.now }
+{
+    if has_mark(bytes) { &bytes[3..] } else { bytes }
+}
+
+/// The schema that the file's text is.
+pub fn schema_of<F: Files>(alloc: Global, files: &mut F, name: &Text) -> Result<Schema, Stop>
+    ensures read { IfOk result (SchemaIsRead (F.contents files.old) name.now) }
+    ensures cause { IfErr result (SchemaStop (F.contents files.old) name.now (Rose (F.faults files.old) (F.faults files.new))) }
+    ensures later { F.faults files.old ≤ F.faults files.new }
+    ensures same { F.contents files.new ≡ F.contents files.old }
+{
+    let bytes = match read_file(alloc, files, name, SCHEMA_LIMIT, Input::Schema) {
+        Ok(bytes) => bytes,
+        Err(stop) => return Err(stop),
+    };
+    match read_schema(alloc, without_mark(bytes.as_slice())) {
+        Ok(schema) => Ok(schema),
+        Err(ReadFault::NoMemory) => Err(Stop::Memory),
+        Err(fault) => Err(Stop::Schema(fault)),
+    }
+}
+
+/// The statement that the file's text is over the schema.
+pub fn statement_of<F: Files>(
+    alloc: Global,
+    files: &mut F,
+    name: &Text,
+    schema: &Schema,
+) -> Result<Statement, Stop>
+    ensures read { IfOk result (QueryIsRead (F.contents files.old) name.now schema.now) }
+    ensures fits { IfOk result (StatementFits schema.now) }
+    ensures cause { IfErr result (QueryStop (F.contents files.old) name.now schema.now (Rose (F.faults files.old) (F.faults files.new))) }
+    ensures later { F.faults files.old ≤ F.faults files.new }
+    ensures same { F.contents files.new ≡ F.contents files.old }
+{
+    let bytes = match read_file(alloc, files, name, QUERY_LIMIT, Input::Query) {
+        Ok(bytes) => bytes,
+        Err(stop) => return Err(stop),
+    };
+    match read_select(alloc, without_mark(bytes.as_slice()), schema) {
+        Ok(statement) => Ok(statement),
+        Err(SqlFault::NoMemory) => Err(Stop::Memory),
+        Err(fault) => Err(Stop::Query(fault)),
+    }
+}
+
+/// The plan that the file's text is.
+pub fn plan_of_file<F: Files>(alloc: Global, files: &mut F, name: &Text) -> Result<Plan, Stop>
+    ensures read { IfOk result (PlanIsRead (F.contents files.old) name.now) }
+    ensures fits { IfOk result PlanFits }
+    ensures cause { IfErr result (PlanStop (F.contents files.old) name.now (Rose (F.faults files.old) (F.faults files.new))) }
+    ensures later { F.faults files.old ≤ F.faults files.new }
+    ensures same { F.contents files.new ≡ F.contents files.old }
+{
+    let bytes = match read_file(alloc, files, name, PLAN_LIMIT, Input::Plan) {
+        Ok(bytes) => bytes,
+        Err(stop) => return Err(stop),
+    };
+    match read_plan(alloc, without_mark(bytes.as_slice())) {
+        Ok(plan) => Ok(plan),
+        Err(PlanReadFault::NoMemory) => Err(Stop::Memory),
+        Err(fault) => Err(Stop::Plan(fault)),
+    }
+}
+
+// The bytes of a file; want of memory is merged with nothing.
+fn read_file<F: Files>(
+    alloc: Global,
+    files: &mut F,
+    name: &Text,
+    limit: u64,
+    input: Input,
+) -> Result<Bytes, Stop>
+    ensures size { IfOk result (λ bytes. length bytes ≤ limit) }
+    ensures bytes { IfOk result (λ bytes. IfSome (F.contents files.old) (λ all. bytes_of all name.now ≡ Some bytes)) }
+    ensures cause { IfErr result (FileStop (F.contents files.old) name.now limit (Rose (F.faults files.old) (F.faults files.new)) input) }
+    ensures later { F.faults files.old ≤ F.faults files.new }
+    ensures same { F.contents files.new ≡ F.contents files.old }
+{
+    match files.read(alloc, name, limit) {
+        Ok(bytes) => Ok(bytes),
+        Err(FileFault::NoMemory) => Err(Stop::Memory),
+        Err(FileFault::Missing) => Err(Stop::File {
+            input,
+            fault: FileFault::Missing,
+        }),
+        Err(FileFault::TooLarge) => Err(Stop::File {
+            input,
+            fault: FileFault::TooLarge,
+        }),
+        Err(FileFault::Failed) => Err(Stop::File {
+            input,
+            fault: FileFault::Failed,
+        }),
+    }
+}

@@ -1,0 +1,25 @@
+//! What every command shares: exit statuses, why a command stops and the line that says so, the texts of its files, and
+//! writing whole texts.
+//!
+//! Crates above use this: each stop has one status and one line, a text is read exactly as its grammar says or refused by
+//! its cause, and a sink takes all of a text or a first part of it. Begin at `specs/Inputs.antt`.
+#![tactic(auto)]
+
+mod delivery;
+mod exit_status;
+mod inputs;
+mod line;
+mod query_lines;
+mod schema_lines;
+mod source_lines;
+mod stop;
+mod telling;
+mod write;
+
+pub use delivery::{CALLS, deliver};
+pub use exit_status::Status;
+pub use inputs::{PLAN_LIMIT, QUERY_LIMIT, SCHEMA_LIMIT, plan_of_file, schema_of, statement_of};
+pub use line::{FileNames, line_of};
+pub use stop::{Input, Stop, status};
+pub use telling::{print, say, tell};
+pub use write::write_all;
