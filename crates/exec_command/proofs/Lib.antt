@@ -1,0 +1,2 @@
+pub mod SameConstants
+pub mod Results

@@ -1,0 +1,88 @@
+-- How the command `exec` ends, and what is so of each way.
+use Rattle.std.specs.Prelude.{◌≡◌, ℕ, List, [], Result, Ok, Err}
+use Rattle.meaning.specs.declared.types.Fact.{Fact}
+use Rattle.meaning.specs.declared.types.Plan.{Plan}
+use Rattle.meaning.specs.Plans.{IsLawful}
+use Rattle.meaning.specs.Rows.{IsRow}
+use Rattle.access_schema.specs.declared.schema.Schema.{Schema}
+use Rattle.access_schema.specs.Meaning.{meaning_of}
+use Rattle.plan_form.specs.declared.fault.PlanFault.{PlanFault}
+use Rattle.plan_form.specs.Faults.{IsFirstFault}
+use Rattle.source_trait.specs.Asking.{Seen}
+use Rattle.source_trait.specs.Causes.{Rose}
+use Rattle.source_trait.specs.declared.lanes.Lane.{Lane}
+use Rattle.row_text.specs.RowText.{IsRowText}
+use Rattle.middleware.specs.declared.fault.Run.{Run}
+use Rattle.middleware.specs.declared.fault.RunFault.{RunFault}
+use Rattle.middleware.specs.Held.{Holds}
+use Rattle.command_io.specs.declared.stop.Stop.{Stop}
+use Rattle.command_io.specs.declared.stop.Stop.TheVariants as stop
+use Rattle.command_io.specs.declared.delivery.TheConstants.{CALLS}
+use Rattle.command_io.specs.Inputs.{SchemaIsRead, PlanIsRead, SchemaStop, PlanStop}
+use Rattle.command_io.specs.Moments.{Moment, ResultStop}
+use Rattle.command_io.specs.Writing.{TookAll, TookPrefix}
+use Rattle.command_io.specs.FaultLines.{Names}
+use Rattle.command_io.specs.Telling.{StopsFor}
+use Rattle.command_io.specs.Executing.{Executes, stop_of_run}
+use Rattle.exec_command.specs.Known.{known_to, column_names}
+
+-- The plan is lawful over the schema, its constants and the plan's own.
+abbrev pub MayRun : Schema → Plan → Type 0
+MayRun schema plan = IsLawful plan (meaning_of schema) (known_to schema plan)
+
+-- The plan is not, and this is its first fault.
+pub record MayNotRun (schema : Schema) (plan : Plan) (fault : PlanFault) : Type 0 where
+  pub unlawful : MayRun schema plan → ⊥
+  pub first : IsFirstFault plan (meaning_of schema) (known_to schema plan) fault
+
+-- Why a plan is not executed: memory was wanted for the constants or the names of the columns, or it is not lawful.
+pub data IdleStop (schema : Schema) (plan : Plan) : Stop → Type 0 where
+  no_memory : IdleStop schema plan stop.Memory
+  illegal : (fault : PlanFault) → MayNotRun schema plan fault → IdleStop schema plan (stop.Illegal fault)
+
+-- The text is that of the plan's rows on whatever instance the sources hold.
+abbrev pub IsResult : {S : Type 0} → (S → Seen) → Schema → Plan → List (Lane S) → List ℕ → Type 0
+IsResult seen schema plan lanes text = (instance : List Fact) → Holds seen schema plan lanes instance →
+    IsRowText (column_names plan.width) (IsRow (meaning_of schema) plan instance) text
+
+-- What became of a plan: it was not executed; or it is lawful and was, and standard output took the text of its rows,
+-- whole or not.
+pub data PlanEnds {S : Type 0} (seen : S → Seen) (schema : Schema) (plan : Plan) (names : Names) (before after : Moment) (old new : List (Lane S)) :
+    Result (Unit {0}) Stop → Type 0 where
+  -- it was not executed, and nothing but the line was written
+  idle : (end : Stop) →
+      StopsFor (IdleStop schema plan) names before.err after.err (Rose before.err_faults after.err_faults) end →
+      after.out ≡ before.out → new ≡ old → PlanEnds seen schema plan names before after old new (Err end)
+  -- its execution stopped
+  stopped : (why : RunFault) (end : Stop) → MayRun schema plan → Executes seen schema plan CALLS old new (Err why) →
+      StopsFor (λ given. given ≡ stop_of_run why) names before.err after.err (Rose before.err_faults after.err_faults) end →
+      after.out ≡ before.out → PlanEnds seen schema plan names before after old new (Err end)
+  -- it was executed, and there was no memory for the text of its rows
+  no_text : (run : Run) (end : Stop) → MayRun schema plan → Executes seen schema plan CALLS old new (Ok run) →
+      StopsFor (λ given. given ≡ stop.Memory) names before.err after.err (Rose before.err_faults after.err_faults) end →
+      after.out ≡ before.out → PlanEnds seen schema plan names before after old new (Err end)
+  -- it was executed, and the text was not written whole
+  cut : (run : Run) (text : List ℕ) (end : Stop) → MayRun schema plan → Executes seen schema plan CALLS old new (Ok run) →
+      IsResult seen schema plan new text → TookPrefix before.out after.out text →
+      StopsFor (ResultStop (Rose before.out_faults after.out_faults)) names before.err after.err (Rose before.err_faults after.err_faults) end →
+      PlanEnds seen schema plan names before after old new (Err end)
+  -- it was executed, the text was written whole, and nothing was written on standard error
+  done : (run : Run) (text : List ℕ) → MayRun schema plan → Executes seen schema plan CALLS old new (Ok run) →
+      IsResult seen schema plan new text → TookAll before.out after.out text → after.err ≡ before.err →
+      PlanEnds seen schema plan names before after old new (Ok tt)
+
+-- How `exec` ends: a text was refused, and nothing but the line was written; or both were read.
+pub data ExecEnds {S : Type 0} (seen : S → Seen) (schema_name plan_name : List ℕ) (before after : Moment) (old new : List (Lane S)) :
+    Result (Unit {0}) Stop → Type 0 where
+  no_schema : (end : Stop) →
+      StopsFor (SchemaStop before.files schema_name (Rose before.file_faults after.file_faults))
+      (record { schema = schema_name; query = []; plan = plan_name; relations = [] }) before.err after.err (Rose before.err_faults after.err_faults) end →
+      after.out ≡ before.out → new ≡ old → ExecEnds seen schema_name plan_name before after old new (Err end)
+  no_plan : (schema : Schema) (end : Stop) → SchemaIsRead before.files schema_name schema →
+      StopsFor (PlanStop before.files plan_name (Rose before.file_faults after.file_faults))
+      (record { schema = schema_name; query = []; plan = plan_name; relations = [] }) before.err after.err (Rose before.err_faults after.err_faults) end →
+      after.out ≡ before.out → new ≡ old → ExecEnds seen schema_name plan_name before after old new (Err end)
+  read : (schema : Schema) (plan : Plan) (result : Result (Unit {0}) Stop) →
+      SchemaIsRead before.files schema_name schema → PlanIsRead before.files plan_name plan →
+      PlanEnds seen schema plan (record { schema = schema_name; query = []; plan = plan_name; relations = schema.relations }) before after old new result →
+      ExecEnds seen schema_name plan_name before after old new result

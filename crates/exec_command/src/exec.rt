@@ -1,0 +1,105 @@
+// A plan, from the texts of its files to its rows.
+ghost use Rattle.std.specs.Prelude.{◌≡◌, ◌≤◌, None, OnOk, IfErr};
+ghost use Rattle.source_trait.specs.Causes.{Rose};
+ghost use Rattle.source_trait.specs.Lanes.{LanesStay};
+ghost use Rattle.plan_form.specs.Fitting.{PlanFits, HasFewSteps};
+ghost use Rattle.command_io.specs.Moments.{Moment, Stays};
+ghost use Rattle.exec_command.specs.Ends.{MayRun, IdleStop, PlanEnds, ExecEnds};
+
+use crate::known::{column_names, known};
+use access_schema::Schema;
+use command_io::{FileNames, Stop, deliver, plan_of_file, schema_of, tell};
+use lists::Text;
+use meaning::types::Plan;
+use plan_form::lawful;
+use source_trait::{Files, Lane, Sink, Source};
+use std::alloc::Global;
+
+/// Executes the plan of the second file over the schema of the first, and says why it stopped.
+///
+/// The plan is lawful over the constants of the schema and its own, or no source is attached. Its rows are written to
+/// `out`, under the names column1, column2 and so on.
+pub fn exec_plan<F: Files, S: Source + Send + Drop, O: Sink, E: Sink>(
+    alloc: Global,
+    schema_name: &Text,
+    plan_name: &Text,
+    files: &mut F,
+    lanes: &mut Vec<Lane<S>>,
+    out: &mut O,
+    err: &mut E,
+) -> Result<(), Stop>
+    ensures ends { ExecEnds S.seen schema_name.now plan_name.now
+        (record { files = F.contents files.old; file_faults = F.faults files.old; out = O.taken out.old; out_faults = O.faults out.old; err = E.taken err.old; err_faults = E.faults err.old })
+        (record { files = F.contents files.new; file_faults = F.faults files.new; out = O.taken out.new; out_faults = O.faults out.new; err = E.taken err.new; err_faults = E.faults err.new })
+        lanes.old.items lanes.new.items result }
+    ensures stays { Stays
+        (record { files = F.contents files.old; file_faults = F.faults files.old; out = O.taken out.old; out_faults = O.faults out.old; err = E.taken err.old; err_faults = E.faults err.old })
+        (record { files = F.contents files.new; file_faults = F.faults files.new; out = O.taken out.new; out_faults = O.faults out.new; err = E.taken err.new; err_faults = E.faults err.new }) }
+    ensures lanes { LanesStay S.seen lanes.old.items lanes.new.items }
+{
+    let none = Text::new(String::new(alloc));
+    let names = FileNames {
+        schema: schema_name,
+        query: &none,
+        plan: plan_name,
+    };
+    let schema = match schema_of(alloc, files, schema_name) {
+        Ok(schema) => schema,
+        Err(stop) => return Err(tell(alloc, err, stop, names, &[])),
+    };
+    let plan = match plan_of_file(alloc, files, plan_name) {
+        Ok(plan) => plan,
+        Err(stop) => return Err(tell(alloc, err, stop, names, &[])),
+    };
+    carry_out(alloc, names, &schema, &plan, lanes, out, err)
+}
+
+// Tests that the plan is lawful, executes it and writes its rows.
+fn carry_out<S: Source + Send + Drop, O: Sink, E: Sink>(
+    alloc: Global,
+    names: FileNames<'_>,
+    schema: &Schema,
+    plan: &Plan,
+    lanes: &mut Vec<Lane<S>>,
+    out: &mut O,
+    err: &mut E,
+) -> Result<(), Stop>
+    requires { PlanFits plan.now }
+    ensures ends { PlanEnds S.seen schema.now plan.now (record { schema = names.entry.schema.now; query = names.entry.query.now; plan = names.entry.plan.now; relations = schema.now.relations })
+        (record { files = None; file_faults = 0; out = O.taken out.old; out_faults = O.faults out.old; err = E.taken err.old; err_faults = E.faults err.old })
+        (record { files = None; file_faults = 0; out = O.taken out.new; out_faults = O.faults out.new; err = E.taken err.new; err_faults = E.faults err.new })
+        lanes.old.items lanes.new.items result }
+    ensures lanes { LanesStay S.seen lanes.old.items lanes.new.items }
+    ensures later_out { O.faults out.old ≤ O.faults out.new }
+    ensures later_err { E.faults err.old ≤ E.faults err.new }
+{
+    let relations = schema.relations.as_slice();
+    match may_run(alloc, schema, plan) {
+        Ok(()) => {}
+        Err(stop) => return Err(tell(alloc, err, stop, names, relations)),
+    }
+    let columns = match column_names(alloc, plan.width) {
+        Ok(columns) => columns,
+        Err(_) => return Err(tell(alloc, err, Stop::Memory, names, relations)),
+    };
+    match deliver(alloc, schema, plan, &columns, lanes, out) {
+        Ok(()) => Ok(()),
+        Err(stop) => Err(tell(alloc, err, stop, names, relations)),
+    }
+}
+
+// Whether the plan is lawful over the constants of the schema and its own.
+fn may_run(alloc: Global, schema: &Schema, plan: &Plan) -> Result<(), Stop>
+    requires { HasFewSteps plan.now }
+    ensures lawful { OnOk result (MayRun schema.now plan.now) }
+    ensures cause { IfErr result (IdleStop schema.now plan.now) }
+{
+    let constants = match known(alloc, schema, plan) {
+        Ok(constants) => constants,
+        Err(_) => return Err(Stop::Memory),
+    };
+    match lawful(plan, schema, constants.as_slice()) {
+        Ok(()) => Ok(()),
+        Err(fault) => Err(Stop::Illegal(fault)),
+    }
+}

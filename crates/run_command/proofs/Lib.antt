@@ -1,0 +1,4 @@
+pub mod WholePlans
+pub mod Decided
+pub mod WellFormed
+pub mod Results

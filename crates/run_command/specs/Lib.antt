@@ -1,0 +1,3 @@
+pub mod WholePlan
+pub mod Deciding
+pub mod Ends

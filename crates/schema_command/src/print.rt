@@ -1,0 +1,60 @@
+// A schema, from the text of its file to the text on standard output.
+ghost use Rattle.std.specs.Prelude.{◌≡◌, OnOk, OnErr, IfErr, ◌≤◌};
+ghost use Rattle.source_trait.specs.Causes.{Rose};
+ghost use Rattle.tgd_reader.specs.Printed.{text_of_schema};
+ghost use Rattle.command_io.specs.Moments.{Moment, Stays, ResultStop};
+ghost use Rattle.command_io.specs.Writing.{TookAll, TookPrefix};
+ghost use Rattle.schema_command.specs.Ends.{SchemaEnds};
+
+use access_schema::Schema;
+use command_io::{FileNames, Stop, print, schema_of, tell};
+use lists::Text;
+use source_trait::{Files, Sink};
+use std::alloc::Global;
+use tgd_reader::schema_text;
+
+/// Reads the schema of the file of this name, and writes its text; says why it stopped.
+pub fn print_schema<F: Files, O: Sink, E: Sink>(
+    alloc: Global,
+    name: &Text,
+    files: &mut F,
+    out: &mut O,
+    err: &mut E,
+) -> Result<(), Stop>
+    ensures ends { SchemaEnds name.now
+        (record { files = F.contents files.old; file_faults = F.faults files.old; out = O.taken out.old; out_faults = O.faults out.old; err = E.taken err.old; err_faults = E.faults err.old })
+        (record { files = F.contents files.new; file_faults = F.faults files.new; out = O.taken out.new; out_faults = O.faults out.new; err = E.taken err.new; err_faults = E.faults err.new })
+        result }
+    ensures stays { Stays
+        (record { files = F.contents files.old; file_faults = F.faults files.old; out = O.taken out.old; out_faults = O.faults out.old; err = E.taken err.old; err_faults = E.faults err.old })
+        (record { files = F.contents files.new; file_faults = F.faults files.new; out = O.taken out.new; out_faults = O.faults out.new; err = E.taken err.new; err_faults = E.faults err.new }) }
+{
+    let none = Text::new(String::new(alloc));
+    let names = FileNames {
+        schema: name,
+        query: &none,
+        plan: &none,
+    };
+    let schema = match schema_of(alloc, files, name) {
+        Ok(schema) => schema,
+        Err(stop) => return Err(tell(alloc, err, stop, names, &[])),
+    };
+    match write_schema(alloc, &schema, out) {
+        Ok(()) => Ok(()),
+        Err(stop) => Err(tell(alloc, err, stop, names, schema.relations.as_slice())),
+    }
+}
+
+// Writes the text of the schema.
+fn write_schema<O: Sink>(alloc: Global, schema: &Schema, out: &mut O) -> Result<(), Stop>
+    ensures whole { OnOk result (TookAll (O.taken out.old) (O.taken out.new) (text_of_schema schema.now)) }
+    ensures prefix { OnErr result (TookPrefix (O.taken out.old) (O.taken out.new) (text_of_schema schema.now)) }
+    ensures cause { IfErr result (ResultStop (Rose (O.faults out.old) (O.faults out.new))) }
+    ensures later { O.faults out.old ≤ O.faults out.new }
+{
+    let text = match schema_text(alloc, schema) {
+        Ok(text) => text,
+        Err(_) => return Err(Stop::Memory),
+    };
+    print(out, text.as_slice(), Stop::ResultWrite)
+}

@@ -1,0 +1,7 @@
+pub mod Naming
+pub mod Missing
+pub mod Attaching
+pub mod Asking
+pub mod Holding
+pub mod Alike
+pub mod Results

@@ -1,0 +1,7 @@
+pub mod RuleRelations
+pub mod Held
+pub mod Attaching
+pub mod Asking
+pub mod Verifying
+pub mod Ends
+pub mod Listing

@@ -1,0 +1,63 @@
+// Relations attached on the used lane.
+ghost use Rattle.std.specs.Prelude.{◌≡◌, ℕ, Contains, IfErr, OnOk};
+ghost use Rattle.middleware.specs.Attaching.{AttachesOne, AttachesInOrder};
+ghost use Rattle.verify_command.specs.Attaching.{IsPlaced, AttachBreaks};
+
+use crate::sources::find_line;
+use access_schema::Schema;
+use source_trait::{AttachFault, Lane, Source, attach_on};
+use std::alloc::Global;
+
+/// The relation that was not attached, and why.
+#[derive(Clone, Copy, Debug, PartialEq, Eq)]
+pub struct Refused {
+    pub rel: u32,
+    pub fault: AttachFault,
+}
+
+/// Attaches the relations one after another, each with its columns and the locator of its source line.
+pub fn attach_all<S: Source + Send + Drop>(
+    alloc: Global,
+    schema: &Schema,
+    lane: &mut Lane<S>,
+    rels: &[u32],
+) -> Result<(), Refused>
+    requires placed { (rel : ℕ) → Contains rels.now rel → IsPlaced schema.now lane.old.kinds.items rel }
+    ensures attached { OnOk result (AttachesInOrder S.seen schema.now rels.now lane.old.kinds.items lane.new.kinds.items) }
+    ensures breaks { IfErr result (λ refused. AttachBreaks S.seen schema.now rels.now refused.rel refused.fault lane.old.kinds.items lane.new.kinds.items) }
+    ensures stopped { lane.new.stopped ≡ lane.old.stopped }
+{
+    for rel in rels {
+        match attach_one(alloc, schema, lane, *rel) {
+            Ok(()) => {}
+            Err(fault) => return Err(Refused { rel: *rel, fault }),
+        }
+    }
+    Ok(())
+}
+
+fn attach_one<S: Source + Send + Drop>(
+    alloc: Global,
+    schema: &Schema,
+    lane: &mut Lane<S>,
+    rel: u32,
+) -> Result<(), AttachFault>
+    requires placed { IsPlaced schema.now lane.old.kinds.items rel }
+    ensures attaches { AttachesOne S.seen schema.now rel result lane.old.kinds.items lane.new.kinds.items }
+    ensures stopped { lane.new.stopped ≡ lane.old.stopped }
+{
+    let Some(relation) = schema.relations.get(rel as usize) else {
+        return Err(AttachFault::NoMemory);
+    };
+    let Some(line) = find_line(schema.sources.as_slice(), rel) else {
+        return Err(AttachFault::NoMemory);
+    };
+    attach_on(
+        alloc,
+        lane,
+        &line.kind,
+        rel,
+        &relation.columns,
+        &line.locator,
+    )
+}

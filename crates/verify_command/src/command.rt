@@ -1,0 +1,78 @@
+// The rules of a schema, from the text of its file to whether the rows of the sources meet them.
+ghost use Rattle.std.specs.Prelude.{◌≡◌, OnOk, OnErr, IfErr, ◌≤◌};
+ghost use Rattle.source_trait.specs.Causes.{Rose};
+ghost use Rattle.source_trait.specs.Lanes.{LanesStay};
+ghost use Rattle.data_verify.specs.Telling.{verification_text as text_of};
+ghost use Rattle.command_io.specs.Moments.{Moment, Stays, ResultStop};
+ghost use Rattle.command_io.specs.Writing.{TookAll, TookPrefix};
+ghost use Rattle.verify_command.specs.Ends.{VerifyEnds};
+
+use crate::verifying::first_broken;
+use access_schema::Schema;
+use command_io::{FileNames, Stop, print, schema_of, tell};
+use data_verify::{Broken, verification_text};
+use lists::Text;
+use source_trait::{Files, Lane, Sink, Source};
+use std::alloc::Global;
+
+/// Reads the schema of the file of this name, and tells whether the rows of the sources of the first lane meet its rules;
+/// says why it stopped.
+///
+/// The relations that some rule names are attached and then asked whole, in ascending order. `true` comes where all rules are
+/// met, and `false` where one is not; `out` takes the line that says so.
+pub fn verify_rules<F: Files, S: Source + Send + Drop, O: Sink, E: Sink>(
+    alloc: Global,
+    schema_name: &Text,
+    files: &mut F,
+    lanes: &mut Vec<Lane<S>>,
+    out: &mut O,
+    err: &mut E,
+) -> Result<bool, Stop>
+    ensures ends { VerifyEnds S.seen schema_name.now
+        (record { files = F.contents files.old; file_faults = F.faults files.old; out = O.taken out.old; out_faults = O.faults out.old; err = E.taken err.old; err_faults = E.faults err.old })
+        (record { files = F.contents files.new; file_faults = F.faults files.new; out = O.taken out.new; out_faults = O.faults out.new; err = E.taken err.new; err_faults = E.faults err.new })
+        lanes.old.items lanes.new.items result }
+    ensures stays { Stays
+        (record { files = F.contents files.old; file_faults = F.faults files.old; out = O.taken out.old; out_faults = O.faults out.old; err = E.taken err.old; err_faults = E.faults err.old })
+        (record { files = F.contents files.new; file_faults = F.faults files.new; out = O.taken out.new; out_faults = O.faults out.new; err = E.taken err.new; err_faults = E.faults err.new }) }
+    ensures lanes { LanesStay S.seen lanes.old.items lanes.new.items }
+{
+    let none = Text::new(String::new(alloc));
+    let names = FileNames {
+        schema: schema_name,
+        query: &none,
+        plan: &none,
+    };
+    let schema = match schema_of(alloc, files, schema_name) {
+        Ok(schema) => schema,
+        Err(stop) => return Err(tell(alloc, err, stop, names, &[])),
+    };
+    let relations = schema.relations.as_slice();
+    let found = match first_broken(alloc, &schema, lanes) {
+        Ok(found) => found,
+        Err(stop) => return Err(tell(alloc, err, stop, names, relations)),
+    };
+    match write_found(alloc, &schema, &found, out) {
+        Ok(()) => Ok(found.is_none()),
+        Err(stop) => Err(tell(alloc, err, stop, names, relations)),
+    }
+}
+
+// Writes the line that says whether all rules are met.
+fn write_found<O: Sink>(
+    alloc: Global,
+    schema: &Schema,
+    found: &Option<Broken>,
+    out: &mut O,
+) -> Result<(), Stop>
+    ensures whole { OnOk result (TookAll (O.taken out.old) (O.taken out.new) (text_of schema.now found.now)) }
+    ensures prefix { OnErr result (TookPrefix (O.taken out.old) (O.taken out.new) (text_of schema.now found.now)) }
+    ensures cause { IfErr result (ResultStop (Rose (O.faults out.old) (O.faults out.new))) }
+    ensures later { O.faults out.old ≤ O.faults out.new }
+{
+    let text = match verification_text(alloc, schema, found) {
+        Ok(text) => text,
+        Err(_) => return Err(Stop::Memory),
+    };
+    print(out, text.as_slice(), Stop::ResultWrite)
+}

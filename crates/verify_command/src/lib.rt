@@ -1,0 +1,14 @@
+//! The command `verify`: it asks the sources for the relations that the rules name, and tells whether their rows meet the
+//! rules.
+//!
+//! Begin at `specs/Ends.antt`, which says how the command ends.
+#![tactic(auto)]
+
+mod ask;
+mod attach;
+mod command;
+mod relations;
+mod sources;
+mod verifying;
+
+pub use command::verify_rules;
