@@ -131,14 +131,14 @@ fn words_that_are_no_command_are_not_understood(rt: HostRuntime) -> Result<(), F
 #[test]
 fn each_refusal_has_its_status_and_its_line(rt: HostRuntime) -> Result<(), Fail> {
     let xlsx: &[u8] = b"relation r(a, b)\nmethod all_r on r() cost 1\nsource r xlsx 'r.csv'\n";
-    let cases: [(&[u8], &[u8], &[u8], u8, bool, &[u8]); 7] = [
+    let cases: [(&[u8], &[u8], &[u8], u8, bool, &[u8]); 9] = [
         (
-            b"relation r(a, b)\n",
+            b"relation r(a, b)\nrelation\n",
             QUERY,
             DATA,
             4,
             false,
-            b"schema: not built yet\n",
+            b"schema: line 2 is not a declaration\n",
         ),
         (
             SCHEMA,
@@ -146,7 +146,7 @@ fn each_refusal_has_its_status_and_its_line(rt: HostRuntime) -> Result<(), Fail>
             DATA,
             4,
             false,
-            b"query: not built yet\n",
+            b"query: syntax at byte 7\n",
         ),
         (
             SCHEMA,
@@ -154,16 +154,32 @@ fn each_refusal_has_its_status_and_its_line(rt: HostRuntime) -> Result<(), Fail>
             DATA,
             4,
             false,
-            b"query: not built yet\n",
+            b"query: unknown name at byte 16\n",
+        ),
+        (
+            b"relation r(a, b)\nsource r csv 'r.csv'\n",
+            QUERY,
+            DATA,
+            4,
+            false,
+            b"query: no plan yet\n",
+        ),
+        (
+            b"relation r(a, b)\nmethod all_r on r() cost 1\n",
+            QUERY,
+            DATA,
+            4,
+            true,
+            b"source r: no source line\n",
         ),
         (xlsx, QUERY, DATA, 4, true, b"source r: unknown kind\n"),
         (
             SCHEMA,
             QUERY,
-            b"b,a\n1,2\n",
+            b"a,c\n1,2\n",
             4,
             true,
-            b"source r: bad header for a\n",
+            b"source r: bad header for b\n",
         ),
         (
             SCHEMA,
@@ -171,7 +187,7 @@ fn each_refusal_has_its_status_and_its_line(rt: HostRuntime) -> Result<(), Fail>
             b"a,b\n1\n",
             4,
             true,
-            b"source r: bad header for a\n",
+            b"source r: bad row 1\n",
         ),
         (
             SCHEMA,
@@ -179,7 +195,7 @@ fn each_refusal_has_its_status_and_its_line(rt: HostRuntime) -> Result<(), Fail>
             b"a,b\n1,\xFF\n",
             4,
             true,
-            b"source r: bad header for a\n",
+            b"source r: not UTF-8 in row 1\n",
         ),
     ];
     for (schema, query, data, code, planned, line) in cases {
@@ -190,6 +206,22 @@ fn each_refusal_has_its_status_and_its_line(rt: HostRuntime) -> Result<(), Fail>
         let plan: &[u8] = if planned { PLAN } else { b"" };
         assert_eq!(rt; got.err.strip_prefix(plan), Some(line));
     }
+    Ok(())
+}
+
+#[test]
+fn a_schema_is_printed(rt: HostRuntime) -> Result<(), Fail> {
+    let schema: &[u8] = b"\xEF\xBB\xBFRELATION profinfo(eid, onum, lname) # professors\n
+        relation udirect(eid, lname)
+        method all_direct on udirect() cost 5
+        foreign key profinfo(eid) references udirect(eid)
+        constant 7";
+    let printed: &[u8] =
+        b"relation profinfo(eid, onum, lname)\nrelation udirect(eid, lname)\nmethod all_direct on udirect() cost 5\nrule profinfo(x0, x1, x2) -> udirect(x0, x3)\nconstant '7'\n";
+    let got = outcome_of(rt.alloc(), &["schema", "s"], &[("s", schema)], &[], &[])?;
+    assert_eq!(rt; got.code, 0);
+    assert_eq!(rt; got.out.as_slice(), printed);
+    assert_eq!(rt; got.err.len(), 0);
     Ok(())
 }
 

@@ -1,14 +1,2 @@
-pub mod Status
-pub mod Inputs
-pub mod Known
-pub mod Writing
-pub mod FaultLines
-pub mod Telling
-pub mod WholePlan
-pub mod Fetching
-pub mod Deciding
-pub mod Delivering
-pub mod Held
-pub mod Run
-pub mod Ending
-pub mod Printing
+pub mod Words
+pub mod Runs

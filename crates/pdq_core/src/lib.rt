@@ -1,22 +1,10 @@
-//! The top call.
+//! The top call: the words of the command line, the command that they are, and the exit status.
+//!
+//! Begin at `specs/Runs.antt`, which says what every command does; each command stands in a crate of its own.
 #![tactic(auto)]
 
-mod decide;
-mod deliver;
-mod fault_line;
-mod fetch;
-mod input;
-pub mod laws;
-mod print_plan;
-mod printing;
-mod result;
-mod run;
-mod status;
-mod stop;
-mod tell;
+mod command;
 mod top;
-mod write;
 
-pub use status::Status;
-pub use stop::{Input, Stop};
+pub use command_io::Status;
 pub use top::run_words;

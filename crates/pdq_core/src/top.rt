@@ -1,13 +1,18 @@
 // The top call.
-ghost use Rattle.std.specs.Prelude.{◌≡◌, ◌≢◌};
-ghost use Rattle.pdq_core.specs.Run.{Moment, Runs};
+ghost use Rattle.std.specs.Prelude.{◌≡◌};
+ghost use Rattle.source_trait.specs.Lanes.{LanesStay};
+ghost use Rattle.command_io.specs.Moments.{Moment, Stays};
+ghost use Rattle.pdq_core.specs.Runs.{Runs, ended as ended_by, tested as tested_by};
 
-use crate::run::run;
-use crate::status::Status;
-use crate::stop::status;
+use crate::command::{Command, command_of};
+use command_io::{Status, Stop, say, status};
+use exec_command::exec_plan;
 use lists::Text;
+use run_command::run_query;
+use schema_command::print_schema;
 use source_trait::{Files, Lane, Sink, Source};
 use std::alloc::Global;
+use verify_command::verify_rules;
 
 /// Runs the command that the words are, and answers how it ended.
 ///
@@ -21,20 +26,51 @@ pub fn run_words<F: Files, S: Source + Send + Drop, O: Sink, E: Sink>(
     out: &mut O,
     err: &mut E,
 ) -> Status
-    // The run has a course, and every part of the headline holds of it: the plan, the sources, the requests, the output, and
-    // what standard error took; and the cause of its end is so.
+    // The run ends in one of the ways of `Runs`, each of which says what was read, planned, attached, asked and written, and
+    // why it ended as it did; and the status is that of the way.
     ensures run { Runs S.seen words.now
-        (record { files = F.contents files.old; file_faults = F.faults files.old; lanes = lanes.old.items; out = O.taken out.old; out_faults = O.faults out.old; err = E.taken err.old; err_faults = E.faults err.old })
-        (record { files = F.contents files.new; file_faults = F.faults files.new; lanes = lanes.new.items; out = O.taken out.new; out_faults = O.faults out.new; err = E.taken err.new; err_faults = E.faults err.new })
-        result }
-    // In this stage no command finds that there is no plan.
-    ensures no_plan { result ≢ Status.No }
-    // In this stage no command has a budget that it could spend, nor a cap.
-    ensures undecided { result ≢ Status.Undecided }
-    ensures cap { result ≢ Status.Cap }
+        (record { files = F.contents files.old; file_faults = F.faults files.old; out = O.taken out.old; out_faults = O.faults out.old; err = E.taken err.old; err_faults = E.faults err.old })
+        (record { files = F.contents files.new; file_faults = F.faults files.new; out = O.taken out.new; out_faults = O.faults out.new; err = E.taken err.new; err_faults = E.faults err.new })
+        lanes.old.items lanes.new.items result }
+    // The contents of the files stay, and no count of faults falls.
+    ensures stays { Stays
+        (record { files = F.contents files.old; file_faults = F.faults files.old; out = O.taken out.old; out_faults = O.faults out.old; err = E.taken err.old; err_faults = E.faults err.old })
+        (record { files = F.contents files.new; file_faults = F.faults files.new; out = O.taken out.new; out_faults = O.faults out.new; err = E.taken err.new; err_faults = E.faults err.new }) }
+    // Lanes and kinds keep their order, and no count of faults of a source falls.
+    ensures lanes { LanesStay S.seen lanes.old.items lanes.new.items }
 {
-    match run(alloc, words, files, lanes, out, err) {
+    match command_of(words) {
+        None => status(&say(err, b"words: not understood\n", Stop::Words)),
+        Some(Command::Schema { schema }) => ended(print_schema(alloc, schema, files, out, err)),
+        Some(Command::Run { schema, query }) => ended(run_query(
+            alloc, schema, query, files, lanes, out, err,
+        )),
+        Some(Command::Exec { schema, plan }) => {
+            ended(exec_plan(alloc, schema, plan, files, lanes, out, err))
+        }
+        Some(Command::Verify { schema }) => {
+            tested(verify_rules(alloc, schema, files, lanes, out, err))
+        }
+    }
+}
+
+// The status of the end of a command.
+fn ended(end: Result<(), Stop>) -> Status
+    ensures { result ≡ ended_by end }
+{
+    match end {
         Ok(()) => Status::Done,
-        Err(stop) => status(stop),
+        Err(stop) => status(&stop),
+    }
+}
+
+// The status of the end of a command that tests something.
+fn tested(end: Result<bool, Stop>) -> Status
+    ensures { result ≡ tested_by end }
+{
+    match end {
+        Ok(true) => Status::Done,
+        Ok(false) => Status::No,
+        Err(cause) => status(&cause),
     }
 }

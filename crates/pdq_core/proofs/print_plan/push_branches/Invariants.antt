@@ -1,7 +1,0 @@
-use Rattle.std.proofs.Common.{◌≡◌, ◌++◌, take}
-use Rattle.std.specs.Prelude.{flat_map}
-use Rattle.pdq_core.specs.Printing.{branch_text}
-use Rattle.pdq_core.proofs.print_plan.push_branches.Given as goal
-
-abbrev pub invariant-loop-branch : goal.invariant-loop-branch
-invariant-loop-branch l = l.out.items ≡ l.initial.out.items ++ flat_map branch_text (take l.branch-index l.branches)
