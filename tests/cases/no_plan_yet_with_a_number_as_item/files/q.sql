@@ -1,0 +1,1 @@
+SELECT DISTINCT b, 1a FROM r

@@ -1,0 +1,1 @@
+ï»¿SELECT DISTINCT b FROM rÿ

@@ -1,0 +1,1 @@
+SELECT DISTINCT b AS 'Ã©Ã' FROM r

@@ -1,0 +1,1 @@
+SELECT DISTINCT a, x FROM r, r s

@@ -1,0 +1,1 @@
+SELECT DISTINCT t.a FROM r t, r t

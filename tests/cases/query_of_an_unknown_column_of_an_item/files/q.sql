@@ -1,0 +1,1 @@
+SELECT DISTINCT t.x FROM r t

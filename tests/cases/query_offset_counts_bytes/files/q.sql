@@ -1,0 +1,1 @@
+SELECT DISTINCT a AS "é", c FROM r

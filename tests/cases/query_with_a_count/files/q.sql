@@ -1,0 +1,1 @@
+SELECT DISTINCT count(a) FROM r

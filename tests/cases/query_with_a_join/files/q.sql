@@ -1,0 +1,1 @@
+SELECT DISTINCT r.a FROM r Join r AS s ON r.a = s.a

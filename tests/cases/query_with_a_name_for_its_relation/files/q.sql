@@ -1,0 +1,1 @@
+SELECT DISTINCT t.b FROM r AS t

@@ -1,0 +1,1 @@
+SELECT DISTINCT t.b, a FROM r t

@@ -1,0 +1,1 @@
+SELECT DISTINCT a AS 'x' FROM r

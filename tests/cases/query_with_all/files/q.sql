@@ -1,0 +1,1 @@
+SELECT ALL a FROM r

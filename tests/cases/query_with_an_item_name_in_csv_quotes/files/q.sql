@@ -1,0 +1,1 @@
+SELECT DISTINCT b AS "B, ""1""" FROM r

@@ -1,0 +1,1 @@
+select distinct r . b from r

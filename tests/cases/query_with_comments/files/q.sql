@@ -1,0 +1,3 @@
+-- the names: 'each once
+SELECT DISTINCT b -- no "quotes" here
+FROM r--; the end

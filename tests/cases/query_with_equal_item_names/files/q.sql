@@ -1,0 +1,1 @@
+SELECT DISTINCT a x, b AS x FROM r

@@ -1,0 +1,1 @@
+SELECT DISTINCT b AS Bee, a AS "Ay" FROM r

@@ -1,0 +1,1 @@
+SELECT DISTINCT r.a FROM r left join r AS s ON r.a = s.a

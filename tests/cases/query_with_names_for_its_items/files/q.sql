@@ -1,0 +1,1 @@
+SELECT DISTINCT b AS bee, a ay FROM r

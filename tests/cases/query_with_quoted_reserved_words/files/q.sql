@@ -1,0 +1,1 @@
+SELECT DISTINCT "select", "from"."order" AS "and", "Where" FROM "from"

@@ -1,0 +1,6 @@
+
+SELECT	DISTINCT
+	b
+FROM
+
+ r ;

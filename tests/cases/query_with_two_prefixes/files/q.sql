@@ -1,0 +1,1 @@
+SELECT DISTINCT q.r.a FROM r

@@ -1,0 +1,1 @@
+SELECT DISTINCT count, values AS table FROM index
