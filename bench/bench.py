@@ -101,11 +101,17 @@ def contents(path):
         return file.read()
 
 
-def run_case(folder, program, repeats):
+def program_of(path):
+    """The program to measure, by its whole path. The launcher builds it where that is due."""
+    if path:
+        return os.path.abspath(path)
+    subprocess.run([f"{TOP}/pdq"], stdin=subprocess.DEVNULL, stderr=subprocess.DEVNULL)
+    return f"{TOP}/crates/pdq/out/pdq"
+
+
+def run_case(folder, words, repeats, further={}):
     """The medians of each contender, by name, and whether the output is that of the Python script."""
-    contenders = {"pdq": [program, "run", "s.pdq", "q.sql"], "python": [sys.executable, "peer.py"]}
-    if shutil.which("sort"):
-        contenders["sort -u"] = ["sort", "-u", "r.csv"]
+    contenders = {"pdq": words, "python": [sys.executable, "peer.py"], **further}
     runs = {name: [] for name in contenders}
     for _ in range(repeats):
         for name, words in contenders.items():
@@ -136,11 +142,8 @@ def main():
     if given.make:
         print(make_file(given.make[0], given.make[1], int(given.make[2]) * MIB))
         return 0
-    program = given.program and os.path.abspath(given.program)
-    if not program:
-        # the launcher builds the program where that is due; what is measured is the program itself
-        subprocess.run([f"{TOP}/pdq"], stdin=subprocess.DEVNULL, stderr=subprocess.DEVNULL)
-        program = f"{TOP}/crates/pdq/out/pdq"
+    program = program_of(given.program)
+    further = {"sort -u": ["sort", "-u", "r.csv"]} if shutil.which("sort") else {}
     row("rows", "MiB", "number", "pdq CPU ms", "wall ms", "peak MiB", "peak / file", "python CPU ms", "python / pdq",
         "sort -u CPU ms", "pdq / sort -u", "same bytes as python")
     row(*["---"] * 12)
@@ -152,7 +155,7 @@ def main():
             for mib in SIZES:
                 folder = f"{room}/{kind}-{mib}"
                 rows = make_case(folder, kind, mib)
-                of, same = run_case(folder, program, given.repeats)
+                of, same = run_case(folder, [program, "run", "s.pdq", "q.sql"], given.repeats, further)
                 (cpu, wall, peak), python, lines = of["pdq"], of["python"][0], of.get("sort -u")
                 size = os.path.getsize(f"{folder}/r.csv")
                 row(kind, mib, rows, f"{cpu * 1000:.0f}", f"{wall * 1000:.0f}", f"{peak / MIB:.0f}", f"{peak / size:.1f}",

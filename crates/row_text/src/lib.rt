@@ -6,10 +6,12 @@
 
 pub mod laws;
 mod order;
+mod recent;
 mod started;
 mod text;
 
 pub use order::ascending_distinct;
+pub use recent::Recent;
 pub use text::csv_text;
 
 #[cfg(test)]

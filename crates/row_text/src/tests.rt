@@ -1,5 +1,5 @@
 // Texts that are known from outside.
-use crate::csv_text;
+use crate::{Recent, csv_text};
 use lists::{NoMemory, Row, Rows, Text, Texts};
 use std::alloc::Global;
 use std::test::Fail;
@@ -54,5 +54,24 @@ fn no_rows_leave_the_header(rt: HostRuntime) -> Result<(), Fail> {
     let names: Texts = row(alloc, &["a", "b"])?;
     let text = csv_text(alloc, &names, &Rows::new(alloc))?;
     assert!(rt; text.as_slice() == b"a,b\n".as_slice());
+    Ok(())
+}
+
+#[test]
+fn a_double_of_a_row_that_came_lately_is_told(rt: HostRuntime) -> Result<(), Fail> {
+    let alloc = rt.alloc();
+    let mut recent = Recent::new(alloc, 1000)?;
+    let mut kept = Vec::new(alloc);
+    for values in [["a", "1"], ["b", "1"], ["a", "1"], ["a1", ""], ["b", "1"]] {
+        let next = row(alloc, &values)?;
+        if !recent.has(kept.as_slice(), &next) {
+            kept.push(next)?;
+        }
+    }
+    assert_eq!(rt; kept.len(), 3);
+    let list: [&[&str]; 3] = [&["a", "1"], &["b", "1"], &["a1", ""]];
+    for values in list {
+        assert!(rt; kept.contains(&row(alloc, values)?), "{values:?}");
+    }
     Ok(())
 }
