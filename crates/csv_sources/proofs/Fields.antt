@@ -6,7 +6,7 @@ use Rattle.std.proofs.lemmas.Str.{IsUtf8-from_is_utf8, is_utf8-from_IsUtf8}
 use Rattle.std.proofs.lemmas.Grind.{common_steps}
 use Rattle.std.proofs.lemmas.Bool.Decides.{nat_tests}
 use Rattle.std.proofs.lemmas.List.Sums.{sum_by-cons}
-use Rattle.csv.specs.Records.{field_at}
+use Rattle.csv.specs.Records.{AllText, field_at}
 use Rattle.csv_sources.specs.DataFile.{all_text, bad_column, place_in, times_in}
 
 pub field_drop : (fs : List (List ℕ)) (i : ℕ) (f : List ℕ) → field_at fs i ≡ Some f → drop i fs ≡ f ∷ drop (i + 1) fs
@@ -27,19 +27,6 @@ field_below [] i f h = absurd (cc)
 field_below (x ∷ fs) zero f h = omega arith
 field_below (x ∷ fs) (suc i) f h = omega (arith, field_below fs i f h)
 
--- the field at a place, and the empty one where there is none
-pub field_get : (fs : List (List ℕ)) (i : ℕ) (f : List ℕ) → field_at fs i ≡ Some f → get_or fs i [] ≡ f
-unfolding field_at
-field_get [] i f h = absurd (cc)
-field_get (x ∷ fs) zero f h = cc
-field_get (x ∷ fs) (suc i) f h = field_get fs i f h
-
-pub field_get_none : (fs : List (List ℕ)) (i : ℕ) → field_at fs i ≡ None → get_or fs i [] ≡ []
-unfolding field_at
-field_get_none [] i h = refl
-field_get_none (x ∷ fs) zero h = absurd (cc)
-field_get_none (x ∷ fs) (suc i) h = field_get_none fs i h
-
 -- a field that is no text
 pub not_text : (fs : List (List ℕ)) (i : ℕ) (f : List ℕ) → field_at fs i ≡ Some f → ¬ (IsUtf8 f) → all_text (drop i fs) ≡ false
 not_text fs i f h bad = ap all_text (field_drop fs i f h) ∙ step (is_utf8 f) refl
@@ -50,13 +37,6 @@ not_text fs i f h bad = ap all_text (field_drop fs i f h) ∙ step (is_utf8 f) r
 
 pub more_text : (fs : List (List ℕ)) (i : ℕ) (f : List ℕ) → field_at fs i ≡ Some f → IsUtf8 f → all_text (drop i fs) ≡ all_text (drop (i + 1) fs)
 more_text fs i f h good = ap all_text (field_drop fs i f h) ∙ ap (λ b. b && all_text (drop (i + 1) fs)) (is_utf8-from_IsUtf8 f good)
-
--- a field of a record of text is text
-pub text_field : (fs : List (List ℕ)) (i : ℕ) (f : List ℕ) → all_text fs ≡ true → field_at fs i ≡ Some f → IsUtf8 f
-unfolding field_at
-text_field [] i f all h = absurd (cc)
-text_field (x ∷ fs) zero f all h = IsUtf8-from_is_utf8 f (grind (arith, h, all))
-text_field (x ∷ fs) (suc i) f all h = text_field fs i f (grind (arith, all)) h
 
 -- behind the last field there is nothing that is no text
 pub end_text : (fs : List (List ℕ)) (i : ℕ) → field_at fs i ≡ None → all_text (drop i fs) ≡ true
@@ -87,3 +67,25 @@ bad_here header n (x ∷ left) name d some is bad =
     let apart : times_in header x ≡ 1 → ⊥ = λ e. bad (ap (times_in header) is ∙ e) in
     let test : nat_eq (times_in header x) 1 ≡ false = grind (arith, nat_tests, apart) in
     ap (λ t. cond t (bad_column header (n + 1) left) (Some n)) test
+
+and_true : (a b : Bool) → (a && b) ≡ true → (a ≡ true) × (b ≡ true)
+and_true true b e = (refl, e)
+and_true false b e = absurd (cc)
+
+-- a record is of text just where its fields are
+pub all_text-true : (fs : List (List ℕ)) → AllText fs → all_text fs ≡ true
+unfolding AllText
+all_text-true [] all = refl
+all_text-true (f ∷ fs) all = ap (λ b. b && all_text fs) (is_utf8-from_IsUtf8 f all.0) ∙ all_text-true fs all.1
+
+pub AllText-from_all_text : (fs : List (List ℕ)) → all_text fs ≡ true → AllText fs
+unfolding AllText
+AllText-from_all_text [] is = tt
+AllText-from_all_text (f ∷ fs) is = let both = and_true (is_utf8 f) (all_text fs) is in (IsUtf8-from_is_utf8 f both.0, AllText-from_all_text fs both.1)
+
+pub all_text-false : (fs : List (List ℕ)) → ¬ (AllText fs) → all_text fs ≡ false
+all_text-false fs not_all = by (all_text fs) refl
+  where
+    by : (b : Bool) → all_text fs ≡ b → b ≡ false
+    by true is = absurd (not_all (AllText-from_all_text fs is))
+    by false is = refl

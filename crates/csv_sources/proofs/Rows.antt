@@ -1,14 +1,15 @@
 -- The rows of a data file, one after the other.
-use Rattle.std.proofs.Common.{◌≡◌, ◌+◌, ◌<◌, ◌≤◌, ℕ, zero, suc, List, [], ◌∷◌, ◌++◌, length, map, get_or, Option, None, Some, Bool, true, false, cond, nat_eq, Result, Err, refl, sym, ◌∙◌, ap, arith, append_assoc}
+use Rattle.std.proofs.Common.{◌≡◌, ◌+◌, ◌<◌, ◌≤◌, ℕ, zero, suc, List, [], ◌∷◌, ◌++◌, length, map, get_or, Option, None, Some, Bool, true, false, cond, Result, Err, refl, sym, ◌∙◌, ap, arith, append_assoc}
+use Rattle.std.proofs.lemmas.List.{length-map}
 use Rattle.csv.specs.Machine.{Read, next_record}
 use Rattle.csv.specs.Reading.{default_config, records, records_from, records_next, strip_bom, is_bom}
 use Rattle.csv.specs.declared.parser.Config.{Config}
 use Rattle.csv.specs.declared.parser.State.{State}
 use Rattle.csv.specs.declared.parser.State.TheVariants as st
-use Rattle.source_trait.specs.Asking.{RowList}
+use Rattle.source_trait.specs.Asking.{HaveArity, RowList}
 use Rattle.source_trait.specs.declared.source.AttachFault.{AttachFault}
-use Rattle.source_trait.specs.declared.source.AttachFault.TheVariants.{BadHeader, BadRow, NotUtf8}
-use Rattle.csv_sources.specs.DataFile.{after_marks, all_text, fields_under, first_fault, first_of, header_fault, offer_of, place_in, row_fault, unless}
+use Rattle.source_trait.specs.declared.source.AttachFault.TheVariants.{BadHeader}
+use Rattle.csv_sources.specs.DataFile.{after_marks, fields_under, first_fault, first_of, header_fault, offer_of, place_in, row_fault, unless}
 
 -- a row with a fault is the first one that is answered
 pub row_bad : (width n : ℕ) (row : List (List ℕ)) (left all : RowList) (fault : AttachFault) → row_fault width n row ≡ Some fault → unless (first_fault width n (row ∷ left)) all ≡ Err fault
@@ -20,14 +21,6 @@ pub row_more : (width n : ℕ) (f : List (List ℕ) → List (List ℕ)) (done :
 row_more width n f done row left h =
     ap (λ o. unless (first_of o (first_fault width (n + 1) left)) (done ++ map f (row ∷ left))) h
     ∙ ap (unless (first_fault width (n + 1) left)) (sym (append_assoc done (f row ∷ []) (map f left)))
-
-pub row_text : (width n : ℕ) (row : List (List ℕ)) → row_fault width n row ≡ None → all_text row ≡ true
-row_text width n row h = step (nat_eq (length row) width) (all_text row) h
-  where
-    step : (b t : Bool) → cond b (cond t None (Some (NotUtf8 n))) (Some (BadRow n)) ≡ None → t ≡ true
-    step true true e = refl
-    step true false e = absurd (cc)
-    step false t e = absurd (cc)
 
 -- the fields at the places of the columns' names are those under the names
 under_places : (header columns row : List (List ℕ)) → map (λ p. get_or row p []) (map (place_in header) columns) ≡ fields_under header columns row
@@ -91,3 +84,20 @@ offer_rows columns header rows all places offer e h at is =
     ∙ ap (λ (ps : List ℕ). unless (first_fault (length header) 1 rows) (map (λ row. map (λ p. get_or row p []) ps) rows)) at
     ∙ ap (unless (first_fault (length header) 1 rows)) (rows_under_places header columns rows)
     ∙ sym (ap (offer_of columns) e ∙ ap (λ o. unless (first_of o (first_fault (length header) 1 rows)) (map (fields_under header columns) rows)) (sym h))
+
+-- a record without a fault adds its fields at the places to the rows
+pub rows_step : (width n : ℕ) (places : List ℕ) (done more old left : RowList) (row text : List (List ℕ)) → old ≡ row ∷ left → row_fault width n row ≡ None → text ≡ row → more ≡ done ++ map (λ p. get_or text p []) places ∷ []
+    → unless (first_fault width n old) (done ++ map (λ row. map (λ p. get_or row p []) places) old) ≡ unless (first_fault width (n + 1) left) (more ++ map (λ row. map (λ p. get_or row p []) places) left)
+rows_step width n places done more old left row text taken good same added =
+    let f = λ (r : List (List ℕ)). map (λ p. get_or r p []) places in
+    let added_is : more ≡ done ++ f row ∷ [] = added ∙ ap (λ (r : List (List ℕ)). done ++ f r ∷ []) same in
+    ap (λ (l : RowList). unless (first_fault width n l) (done ++ map f l)) taken
+    ∙ row_more width n f done row left good
+    ∙ ap (λ (l : RowList). unless (first_fault width (n + 1) left) (l ++ map f left)) (sym added_is)
+
+arity_push : (arity : ℕ) (rows : RowList) (row : List (List ℕ)) → HaveArity arity rows → length row ≡ arity → HaveArity arity (rows ++ row ∷ [])
+arity_push arity [] row all one = (one, tt)
+arity_push arity (first ∷ rows) row all one = (all.0, arity_push arity rows row all.1 one)
+
+pub arity_more : (places : List ℕ) (done more : RowList) (text : List (List ℕ)) → HaveArity (length places) done → more ≡ done ++ map (λ p. get_or text p []) places ∷ [] → HaveArity (length places) more
+arity_more places done more text all added = rw added (arity_push (length places) done (map (λ p. get_or text p []) places) all (length-map places (λ p. get_or text p [])))

@@ -9,7 +9,9 @@ ghost use Rattle.csv_sources.specs.Loading.{LoadGives};
 
 use crate::data_file::read_offer;
 use lists::{Copies, NoMemory, Places, Row, Rows, Text, Texts};
-use source_trait::{AttachFault, CallFault, FileFault, Files, Holding, Request, Requests, Source};
+use source_trait::{
+    AttachFault, CallFault, FileFault, Files, Holding, PackedRows, Request, Requests, Source,
+};
 use std::alloc::Global;
 
 /// The most bytes that a data file may have.
@@ -21,7 +23,7 @@ pub const SUM_LIMIT: u64 = 16777216;
 // The rows of a file, and how many bytes it has.
 #[derive(Drop)]
 struct Loaded {
-    rows: Rows,
+    rows: PackedRows,
     size: u64,
 }
 
@@ -188,7 +190,7 @@ fn offer_within(
     holding: &Holding,
     bytes: &[u8],
     columns: &Texts,
-) -> Result<Result<Rows, AttachFault>, NoMemory>
+) -> Result<Result<PackedRows, AttachFault>, NoMemory>
     requires few { length columns.now ≤ 64 }
     requires small { length bytes.now ≤ FILE_LIMIT }
     ensures offer { IfOk result (λ offer. offer ≡ (if passes_beside (sum (sizes_of holding.now)) (Some bytes.now) then Err AttachFault.TooLarge else file_offer bytes.now columns.now)) }

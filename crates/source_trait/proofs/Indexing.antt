@@ -20,6 +20,12 @@ and_true : (a b : Bool) → (a && b) ≡ true → (a ≡ true) × (b ≡ true)
 and_true true b e = (refl, e)
 and_true false b e = absurd (cc)
 
+-- with no position every row has the values
+pub all_agree : (ps : List ℕ) (vs : List (List ℕ)) (rows : RowList) → length ps ≡ 0 → rows ≡ filter (agrees ps vs) rows
+all_agree [] vs [] none = refl
+all_agree [] vs (row ∷ rows) none = ap (λ (l : RowList). row ∷ l) (all_agree [] vs rows none)
+all_agree (p ∷ ps) vs rows none = absurd (omega (arith, none))
+
 -- values that a row has hash as the row does
 pub agree_hash : (ps : List ℕ) (vs row : List (List ℕ)) (h : ℕ) → agrees ps vs row ≡ true → key_hash h ps vs ≡ row_hash h ps row
 agree_hash [] vs row h same = refl
@@ -98,15 +104,14 @@ found_first ps vs rows count heads next code place many some chains is at =
     let low : code < length heads = omega (arith, is, some, many) in
     leads_to ps vs rows count 0 place code [] (subst (λ m. Leads (codes_of ps count rows) code 0 m) (sym at) (chains.first code low)) is refl
 
-pub found_more : (ps : List ℕ) (vs : List (List ℕ)) (rows : RowList) (count : ℕ) (heads next : List ℕ) (number place : ℕ) (found : RowList) (row : List (List ℕ)) → FoundTo ps vs rows count number found → AreChains (codes_of ps count rows) heads next
-    → number < length rows → row ≡ get_or rows number row → place ≡ get_or next number 0 → FoundTo ps vs rows count place (found ++ filter (agrees ps vs) (row ∷ []))
-found_more ps vs rows count heads next number place found row so_far chains below is at =
+pub found_more : (ps : List ℕ) (vs : List (List ℕ)) (rows : RowList) (count : ℕ) (heads next : List ℕ) (number place : ℕ) (found : RowList) → FoundTo ps vs rows count number found → AreChains (codes_of ps count rows) heads next
+    → number < length rows → place ≡ get_or next number 0 → FoundTo ps vs rows count place (found ++ filter (agrees ps vs) (get_or rows number [] ∷ []))
+found_more ps vs rows count heads next number place found so_far chains below at =
     let long : length (codes_of ps count rows) ≡ length rows = length-map rows (λ r. row_hash 0 ps r % count) in
-    let row_is : row ≡ get_or rows number [] = read_at rows number row [] below is in
-    leads_to ps vs rows count (number + 1) place (get_or (codes_of ps count rows) number 0) (found ++ filter (agrees ps vs) (row ∷ []))
+    leads_to ps vs rows count (number + 1) place (get_or (codes_of ps count rows) number 0) (found ++ filter (agrees ps vs) (get_or rows number [] ∷ []))
     (subst (λ m. Leads (codes_of ps count rows) (get_or (codes_of ps count rows) number 0) (number + 1) m) (sym at) (chains.later number (omega (arith, below, long))))
     (so_far.meets below)
-    (ap (λ (l : RowList). l ++ filter (agrees ps vs) (row ∷ [])) so_far.is ∙ ap (λ r. filter (agrees ps vs) (take number rows) ++ filter (agrees ps vs) (r ∷ [])) row_is ∙ sym (filter_more (agrees ps vs) rows number [] below))
+    (ap (λ (l : RowList). l ++ filter (agrees ps vs) (get_or rows number [] ∷ [])) so_far.is ∙ sym (filter_more (agrees ps vs) rows number [] below))
 
 pub found_all : (ps : List ℕ) (vs : List (List ℕ)) (rows : RowList) (count place : ℕ) (found : RowList) → FoundTo ps vs rows count place found → length rows ≤ place → found ≡ filter (agrees ps vs) rows
 found_all ps vs rows count place found so_far end =

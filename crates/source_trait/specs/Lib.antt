@@ -1,5 +1,6 @@
 pub mod Causes
 pub mod Outside
+pub mod Packed
 pub mod Asking
 pub mod Lanes
 pub mod Holding

@@ -6,7 +6,7 @@ ghost use Rattle.source_trait.specs.Index.{IndexesOf, OneMore};
 ghost use Rattle.source_trait.specs.Holding.{facts_held, attachment_in, attached_in, others_than, sizes_of};
 
 use crate::index::{Index, find_index};
-use crate::matching::matching;
+use crate::packed::PackedRows;
 use lists::{Copies, Row, Rows, Seq, Text, Texts};
 use std::alloc::{AllocError, Global};
 use std::marker::Model;
@@ -17,7 +17,7 @@ pub struct Attachment {
     pub rel: u32,
     pub columns: Texts,
     pub locator: Text,
-    pub rows: Rows,
+    pub rows: PackedRows,
     /// How many bytes of data the rows came from.
     pub size: u64,
 }
@@ -84,7 +84,7 @@ impl Holding {
         rel: u32,
         columns: &Texts,
         locator: &Text,
-        rows: Rows,
+        rows: PackedRows,
         size: u64,
     ) -> Result<(), AllocError>
         requires absent { attachment_in self.old rel ≡ None }
@@ -107,7 +107,7 @@ impl Holding {
         have_room(&self.list, more, limit)
     }
 
-    /// The rows of the relation that have the values at the positions. The first call with these positions makes an index
+    /// Copies of the rows of the relation that have the values at the positions. The first call with these positions makes an index
     /// on them, in time linear in the relation's rows; a later one takes the time of its own rows.
     pub fn ask(
         &mut self,
@@ -123,8 +123,14 @@ impl Holding {
         let Some(attachment) = find(&self.list, rel) else {
             return Ok(Seq::new(alloc));
         };
-        let rows = attachment.rows.as_slice();
-        let found = indexed(alloc, &mut self.indexes, rel, rows, positions, values)?;
+        let found = indexed(
+            alloc,
+            &mut self.indexes,
+            rel,
+            &attachment.rows,
+            positions,
+            values,
+        )?;
         Ok(Seq::from_vec(found))
     }
 }
@@ -134,7 +140,7 @@ fn copy_attachment(
     rel: u32,
     columns: &Texts,
     locator: &Text,
-    rows: Rows,
+    rows: PackedRows,
     size: u64,
 ) -> Result<Attachment, AllocError>
     ensures { IfOk result (λ a. a ≡ record { rel = rel; columns = columns.now; locator = locator.now; rows = rows; size = size }) }
@@ -196,7 +202,7 @@ fn indexed(
     alloc: Global,
     indexes: &mut Vec<Index>,
     rel: u32,
-    rows: &[Row],
+    rows: &PackedRows,
     positions: &[u32],
     values: &[Text],
 ) -> Result<Vec<Row>, AllocError>
@@ -205,7 +211,7 @@ fn indexed(
     ensures made { OneMore rel rows.now indexes.old.items indexes.new.items }
 {
     if positions.is_empty() {
-        return matching(alloc, rows, positions, values);
+        return rows.rows(alloc);
     }
     if let Some(index) = find_index(indexes, rel, positions) {
         return index.rows_with(alloc, rows, values);

@@ -1,10 +1,11 @@
 // An index of a relation's rows on positions.
-ghost use Rattle.std.specs.Prelude.{◌≡◌, ◌<◌, ◌≤◌, ◌%◌, ℕ, [], length, map, IfOk, option_copied, slice_index};
+ghost use Rattle.std.specs.Prelude.{◌≡◌, ◌<◌, ◌≤◌, ◌%◌, ℕ, [], length, map, IfOk, option_copied, slice_index, slice_index_or};
 ghost use Rattle.std.specs.List.{AllByRecursion, filter};
 ghost use Rattle.source_trait.specs.Asking.{agrees};
 ghost use Rattle.source_trait.specs.Index.{AreChains, Indexes, codes_of, index_in, key_hash, mix, row_hash};
 
 use crate::matching::push_matching;
+use crate::packed::PackedRows;
 use lists::{Places, Row, Text};
 use std::alloc::{AllocError, Global};
 
@@ -25,7 +26,7 @@ impl Index {
         alloc: Global,
         rel: u32,
         positions: &[u32],
-        rows: &[Row],
+        rows: &PackedRows,
     ) -> Result<Index, AllocError>
         ensures indexes { IfOk result (λ index. Indexes index rows.now) }
         ensures rel { IfOk result (λ index. index.rel ≡ rel) }
@@ -46,7 +47,7 @@ impl Index {
     pub(crate) fn rows_with(
         &self,
         alloc: Global,
-        rows: &[Row],
+        rows: &PackedRows,
         values: &[Text],
     ) -> Result<Vec<Row>, AllocError>
         requires { Indexes self.now rows.now }
@@ -59,7 +60,7 @@ impl Index {
         let mut found = Vec::new(alloc);
         let mut number = heads[code];
         while number < rows.len() {
-            push_matching(alloc, &mut found, &rows[number], positions, values)?;
+            push_matching(alloc, &mut found, rows, number, positions, values)?;
             number = next[number];
         }
         Ok(found)
@@ -84,15 +85,15 @@ pub(crate) fn find_index<'a>(indexes: &'a [Index], rel: u32, positions: &[u32]) 
 fn codes(
     alloc: Global,
     positions: &[u32],
-    rows: &[Row],
+    rows: &PackedRows,
     count: usize,
 ) -> Result<Vec<usize>, AllocError>
     requires { 0 < count }
     ensures { IfOk result (λ codes. codes.items ≡ codes_of positions.now count rows.now) }
 {
     let mut codes = Vec::with_capacity(alloc, rows.len())?;
-    for row in rows {
-        let code = row_hash(row.as_slice(), positions) % count as u64;
+    for number in 0..rows.len() {
+        let code = row_hash(rows, number, positions) % count as u64;
         codes.push(code as usize)?;
     }
     Ok(codes)
@@ -121,13 +122,14 @@ fn chains(
 }
 
 // The hash of a row's values at the positions.
-fn row_hash(row: &[Text], positions: &[u32]) -> u64
-    ensures { result ≡ row_hash 0 positions.now row.now }
+fn row_hash(rows: &PackedRows, number: usize, positions: &[u32]) -> u64
+    requires { number < length rows.now }
+    ensures { result ≡ row_hash 0 positions.now (slice_index_or rows.now number []) }
 {
     let mut hash: u64 = 0;
     let mut places = positions;
     while let [place, rest @ ..] = places {
-        if let Some(value) = row.get(*place as usize) {
+        if let Some(value) = rows.value(number, *place as usize) {
             hash = mix(hash, value.as_bytes());
         }
         places = rest;

@@ -1,14 +1,16 @@
 // The rows that have values at positions.
-ghost use Rattle.std.specs.Prelude.{◌≡◌, ◌++◌, ◌∷◌, [], IfOk, OnOk};
+ghost use Rattle.std.specs.Prelude.{◌≡◌, ◌<◌, ◌++◌, ◌∷◌, [], length, slice_index_or, OnOk};
 ghost use Rattle.std.specs.List.{filter};
 ghost use Rattle.source_trait.specs.Asking.{agrees};
 
-use lists::{Copies, Row, Text};
+use crate::packed::PackedRows;
+use lists::{Row, Text};
 use std::alloc::{AllocError, Global};
 
-/// Whether the row has the values at the positions.
-pub(crate) fn row_agrees(row: &[Text], positions: &[u32], values: &[Text]) -> bool
-    ensures { result ≡ agrees positions.now values.now row.now }
+/// Whether the row of this number has the values at the positions.
+fn row_agrees(rows: &PackedRows, number: usize, positions: &[u32], values: &[Text]) -> bool
+    requires { number < length rows.now }
+    ensures { result ≡ agrees positions.now values.now (slice_index_or rows.now number []) }
 {
     let mut places = positions;
     let mut wanted = values;
@@ -16,9 +18,9 @@ pub(crate) fn row_agrees(row: &[Text], positions: &[u32], values: &[Text]) -> bo
         let [value, values_left @ ..] = wanted else {
             return false;
         };
-        match row.get(*place as usize) {
+        match rows.value(number, *place as usize) {
             Some(found) => {
-                if !(*found == *value) {
+                if found != value.as_str() {
                     return false;
                 }
             }
@@ -30,34 +32,20 @@ pub(crate) fn row_agrees(row: &[Text], positions: &[u32], values: &[Text]) -> bo
     true
 }
 
-/// Adds a copy of the row, if it has the values at the positions.
+/// Adds a copy of the row of this number, if it has the values at the positions.
 pub(crate) fn push_matching(
     alloc: Global,
     found: &mut Vec<Row>,
-    row: &Row,
+    rows: &PackedRows,
+    number: usize,
     positions: &[u32],
     values: &[Text],
 ) -> Result<(), AllocError>
-    ensures { OnOk result (found.new.items ≡ found.old.items ++ filter (agrees positions.now values.now) (row.now ∷ [])) }
+    requires { number < length rows.now }
+    ensures { OnOk result (found.new.items ≡ found.old.items ++ filter (agrees positions.now values.now) (slice_index_or rows.now number [] ∷ [])) }
 {
-    if row_agrees(row.as_slice(), positions, values) {
-        found.push(row.copy(alloc)?)?;
+    if row_agrees(rows, number, positions, values) {
+        found.push(rows.row(alloc, number)?)?;
     }
     Ok(())
-}
-
-/// The rows that have the values at the positions, in order.
-pub(crate) fn matching(
-    alloc: Global,
-    rows: &[Row],
-    positions: &[u32],
-    values: &[Text],
-) -> Result<Vec<Row>, AllocError>
-    ensures { IfOk result (λ found. found.items ≡ filter (agrees positions.now values.now) rows.now) }
-{
-    let mut found = Vec::new(alloc);
-    for row in rows {
-        push_matching(alloc, &mut found, row, positions, values)?;
-    }
-    Ok(found)
 }

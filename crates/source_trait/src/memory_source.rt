@@ -8,6 +8,7 @@ ghost use Rattle.source_trait.specs.Tables.{rows_under, offered, bad_row, Offers
 
 use crate::failing::FailingCalls;
 use crate::holding::Holding;
+use crate::packed::PackedRows;
 use crate::source::{AttachFault, CallFault, Source};
 use crate::table::{Table, Tables};
 use lists::{Copies, NoMemory, Numbers, Places, Row, Rows, Seq, Text, Texts};
@@ -175,13 +176,13 @@ fn copy_request(
     })
 }
 
-// The rows under the locator, where each is so long.
+// A copy of the rows under the locator, where each is so long.
 fn offered_rows(
     alloc: Global,
     tables: &[Table],
     arity: usize,
     locator: &Text,
-) -> Result<Rows, AttachFault>
+) -> Result<PackedRows, AttachFault>
     ensures offers { Offers (offered (rows_under tables.now locator.now) arity) result }
     ensures fit { IfOk result (λ rows. HaveArity arity rows) }
 {
@@ -192,8 +193,8 @@ fn offered_rows(
             if number > 0 {
                 return Err(AttachFault::BadRow { number });
             }
-            match rows.copy(alloc) {
-                Ok(copy) => Ok(copy),
+            match PackedRows::from_rows(alloc, rows.as_slice()) {
+                Ok(packed) => Ok(packed),
                 Err(_) => Err(AttachFault::NoMemory),
             }
         }

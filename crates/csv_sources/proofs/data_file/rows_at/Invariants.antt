@@ -10,8 +10,8 @@ invariant-loop-rows l = record {
   reading : IsReading l.reader;
   count : l.number + length (records_left l.reader) ≡ length (records_left l.initial.reader);
   same : unless (first_fault l.width 1 (records_left l.initial.reader)) (map (λ row. map (λ p. get_or row p []) l.places) (records_left l.initial.reader))
-      ≡ unless (first_fault l.width (l.number + 1) (records_left l.reader)) (l.rows.items ++ map (λ row. map (λ p. get_or row p []) l.places) (records_left l.reader));
-  fit : HaveArity (length l.places) l.rows.items;
+      ≡ unless (first_fault l.width (l.number + 1) (records_left l.reader)) (l.rows ++ map (λ row. map (λ p. get_or row p []) l.places) (records_left l.reader));
+  fit : HaveArity (length l.places) l.rows;
 }
 
 abbrev pub decreases-loop-rows : goal.decreases-loop-rows

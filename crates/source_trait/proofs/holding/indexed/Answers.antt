@@ -1,7 +1,13 @@
-use Rattle.std.proofs.Common.{◌≡◌, Some, sym, inr}
+use Rattle.std.proofs.Common.{◌≡◌, ◌∙◌, Some, sym, inr, length, rules}
+use Rattle.std.proofs.lemmas.Result.{IfOk-weaker}
 use Rattle.source_trait.specs.Index.{index_in}
-use Rattle.source_trait.proofs.Indexing.{index_found}
+use Rattle.source_trait.proofs.Indexing.{all_agree, index_found}
 use Rattle.source_trait.proofs.holding.indexed.Goals as goal
+
+pub returns-then-is_empty-clause-found : goal.returns-then-is_empty-clause-found
+returns-then-is_empty-clause-found c =
+    let none : length c.args.positions.now ≡ 0 = search rules in
+    IfOk-weaker c.rows.result _ _ (λ found is. is ∙ all_agree c.args.positions.now c.args.values.now c.args.rows.now none) c.rows.ensures
 
 pub rows_with-requires : goal.rows_with-requires
 rows_with-requires c =

@@ -16,7 +16,7 @@ pub indexed-requires : goal.indexed-requires
 indexed-requires c =
     let a = c.in-Some.attachment.now in
     let at : attachment_in c.self.inside.list.items c.args.rel ≡ Some a = search rules in
-    rw c.as_slice-rows.ensures (indexes_of c.self.inside.list.items c.args.rel a c.self.inside.indexes.items c.self.invariant.1 at)
+    indexes_of c.self.inside.list.items c.args.rel a c.self.inside.indexes.items c.self.invariant.1 at
 
 pub returns-clause-picks : goal.returns-clause-picks
 returns-clause-picks c =

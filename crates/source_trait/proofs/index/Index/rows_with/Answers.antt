@@ -1,4 +1,4 @@
-use Rattle.std.proofs.Common.{◌≡◌, ◌%◌, ◌++◌, ◌∷◌, [], get_or, length, refl}
+use Rattle.std.proofs.Common.{◌≡◌, ◌%◌, ◌++◌, ◌∷◌, [], get_or, length, refl, arith}
 use Rattle.std.specs.List.{filter}
 use Rattle.source_trait.specs.Asking.{agrees}
 use Rattle.source_trait.specs.Index.{key_hash}
@@ -17,9 +17,9 @@ loop-number-init c =
 pub loop-number-preserved : goal.loop-number-preserved
 loop-number-preserved c =
     let index = c.args.self.now in
-    let row = c.index-rows-number.result in
+    let rows = c.args.rows.now in
     let at : get_or c.as_slice-next.result.now c.loop-number.number 0 ≡ get_or index.next.items c.loop-number.number 0 = rw c.as_slice-next.ensures.value refl in
-    let found : c.push_matching.new.found.items ≡ c.loop-number.found.items ++ filter (agrees index.positions c.args.values.now) (row ∷ []) = rw (← c.as_slice-positions.ensures) c.in_ok-push_matching.ensures in
+    let found : c.push_matching.new.found.items ≡ c.loop-number.found.items ++ filter (agrees index.positions c.args.values.now) (get_or rows c.loop-number.number [] ∷ []) = rw (← c.as_slice-positions.ensures) c.in_ok-push_matching.ensures in
     rw found
-    (found_more index.positions c.args.values.now c.args.rows.now (length index.heads.items) index.heads.items index.next.items c.loop-number.number (get_or c.as_slice-next.result.now c.loop-number.number 0) c.loop-number.found.items row c.loop-number.invariant c.requires.1
-    c.loop-number-test.true c.index-rows-number.is at)
+    (found_more index.positions c.args.values.now c.args.rows.now (length index.heads.items) index.heads.items index.next.items c.loop-number.number (get_or c.as_slice-next.result.now c.loop-number.number 0) c.loop-number.found.items c.loop-number.invariant c.requires.1
+    (omega (arith, c.loop-number-test.true, c.len.ensures)) at)
