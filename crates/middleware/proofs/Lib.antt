@@ -2,6 +2,7 @@ pub mod Orders
 pub mod LaneRuns
 pub mod Answering
 pub mod Steps
+pub mod Distinct
 pub mod Existing
 pub mod Laning
 pub mod Finding
