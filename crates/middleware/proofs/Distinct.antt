@@ -1,5 +1,5 @@
 -- Partial rows without doubles want the same requests and give the same next rows; the only answer; and what is moved.
-use Rattle.std.proofs.Common.{◌≡◌, ◌≢◌, ◌↔◌, ◌≤◌, ℕ, drop, List, [], ◌∷◌, Bool, true, false, cond, nat_eq, None, length, map, refl, sym, ◌∙◌, ap, subst, inl, inr, arith}
+use Rattle.std.proofs.Common.{◌≡◌, ◌≢◌, ◌↔◌, ◌≤◌, ℕ, drop, List, [], ◌∷◌, Bool, true, false, cond, nat_eq, None, length, map, refl, sym, ap, subst, inl, inr, arith}
 use Rattle.std.specs.Prelude.{Contains, flat_map, slice_get}
 use Rattle.std.specs.List.Sorted.{IsStrictlySortedBy}
 use Rattle.std.proofs.lemmas.Bool.Decides.{nat_tests}
@@ -12,7 +12,7 @@ use Rattle.source_trait.specs.Asking.{RowList}
 use Rattle.row_text.specs.RowText.{row_cmp}
 use Rattle.middleware.specs.Joining.{grown, input_row_of, joined, text_or}
 use Rattle.middleware.specs.Rounds.{IsWanted}
-use Rattle.middleware.specs.Branches.{has_column, out_value, output_of}
+use Rattle.middleware.specs.Branches.{has_column, output_of}
 use Rattle.middleware.proofs.Steps.{flat_in, in_flat}
 
 map_within : {X Y : Type 0} (f : X → Y) (xs ys : List X) → ((x : X) → Contains xs x → Contains ys x) → (y : Y) → Contains (map f xs) y → Contains (map f ys) y

@@ -10,4 +10,5 @@ pub mod Branching
 pub mod Attached
 pub mod Planning
 pub mod Accessing
+pub mod Lacking
 pub mod Finished
