@@ -2,6 +2,7 @@ pub mod Orders
 pub mod LaneRuns
 pub mod Answering
 pub mod Steps
+pub mod Distinct
 pub mod Existing
 pub mod Laning
 pub mod Finding
@@ -9,4 +10,5 @@ pub mod Branching
 pub mod Attached
 pub mod Planning
 pub mod Accessing
+pub mod Lacking
 pub mod Finished

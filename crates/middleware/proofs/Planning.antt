@@ -1,7 +1,7 @@
 -- The branches of a plan: one more, one that stopped, and all.
 use Rattle.std.proofs.Common.{◌≡◌, ◌↔◌, inl, inr, ⊎_elim, ℕ, suc, ◌+◌, ◌-◌, ◌^◌, ◌<◌, ◌≤◌, min, List, [], ◌∷◌, ◌++◌, length, length-append, take, drop, get_or, Some, refl, sym, ◌∙◌, ap, subst, append_assoc, arith}
 use Rattle.std.specs.Prelude.{Contains, slice_get}
-use Rattle.std.proofs.lemmas.List.{take_more, take_all, take-append-drop}
+use Rattle.std.proofs.lemmas.List.{append-nil, take_more, take_all, take-append-drop}
 use Rattle.std.proofs.lemmas.Option.{slice_get_read, slice_get_within}
 use Rattle.lists.proofs.Members.{contains_here, contains_cases, contains_got, got_below}
 use Rattle.meaning.specs.declared.types.Fact.{Fact}
@@ -25,6 +25,7 @@ use Rattle.middleware.specs.Asked.{AskedJust}
 use Rattle.middleware.specs.Branches.{IsReadyBranch, AreAskable, HoldSteps, AsksLane, BranchCause, BranchStops, BranchGoes, Done, RoundsCause, PlanStops, fault_of, StepFits}
 use Rattle.middleware.specs.declared.branch.BranchFault.{BranchFault}
 use Rattle.middleware.specs.declared.branch.BranchFault.TheVariants as branch
+use Rattle.middleware.specs.declared.fault.RunFault.TheVariants as fault
 use Rattle.middleware.proofs.Finding.{well_formed}
 use Rattle.middleware.proofs.Steps.{in_append, append_first, append_second}
 use Rattle.middleware.proofs.Existing.{split_at, branches_exist, branches_append, branches_one}
@@ -131,6 +132,16 @@ module _ {S : Type 0} (seen : S → Seen) (schema : Schema) (plan : Plan) where
       exactly = λ row. ((λ c. (m.exactly row).0 ((same row).0 c)), (λ h. (same row).1 ((m.exactly row).1 h)));
       are = m.are;
     };
+  }
+
+  -- there was no memory for the rows
+  pub done_full : (rows : RowList) (count cap : ℕ) (old new : List (Kind S)) → Done seen schema plan plan.branches rows count old new → PlanStops seen schema plan cap fault.NoMemory old new
+  done_full rows count cap old new d = record {
+    list = d.list;
+    asks = d.asks;
+    of_branches = d.of_branches;
+    part = λ instance holds. ([], rw append-nil (d.means instance holds).are);
+    cause = tt;
   }
 
   -- the number of the step at which a branch stopped

@@ -78,11 +78,11 @@ pub append_second : {X : Type 0} (xs ys : List X) (x : X) → Contains ys x → 
 append_second [] ys x c = c
 append_second (y ∷ xs) ys x c = contains_there y (xs ++ ys) x (append_second xs ys x c)
 
-in_flat : {X Y : Type 0} (f : X → List Y) (xs : List X) (y : Y) → Contains (flat_map f xs) y → (x : X) × Contains xs x × Contains (f x) y
+pub in_flat : {X Y : Type 0} (f : X → List Y) (xs : List X) (y : Y) → Contains (flat_map f xs) y → (x : X) × Contains xs x × Contains (f x) y
 in_flat f [] y c = absurd (omega arith)
 in_flat f (x ∷ xs) y c = ⊎_elim (λ h. (x, contains_here x xs, h)) (λ h. let (z, among, e) = in_flat f xs y h in (z, contains_there x xs z among, e)) (in_append (f x) (flat_map f xs) y c)
 
-flat_in : {X Y : Type 0} (f : X → List Y) (xs : List X) (x : X) (y : Y) → Contains xs x → Contains (f x) y → Contains (flat_map f xs) y
+pub flat_in : {X Y : Type 0} (f : X → List Y) (xs : List X) (x : X) (y : Y) → Contains xs x → Contains (f x) y → Contains (flat_map f xs) y
 flat_in f [] x y c d = absurd (omega arith)
 flat_in f (z ∷ xs) x y c d = ⊎_elim (λ e. append_first (f z) (flat_map f xs) y (subst (λ w. Contains (f w) y) (sym e) d)) (λ h. append_second (f z) (flat_map f xs) y (flat_in f xs x y h d)) (contains_cases z xs x c)
 

@@ -1,5 +1,5 @@
 -- How far the rounds of a branch, and of a plan, have come.
-use Rattle.std.specs.Prelude.{◌≡◌, ◌↔◌, ◌⊎◌, ℕ, ◌-◌, ◌+◌, ◌^◌, ◌<◌, ◌≤◌, min, List, [], ◌∷◌, ◌++◌, length, map, take, Contains, slice_get, Option, Some, None}
+use Rattle.std.specs.Prelude.{◌≡◌, ◌↔◌, ◌⊎◌, ℕ, ◌-◌, ◌+◌, ◌^◌, ◌<◌, ◌≤◌, min, Bool, true, false, List, [], ◌∷◌, ◌++◌, length, map, take, Contains, slice_get, Option, Some, None, nat_eq, if◌then◌else◌}
 use Rattle.meaning.specs.declared.types.Fact.{Fact}
 use Rattle.meaning.specs.declared.types.Method.{Method}
 use Rattle.meaning.specs.declared.types.SchemaParts.{SchemaParts}
@@ -77,6 +77,12 @@ out_value row (Made k) = text_or (slice_get row k)
 -- the output of a partial row
 abbrev pub output_of : List Out → List (List ℕ) → List (List ℕ)
 output_of outs row = map (out_value row) outs
+
+-- an output place has the column
+abbrev pub has_column : ℕ → List Out → Bool
+has_column column [] = false
+has_column column (Fixed c ∷ outs) = has_column column outs
+has_column column (Made k ∷ outs) = if nat_eq k column then true else has_column column outs
 
 -- ---- what the sources of a lane are asked
 

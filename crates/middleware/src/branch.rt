@@ -1,15 +1,16 @@
 // The rounds of one branch.
-ghost use Rattle.std.specs.Prelude.{◌≡◌, ◌≤◌, ◌++◌, IfOk, IfErr, OnOk, [], ◌∷◌, map};
+ghost use Rattle.std.specs.Prelude.{◌≡◌, ◌≢◌, ◌≤◌, ◌++◌, ℕ, IfOk, IfErr, OnOk, [], ◌∷◌, map, slice_get};
 ghost use Rattle.access_schema.specs.Meaning.{meaning_of};
-ghost use Rattle.middleware.specs.Branches.{AreReady, IsReadyBranch, AreAskable, Reached, BranchStops, BranchGoes, stop_of, out_value, output_of};
+ghost use Rattle.middleware.specs.Joining.{text_or};
+ghost use Rattle.middleware.specs.Branches.{AreReady, IsReadyBranch, AreAskable, Reached, BranchStops, BranchGoes, stop_of, out_value, output_of, has_column};
 
-use crate::partial_rows::value_at;
 use crate::round::{Progress, RoundFault, next_round};
 use access_schema::Schema;
 use lists::{Copies, Row, Text};
 use meaning::types::{Branch, Out, Step};
 use source_trait::{Lane, Source};
 use std::alloc::{AllocError, Global};
+use std::mem;
 
 /// Why the rounds of a branch stop.
 #[derive(Clone, Copy, Debug, PartialEq, Eq)]
@@ -45,7 +46,7 @@ pub fn next_branch<S: Source + Send + Drop>(
     match run_steps(alloc, schema, lane, branch.steps.as_slice(), first, cap) {
         Ok(reached) => {
             let outs = branch.output.as_slice();
-            match add_outputs(alloc, outs, reached.rows.as_slice(), &mut rows) {
+            match add_outputs(alloc, outs, reached.rows, &mut rows) {
                 Ok(()) => Ok(Progress {
                     rows,
                     made: reached.made,
@@ -111,10 +112,10 @@ fn stop_at(step: usize, made: u32, fault: RoundFault) -> BranchFault
 fn add_outputs(
     alloc: Global,
     outs: &[Out],
-    rows: &[Row],
+    rows: Vec<Row>,
     into: &mut Vec<Row>,
 ) -> Result<(), AllocError>
-    ensures { OnOk result (into.new.items ≡ into.old.items ++ map (output_of outs.now) rows.now) }
+    ensures { OnOk result (into.new.items ≡ into.old.items ++ map (output_of outs.now) rows.items) }
 {
     for row in rows {
         into.push(output_row(alloc, outs, row)?)?;
@@ -122,22 +123,75 @@ fn add_outputs(
     Ok(())
 }
 
-// The values of the output places.
-fn output_row(alloc: Global, outs: &[Out], row: &Row) -> Result<Row, AllocError>
-    ensures { IfOk result (λ values. values ≡ output_of outs.now row.now) }
+// The values of the output places. A value is moved where no later place has its column.
+fn output_row(alloc: Global, outs: &[Out], row: Row) -> Result<Row, AllocError>
+    ensures { IfOk result (λ values. values ≡ output_of outs.now row) }
 {
-    let mut values = Row::new(alloc);
-    for out in outs {
-        values.push(out_text(alloc, out, row)?)?;
+    let mut values = Vec::with_capacity(alloc, outs.len())?;
+    let mut texts = row.into_vec();
+    let mut left = outs;
+    while let [out, rest @ ..] = left {
+        values.push(out_text(alloc, out, rest, &mut texts)?)?;
+        left = rest;
     }
-    Ok(values)
+    Ok(Row::from_vec(values))
 }
 
-fn out_text(alloc: Global, out: &Out, row: &Row) -> Result<Text, AllocError>
-    ensures { IfOk result (λ value. value ≡ out_value row.now out.now) }
+fn out_text(
+    alloc: Global,
+    out: &Out,
+    later: &[Out],
+    texts: &mut Vec<Text>,
+) -> Result<Text, AllocError>
+    ensures value { IfOk result (λ value. value ≡ out_value texts.old.items out.now) }
+    ensures later { output_of later.now texts.new.items ≡ output_of later.now texts.old.items }
 {
     match out {
         Out::Const(text) => text.copy(alloc),
-        Out::Col(column) => value_at(alloc, row, *column),
+        Out::Col(column) => {
+            if has_column(later, *column) {
+                copy_at(alloc, texts.as_slice(), *column)
+            } else {
+                Ok(take_at(alloc, texts, *column))
+            }
+        }
+    }
+}
+
+fn has_column(outs: &[Out], column: u32) -> bool
+    ensures { result ≡ has_column column outs.now }
+{
+    let mut left = outs;
+    while let [out, rest @ ..] = left {
+        match out {
+            Out::Col(other) => {
+                if *other == column {
+                    return true;
+                }
+            }
+            Out::Const(_) => {}
+        }
+        left = rest;
+    }
+    false
+}
+
+fn copy_at(alloc: Global, texts: &[Text], column: u32) -> Result<Text, AllocError>
+    ensures { IfOk result (λ value. value ≡ text_or (slice_get texts.now column)) }
+{
+    match texts.get(column as usize) {
+        Some(value) => value.copy(alloc),
+        None => Ok(Text::new(String::new(alloc))),
+    }
+}
+
+// The value at the column, which is empty from then on.
+fn take_at(alloc: Global, texts: &mut Vec<Text>, column: u32) -> Text
+    ensures value { result ≡ text_or (slice_get texts.old.items column) }
+    ensures others { (other : ℕ) → other ≢ column → slice_get texts.new.items other ≡ slice_get texts.old.items other }
+{
+    match texts.get_mut(column as usize) {
+        Some(value) => mem::replace(value, Text::new(String::new(alloc))),
+        None => Text::new(String::new(alloc)),
     }
 }

@@ -1,7 +1,8 @@
 //! Plans executed over sources: relations attached, requests asked round by round, and answers joined.
 //!
 //! Crates above call `execute` with a lawful plan, and print its rows with `csv_text`. Begin at the clauses of `execute` in
-//! `src/run_plan.rt`; the words that they use are in `specs/`, in the order of `specs/Lib.antt`.
+//! `src/run_plan.rt`; the words that they use are in `specs/`, in the order of `specs/Lib.antt`. A crate that asks relations without
+//! a plan attaches them by `attach_all`.
 #![tactic(auto)]
 
 mod accesses;
@@ -15,6 +16,9 @@ mod round;
 mod rounds;
 mod run_plan;
 
+pub use accesses::{first_kindless, first_lineless};
+pub use attach::{Refused, attach_all};
 pub use fault::{Run, RunFault};
+pub use lookup::find_line;
 pub use row_text::csv_text;
 pub use run_plan::execute;

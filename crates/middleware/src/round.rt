@@ -1,13 +1,10 @@
 // One round: the requests of a step, their answers, and the next partial rows.
-ghost use Rattle.std.specs.Prelude.{◌≡◌, ◌≤◌, ◌<◌, ◌-◌, ◌↔◌, List, ℕ, Contains, IfOk, IfErr, map, flat_map, length, true, false};
-ghost use Rattle.std.specs.List.Sorted.{IsStrictlySortedBy};
+ghost use Rattle.std.specs.Prelude.{◌≡◌, ◌≤◌, ◌<◌, ◌-◌, ◌↔◌, List, ℕ, Contains, IfOk, IfErr, map, length};
 ghost use Rattle.meaning.specs.declared.types.Method.{Method};
 ghost use Rattle.meaning.specs.Plans.{IsMethod};
 ghost use Rattle.access_schema.specs.Meaning.{meaning_of};
-ghost use Rattle.source_trait.specs.Asking.{RowList};
 ghost use Rattle.source_trait.specs.Lanes.{AtKind, StepsOn};
-ghost use Rattle.row_text.specs.RowText.{row_cmp};
-ghost use Rattle.middleware.specs.Joining.{grown, input_row_of};
+ghost use Rattle.middleware.specs.Joining.{input_row_of};
 ghost use Rattle.middleware.specs.Rounds.{IsWanted, CanAskAll, RoundAnswers, RoundRefused};
 ghost use Rattle.middleware.specs.Branches.{IsAskable, RoundGoes, RoundStops};
 
@@ -15,7 +12,7 @@ use crate::ask::ask_all;
 use crate::lookup::{find_line, find_method};
 use crate::partial_rows::{input_row, join};
 use access_schema::{Method, Schema};
-use lists::{Row, Rows, Text};
+use lists::{Row, Text};
 use meaning::types::{Place, Step};
 use row_text::ascending_distinct;
 use source_trait::{CallFault, Lane, Source};
@@ -67,7 +64,7 @@ pub fn next_round<S: Source + Send + Drop>(
         &line.kind,
         method,
         step.places.as_slice(),
-        progress.rows.as_slice(),
+        progress.rows,
         room,
     ) {
         Ok(round) => {
@@ -79,6 +76,13 @@ pub fn next_round<S: Source + Send + Drop>(
         }
         Err(fault) => Err(fault),
     }
+}
+
+/// The distinct partial rows, and their distinct input rows, ascending.
+#[derive(Drop)]
+struct Wanted {
+    rows: Vec<Row>,
+    requests: Vec<Row>,
 }
 
 /// The input rows that a round asked for, and the partial rows after it.
@@ -95,21 +99,21 @@ fn ask_step<S: Source + Send + Drop>(
     kind: &Text,
     method: &Method,
     places: &[Place],
-    rows: &[Row],
+    rows: Vec<Row>,
     room: usize,
 ) -> Result<Round, RoundFault>
     requires ready { AtKind lane.old.kinds.items kind.now (λ s. CanAskAll ((S.seen s).attached method.now.rel) method.now) }
-    ensures wanted { IfOk result (λ r. IsWanted places.now method.now.inputs rows.now r.requests.items) }
+    ensures wanted { IfOk result (λ r. IsWanted places.now method.now.inputs rows.items r.requests.items) }
     ensures fits { IfOk result (λ r. length r.requests.items ≤ room) }
     ensures answers { IfOk result (λ r. StepsOn lane.old.kinds.items lane.new.kinds.items kind.now
-        (λ s t. RoundAnswers places.now method.now rows.now r.requests.items r.rows.items (S.seen s) (S.seen t))) }
+        (λ s t. RoundAnswers places.now method.now rows.items r.requests.items r.rows.items (S.seen s) (S.seen t))) }
     ensures refused { IfErr result (λ fault. StepsOn lane.old.kinds.items lane.new.kinds.items kind.now
-        (λ s t. RoundRefused places.now method.now rows.now room fault (S.seen s) (S.seen t))) }
+        (λ s t. RoundRefused places.now method.now rows.items room fault (S.seen s) (S.seen t))) }
     ensures stopped { lane.new.stopped ≡ lane.old.stopped }
 {
     let inputs = method.inputs.as_slice();
-    let requests = match wanted_rows(alloc, places, inputs, rows) {
-        Ok(requests) => requests,
+    let Wanted { rows, requests } = match wanted_rows(alloc, places, inputs, rows) {
+        Ok(wanted) => wanted,
         Err(_) => return Err(RoundFault::NoMemory),
     };
     let wanted = requests.len();
@@ -125,15 +129,18 @@ fn ask_step<S: Source + Send + Drop>(
         requests.as_slice(),
     ) {
         Ok(answers) => {
-            match joined_rows(
+            match join(
                 alloc,
                 places,
                 inputs,
                 requests.as_slice(),
-                answers.as_slice(),
+                answers.into_vec(),
                 rows,
             ) {
-                Ok(rows) => Ok(Round { requests, rows }),
+                Ok(next) => Ok(Round {
+                    requests,
+                    rows: next,
+                }),
                 Err(_) => Err(RoundFault::NoMemory),
             }
         }
@@ -142,18 +149,23 @@ fn ask_step<S: Source + Send + Drop>(
     }
 }
 
-// The distinct input rows of the partial rows, ascending.
+// The distinct partial rows, and what they ask for.
 fn wanted_rows(
     alloc: Global,
     places: &[Place],
     inputs: &[u32],
-    rows: &[Row],
-) -> Result<Vec<Row>, AllocError>
-    ensures { IfOk result (λ list. IsWanted places.now inputs.now rows.now list.items) }
+    rows: Vec<Row>,
+) -> Result<Wanted, AllocError>
+    ensures wanted { IfOk result (λ w. IsWanted places.now inputs.now rows.items w.requests.items) }
+    ensures same { IfOk result (λ w. (row : List (List ℕ)) → Contains w.rows.items row ↔ Contains rows.items row) }
 {
-    let mut list = input_rows(alloc, places, inputs, rows)?;
-    ascending_distinct(&mut list);
-    Ok(list)
+    let distinct = ascending_distinct(alloc, rows)?;
+    let list = input_rows(alloc, places, inputs, distinct.as_slice())?;
+    let requests = ascending_distinct(alloc, list)?;
+    Ok(Wanted {
+        rows: distinct,
+        requests,
+    })
 }
 
 // The input row of each partial row.
@@ -170,23 +182,4 @@ fn input_rows(
         list.push(input_row(alloc, places, inputs, row)?)?;
     }
     Ok(list)
-}
-
-// The partial rows joined with the answers, each once.
-fn joined_rows(
-    alloc: Global,
-    places: &[Place],
-    inputs: &[u32],
-    requests: &[Row],
-    answers: &[Rows],
-    rows: &[Row],
-) -> Result<Vec<Row>, AllocError>
-    requires ascends { IsStrictlySortedBy row_cmp requests.now }
-    requires asked { (row : List (List ℕ)) → Contains rows.now row → Contains requests.now (input_row_of places.now inputs.now row) }
-    ensures { (answer : List (List ℕ) → RowList) → answers.now ≡ map answer requests.now
-        → IfOk result (λ next. (row : List (List ℕ)) → Contains next.items row ↔ Contains (flat_map (λ row. grown places.now (answer (input_row_of places.now inputs.now row)) row) rows.now) row) }
-{
-    let mut next = join(alloc, places, inputs, requests, answers, rows)?;
-    ascending_distinct(&mut next);
-    Ok(next)
 }

@@ -40,12 +40,13 @@ pub fn run_rounds<S: Source + Send + Drop>(
     match run_branches(alloc, schema, lane, plan, cap) {
         Ok(progress) => {
             let made = progress.made;
-            let mut rows = progress.rows;
-            ascending_distinct(&mut rows);
-            Ok(Run {
-                rows: Seq::from_vec(rows),
-                made,
-            })
+            match ascending_distinct(alloc, progress.rows) {
+                Ok(rows) => Ok(Run {
+                    rows: Seq::from_vec(rows),
+                    made,
+                }),
+                Err(_) => Err(RunFault::NoMemory),
+            }
         }
         Err(fault) => {
             lane.stopped = matches!(fault, RunFault::CallFailed { .. });

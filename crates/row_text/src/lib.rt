@@ -1,6 +1,6 @@
 //! Rows in ascending order without doubles, and their text: a header and a line for each row.
 //!
-//! Crates above use this: `ascending_distinct` sorts rows in place and keeps each once, and `csv_text` writes
+//! Crates above use this: `ascending_distinct` sorts rows and keeps each once, and `csv_text` writes
 //! what a query answers. Begin at `specs/RowText.antt`.
 #![tactic(auto)]
 

@@ -1,37 +1,29 @@
-// Rows by reference, in order: most are told apart by the bytes that they begin with, and so without a look at them.
-ghost use Rattle.std.specs.Prelude.{◌≡◌, Some, refl, slice_index};
+// Rows in order: most are told apart by the bytes that they begin with, and so without a look at them.
+ghost use Rattle.std.specs.Prelude.{◌≡◌, ◌<◌, ℕ, Some, refl, slice_index};
 ghost use Rattle.std.specs.Cmp.{on_equiv, on_total, partial_equiv_from_equiv, po};
 ghost use Rattle.std.specs.Cmp.Lexicographic.{lists_equiv, lists_ties, lists_total, nat_list_cmp_total, nat_list_eq_equiv, slice_cmp, texts_ties};
+ghost use Rattle.std.specs.Int.{from_be_bytes, w64};
 ghost use Rattle.std.specs.Ordering.{nat_cmp};
 ghost use Rattle.row_text.specs.RowText.{row_cmp, row_eq};
-ghost use Rattle.row_text.specs.Starts.{first_of, row_start};
+ghost use Rattle.row_text.specs.Starts.{first_of, row_start, start_of};
 
 use lists::Row;
 use std::cmp::Ordering;
 
-/// A row with the first bytes of its first value.
-#[derive(Clone, Copy)]
-pub(crate) struct Started<'a> {
-    start: [u8; 8],
-    pub(crate) row: &'a Row,
-    ghost starts: { start ≡ row_start row.now },
+/// A row with the number that the first bytes of its first value make.
+#[derive(Drop)]
+pub(crate) struct Started {
+    start: u64,
+    pub(crate) row: Row,
+    ghost starts: { start ≡ from_be_bytes w64 (row_start row) },
+    ghost bytes: { (place : ℕ) → slice_index (row_start row) place < 256 },
 }
 
-impl<'a> Started<'a> {
-    pub(crate) fn new(row: &'a Row) -> Started<'a>
-        ensures { result.row.now ≡ row.now }
+impl Started {
+    pub(crate) fn new(row: Row) -> Started
+        ensures { result.row ≡ row }
     {
-        let bytes = first_value(row);
-        let start = [
-            byte_at(bytes, 0),
-            byte_at(bytes, 1),
-            byte_at(bytes, 2),
-            byte_at(bytes, 3),
-            byte_at(bytes, 4),
-            byte_at(bytes, 5),
-            byte_at(bytes, 6),
-            byte_at(bytes, 7),
-        ];
+        let start = start_of(first_value(&row));
         Started { start, row }
     }
 }
@@ -46,6 +38,23 @@ fn first_value(row: &Row) -> &[u8]
     }
 }
 
+// The number of the first eight bytes, of which the first counts most.
+fn start_of(bytes: &[u8]) -> u64
+    ensures number { result ≡ from_be_bytes w64 (start_of bytes.now) }
+    ensures bytes { (place : ℕ) → slice_index (start_of bytes.now) place < 256 }
+{
+    u64::from_be_bytes([
+        byte_at(bytes, 0),
+        byte_at(bytes, 1),
+        byte_at(bytes, 2),
+        byte_at(bytes, 3),
+        byte_at(bytes, 4),
+        byte_at(bytes, 5),
+        byte_at(bytes, 6),
+        byte_at(bytes, 7),
+    ])
+}
+
 fn byte_at(bytes: &[u8], place: usize) -> u8
     ensures { result ≡ slice_index bytes.now place }
 {
@@ -55,42 +64,42 @@ fn byte_at(bytes: &[u8], place: usize) -> u8
     }
 }
 
-impl<'a> PartialEq for Started<'a> {
-    ghost eq = { λ x y. row_eq x.row.now y.row.now };
+impl PartialEq for Started {
+    ghost eq = { λ x y. row_eq x.row y.row };
 
-    ghost laws = { partial_equiv_from_equiv (on_equiv (λ x. x.row.now) (lists_equiv nat_list_eq_equiv)) };
+    ghost laws = { partial_equiv_from_equiv (on_equiv (λ x. x.row) (lists_equiv nat_list_eq_equiv)) };
 
-    fn eq(&self, other: &Started<'a>) -> bool {
-        self.start == other.start && *self.row == *other.row
+    fn eq(&self, other: &Started) -> bool {
+        self.start == other.start && self.row == other.row
     }
 }
 
-impl<'a> Eq for Started<'a> {
-    ghost laws = { on_equiv (λ x. x.row.now) (lists_equiv nat_list_eq_equiv) };
+impl Eq for Started {
+    ghost laws = { on_equiv (λ x. x.row) (lists_equiv nat_list_eq_equiv) };
 }
 
-impl<'a> PartialOrd for Started<'a> {
-    ghost partial_cmp = { λ x y. Some (row_cmp x.row.now y.row.now) };
+impl PartialOrd for Started {
+    ghost partial_cmp = { λ x y. Some (row_cmp x.row y.row) };
 
-    ghost laws = { po (on_total (λ x. x.row.now) (lists_total nat_list_cmp_total)) (λ x y. lists_ties (slice_cmp nat_cmp) texts_ties x.row.now y.row.now) };
+    ghost laws = { po (on_total (λ x. x.row) (lists_total nat_list_cmp_total)) (λ x y. lists_ties (slice_cmp nat_cmp) texts_ties x.row y.row) };
 
-    fn partial_cmp(&self, other: &Started<'a>) -> Option<Ordering> {
+    fn partial_cmp(&self, other: &Started) -> Option<Ordering> {
         Some(self.cmp(other))
     }
 }
 
-impl<'a> Ord for Started<'a> {
-    ghost cmp = { λ x y. row_cmp x.row.now y.row.now };
+impl Ord for Started {
+    ghost cmp = { λ x y. row_cmp x.row y.row };
 
-    ghost total = { on_total (λ x. x.row.now) (lists_total nat_list_cmp_total) };
+    ghost total = { on_total (λ x. x.row) (lists_total nat_list_cmp_total) };
 
     ghost matches_partial_cmp = { λ x y. refl };
 
-    ghost matches_eq = { λ x y. lists_ties (slice_cmp nat_cmp) texts_ties x.row.now y.row.now };
+    ghost matches_eq = { λ x y. lists_ties (slice_cmp nat_cmp) texts_ties x.row y.row };
 
-    fn cmp(&self, other: &Started<'a>) -> Ordering {
+    fn cmp(&self, other: &Started) -> Ordering {
         match self.start.cmp(&other.start) {
-            Ordering::Equal => self.row.cmp(other.row),
+            Ordering::Equal => self.row.cmp(&other.row),
             unequal => unequal,
         }
     }

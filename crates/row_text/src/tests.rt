@@ -1,5 +1,5 @@
 // Texts that are known from outside.
-use crate::{Recent, csv_text};
+use crate::{Recent, ascending_distinct, csv_text};
 use lists::{NoMemory, Row, Rows, Text, Texts};
 use std::alloc::Global;
 use std::test::Fail;
@@ -33,6 +33,27 @@ fn rows_come_once_and_ascend_by_bytes(rt: HostRuntime) -> Result<(), Fail> {
     ];
     let text = csv_text(alloc, &names, &rows(alloc, &list)?)?;
     assert!(rt; text.as_slice() == b"a,b\nB,3\na,10\na,2\nb,1\n".as_slice());
+    Ok(())
+}
+
+#[test]
+fn rows_that_begin_alike_are_told_apart_by_the_rest(rt: HostRuntime) -> Result<(), Fail> {
+    let alloc = rt.alloc();
+    let list: [&[&str]; 5] = [
+        &["abcdefghb"],
+        &["abcdefgh"],
+        &["abcdefgha", "2"],
+        &["abcdefgha", "10"],
+        &["abcdefgh"],
+    ];
+    let ascending: [&[&str]; 4] = [
+        &["abcdefgh"],
+        &["abcdefgha", "10"],
+        &["abcdefgha", "2"],
+        &["abcdefghb"],
+    ];
+    let distinct = ascending_distinct(alloc, rows(alloc, &list)?.into_vec())?;
+    assert!(rt; Rows::from_vec(distinct) == rows(alloc, &ascending)?);
     Ok(())
 }
 

@@ -5,7 +5,6 @@ ghost use Rattle.csv.specs.Writing.{default_writer, row_text, writer_pending, wr
 ghost use Rattle.row_text.specs.RowText.{IsRowText, row_cmp};
 ghost use Rattle.row_text.specs.Writer.{IsReady};
 
-use crate::started::Started;
 use csv::{Writer, WriterBuilder};
 use lists::{Bytes, NoMemory, Row, Rows, Text, Texts};
 use std::alloc::Global;
@@ -19,31 +18,30 @@ pub fn csv_text(alloc: Global, names: &Texts, rows: &Rows) -> Result<Bytes, NoMe
     Ok(Bytes::from_vec(text))
 }
 
-// The distinct rows, ascending, by reference: the rows stay where they are, since moving them would part them from
-// their values in memory.
-fn ascending_members(alloc: Global, rows: &[Row]) -> Result<Vec<Started<'_>>, NoMemory>
-    ensures ascends { IfOk result (λ members. IsStrictlySortedBy row_cmp (map (λ m. m.row.now) members.items)) }
-    ensures same { IfOk result (λ members. (row : List (List ℕ)) → Contains (map (λ m. m.row.now) members.items) row ↔ Contains rows.now row) }
+// The distinct rows, ascending, by reference. Rows that ascend already, as those of an execution do, are sorted in linear time.
+fn ascending_members(alloc: Global, rows: &[Row]) -> Result<Vec<&Row>, NoMemory>
+    ensures ascends { IfOk result (λ members. IsStrictlySortedBy row_cmp (map (λ m. m.now) members.items)) }
+    ensures same { IfOk result (λ members. (row : List (List ℕ)) → Contains (map (λ m. m.now) members.items) row ↔ Contains rows.now row) }
 {
-    let mut members = started(alloc, rows)?;
+    let mut members = lent(alloc, rows)?;
     members.sort_unstable();
     members.dedup();
     Ok(members)
 }
 
-fn started(alloc: Global, rows: &[Row]) -> Result<Vec<Started<'_>>, NoMemory>
-    ensures { IfOk result (λ members. map (λ m. m.row.now) members.items ≡ rows.now) }
+fn lent(alloc: Global, rows: &[Row]) -> Result<Vec<&Row>, NoMemory>
+    ensures { IfOk result (λ members. map (λ m. m.now) members.items ≡ rows.now) }
 {
     let mut members = Vec::with_capacity(alloc, rows.len())?;
     for row in rows {
-        members.push(Started::new(row))?;
+        members.push(row)?;
     }
     Ok(members)
 }
 
 // The lines of the names and of the rows, in this order, through one writer.
-fn written(alloc: Global, names: &[Text], members: &[Started<'_>]) -> Result<Vec<u8>, NoMemory>
-    ensures { IfOk result (λ text. text.items ≡ row_text default_writer names.now ++ flat_map (row_text default_writer) (map (λ m. m.row.now) members.now)) }
+fn written(alloc: Global, names: &[Text], members: &[&Row]) -> Result<Vec<u8>, NoMemory>
+    ensures { IfOk result (λ text. text.items ≡ row_text default_writer names.now ++ flat_map (row_text default_writer) (map (λ m. m.now) members.now)) }
 {
     let mut writer = WriterBuilder::new()
         .flexible(true)
@@ -51,7 +49,7 @@ fn written(alloc: Global, names: &[Text], members: &[Started<'_>]) -> Result<Vec
     let mut fields = Vec::new(alloc);
     write_row(&mut writer, &mut fields, names)?;
     for member in members {
-        write_row(&mut writer, &mut fields, member.row.as_slice())?;
+        write_row(&mut writer, &mut fields, member.as_slice())?;
     }
     match writer.into_inner() {
         Ok(text) => Ok(text),

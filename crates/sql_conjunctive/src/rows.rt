@@ -41,8 +41,8 @@ pub fn answers(
         let mut more = select_rows(alloc, select, schema, &store)?;
         rows.append(&mut more)?;
     }
-    ascending_distinct(&mut rows);
-    Ok(Seq::from_vec(rows))
+    let distinct = ascending_distinct(alloc, rows)?;
+    Ok(Seq::from_vec(distinct))
 }
 
 /// The answers of the select on the facts of the store, in any order.

@@ -14,7 +14,7 @@ use Rattle.data_verify.specs.declared.broken.Broken.{Broken}
 use Rattle.data_verify.specs.Breaking.{Breaks, AreLeastBreaking, IsFirstBroken}
 use Rattle.verify_command.specs.RuleRelations.{RulesName}
 use Rattle.verify_command.specs.Verifying.{IsVerified}
-use Rattle.verify_command.proofs.Naming.{append_first, append_second}
+use Rattle.middleware.proofs.Steps.{append_first, append_second}
 
 -- the same facts of each relation that some rule names
 abbrev pub Agree : Schema → List Fact → List Fact → Type 0

@@ -7,15 +7,15 @@ use Rattle.lists.proofs.Members.{some_injective, contains_here, contains_there, 
 use Rattle.meaning.specs.declared.types.Fact.{Fact}
 use Rattle.access_schema.specs.declared.schema.Schema.{Schema}
 use Rattle.access_schema.specs.declared.schema.SourceLine.{SourceLine}
-use Rattle.source_trait.specs.Asking.{RowList, Seen, CallGives, pick, facts_of}
+use Rattle.source_trait.specs.Asking.{RowList, Rises, Seen, CallGives, pick, facts_of}
 use Rattle.source_trait.specs.Lanes.{source_of, AtKind}
 use Rattle.source_trait.specs.declared.lanes.Kind.{Kind}
 use Rattle.source_trait.proofs.LaneSteps.{StepsOn-source}
 use Rattle.middleware.specs.PlanSources.{line_for}
 use Rattle.middleware.specs.Held.{SameFacts, HoldsRelation}
 use Rattle.verify_command.specs.Asking.{IsReady, AsksOne, AsksInOrder}
-use Rattle.verify_command.proofs.Missing.{Rising}
-use Rattle.verify_command.proofs.Naming.{in_append, append_first, append_second}
+use Rattle.middleware.proofs.Lacking.{above}
+use Rattle.middleware.proofs.Steps.{in_append, append_first, append_second}
 use Rattle.verify_command.proofs.Asking.{one_keeps}
 
 abbrev row_of : Fact → List (List ℕ)
@@ -98,7 +98,7 @@ module _ {S : Type 0} (seen : S → Seen) (schema : Schema) where
       ]
 
   -- of each relation that was asked for, the facts are those that its source holds
-  facts_held : (rels : List ℕ) → Rising rels → (facts : List Fact) (old new : List (Kind S)) → AsksInOrder seen schema rels facts old new → (rel : ℕ) → Contains rels rel → (line : SourceLine) → line_for rel schema.sources ≡ Some line
+  facts_held : (rels : List ℕ) → Rises rels → (facts : List Fact) (old new : List (Kind S)) → AsksInOrder seen schema rels facts old new → (rel : ℕ) → Contains rels rel → (line : SourceLine) → line_for rel schema.sources ≡ Some line
       → (held : List Fact) → AtKind old line.kind (Told (Some held)) → SameFacts rel facts held
   facts_held [] up facts old new order rel c line line_is held h = absurd (omega arith)
   facts_held (r ∷ rels) up facts old new (rows, rest, mid, e, one, later) rel c line line_is held h = elim (contains_cases r rels rel c) [
@@ -115,7 +115,7 @@ module _ {S : Type 0} (seen : S → Seen) (schema : Schema) where
           let is : rows ≡ pick held r [] [] = one_rows r rows old mid one held (subst (λ (l : SourceLine). AtKind old l.kind (Told (Some held))) where_is h) in
           let own : rows ≡ pick held rel [] [] = subst (λ n. rows ≡ pick held n [] []) here is in
           let mine : Contains (facts_of r rows) (fact_of rel row) → Contains (facts_of rel rows) (fact_of rel row) = λ d. subst (λ n. Contains (facts_of n rows) (fact_of rel row)) here d in
-          let not_later : Contains rels rel → ⊥ = λ d. let above = up.0 rel d in omega (arith, above, here) in (
+          let not_later : Contains rels rel → ⊥ = λ d. let later = above r rels rel up.0 d in omega (arith, later, here) in (
             (λ d. elim (to row d) [
               | inl m ↦ picked_held rel row held (subst (λ (l : RowList). Contains l row) own (of_rows rel row rows (mine m)))
               | inr n ↦ absurd (apart_from rels rest mid new later rel not_later row n)
@@ -127,14 +127,14 @@ module _ {S : Type 0} (seen : S → Seen) (schema : Schema) where
       second : Contains rels rel → SameFacts rel rest held → SameFacts rel facts held
       second there same row = (
         (λ d. elim (to row d) [
-          | inl m ↦ let clash = not_other rel row r rows m in let above = up.0 rel there in absurd (omega (arith, clash, above))
+          | inl m ↦ let clash = not_other rel row r rows m in let later = above r rels rel up.0 there in absurd (omega (arith, clash, later))
           | inr n ↦ (same row).0 n
         ]),
         (λ d. subst (λ (l : List Fact). Contains l (fact_of rel row)) (sym e) (append_second (facts_of r rows) rest (fact_of rel row) ((same row).1 d))),
       )
 
   -- where a source holds just the facts of an instance afterwards, they are those that were asked for
-  pub instance_asked : (rels : List ℕ) → Rising rels → (facts : List Fact) (old new : List (Kind S)) → AsksInOrder seen schema rels facts old new → (rel : ℕ) → Contains rels rel → IsReady seen schema old rel →
+  pub instance_asked : (rels : List ℕ) → Rises rels → (facts : List Fact) (old new : List (Kind S)) → AsksInOrder seen schema rels facts old new → (rel : ℕ) → Contains rels rel → IsReady seen schema old rel →
       (instance : List Fact) → ((line : SourceLine) → line_for rel schema.sources ≡ Some line → HoldsRelation seen new line.kind rel instance) → SameFacts rel facts instance
   instance_asked rels up facts old new order rel c ready instance holds =
       go (source_of old ready.line.kind) refl ready.attached

@@ -1,33 +1,14 @@
 -- The list of the relations of rules has those that some rule names.
-use Rattle.std.proofs.Common.{◌≡◌, ◌⊎◌, ◌↔◌, inl, inr, ⊎_elim, ◌+◌, ◌≤◌, ◌<◌, ℕ, List, [], ◌∷◌, ◌++◌, length, take, get_or, sym, ◌∙◌, ap, subst, append_assoc, arith}
+use Rattle.std.proofs.Common.{◌≡◌, ◌↔◌, inl, inr, ◌+◌, ◌≤◌, ◌<◌, ℕ, List, [], ◌∷◌, ◌++◌, length, take, get_or, sym, ◌∙◌, ap, subst, append_assoc}
 use Rattle.std.specs.Prelude.{Contains, flat_map}
 use Rattle.std.proofs.lemmas.List.{append-nil, take_more, take_all}
-use Rattle.lists.proofs.Members.{contains_here, contains_there, contains_cases, contains_map, contains_mapped}
+use Rattle.lists.proofs.Members.{contains_map, contains_mapped}
 use Rattle.meaning.specs.declared.types.Atom.{Atom}
 use Rattle.meaning.specs.declared.types.Rule.{Rule}
 use Rattle.access_schema.specs.declared.schema.Schema.{Schema}
+use Rattle.middleware.proofs.Steps.{append_first, append_second, flat_in, in_append, in_flat}
 use Rattle.verify_command.specs.RuleRelations.{RulesName}
 use Rattle.verify_command.specs.Listing.{relations_of, relations_in}
-
-pub in_append : {X : Type 0} (xs ys : List X) (x : X) → Contains (xs ++ ys) x → Contains xs x ⊎ Contains ys x
-in_append [] ys x c = inr c
-in_append (y ∷ xs) ys x c = ⊎_elim (λ e. inl (subst (λ z. Contains (y ∷ xs) z) e (contains_here y xs))) (λ h. ⊎_elim (λ l. inl (contains_there y xs x l)) inr (in_append xs ys x h)) (contains_cases y (xs ++ ys) x c)
-
-pub append_first : {X : Type 0} (xs ys : List X) (x : X) → Contains xs x → Contains (xs ++ ys) x
-append_first [] ys x c = absurd (omega arith)
-append_first (y ∷ xs) ys x c = ⊎_elim (λ e. subst (λ z. Contains (y ∷ (xs ++ ys)) z) e (contains_here y (xs ++ ys))) (λ h. contains_there y (xs ++ ys) x (append_first xs ys x h)) (contains_cases y xs x c)
-
-pub append_second : {X : Type 0} (xs ys : List X) (x : X) → Contains ys x → Contains (xs ++ ys) x
-append_second [] ys x c = c
-append_second (y ∷ xs) ys x c = contains_there y (xs ++ ys) x (append_second xs ys x c)
-
-in_flat : {X Y : Type 0} (f : X → List Y) (xs : List X) (y : Y) → Contains (flat_map f xs) y → (x : X) × Contains xs x × Contains (f x) y
-in_flat f [] y c = absurd (omega arith)
-in_flat f (x ∷ xs) y c = ⊎_elim (λ h. (x, contains_here x xs, h)) (λ h. let (z, among, e) = in_flat f xs y h in (z, contains_there x xs z among, e)) (in_append (f x) (flat_map f xs) y c)
-
-flat_in : {X Y : Type 0} (f : X → List Y) (xs : List X) (x : X) (y : Y) → Contains xs x → Contains (f x) y → Contains (flat_map f xs) y
-flat_in f [] x y c d = absurd (omega arith)
-flat_in f (z ∷ xs) x y c d = ⊎_elim (λ e. append_first (f z) (flat_map f xs) y (subst (λ w. Contains (f w) y) (sym e) d)) (λ h. append_second (f z) (flat_map f xs) y (flat_in f xs x y h d)) (contains_cases z xs x c)
 
 flat_push : {X Y : Type 0} (f : X → List Y) (xs : List X) (x : X) → flat_map f (xs ++ x ∷ []) ≡ flat_map f xs ++ f x
 flat_push f [] x = append-nil (f x)

@@ -12,16 +12,16 @@ use Rattle.source_trait.specs.declared.lanes.Kind.{Kind}
 use Rattle.source_trait.specs.declared.lanes.Lane.{Lane}
 use Rattle.source_trait.proofs.LaneSteps.{LanesStay-refl}
 use Rattle.middleware.specs.Attaching.{AttachesInOrder}
+use Rattle.middleware.specs.Sources.{AttachBreaks}
+use Rattle.middleware.proofs.Lacking.{rises_strictly}
 use Rattle.data_verify.specs.declared.broken.Broken.{Broken}
 use Rattle.command_io.specs.declared.stop.Stop.{Stop}
 use Rattle.verify_command.specs.RuleRelations.{AreRuleRelations}
-use Rattle.verify_command.specs.Attaching.{AttachBreaks}
 use Rattle.verify_command.specs.Asking.{AsksInOrder, AskStop}
 use Rattle.verify_command.specs.Asking.AskStop.{no_memory as ask_memory, failed}
 use Rattle.verify_command.specs.Verifying.{IsVerified, Verifies, used, others}
 use Rattle.verify_command.specs.Verifying.Verifies.{no_memory, not_attached, not_asked, done}
 use Rattle.verify_command.specs.Listing.{stop_of_refusal}
-use Rattle.verify_command.proofs.Missing.{rising}
 use Rattle.verify_command.proofs.Attaching.{order_ready}
 use Rattle.verify_command.proofs.Holding.{instance_asked}
 use Rattle.verify_command.proofs.Alike.{verified_there}
@@ -51,7 +51,7 @@ module _ {S : Type 0} (seen : S → Seen) (schema : Schema) (rels : List ℕ) (a
     of_facts = is;
     of_held = λ instance holds. verified_there schema facts instance (λ rel named.
         let among = (are.exactly rel).1 named in
-        instance_asked seen schema rels (rising rels are.ascends) facts middle new asked rel among (order_ready seen schema rels old middle order rel among) instance (λ line is. holds rel line named is)) found is;
+        instance_asked seen schema rels (rises_strictly rels are.ascends) facts middle new asked rel among (order_ready seen schema rels old middle order rel among) instance (λ line is. holds rel line named is)) found is;
   })
 
 -- a test for some that fails

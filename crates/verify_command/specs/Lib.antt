@@ -1,6 +1,5 @@
 pub mod RuleRelations
 pub mod Held
-pub mod Attaching
 pub mod Asking
 pub mod Verifying
 pub mod Ends

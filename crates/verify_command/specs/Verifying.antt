@@ -9,6 +9,7 @@ use Rattle.source_trait.specs.declared.source.AttachFault.{AttachFault}
 use Rattle.source_trait.specs.declared.lanes.Kind.{Kind}
 use Rattle.source_trait.specs.declared.lanes.Lane.{Lane}
 use Rattle.middleware.specs.Attaching.{AttachesInOrder}
+use Rattle.middleware.specs.Sources.{AttachBreaks}
 use Rattle.middleware.specs.declared.fault.RunFault.TheVariants as run
 use Rattle.data_verify.specs.declared.broken.Broken.{Broken}
 use Rattle.data_verify.specs.Breaking.{IsFirstBroken}
@@ -16,7 +17,6 @@ use Rattle.command_io.specs.declared.stop.Stop.{Stop}
 use Rattle.command_io.specs.declared.stop.Stop.TheVariants as stop
 use Rattle.verify_command.specs.RuleRelations.{AreRuleRelations, IsFirstLineless, IsFirstKindless}
 use Rattle.verify_command.specs.Held.{HoldRules}
-use Rattle.verify_command.specs.Attaching.{AttachBreaks}
 use Rattle.verify_command.specs.Asking.{AsksInOrder, AskBreaks}
 
 -- The kinds of the used lane, which is the first; there are none without a lane.

@@ -4,11 +4,11 @@ ghost use Rattle.source_trait.specs.Asking.{facts_of};
 ghost use Rattle.source_trait.specs.Lanes.{KindsStay};
 ghost use Rattle.verify_command.specs.Asking.{IsReady, AsksOne, AsksInOrder, AskStop};
 
-use crate::sources::find_line;
 use access_schema::Schema;
 use command_io::Stop;
 use lists::{NoMemory, Places, Row, Rows};
 use meaning::types::{Fact, Instance};
+use middleware::find_line;
 use source_trait::{CallFault, Lane, Source, call_on};
 use std::alloc::Global;
 

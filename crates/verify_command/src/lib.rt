@@ -5,10 +5,8 @@
 #![tactic(auto)]
 
 mod ask;
-mod attach;
 mod command;
 mod relations;
-mod sources;
 mod verifying;
 
 pub use command::verify_rules;

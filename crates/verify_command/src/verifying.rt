@@ -6,13 +6,11 @@ ghost use Rattle.verify_command.specs.Listing.{stop_of_refusal};
 ghost use Rattle.verify_command.specs.Verifying.{Verifies, used, others};
 
 use crate::ask::ask_all;
-use crate::attach::{Refused, attach_all};
 use crate::relations::rule_relations;
-use crate::sources::{first_kindless, first_lineless};
 use access_schema::Schema;
 use command_io::Stop;
 use data_verify::{Broken, verify};
-use middleware::RunFault;
+use middleware::{Refused, RunFault, attach_all, first_kindless, first_lineless};
 use source_trait::{AttachFault, Lane, Source};
 use std::alloc::Global;
 

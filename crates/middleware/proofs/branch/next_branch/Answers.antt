@@ -1,4 +1,4 @@
-use Rattle.std.proofs.Common.{List, subst}
+use Rattle.std.proofs.Common.{List, refl, subst}
 use Rattle.std.specs.Prelude.{Contains}
 use Rattle.meaning.specs.declared.types.Step.{Step}
 use Rattle.middleware.proofs.Finding.{well_formed}
@@ -16,7 +16,7 @@ run_steps-requires-clause-askable g c κs within = λ step method among named.
 pub returns-in-Ok-add_outputs-clause-goes : goal.returns-in-Ok-add_outputs-clause-goes
 returns-in-Ok-add_outputs-clause-goes g c =
     branch_goes g.S.Source.seen c.args.schema.now (well_formed c.args.schema.now) c.args.branch.now c.requires.ready c.as_slice.result.now c.as_slice.ensures c.as_slice-outs.result.now c.as_slice-outs.ensures
-    c.in-Ok-run_steps.reached.rows.items c.as_slice-in-Ok-run_steps.result.now c.args.progress.rows.items c.add_outputs.new.into.items c.as_slice-in-Ok-run_steps.ensures.value
+    c.in-Ok-run_steps.reached.rows.items c.in-Ok-run_steps.reached.rows.items c.args.progress.rows.items c.add_outputs.new.into.items refl
     c.args.progress.made c.in-Ok-run_steps.reached.made c.args.lane.now.kinds.items c.run_steps.new.lane.kinds.items c.in-Ok-run_steps.ensures.reached c.in-Ok-add_outputs.ensures
 
 pub returns-in-Err-add_outputs-clause-stops : goal.returns-in-Err-add_outputs-clause-stops

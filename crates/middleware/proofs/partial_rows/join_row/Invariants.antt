@@ -1,9 +1,7 @@
-use Rattle.std.proofs.Common.{◌≡◌, length}
+use Rattle.std.proofs.Common.{◌≡◌, drop, length}
 use Rattle.middleware.specs.Joining.{joined}
 use Rattle.middleware.proofs.partial_rows.join_row.Given as goal
 
-abbrev pub invariant-loop-left : goal.invariant-loop-left
-invariant-loop-left l = joined l.places l.values l.row ≡ joined l.left l.others l.next
-
-abbrev pub decreases-loop-left : goal.decreases-loop-left
-decreases-loop-left l = length l.left
+-- what is left of the places and of the values gives the same row
+abbrev pub invariant-loop-value : goal.invariant-loop-value
+invariant-loop-value l = joined l.places l.fn.values l.fn.row ≡ joined l.left (drop (length l.yielded) l.fn.values) l.next

@@ -1,7 +1,7 @@
+use Rattle.middleware.proofs.Distinct.{wanted_same}
 use Rattle.middleware.proofs.round.wanted_rows.Goals as goal
 
-pub returns : goal.returns
-returns c = record {
-  ascends = c.ascending_distinct.ensures.ascends;
-  same = rw c.in_ok-list.ensures at c.ascending_distinct.ensures.same;
-}
+pub returns-clause-wanted : goal.returns-clause-wanted
+returns-clause-wanted c =
+    wanted_same c.args.rows.items c.in_ok-distinct.distinct.items c.in_ok-distinct.ensures.same c.args.places.now c.args.inputs.now c.in_ok-list.list.items c.in_ok-requests.requests.items
+    (rw c.as_slice.ensures.value at c.in_ok-list.ensures) c.in_ok-requests.ensures.ascends c.in_ok-requests.ensures.same

@@ -3,10 +3,11 @@ use Rattle.std.proofs.Common.{◌∙◌, List, refl, ap}
 use Rattle.access_schema.specs.declared.schema.SourceLine.{SourceLine}
 use Rattle.source_trait.specs.Lanes.{names_of}
 use Rattle.source_trait.proofs.LaneSteps.{KindsStay-refl, KindsStay-trans}
-use Rattle.verify_command.specs.Listing.{first_kindless}
+use Rattle.middleware.specs.Sources.{first_kindless}
 use Rattle.verify_command.specs.Verifying.Verifies.{no_memory, unknown_kind}
 use Rattle.verify_command.proofs.Missing.{all_placed, first_kindless_is}
-use Rattle.verify_command.proofs.Attaching.{order_ready, order_stays, break_stays}
+use Rattle.middleware.proofs.Attached.{order_stays}
+use Rattle.verify_command.proofs.Attaching.{order_ready, break_stays}
 use Rattle.verify_command.proofs.Results.{refused, unasked, all_found}
 use Rattle.verify_command.proofs.verifying.broken_on.Goals as goal
 

@@ -2,7 +2,7 @@
 use Rattle.std.proofs.Common.{◌<◌, ◌∙◌, ℕ, List, length, rules, refl, ap}
 use Rattle.access_schema.specs.declared.schema.SourceLine.{SourceLine}
 use Rattle.source_trait.proofs.LaneSteps.{LanesStay-refl}
-use Rattle.verify_command.specs.Listing.{first_lineless}
+use Rattle.middleware.specs.Sources.{first_lineless}
 use Rattle.verify_command.specs.Verifying.Verifies.{no_memory, no_source}
 use Rattle.verify_command.proofs.Missing.{all_lines, first_lineless_is}
 use Rattle.verify_command.proofs.Results.{first_used, first_others, first_stay}
