@@ -29,7 +29,7 @@ use Rattle.middleware.specs.Held.{SameFacts, HoldsRelation}
 use Rattle.middleware.specs.Asked.{HasConstant, IsStepRequest}
 use Rattle.middleware.specs.Joining.{input_row_of, input_value_or}
 use Rattle.middleware.specs.Rounds.{requests_of, IsWanted, CanAskAll, RoundCause}
-use Rattle.middleware.specs.Branches.{IsInput, columns_after, IsReady, AreReady, IsReadyOut, IsReadyBranch, out_value, output_of, IsAskable, HoldSteps, TellsSame, AsksLane, RoseAt, RoundGoes, RoundStops, ArePartial, Means, Reached, BranchCause, BranchStops, stop_of, BranchGoes}
+use Rattle.middleware.specs.Branches.{HasAdded, IsInput, columns_after, IsReady, AreReady, IsReadyOut, IsReadyBranch, out_value, output_of, IsAskable, HoldSteps, TellsSame, AsksLane, RoseAt, RoundGoes, RoundStops, ArePartial, Means, Reached, BranchCause, BranchStops, stop_of, BranchGoes}
 use Rattle.middleware.specs.declared.round.RoundFault.{RoundFault}
 use Rattle.middleware.specs.declared.round.RoundFault.TheVariants as round
 use Rattle.middleware.specs.declared.branch.BranchFault.TheVariants as branch
@@ -361,7 +361,7 @@ module _ {S : Type 0} (seen : S → Seen) where
           }
 
       pub branch_goes : (branch : Branch) → IsReadyBranch parts branch → (steps : List Step) → steps ≡ branch.steps → (outs : List Out) → outs ≡ branch.output → (partial lent rows next : RowList) → lent ≡ partial
-          → (count after : ℕ) (old new : List (Kind S)) → Reached seen schema steps partial count after old new → next ≡ rows ++ map (output_of outs) lent → BranchGoes seen schema branch rows next count after old new
+          → (count after : ℕ) (old new : List (Kind S)) → Reached seen schema steps partial count after old new → HasAdded rows (map (output_of outs) lent) next → BranchGoes seen schema branch rows next count after old new
       branch_goes branch ready steps se outs oe partial lent rows next le count after old new reached is =
           let r = subst (λ (s : List Step). Reached seen schema s partial count after old new) se reached in
           record {
@@ -371,7 +371,7 @@ module _ {S : Type 0} (seen : S → Seen) where
             of_steps = r.of_steps;
             means = λ instance holds. let m = r.means instance holds in record {
               exactly = λ row. (
-                (λ c. elim (in_append rows (map (output_of branch.output) partial) row (subst (λ (l : RowList). Contains l row) next_is c)) [
+                (λ c. elim ((added row).0 c) [
                   | inl first ↦ inl first
                   | inr second ↦
                       let (last, among, e) = contains_mapped (output_of branch.output) partial row second in
@@ -379,9 +379,9 @@ module _ {S : Type 0} (seen : S → Seen) where
                       let long = steps_length parts instance branch.steps [] last leads in
                       inr (last, leads, subst (λ (v : List (List ℕ)). AllZip (IsOut last) branch.output v) e (outputs_zip last branch.output (λ out o. rw long (ready.output out o))))
                 ]),
-                (λ h. subst (λ (l : RowList). Contains l row) (sym next_is) (⊎_elim
-                    (λ c. append_first rows (map (output_of branch.output) partial) row c)
-                    (λ (last, leads, zip). append_second rows (map (output_of branch.output) partial) row
+                (λ h. (added row).1 (⊎_elim
+                    (λ c. inl c)
+                    (λ (last, leads, zip). inr
                     (subst (λ (v : List (List ℕ)). Contains (map (output_of branch.output) partial) v) (sym (zip_outputs last branch.output row zip)) (contains_map (output_of branch.output) partial last ((m.partial last).1 leads))))
                     h)),
               );
@@ -389,8 +389,8 @@ module _ {S : Type 0} (seen : S → Seen) where
             };
           }
         where
-          next_is : next ≡ rows ++ map (output_of branch.output) partial
-          next_is = is ∙ ap (λ (o : List Out). rows ++ map (output_of o) lent) oe ∙ ap (λ (l : RowList). rows ++ map (output_of branch.output) l) le
+          added : HasAdded rows (map (output_of branch.output) partial) next
+          added = subst (λ (l : RowList). HasAdded rows (map (output_of branch.output) l) next) le (subst (λ (o : List Out). HasAdded rows (map (output_of o) lent) next) oe is)
 
           outputs_zip : (row : List (List ℕ)) (outs : List Out) → ((out : Out) → Contains outs out → IsReadyOut (length row) out) → AllZip (IsOut row) outs (output_of outs row)
           outputs_zip row [] are = tt

@@ -4,7 +4,7 @@ use Rattle.std.specs.Prelude.{Contains, slice_get, flat_map}
 use Rattle.std.specs.List.{AllZip, filter}
 use Rattle.std.specs.Cmp.Lexicographic.{pointwise, nat_list_eq_equiv}
 use Rattle.std.proofs.lemmas.Bool.Decides.{nat_tests}
-use Rattle.std.proofs.lemmas.List.{length_push, append-nil}
+use Rattle.std.proofs.lemmas.List.{length_push, append-nil, map-append}
 use Rattle.std.proofs.lemmas.Slice.Eq.{bytes_eq-Decides}
 use Rattle.std.specs.declared.cmp.Ordering.TheVariants.{Less}
 use Rattle.lists.proofs.Members.{contains_here, contains_there, contains_cases, contains_map, contains_mapped, got_before, got_below, got_mapped}
@@ -23,7 +23,7 @@ use Rattle.source_trait.specs.Asking.{RowList, agrees, pick}
 use Rattle.row_text.specs.RowText.{row_cmp}
 use Rattle.middleware.specs.Joining.{joined, listed, grown, is_at, input_value_or, input_row_of}
 use Rattle.middleware.specs.Rounds.{requests_of, IsWanted, next_rows}
-use Rattle.middleware.specs.Branches.{IsInput, columns_after, ArePartial}
+use Rattle.middleware.specs.Branches.{IsInput, columns_after, ArePartial, HasAdded}
 use Rattle.middleware.proofs.Orders.{adjacent}
 
 texts_equal : (x y : List ℕ) → pointwise nat_eq x y ≡ true → x ≡ y
@@ -319,3 +319,17 @@ module _ (schema : SchemaParts) (well : IsWellFormed schema) (facts : List Fact)
 pub len_requests : (rel : ℕ) (positions : List ℕ) (list : RowList) → length (requests_of rel positions list) ≡ length list
 len_requests rel positions [] = refl
 len_requests rel positions (v ∷ list) = ap suc (len_requests rel positions list)
+
+-- rows that were added
+pub added_one : (f : List (List ℕ) → List (List ℕ)) (taken : RowList) (row : List (List ℕ)) (before middle after : RowList) → HasAdded before (map f taken) middle → HasAdded middle (f row ∷ []) after → HasAdded before (map f (taken ++ row ∷ [])) after
+added_one f taken row before middle after first next x =
+    let e : map f (taken ++ row ∷ []) ≡ map f taken ++ f row ∷ [] = map-append f taken (row ∷ []) in
+    (
+      (λ c. ⊎_elim
+          (λ m. ⊎_elim inl (λ old. inr (subst (λ (l : RowList). Contains l x) (sym e) (append_first (map f taken) (f row ∷ []) x old))) ((first x).0 m))
+          (λ new. inr (subst (λ (l : RowList). Contains l x) (sym e) (append_second (map f taken) (f row ∷ []) x new)))
+          ((next x).0 c)),
+      ⊎_elim
+          (λ b. (next x).1 (inl ((first x).1 (inl b))))
+          (λ c. ⊎_elim (λ old. (next x).1 (inl ((first x).1 (inr old)))) (λ new. (next x).1 (inr new)) (in_append (map f taken) (f row ∷ []) x (subst (λ (l : RowList). Contains l x) e c))),
+    )

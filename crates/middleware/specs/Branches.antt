@@ -84,6 +84,10 @@ has_column column [] = false
 has_column column (Fixed c ∷ outs) = has_column column outs
 has_column column (Made k ∷ outs) = if nat_eq k column then true else has_column column outs
 
+-- the rows of one list were added to those of another
+abbrev pub HasAdded : RowList → RowList → RowList → Type 0
+HasAdded before more after = (row : List (List ℕ)) → Contains after row ↔ (Contains before row ⊎ Contains more row)
+
 -- ---- what the sources of a lane are asked
 
 -- the source of the relation's kind may be asked each request of the method

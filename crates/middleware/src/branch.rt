@@ -2,12 +2,13 @@
 ghost use Rattle.std.specs.Prelude.{◌≡◌, ◌≢◌, ◌≤◌, ◌++◌, ℕ, IfOk, IfErr, OnOk, [], ◌∷◌, map, slice_get};
 ghost use Rattle.access_schema.specs.Meaning.{meaning_of};
 ghost use Rattle.middleware.specs.Joining.{text_or};
-ghost use Rattle.middleware.specs.Branches.{AreReady, IsReadyBranch, AreAskable, Reached, BranchStops, BranchGoes, stop_of, out_value, output_of, has_column};
+ghost use Rattle.middleware.specs.Branches.{AreReady, IsReadyBranch, AreAskable, Reached, BranchStops, BranchGoes, stop_of, out_value, output_of, has_column, HasAdded};
 
 use crate::round::{Progress, RoundFault, next_round};
 use access_schema::Schema;
 use lists::{Copies, Row, Text};
 use meaning::types::{Branch, Out, Step};
+use row_text::Recent;
 use source_trait::{Lane, Source};
 use std::alloc::{AllocError, Global};
 use std::mem;
@@ -108,17 +109,29 @@ fn stop_at(step: usize, made: u32, fault: RoundFault) -> BranchFault
     }
 }
 
-// Adds the outputs of the partial rows.
+// Adds the outputs of the partial rows, but for most doubles.
 fn add_outputs(
     alloc: Global,
     outs: &[Out],
     rows: Vec<Row>,
     into: &mut Vec<Row>,
 ) -> Result<(), AllocError>
-    ensures { OnOk result (into.new.items ≡ into.old.items ++ map (output_of outs.now) rows.items) }
+    ensures { OnOk result (HasAdded into.old.items (map (output_of outs.now) rows.items) into.new.items) }
 {
+    let mut recent = Recent::new(alloc, rows.len())?;
     for row in rows {
-        into.push(output_row(alloc, outs, row)?)?;
+        let output = output_row(alloc, outs, row)?;
+        add_row(output, &mut recent, into)?;
+    }
+    Ok(())
+}
+
+// Adds the row, where it is no double of one that came lately.
+fn add_row(row: Row, recent: &mut Recent, into: &mut Vec<Row>) -> Result<(), AllocError>
+    ensures { OnOk result (HasAdded into.old.items (row ∷ []) into.new.items) }
+{
+    if !recent.has(into.as_slice(), &row) {
+        into.push(row)?;
     }
     Ok(())
 }
