@@ -1,4 +1,5 @@
 pub mod Texts
+pub mod Bisecting
 pub mod Judged
 pub mod FirstFaults
 pub mod Numbers

@@ -15,11 +15,11 @@ has_in (c ∷ constants) text h = step (pointwise nat_eq c text) refl (λ r. has
     step true t rec h = subst (λ (x : List ℕ). Contains (c ∷ constants) x) (same_text c text t) (contains_here c constants)
     step false t rec h = contains_there c constants text (rec h)
 
-either_true : (b r : Bool) → r ≡ true → cond b true r ≡ true
+pub either_true : (b r : Bool) → r ≡ true → cond b true r ≡ true
 either_true true r h = refl
 either_true false r h = h
 
-first_true : (b r : Bool) → b ≡ true → cond b true r ≡ true
+pub first_true : (b r : Bool) → b ≡ true → cond b true r ≡ true
 first_true true r h = refl
 first_true false r h = absurd (cc)
 

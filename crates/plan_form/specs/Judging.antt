@@ -1,6 +1,8 @@
 -- Judging a plan part by part, from left to right: what inner functions do.
-use Rattle.std.specs.Prelude.{ℕ, ◌+◌, List, [], ◌∷◌, length, slice_get, Option, Some, None, Result, Ok, Err, Bool, true, false, nat_eq, nat_lt, if◌then◌else◌, ◌&&◌, not}
-use Rattle.std.specs.Cmp.Lexicographic.{pointwise}
+use Rattle.std.specs.Prelude.{◌≡◌, ℕ, ◌+◌, List, [], ◌∷◌, length, slice_get, Option, Some, None, Result, Ok, Err, Bool, true, false, nat_eq, nat_lt, if◌then◌else◌, ◌&&◌, not}
+use Rattle.std.specs.Cmp.Lexicographic.{pointwise, slice_cmp}
+use Rattle.std.specs.List.{AllAdjacentBelow}
+use Rattle.std.specs.Ordering.{is_le, nat_cmp}
 use Rattle.meaning.specs.declared.types.Method.{Method}
 use Rattle.meaning.specs.declared.types.Relation.{Relation}
 use Rattle.meaning.specs.declared.types.SchemaParts.{SchemaParts}
@@ -19,6 +21,10 @@ use Rattle.plan_form.specs.declared.fault.PlanFault.{PlanFault}
 abbrev pub has_text : List (List ℕ) → List ℕ → Bool
 has_text [] text = false
 has_text (c ∷ constants) text = if pointwise nat_eq c text then true else has_text constants text
+
+-- no constant comes before the one ahead of it
+abbrev pub Ascend : List (List ℕ) → Type 0
+Ascend constants = AllAdjacentBelow (λ first second. is_le (slice_cmp nat_cmp first second) ≡ true) constants (length constants)
 
 -- the position is an input
 abbrev pub is_input_at : List ℕ → ℕ → Bool

@@ -4,25 +4,27 @@ ghost use Rattle.access_schema.specs.Meaning.{meaning_of};
 ghost use Rattle.meaning.specs.Plans.{IsLawful};
 ghost use Rattle.plan_form.specs.Fitting.{HasFewSteps};
 ghost use Rattle.plan_form.specs.Faults.{IsFirstFault};
-ghost use Rattle.plan_form.specs.Judging.{has_text, is_input_at, place_fault, count_place, judged_places, method_of, judged_step, out_fault, judged_outs, judged_output, judged_steps, judged_branches};
+ghost use Rattle.plan_form.specs.Judging.{is_input_at, place_fault, count_place, judged_places, method_of, judged_step, out_fault, judged_outs, judged_output, judged_steps, judged_branches};
 
 use crate::fault::{PlanFault, PlanFaultKind};
+use crate::known::Known;
 use access_schema::Schema;
 use lists::Text;
 use meaning::types::{Branch, Method, Out, Place, Plan, Step};
 
 /// Whether a plan is lawful over the schema and the known constants, and otherwise its first fault.
 ///
-/// Takes no memory. Each constant of the plan is looked for among the known ones, and each step's name among the methods.
+/// Takes no memory. Each constant of the plan is looked for among the known ones, by bisection where these ascend, and each
+/// step's name among the methods.
 pub fn lawful(plan: &Plan, schema: &Schema, known: &[Text]) -> Result<(), PlanFault>
     requires few { HasFewSteps plan.now }
     ensures exact { IsOk result ↔ IsLawful plan.now (meaning_of schema.now) known.now }
     ensures first { IfErr result (λ fault. IsFirstFault plan.now (meaning_of schema.now) known.now fault) }
 {
-    judge_plan(plan, schema, known)
+    judge_plan(plan, schema, &Known::new(known))
 }
 
-fn judge_plan(plan: &Plan, schema: &Schema, known: &[Text]) -> Result<(), PlanFault>
+fn judge_plan(plan: &Plan, schema: &Schema, known: &Known<'_>) -> Result<(), PlanFault>
     requires few { HasFewSteps plan.now }
     ensures { result ≡ judged_branches (meaning_of schema.now) known.now plan.now.width 0 plan.now.branches }
 {
@@ -39,7 +41,7 @@ fn judge_plan(plan: &Plan, schema: &Schema, known: &[Text]) -> Result<(), PlanFa
 // The first fault of the branch with this number.
 fn judge_branch(
     schema: &Schema,
-    known: &[Text],
+    known: &Known<'_>,
     width: u32,
     number: u32,
     branch: &Branch,
@@ -89,7 +91,12 @@ impl Spot {
 }
 
 // The columns behind a step, or its first fault.
-fn judge_step(schema: &Schema, known: &[Text], columns: usize, step: &Step) -> Result<usize, Spot>
+fn judge_step(
+    schema: &Schema,
+    known: &Known<'_>,
+    columns: usize,
+    step: &Step,
+) -> Result<usize, Spot>
     requires few { columns < 2 ^ 32 }
     ensures judged { result ≡ judged_step (meaning_of schema.now) known.now columns step.now }
     ensures bound { IfOk result (λ after. after ≤ columns + 64) }
@@ -136,7 +143,7 @@ fn find<'a>(methods: &'a [Method], name: &Text) -> Option<&'a Method>
 
 // The columns behind the places, or the first place that is at fault.
 fn judge_places(
-    known: &[Text],
+    known: &Known<'_>,
     inputs: &[u32],
     began: usize,
     places: &[Place],
@@ -165,7 +172,7 @@ fn judge_places(
 
 // What is wrong with a place at this position of a step that began with `began` columns, where there are `columns` by now.
 fn fault_of(
-    known: &[Text],
+    known: &Known<'_>,
     inputs: &[u32],
     began: usize,
     position: u32,
@@ -176,7 +183,7 @@ fn fault_of(
 {
     match place {
         Place::Const(text) => {
-            if knows(known, text) {
+            if known.has(text) {
                 None
             } else {
                 Some(PlanFaultKind::UnknownConstant)
@@ -212,19 +219,6 @@ fn counted(columns: usize, place: &Place) -> usize
     }
 }
 
-fn knows(known: &[Text], text: &Text) -> bool
-    ensures { result ≡ has_text known.now text.now }
-{
-    let mut left = known;
-    while let [first, rest @ ..] = left {
-        if *first == *text {
-            return true;
-        }
-        left = rest;
-    }
-    false
-}
-
 fn is_input(inputs: &[u32], position: u32) -> bool
     ensures { result ≡ is_input_at inputs.now position }
 {
@@ -239,7 +233,7 @@ fn is_input(inputs: &[u32], position: u32) -> bool
 }
 
 // What is wrong with an output, where there are so many columns.
-fn judge_output(known: &[Text], width: u32, columns: usize, output: &[Out]) -> Result<(), Spot>
+fn judge_output(known: &Known<'_>, width: u32, columns: usize, output: &[Out]) -> Result<(), Spot>
     ensures { result ≡ judged_output known.now width columns output.now }
 {
     if output.len() != width as usize {
@@ -251,7 +245,7 @@ fn judge_output(known: &[Text], width: u32, columns: usize, output: &[Out]) -> R
     judge_outs(known, columns, output)
 }
 
-fn judge_outs(known: &[Text], columns: usize, outs: &[Out]) -> Result<(), Spot>
+fn judge_outs(known: &Known<'_>, columns: usize, outs: &[Out]) -> Result<(), Spot>
     requires few { length outs.now < 2 ^ 32 }
     ensures { result ≡ judged_outs known.now columns 0 outs.now }
 {
@@ -270,12 +264,12 @@ fn judge_outs(known: &[Text], columns: usize, outs: &[Out]) -> Result<(), Spot>
     Ok(())
 }
 
-fn out_fault_of(known: &[Text], columns: usize, member: &Out) -> Option<PlanFaultKind>
+fn out_fault_of(known: &Known<'_>, columns: usize, member: &Out) -> Option<PlanFaultKind>
     ensures { result ≡ out_fault known.now columns member.now }
 {
     match member {
         Out::Const(text) => {
-            if knows(known, text) {
+            if known.has(text) {
                 None
             } else {
                 Some(PlanFaultKind::UnknownConstant)

@@ -8,6 +8,7 @@
 mod fault;
 mod illegal;
 mod judge;
+mod known;
 mod laws;
 mod parts;
 mod print;
