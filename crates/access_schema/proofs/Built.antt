@@ -1,8 +1,8 @@
 -- Parts without faults make a schema: its relations, methods and sources.
-use Rattle.std.proofs.Common.{◌≡◌, ◌≢◌, ◌⊎◌, ◌+◌, ◌<◌, ◌≤◌, ◌∙◌, sym, ap, subst, ℕ, zero, suc, List, [], ◌∷◌, ◌++◌, Bool, true, false, not, ◌||◌, Option, Some, None, length, take, map, slice_get, refl, arith, inl, inr, ⊎_elim, nat_le, nat_lt}
+use Rattle.std.proofs.Common.{◌≡◌, ◌⊎◌, ◌+◌, ◌<◌, ◌≤◌, ◌∙◌, sym, ap, subst, ℕ, zero, suc, List, [], ◌∷◌, Bool, true, false, not, Option, Some, None, length, take, slice_get, refl, arith, inl, inr, ⊎_elim, nat_le, nat_lt}
 use Rattle.std.specs.Prelude.{if◌then◌else◌}
 use Rattle.std.specs.Prelude.{Contains, filter, filter_map, option_map}
-use Rattle.std.specs.List.{list_any, cons_option, find}
+use Rattle.std.specs.List.{list_any}
 use Rattle.std.proofs.lemmas.Bool.{cases_Bool}
 use Rattle.std.proofs.lemmas.Bool.Decides.{nat_tests}
 use Rattle.meaning.specs.declared.types.Relation.{Relation}
@@ -10,19 +10,19 @@ use Rattle.meaning.specs.declared.types.Method.{Method}
 use Rattle.access_schema.specs.declared.part.Part.{Part}
 use Rattle.access_schema.specs.declared.part.Part.TheVariants.{Relation as RelationPart, Method as MethodPart, Rule as RulePart, ForeignKey as KeyPart, Constant as ConstantPart, Source as SourcePart}
 use Rattle.access_schema.specs.declared.schema.SourceLine.{SourceLine}
-use Rattle.access_schema.specs.declared.limits.TheConstants.{MOST_RELATIONS, MOST_METHODS, MOST_RULES, MOST_COLUMNS, MOST_COST}
-use Rattle.access_schema.specs.Names.{relation_names, method_names, AllDiffer}
-use Rattle.access_schema.specs.Lists.{is_among, repeats}
-use Rattle.access_schema.specs.Content.{relation_of, relations_of, is_named, is_declared, number_of, columns_in, columns_of, places_from, method_of, methods_of, rule_of, rules_of, source_of, sources_of}
+use Rattle.access_schema.specs.declared.limits.TheConstants.{MOST_RELATIONS, MOST_METHODS, MOST_COLUMNS, MOST_COST}
+use Rattle.access_schema.specs.Names.{AllDiffer}
+use Rattle.access_schema.specs.Lists.{is_among}
+use Rattle.access_schema.specs.Content.{relation_of, relations_of, is_named, is_declared, number_of, columns_in, columns_of, places_from, method_of, methods_of, source_of, sources_of}
 use Rattle.std.specs.Prelude.{nat_eq}
 use Rattle.std.specs.Cmp.Lexicographic.{pointwise}
 use Rattle.access_schema.specs.Invariant.{AreColumns, AreRelations, AreMethods, AreSources}
-use Rattle.access_schema.specs.Faults.{is_relation, is_method, is_rule, is_relation_named, is_method_named, is_source_of, is_outside, is_unknown, repeats_name, AreFaultless, IsNamed, AreNamed}
-use Rattle.lists.proofs.Members.{contains_here, contains_there, contains_cases, contains_got, some_injective}
-use Rattle.access_schema.proofs.Texts.{text_is, text_same, neither, any_at, none_at, place_holds, find_place, differ_from_repeats, among_contains, got_contained}
-use Rattle.access_schema.proofs.Prefixes.{prefix_all, given_by, differ_all, few_all, given_mapped}
-use Rattle.access_schema.proofs.LeastFault.{number_within, rule_within}
-use Rattle.access_schema.proofs.Clean.{IsClean, clean_at}
+use Rattle.access_schema.specs.Faults.{is_relation, is_method, is_relation_named, is_method_named, is_source_of, is_outside, is_unknown, repeats_name, AreFaultless, AreNamed}
+use Rattle.lists.proofs.Members.{contains_got, some_injective}
+use Rattle.access_schema.proofs.Texts.{text_is, text_same, neither, none_at, place_holds, find_place, differ_from_repeats, got_contained}
+use Rattle.access_schema.proofs.Prefixes.{given_by, differ_all, few_all, given_mapped}
+use Rattle.access_schema.proofs.LeastFault.{number_within}
+use Rattle.access_schema.proofs.Clean.{clean_at}
 
 -- how many relations the parts declare
 cons_counted : {X Y : Type 0} (p : X → Bool) (h : X → Option Y) (x : X) (xs : List X) → ((h x ≡ None) × (p x ≡ false)) ⊎ ((y : Y) × (h x ≡ Some y) × (p x ≡ true)) → length (filter_map h xs) ≡ length (filter p xs) → length (filter_map h (x ∷ xs)) ≡ length (filter p (x ∷ xs))

@@ -1,12 +1,11 @@
 -- Parts without faults make a schema: its rules and constants.
-use Rattle.std.proofs.Common.{◌≡◌, ◌≢◌, ◌⊎◌, ◌+◌, ◌<◌, ◌≤◌, ◌∙◌, sym, ap, subst, max, ℕ, zero, suc, List, [], ◌∷◌, ◌++◌, Bool, true, false, not, ◌||◌, cond, Option, Some, None, length, take, map, slice_get, get_or, refl, arith, inl, inr, ⊎_elim, nat_le, nat_lt, nat_eq}
-use Rattle.std.specs.Prelude.{Contains, filter, filter_map, flat_map, option_map, option_to_list, IsTrue, ◌==◌, if◌then◌else◌}
-use Rattle.std.specs.List.{list_any, cons_option, find, position_or_len, range_with_len}
+use Rattle.std.proofs.Common.{◌≡◌, ◌⊎◌, ◌+◌, ◌<◌, ◌≤◌, ◌∙◌, sym, ap, subst, max, ℕ, zero, suc, List, [], ◌∷◌, ◌++◌, Bool, true, false, not, ◌||◌, cond, Option, Some, None, length, take, map, slice_get, get_or, refl, arith, inl, inr, ⊎_elim, nat_eq}
+use Rattle.std.specs.Prelude.{Contains, filter, filter_map, flat_map, option_to_list, ◌==◌, if◌then◌else◌}
+use Rattle.std.specs.List.{list_any, range_with_len}
 use Rattle.std.specs.Cmp.Lexicographic.{pointwise}
-use Rattle.std.proofs.lemmas.Bool.{cases_Bool, cases_lt, eqb-true}
+use Rattle.std.proofs.lemmas.Bool.{cases_Bool}
 use Rattle.std.proofs.lemmas.Bool.Decides.{nat_tests}
 use Rattle.std.proofs.lemmas.List.{map-append, length-append, length-map, append-nil}
-use Rattle.std.proofs.lemmas.List.Concat.{flat_map-append}
 use Rattle.std.proofs.lemmas.List.Elements.{Contains-append_cases, Contains-append_left, Contains-append_right, Contains-push}
 use Rattle.meaning.specs.declared.types.Relation.{Relation}
 use Rattle.meaning.specs.declared.types.Rule.{Rule}
@@ -19,22 +18,22 @@ use Rattle.access_schema.specs.declared.part.Part.TheVariants.{Relation as Relat
 use Rattle.access_schema.specs.declared.part.NamedAtom.{NamedAtom}
 use Rattle.access_schema.specs.declared.part.NamedTerm.{NamedTerm}
 use Rattle.access_schema.specs.declared.part.NamedTerm.TheVariants.{Var as NamedVar, Const as NamedConst}
-use Rattle.access_schema.specs.declared.limits.TheConstants.{MOST_RELATIONS, MOST_RULES, MOST_COLUMNS, MOST_BODY_ATOMS, MOST_HEAD_ATOMS, MOST_VARIABLES, MOST_CONSTANTS, MOST_COST}
+use Rattle.access_schema.specs.declared.limits.TheConstants.{MOST_RULES, MOST_COLUMNS, MOST_BODY_ATOMS, MOST_HEAD_ATOMS, MOST_VARIABLES, MOST_CONSTANTS, MOST_COST}
 use Rattle.access_schema.specs.Names.{AllDiffer}
 use Rattle.access_schema.specs.Lists.{is_among, place_of, once_after, each_once}
-use Rattle.access_schema.specs.Content.{relations_of, is_named, number_of, columns_in, columns_of, variable_of, constant_of, named_terms, variables_of, term_of, atom_of, numbered_rule, key_number, next_number, key_terms, key_rule, rule_of, rules_of, declared_constants, rule_constants, part_constants, constants_of}
+use Rattle.access_schema.specs.Content.{relations_of, is_named, number_of, columns_of, variable_of, constant_of, named_terms, variables_of, term_of, atom_of, numbered_rule, key_number, next_number, key_terms, key_rule, rule_of, rules_of, declared_constants, rule_constants, part_constants, constants_of}
 use Rattle.access_schema.specs.Invariant.{AtomFits, terms_of, AreInOrder, IsRule, AreRules}
-use Rattle.access_schema.specs.Feeding.{AreRecursive, AreNonRecursive}
+use Rattle.access_schema.specs.Feeding.{AreNonRecursive}
 use Rattle.access_schema.specs.Fits.{IsWithin, AreWithin}
-use Rattle.access_schema.specs.Faults.{is_rule, is_unknown, is_misfit, has_many_constants, constant_count, AreFaultless, AreNamed}
-use Rattle.lists.proofs.Members.{contains_here, contains_there, contains_cases, contains_got, contains_mapped, contains_map, some_injective}
-use Rattle.access_schema.proofs.Texts.{text_is, text_same, neither, none_at, any_at, differ_push, once_differ, once_taken, once_from, length_le, contains_among, among_contains, not_among, got_contained}
-use Rattle.access_schema.proofs.Prefixes.{prefix_all, given_by, given_from, few_all}
-use Rattle.access_schema.proofs.LeastFault.{number_within, rule_within, no_limit_from_none, none_many, constants_push, mapped_push}
+use Rattle.access_schema.specs.Faults.{is_rule, is_unknown, is_misfit, has_many_constants, constant_count, AreFaultless}
+use Rattle.lists.proofs.Members.{contains_here, contains_there, contains_cases, contains_got, contains_mapped, some_injective}
+use Rattle.access_schema.proofs.Texts.{text_same, neither, none_at, once_differ, once_taken, once_from, length_le, contains_among, among_contains, got_contained}
+use Rattle.access_schema.proofs.Prefixes.{prefix_all, given_by, few_all}
+use Rattle.access_schema.proofs.LeastFault.{number_within, rule_within, none_many, constants_push, mapped_push}
 use Rattle.access_schema.proofs.Numbering.{place_among}
-use Rattle.access_schema.proofs.Clean.{IsClean, clean_at}
+use Rattle.access_schema.proofs.Clean.{clean_at}
 use Rattle.access_schema.proofs.Ordered.{OrderedFrom, in_order}
-use Rattle.access_schema.proofs.Built.{at_number, columns_at, counted, inside, less, not_more, two_none}
+use Rattle.access_schema.proofs.Built.{columns_at, counted, inside, less, not_more, two_none}
 use Rattle.access_schema.proofs.First.{no_rules}
 
 -- the place of a known text stays, whatever is taken behind it

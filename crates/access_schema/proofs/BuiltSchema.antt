@@ -1,8 +1,8 @@
 -- Parts without faults, whose names are not empty, make a schema.
-use Rattle.std.proofs.Common.{◌≡◌, ◌≤◌, ℕ, List, length}
+use Rattle.std.proofs.Common.{List}
 use Rattle.access_schema.specs.declared.part.Part.{Part}
 use Rattle.access_schema.specs.declared.limits.TheConstants.{MOST_COLUMNS}
-use Rattle.access_schema.specs.Content.{relations_of, columns_of, methods_of, rules_of, constants_of, sources_of}
+use Rattle.access_schema.specs.Content.{relations_of, methods_of, rules_of, constants_of, sources_of}
 use Rattle.access_schema.specs.Faults.{AreFaultless, AreNamed}
 use Rattle.access_schema.specs.Fits.{AreSmall}
 use Rattle.access_schema.specs.Invariant.{IsSchema}

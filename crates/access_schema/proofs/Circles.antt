@@ -1,13 +1,13 @@
 -- Links that lead round: marks that go along the older links tell whether a last link closes a circle.
-use Rattle.std.proofs.Common.{◌≡◌, ◌⊎◌, ◌+◌, ◌∙◌, sym, ap, subst, ◌<◌, ◌≤◌, ◌↔◌, ℕ, suc, zero, List, [], ◌∷◌, ◌++◌, Bool, true, false, not, ◌&&◌, ◌||◌, cond, IsTrue, length, get_or, set, slice_get, Some, None, refl, inl, inr, ⊎_elim, arith, replicate}
-use Rattle.std.specs.Prelude.{Contains, All, count_by, IsSome}
-use Rattle.std.specs.List.{list_any, list_all, find}
+use Rattle.std.proofs.Common.{◌≡◌, ◌⊎◌, ◌+◌, ◌∙◌, sym, ap, subst, ◌<◌, ◌≤◌, ◌↔◌, ℕ, suc, zero, List, [], ◌∷◌, ◌++◌, Bool, true, false, not, ◌&&◌, ◌||◌, cond, length, get_or, set, Some, None, refl, inl, inr, ⊎_elim, arith, replicate}
+use Rattle.std.specs.Prelude.{Contains, All, count_by}
+use Rattle.std.specs.List.{find}
 use Rattle.std.proofs.lemmas.Bool.{cases_eq, cases_Bool}
-use Rattle.std.proofs.lemmas.List.Elements.{Contains-push_cases, Contains-append_left, Contains-push, All-contains}
+use Rattle.std.proofs.lemmas.List.Elements.{Contains-push_cases, Contains-append_left, Contains-push}
 use Rattle.std.proofs.lemmas.List.Sums.{sum_by-set}
 use Rattle.std.proofs.lemmas.List.{length-set, get_or-set_same, get_or-set_other, set-get_or, length-replicate}
 use Rattle.access_schema.specs.declared.recursion.Link.{Link}
-use Rattle.access_schema.specs.Feeding.{IsChain, HasCycle}
+use Rattle.access_schema.specs.Feeding.{IsChain}
 use Rattle.access_schema.specs.Links.{Joins, LeadRound, IsBelow, AreBelow, IsMarked, Reaches, Spreads}
 use Rattle.access_schema.specs.Marks.{any_marked, all_marked, with_marks, is_open}
 use Rattle.lists.proofs.Members.{contains_here, contains_there, contains_cases}

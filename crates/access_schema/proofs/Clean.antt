@@ -1,14 +1,12 @@
 -- What a part without faults keeps.
-use Rattle.std.proofs.Common.{◌≡◌, ◌⊎◌, ◌+◌, ◌<◌, ◌≤◌, ◌∙◌, sym, ap, subst, ℕ, zero, suc, List, [], ◌∷◌, ◌++◌, Bool, true, false, not, ◌||◌, Option, Some, None, length, take, slice_get, refl, arith, inl, inr, ⊎_elim}
-use Rattle.std.proofs.lemmas.Bool.{cases_Bool}
+use Rattle.std.proofs.Common.{◌≡◌, ℕ, List, [], ◌∷◌, ◌++◌, Bool, true, false, Option, Some, None, take, slice_get, refl}
 use Rattle.meaning.specs.declared.types.Relation.{Relation}
 use Rattle.access_schema.specs.declared.part.Part.{Part}
-use Rattle.access_schema.specs.declared.fault.Limit.{Limit}
 use Rattle.access_schema.specs.declared.fault.SchemaFault.{SchemaFault}
 use Rattle.access_schema.specs.declared.fault.SchemaFault.TheVariants.{DuplicateName, UnknownRelation, WrongArity, UnknownColumn, OverLimit, Recursive}
 use Rattle.access_schema.specs.Content.{relations_of, rules_of}
-use Rattle.access_schema.specs.Feeding.{AreNonRecursive, AreRecursive}
-use Rattle.access_schema.specs.Faults.{is_rule, repeats_name, uses_unknown, has_wrong_arity, has_unknown_column, passed_limit, IsFaultOf, HasFault, AreFaultless}
+use Rattle.access_schema.specs.Feeding.{AreNonRecursive}
+use Rattle.access_schema.specs.Faults.{is_rule, repeats_name, uses_unknown, has_wrong_arity, has_unknown_column, passed_limit, IsFaultOf, AreFaultless}
 
 -- each test for a fault fails
 pub record IsClean (relations : List Relation) (earlier : List Part) (part : Part) : Type 0 where

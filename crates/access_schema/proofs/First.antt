@@ -1,7 +1,5 @@
--- No rules; and the parts of the first form, which have no fault and make their schema.
-use Rattle.std.proofs.Common.{◌≡◌, ◌≢◌, ◌<◌, ◌≤◌, ◌∙◌, sym, ap, subst, ℕ, suc, zero, List, [], ◌∷◌, ◌++◌, Bool, true, false, not, ◌||◌, Some, None, length, slice_get, refl, arith}
-use Rattle.std.specs.Prelude.{Contains}
-use Rattle.meaning.specs.declared.types.Rule.{Rule}
+-- No rules, which fit every schema and do not lead round.
+use Rattle.std.proofs.Common.{ℕ, List, [], ◌∷◌, arith}
 use Rattle.access_schema.specs.Feeding.{Feeds, IsChain}
 use Rattle.access_schema.specs.Invariant.{AreRules}
 use Rattle.meaning.specs.declared.types.Relation.{Relation}

@@ -1,17 +1,16 @@
 -- The first faulty part: no part before it has a fault.
-use Rattle.std.proofs.Common.{◌≡◌, ◌⊎◌, ◌+◌, ◌<◌, ◌≤◌, ◌∙◌, sym, ap, subst, ℕ, List, [], ◌∷◌, ◌++◌, Option, Some, None, length, get_or, slice_get, take, refl, arith, inl, inr, ⊎_elim}
+use Rattle.std.proofs.Common.{◌≡◌, ◌+◌, ◌<◌, ◌≤◌, ◌∙◌, sym, ap, subst, ℕ, List, [], ◌∷◌, ◌++◌, Option, Some, None, length, slice_get, take, refl, arith, ⊎_elim}
 use Rattle.std.specs.List.{filter_map, cons_option}
 use Rattle.std.proofs.lemmas.Bool.{cases_eq}
 use Rattle.std.proofs.lemmas.List.{take_more}
-use Rattle.std.proofs.lemmas.Option.{slice_get_read, slice_get_within, get_or_from_slice_get}
+use Rattle.std.proofs.lemmas.Option.{slice_get_within, get_or_from_slice_get}
 use Rattle.meaning.specs.declared.types.Relation.{Relation}
 use Rattle.access_schema.specs.declared.part.Part.{Part}
-use Rattle.access_schema.specs.declared.recursion.Link.{Link}
 use Rattle.access_schema.specs.declared.fault.SchemaFault.{SchemaFault}
 use Rattle.access_schema.specs.Content.{relations_of, relation_of}
 use Rattle.access_schema.specs.Feeding.{IsChain}
-use Rattle.access_schema.specs.Faults.{IsFaultOf, IsLeastFault, IsFaultless, HasFault, IsFirstFault, AreFaultless, fault_number}
-use Rattle.access_schema.specs.Links.{Joins, LeadRound}
+use Rattle.access_schema.specs.Faults.{IsFaultOf, IsLeastFault, IsFaultless, HasFault, IsFirstFault, AreFaultless}
+use Rattle.access_schema.specs.Links.{Joins}
 use Rattle.access_schema.specs.Progress.{StandsFor}
 use Rattle.lists.proofs.Members.{some_injective}
 

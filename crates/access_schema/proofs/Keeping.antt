@@ -1,9 +1,8 @@
 -- What a schema keeps, as the definitions of plans and runs read it.
-use Rattle.std.proofs.Common.{◌≡◌, ◌+◌, ◌<◌, ◌∙◌, sym, ap, subst, ℕ, List, ◌++◌, Some, length, map, slice_get, refl, arith}
-use Rattle.std.specs.Prelude.{Contains, flat_map}
+use Rattle.std.proofs.Common.{◌∙◌, sym, ap, ℕ, List, ◌++◌, Some, slice_get}
+use Rattle.std.specs.Prelude.{Contains}
 use Rattle.std.proofs.lemmas.List.Elements.{Contains-append_left, Contains-append_right}
 use Rattle.meaning.specs.declared.types.Method.{Method}
-use Rattle.meaning.specs.declared.types.Relation.{Relation}
 use Rattle.meaning.specs.declared.types.Rule.{Rule}
 use Rattle.meaning.specs.declared.types.Atom.{Atom}
 use Rattle.meaning.specs.declared.types.Term.TheVariants.{Const}
@@ -12,8 +11,7 @@ use Rattle.meaning.specs.Plans.{IsWellFormed}
 use Rattle.meaning.specs.Fitting.{HaveConstants, RulesFit}
 use Rattle.access_schema.specs.declared.schema.Schema.{Schema}
 use Rattle.access_schema.specs.Meaning.{meaning_of}
-use Rattle.access_schema.specs.Invariant.{AtomFits, IsRule, terms_of}
-use Rattle.lists.proofs.Members.{contains_got, got_below, some_injective, map_got}
+use Rattle.lists.proofs.Members.{got_below, some_injective, map_got}
 use Rattle.access_schema.proofs.Texts.{among_contains, got_contained}
 use Rattle.access_schema.proofs.Ordered.{numbered}
 use Rattle.access_schema.proofs.BuiltRules.{given_of}

@@ -1,6 +1,6 @@
 -- The least fault of a part, and what stands for the parts after it.
-use Rattle.std.proofs.Common.{◌≡◌, ◌⊎◌, ◌+◌, ◌<◌, ◌≤◌, ◌∙◌, ◌↔◌, sym, ap, subst, ℕ, zero, suc, List, [], ◌∷◌, ◌++◌, Bool, true, false, not, ◌||◌, cond, Option, Some, None, length, refl, arith, nat_lt, nat_le, inl, inr, ⊎_elim, map, lit≤}
-use Rattle.std.specs.Prelude.{Contains, All, filter, filter_map, flat_map, option_map, option_to_list, if◌then◌else◌, IsTrue}
+use Rattle.std.proofs.Common.{◌≡◌, ◌⊎◌, ◌<◌, ◌≤◌, ◌∙◌, sym, ap, subst, ℕ, List, [], ◌∷◌, ◌++◌, Bool, true, false, not, ◌||◌, Option, Some, None, length, refl, arith, nat_lt, nat_le, inl, inr, ⊎_elim, map}
+use Rattle.std.specs.Prelude.{Contains, All, filter, filter_map, flat_map, option_map, option_to_list, if◌then◌else◌}
 use Rattle.std.specs.List.{cons_option, list_any, position_or_len}
 use Rattle.std.proofs.lemmas.Bool.{cases_Bool}
 use Rattle.std.proofs.lemmas.List.{append-nil}
@@ -20,13 +20,13 @@ use Rattle.access_schema.specs.declared.fault.SchemaFault.{SchemaFault}
 use Rattle.access_schema.specs.declared.fault.SchemaFault.TheVariants.{DuplicateName, UnknownRelation, WrongArity, UnknownColumn, OverLimit, Recursive}
 use Rattle.access_schema.specs.declared.limits.TheConstants.{MOST_CONSTANTS, MOST_RULES, MOST_BODY_ATOMS, MOST_HEAD_ATOMS, MOST_VARIABLES}
 use Rattle.access_schema.specs.Lists.{once_after, each_once}
-use Rattle.access_schema.specs.Content.{is_declared, number_of, is_named, atom_of, variables_of, rule_of, rules_of, part_constants}
-use Rattle.access_schema.specs.Feeding.{Feeds, IsChain, HasCycle, AreRecursive}
+use Rattle.access_schema.specs.Content.{number_of, is_named, atom_of, variables_of, rule_of, rules_of, part_constants}
+use Rattle.access_schema.specs.Feeding.{Feeds, IsChain, AreRecursive}
 use Rattle.access_schema.specs.Faults.{is_rule, is_unknown, repeats_name, uses_unknown, has_wrong_arity, has_unknown_column, passed_limit, plain_fault, is_outside, rule_limit, has_many_constants, IsFaultOf, IsLeastFault, IsFaultless, fault_number}
 use Rattle.access_schema.specs.Links.{link_of, links_of, Joins, IsBelow, AreBelow, LeadRound}
 use Rattle.access_schema.specs.Progress.{StandsFor}
 use Rattle.access_schema.proofs.Circles.{chain_along}
-use Rattle.lists.proofs.Members.{contains_map, contains_mapped, contains_cases}
+use Rattle.lists.proofs.Members.{contains_map, contains_mapped}
 use Rattle.access_schema.proofs.Collected.{once_on}
 
 -- the first of five cases

@@ -1,6 +1,6 @@
+pub mod Repeats
 pub mod NamesFound
 pub mod First
-pub mod FirstBuilt
 pub mod Keeping
 pub mod BuiltSchema
 pub mod BuiltRules

@@ -1,10 +1,8 @@
 -- Variables numbered by first occurrence.
-use Rattle.std.proofs.Common.{◌≡◌, ◌⊎◌, ◌+◌, ◌<◌, ◌≤◌, ◌∙◌, sym, ap, subst, max, ℕ, zero, suc, List, [], ◌∷◌, ◌++◌, Bool, true, false, cond, Option, Some, None, length, take, map, slice_get, refl, arith, inl, inr, ⊎_elim}
-use Rattle.std.specs.Prelude.{Contains, filter_map, flat_map}
-use Rattle.std.specs.List.{range_with_len}
+use Rattle.std.proofs.Common.{◌≡◌, ◌+◌, ◌<◌, ◌≤◌, subst, max, ℕ, zero, suc, List, [], ◌∷◌, ◌++◌, Some, take, slice_get, refl, arith, ⊎_elim}
+use Rattle.std.specs.Prelude.{Contains}
 use Rattle.std.proofs.lemmas.Bool.{cases_lt}
 use Rattle.std.proofs.lemmas.List.Elements.{Contains-append_cases}
-use Rattle.std.proofs.lemmas.List.{map-append, length-append}
 use Rattle.std.proofs.lemmas.List.Concat.{flat_map-append}
 use Rattle.meaning.specs.declared.types.Term.{Term}
 use Rattle.meaning.specs.declared.types.Term.TheVariants.{Var, Const}
@@ -13,7 +11,7 @@ use Rattle.meaning.specs.declared.types.Rule.{Rule}
 use Rattle.meaning.specs.Matching.{OccursIn}
 use Rattle.meaning.specs.Triggers.{terms_bound, bound, IsNumbered}
 use Rattle.access_schema.specs.Invariant.{terms_of, AreInOrder}
-use Rattle.lists.proofs.Members.{contains_here, contains_there, contains_cases, some_injective}
+use Rattle.lists.proofs.Members.{contains_here, contains_there}
 
 -- each variable is below the number that is reached, or is that number
 abbrev pub OrderedFrom : ℕ → List Term → Type 0

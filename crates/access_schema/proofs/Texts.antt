@@ -1,5 +1,5 @@
 -- Lists of texts: whether a text is among them, places, repetitions, and each text once.
-use Rattle.std.proofs.Common.{◌≡◌, ◌⊎◌, ◌+◌, ◌<◌, ◌≤◌, ◌∙◌, sym, ap, subst, ℕ, zero, suc, List, [], ◌∷◌, ◌++◌, Bool, true, false, not, ◌||◌, cond, Option, Some, None, length, refl, arith, inl, inr, ⊎_elim, map, slice_get, nat_eq}
+use Rattle.std.proofs.Common.{◌≡◌, ◌⊎◌, ◌+◌, ◌≤◌, ◌∙◌, sym, ap, subst, ℕ, zero, suc, List, [], ◌∷◌, ◌++◌, Bool, true, false, ◌||◌, Some, length, refl, arith, inl, inr, ⊎_elim, slice_get, nat_eq}
 use Rattle.std.specs.Prelude.{Contains}
 use Rattle.std.specs.List.{list_any, position_or_len, find}
 use Rattle.std.specs.Cmp.Lexicographic.{pointwise, bytes_decides, nat_list_eq_equiv}
@@ -9,7 +9,7 @@ use Rattle.std.proofs.lemmas.Option.{slice_get_read}
 use Rattle.std.proofs.lemmas.Map.Made.{length-le_from_is_member}
 use Rattle.std.proofs.lemmas.List.Elements.{Contains-push, Contains-push_cases, Contains-append_left}
 use Rattle.access_schema.specs.Names.{AllDiffer}
-use Rattle.access_schema.specs.Lists.{is_among, place_of, repeats, once_after, each_once}
+use Rattle.access_schema.specs.Lists.{is_among, repeats, once_after}
 use Rattle.lists.proofs.Members.{contains_here, contains_there, contains_cases, contains_got}
 
 pub text_is : (a b : List ℕ) → pointwise nat_eq a b ≡ true → a ≡ b

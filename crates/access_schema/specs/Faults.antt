@@ -1,5 +1,5 @@
 -- What is wrong with a part, and the first faulty part with its least fault.
-use Rattle.std.specs.Prelude.{◌≡◌, ℕ, ◌+◌, ◌<◌, ◌≤◌, List, [], ◌∷◌, ◌++◌, Option, Some, None, option_map, Bool, true, false, ◌||◌, ◌&&◌, not, ◌==◌, nat_lt, nat_le, IsTrue, map, length, take, slice_get, flat_map, filter, if◌then◌else◌}
+use Rattle.std.specs.Prelude.{◌≡◌, ℕ, ◌<◌, ◌≤◌, List, [], ◌∷◌, ◌++◌, Option, Some, None, option_map, Bool, true, false, ◌||◌, not, ◌==◌, nat_lt, nat_le, IsTrue, length, take, slice_get, flat_map, filter, if◌then◌else◌}
 use Rattle.std.specs.List.{list_any}
 use Rattle.std.specs.Cmp.Lexicographic.{pointwise}
 use Rattle.std.specs.Prelude.{nat_eq, ◌≢◌, Contains}

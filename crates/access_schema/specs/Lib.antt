@@ -10,4 +10,3 @@ pub mod Marks
 pub mod Faults
 pub mod Progress
 pub mod Fits
-pub mod FirstForm

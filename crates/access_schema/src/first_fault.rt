@@ -26,7 +26,7 @@ fn plain_fault(
     requires { many_constants ≡ has_many_constants earlier.now part.now }
     ensures { IfOk result (λ found. found ≡ plain_fault relations.now earlier.now part.now) }
 {
-    if repeats_name(earlier, part) {
+    if repeats_name(alloc, earlier, part)? {
         return Ok(Some(SchemaFault::DuplicateName));
     }
     if uses_unknown(relations, part) {

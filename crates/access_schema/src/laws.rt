@@ -1,4 +1,4 @@
-// What every schema keeps, as the definitions of plans and runs read it; and what the parts of the first form make.
+// What every schema keeps, as the definitions of plans and runs read it.
 ghost use Rattle.std.specs.Prelude.{ℕ, List, Contains};
 ghost use Rattle.meaning.specs.Plans.{IsWellFormed};
 ghost use Rattle.meaning.specs.Fitting.{RulesFit};
@@ -7,9 +7,6 @@ ghost use Rattle.meaning.specs.declared.types.Rule.{Rule};
 ghost use Rattle.meaning.specs.declared.types.Atom.{Atom};
 ghost use Rattle.access_schema.specs.declared.schema.Schema.{Schema};
 ghost use Rattle.access_schema.specs.Meaning.{meaning_of};
-ghost use Rattle.access_schema.specs.Content.{Builds};
-ghost use Rattle.access_schema.specs.Faults.{AreNamed};
-ghost use Rattle.access_schema.specs.FirstForm.{FirstForm, first_parts, IsFirstForm, IsFirstSchema};
 
 /// The method names of a schema are distinct, and the inputs of its methods are columns.
 pub fn schemas_are_well_formed()
@@ -26,14 +23,4 @@ pub fn rules_fit()
 pub fn bodies_fit()
     ensures { (schema : Schema) (rule : Rule) (atom : Atom) → Contains schema.rules rule → Contains rule.body atom
         → FitsRelation (meaning_of schema) atom.rel atom.terms }
-{}
-
-/// The parts of the first form are named, as `Schema::build` requires.
-pub fn first_form_is_named()
-    ensures { (form : FirstForm) → IsFirstForm form → AreNamed (first_parts form) }
-{}
-
-/// What the parts of the first form build is the relation, its method and its source line.
-pub fn first_form_builds()
-    ensures { (form : FirstForm) (schema : Schema) → Builds (first_parts form) schema → IsFirstSchema form schema }
 {}

@@ -12,6 +12,7 @@ mod first_fault;
 mod laws;
 mod limits;
 mod lookup;
+mod named;
 mod names;
 mod part;
 mod part_faults;
@@ -21,9 +22,7 @@ mod rules;
 mod schema;
 
 pub use fault::{BuildFault, Limit, SchemaFault};
-pub use laws::{
-    bodies_fit, first_form_builds, first_form_is_named, rules_fit, schemas_are_well_formed,
-};
+pub use laws::{bodies_fit, rules_fit, schemas_are_well_formed};
 pub use limits::{
     MOST_BODY_ATOMS, MOST_COLUMNS, MOST_CONSTANTS, MOST_COST, MOST_HEAD_ATOMS, MOST_METHODS,
     MOST_RELATIONS, MOST_RULES, MOST_VARIABLES,
@@ -33,5 +32,9 @@ pub use meaning::types::{
     Atom, Atoms, Fact, Instance, Method, Methods, Query, Relation, Relations, Rule, Rules, Term,
     Terms,
 };
+pub use named::are_named;
 pub use part::{NamedAtom, NamedAtoms, NamedTerm, NamedTerms, Part, Parts};
 pub use schema::{Schema, SourceLine, SourceLines};
+
+#[cfg(test)]
+mod tests;

@@ -1,9 +1,10 @@
 // Lists of names: whether a name is among them, its place, repetitions, and each name once.
-ghost use Rattle.std.specs.Prelude.{◌≡◌, ◌≤◌, ◌∷◌, [], length, OnOk, OnErr};
+ghost use Rattle.std.specs.Prelude.{◌≡◌, ◌≤◌, ◌∷◌, [], length, IfOk, OnOk, OnErr};
 ghost use Rattle.access_schema.specs.Lists.{is_among, place_of, repeats, once_after};
 
 use lists::{Copies, Text};
 use std::alloc::{AllocError, Global};
+use std::collections::BTreeSet;
 
 /// Whether the text is one of the list.
 pub fn is_among(texts: &[Text], text: &Text) -> bool
@@ -30,17 +31,16 @@ pub fn place_of(texts: &[Text], text: &Text) -> usize
 }
 
 /// Whether a text stands twice in the list.
-pub fn repeats(texts: &[Text]) -> bool
-    ensures { result ≡ repeats texts.now }
+pub fn repeats(alloc: Global, texts: &[Text]) -> Result<bool, AllocError>
+    ensures { IfOk result (λ twice. twice ≡ repeats texts.now) }
 {
-    let mut left = texts;
-    while let [text, rest @ ..] = left {
-        if is_among(rest, text) {
-            return true;
+    let mut passed = BTreeSet::new(alloc);
+    for text in texts {
+        if !passed.insert(text.as_str())? {
+            return Ok(true);
         }
-        left = rest;
     }
-    false
+    Ok(false)
 }
 
 /// Appends a copy of the text if it is not among the known ones.

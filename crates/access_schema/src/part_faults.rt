@@ -1,5 +1,5 @@
 // The faults that a part shows by itself, or beside the parts before it.
-ghost use Rattle.std.specs.Prelude.{◌≡◌};
+ghost use Rattle.std.specs.Prelude.{◌≡◌, IfOk};
 ghost use Rattle.std.specs.List.{list_any};
 ghost use Rattle.access_schema.specs.Faults.{is_relation, is_method, is_rule, is_relation_named, is_method_named, is_source_of, repeats_name, is_unknown, uses_unknown, is_misfit, has_wrong_arity, lacks, has_unknown_column};
 
@@ -8,6 +8,7 @@ use crate::names::{is_among, repeats};
 use crate::part::{NamedAtom, Part};
 use lists::Text;
 use meaning::types::Relation;
+use std::alloc::{AllocError, Global};
 
 /// Whether the part is a relation.
 pub fn is_relation(part: &Part) -> bool
@@ -86,24 +87,24 @@ fn has_source_of(parts: &[Part], name: &Text) -> bool
 }
 
 /// Whether an earlier part has the name of this one, or a column stands twice in one list.
-pub fn repeats_name(earlier: &[Part], part: &Part) -> bool
-    ensures { result ≡ repeats_name earlier.now part.now }
+pub fn repeats_name(alloc: Global, earlier: &[Part], part: &Part) -> Result<bool, AllocError>
+    ensures { IfOk result (λ twice. twice ≡ repeats_name earlier.now part.now) }
 {
     match part {
         Part::Relation { name, columns } => {
-            has_relation_named(earlier, name) || repeats(columns.as_slice())
+            Ok(has_relation_named(earlier, name) || repeats(alloc, columns.as_slice())?)
         }
         Part::Method { name, inputs, .. } => {
-            has_method_named(earlier, name) || repeats(inputs.as_slice())
+            Ok(has_method_named(earlier, name) || repeats(alloc, inputs.as_slice())?)
         }
         Part::ForeignKey {
             columns,
             target_columns,
             ..
-        } => { repeats(columns.as_slice()) || repeats(target_columns.as_slice()) }
-        Part::Source { relation, .. } => has_source_of(earlier, relation),
-        Part::Rule { .. } => false,
-        Part::Constant { .. } => false,
+        } => Ok(repeats(alloc, columns.as_slice())? || repeats(alloc, target_columns.as_slice())?),
+        Part::Source { relation, .. } => Ok(has_source_of(earlier, relation)),
+        Part::Rule { .. } => Ok(false),
+        Part::Constant { .. } => Ok(false),
     }
 }
 

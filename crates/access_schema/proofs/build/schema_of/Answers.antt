@@ -1,5 +1,5 @@
 -- Each list is what the parts declare, and these make a schema.
-use Rattle.std.proofs.Common.{◌≡◌, ◌≤◌, ◌∙◌, sym, subst, ap, List, length}
+use Rattle.std.proofs.Common.{◌≤◌, ◌∙◌, sym, subst, ap, List, length}
 use Rattle.meaning.specs.declared.types.Relation.{Relation}
 use Rattle.access_schema.specs.declared.limits.TheConstants.{MOST_RELATIONS}
 use Rattle.access_schema.specs.Content.{methods_of, rules_of, sources_of}

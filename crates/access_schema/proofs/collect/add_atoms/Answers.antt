@@ -1,4 +1,4 @@
-use Rattle.std.proofs.Common.{arith, rules}
+use Rattle.std.proofs.Common.{arith}
 use Rattle.std.proofs.lemmas.Grind.{common_steps}
 use Rattle.access_schema.proofs.Collected.{once_mapped, once_mapped_over}
 use Rattle.access_schema.proofs.collect.add_atoms.Goals as goal

@@ -1,5 +1,5 @@
 -- Too many are known already, and no text that follows takes one away.
-use Rattle.std.proofs.Common.{◌<◌, length, sym, arith, rules}
+use Rattle.std.proofs.Common.{◌<◌, length, sym, rules}
 use Rattle.std.specs.Prelude.{filter_map}
 use Rattle.access_schema.specs.Wanted.{text_of}
 use Rattle.access_schema.proofs.Collected.{once_over}

@@ -1,6 +1,5 @@
 -- The numbers of the new link are below, since its relations are declared.
-use Rattle.std.proofs.Common.{◌≡◌, Some, sym, ◌∙◌}
-use Rattle.access_schema.specs.Links.{link_of}
+use Rattle.std.proofs.Common.{sym, ◌∙◌}
 use Rattle.access_schema.proofs.LeastFault.{link_below, below_push}
 use Rattle.access_schema.proofs.first_fault.add_link.Goals as goal
 

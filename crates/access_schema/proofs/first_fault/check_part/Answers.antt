@@ -1,7 +1,5 @@
 -- The plain fault is the least; without one a rule part is recursive exactly where the links lead round.
-use Rattle.std.proofs.Common.{◌≡◌, None, false, IsTrue, subst, sym, ◌∙◌}
-use Rattle.access_schema.specs.Faults.{plain_fault}
-use Rattle.access_schema.specs.Links.{LeadRound}
+use Rattle.std.proofs.Common.{sym, ◌∙◌}
 use Rattle.access_schema.proofs.LeastFault.{many_constants, known_from_none, plain_is_least, round_is_least, faultless, stands_on, linked_on, straight_before}
 use Rattle.access_schema.proofs.first_fault.check_part.Goals as goal
 

@@ -1,6 +1,5 @@
 -- Each part is the one after those before it, so the fault of the first that has one is answered.
-use Rattle.std.proofs.Common.{◌≡◌, ◌<◌, ◌≤◌, ◌+◌, ℕ, List, Some, sym, subst, ap, ◌∙◌, arith, refl, length, take, slice_get}
-use Rattle.std.proofs.lemmas.List.{take_more}
+use Rattle.std.proofs.Common.{◌≡◌, List, Some, sym, subst, ap, arith, refl, length, take, slice_get}
 use Rattle.std.proofs.lemmas.Option.{slice_get_read}
 use Rattle.access_schema.specs.declared.part.Part.{Part}
 use Rattle.std.specs.Prelude.{Option, IfSome, IfNone, ◌++◌, ◌∷◌, []}
@@ -9,7 +8,7 @@ use Rattle.access_schema.specs.declared.fault.SchemaFault.{SchemaFault}
 use Rattle.access_schema.specs.Content.{relations_of}
 use Rattle.access_schema.specs.Faults.{IsLeastFault, IsFaultless}
 use Rattle.access_schema.specs.Progress.{StandsFor}
-use Rattle.access_schema.proofs.FirstFault.{FaultlessBelow, stands_none, faultless_more, first_is, faultless_all, relations_few, taken_on}
+use Rattle.access_schema.proofs.FirstFault.{stands_none, faultless_more, first_is, faultless_all, relations_few, taken_on}
 use Rattle.access_schema.proofs.first_fault.first_fault.Goals as goal
 
 pub loop-index-init : goal.loop-index-init

@@ -1,10 +1,13 @@
-use Rattle.std.proofs.Common.{◌≡◌, length}
-use Rattle.access_schema.specs.Lists.{repeats}
+use Rattle.std.proofs.Common.{◌≡◌, ℕ, List, false, take}
+use Rattle.std.specs.Ordering.{nat_cmp}
+use Rattle.std.specs.BTreeSet.{contains_by}
+use Rattle.std.specs.Cmp.Lexicographic.{slice_cmp}
+use Rattle.access_schema.specs.Lists.{is_among, repeats}
 use Rattle.access_schema.proofs.names.repeats.Given as goal
 
--- no text that was passed stands twice
-abbrev pub invariant-loop-left : goal.invariant-loop-left
-invariant-loop-left l = repeats l.texts ≡ repeats l.left
-
-abbrev pub decreases-loop-left : goal.decreases-loop-left
-decreases-loop-left l = length l.left
+-- none of the texts so far stands twice among them, and the set has just them
+abbrev pub invariant-loop-text : goal.invariant-loop-text
+invariant-loop-text l = record {
+  once : repeats (take l.text-index l.texts) ≡ false;
+  passed : (text : List ℕ) → contains_by (λ key. slice_cmp nat_cmp text key.now) l.passed ≡ is_among (take l.text-index l.texts) text;
+}

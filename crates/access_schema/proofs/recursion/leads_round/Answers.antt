@@ -1,5 +1,5 @@
 -- The marks begin at the last head and spread along the older links; they meet the last body exactly where the links lead round.
-use Rattle.std.proofs.Common.{◌≡◌, ◌<◌, ℕ, List, Bool, true, false, length, replicate, sym, ◌∙◌, subst, ap}
+use Rattle.std.proofs.Common.{◌≡◌, ◌<◌, ℕ, List, Bool, false, length, replicate, sym, ◌∙◌, subst, ap}
 use Rattle.std.specs.Prelude.{All}
 use Rattle.std.proofs.lemmas.List.{length-replicate}
 use Rattle.access_schema.specs.Links.{AreBelow, Spreads}

@@ -2,8 +2,7 @@
 use Rattle.std.proofs.Common.{◌≡◌, ◌<◌, Some, None, List, Bool, length, not, sym, subst, ◌∙◌, ap}
 use Rattle.std.specs.Prelude.{All, count_by}
 use Rattle.std.specs.List.{find}
-use Rattle.access_schema.specs.declared.recursion.Link.{Link}
-use Rattle.access_schema.specs.Links.{AreBelow, IsBelow, Spreads}
+use Rattle.access_schema.specs.Links.{AreBelow}
 use Rattle.access_schema.specs.Marks.{is_open, with_marks}
 use Rattle.access_schema.proofs.Circles.{SpreadsSoFar, spread_more, spread_falls, spread_all, below_found, open_found}
 use Rattle.access_schema.proofs.recursion.spread.Goals as goal

@@ -1,4 +1,4 @@
-use Rattle.std.proofs.Common.{arith, rules}
+use Rattle.std.proofs.Common.{arith}
 use Rattle.std.proofs.lemmas.Grind.{common_steps}
 use Rattle.access_schema.proofs.Numbering.{key_on}
 use Rattle.access_schema.proofs.rules.key_terms.Goals as goal

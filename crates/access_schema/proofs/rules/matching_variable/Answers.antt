@@ -1,5 +1,5 @@
 -- The place is within, so no text stands in for the column.
-use Rattle.std.proofs.Common.{◌≡◌, ◌<◌, ap, ◌∙◌, subst, sym, length, get_or, [], arith}
+use Rattle.std.proofs.Common.{◌<◌, ap, ◌∙◌, length, get_or, [], arith}
 use Rattle.std.proofs.lemmas.List.{get_or_default}
 use Rattle.access_schema.specs.Lists.{place_of}
 use Rattle.access_schema.proofs.Numbering.{place_among}
