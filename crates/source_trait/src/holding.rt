@@ -107,8 +107,8 @@ impl Holding {
         have_room(&self.list, more, limit)
     }
 
-    /// Copies of the rows of the relation that have the values at the positions. The first call with these positions makes an index
-    /// on them, in time linear in the relation's rows; a later one takes the time of its own rows.
+    /// Copies of the rows of the relation that have the values at the positions. The first call with these positions makes
+    /// an index on them, in time linear in the relation's rows; a later one takes the time of its own rows.
     pub fn ask(
         &mut self,
         alloc: Global,

@@ -7,7 +7,8 @@ use lists::{Row, Text};
 use std::alloc::{AllocError, Global};
 use std::marker::Model;
 
-/// Rows, whose values lie in one buffer. A row is not owned by itself: it is copied out where it is asked for.
+/// Rows, whose values lie in one buffer. A row has no memory of its own: it is copied out where it is asked for.
+/// A call that adds a row takes the rows and gives them back with it, so that a refused one leaves none half added.
 #[derive(Drop)]
 pub struct PackedRows {
     // the values of all rows, one after another
