@@ -1,9 +1,8 @@
 -- What operands mean, and the faults of columns.
-use Rattle.std.proofs.Common.{◌≡◌, ◌⊎◌, ℕ, List, [], ◌∷◌, ◌++◌, length, map, ap, subst, sym, ◌∙◌, refl, inl, inr, ⊎_elim, arith}
+use Rattle.std.proofs.Common.{◌≡◌, ◌⊎◌, ℕ, List, [], ◌∷◌, ◌++◌, ap, subst, sym, ◌∙◌, refl, inl, inr, ⊎_elim, arith}
 use Rattle.std.specs.Prelude.{Contains, Option, Some, None, slice_get}
-use Rattle.std.specs.List.{AllZip, flat_map}
-use Rattle.std.proofs.lemmas.List.Elements.{Contains-append_left, Contains-append_right}
-use Rattle.lists.proofs.Members.{contains_here, contains_there, contains_cases, contains_got, contains_map, some_injective}
+use Rattle.std.specs.List.{AllZip}
+use Rattle.lists.proofs.Members.{contains_here, contains_there, contains_cases, contains_got}
 use Rattle.meaning.specs.declared.types.Relation.{Relation}
 use Rattle.meaning.specs.declared.types.Operand.{Operand}
 use Rattle.meaning.specs.declared.types.Operand.TheVariants.{Column, Literal}
@@ -22,7 +21,7 @@ use Rattle.sql_select.specs.declared.columns.Found.{Found}
 use Rattle.sql_select.specs.declared.columns.Found.TheVariants as found
 use Rattle.sql_select.specs.declared.resolve.Meant.{Meant}
 use Rattle.sql_select.specs.declared.resolve.Meant.TheVariants as meant
-use Rattle.sql_select.specs.Names.{from_names, HasColumn, IsColumnAt, IsMeant, IsUnknown, IsAmbiguous, IsColumnFault, operands_of, rank_of}
+use Rattle.sql_select.specs.Names.{from_names, HasColumn, IsColumnAt, IsMeant, IsUnknown, IsAmbiguous, IsColumnFault, operands_of}
 use Rattle.sql_select.specs.Resolving.{place_from, place_at, plain_meant, column_meant, prefixed_meant, meant_of, fault_in, earlier, column_fault, item_operands, condition_operands, with_meant, meant_items, with_both, meant_conditions, found_in}
 use Rattle.sql_select.proofs.Earliest.{Answers, same_answer, either_answer}
 use Rattle.sql_select.proofs.FromFaults.{Placed, place_says, found_at, nothing_in}

@@ -1,5 +1,5 @@
 -- The first of faults, by their ranks.
-use Rattle.std.proofs.Common.{◌≡◌, ◌⊎◌, ℕ, ◌≤◌, ◌<◌, ◌+◌, ◌*◌, ap, subst, sym, refl, inl, inr, ⊎_elim, arith, Bool, true, false}
+use Rattle.std.proofs.Common.{◌≡◌, ◌⊎◌, ◌≤◌, ◌<◌, ap, inl, inr, ⊎_elim, arith, Bool, true, false}
 use Rattle.std.specs.Prelude.{Option, Some, None, nat_le, if◌then◌else◌}
 use Rattle.std.proofs.lemmas.Bool.Decides.{leb_tells}
 use Rattle.sql_select.specs.declared.named.NameFault.{NameFault}

@@ -1,5 +1,5 @@
 -- A statement that is read fits the schema and the limits.
-use Rattle.std.proofs.Common.{◌≡◌, ℕ, suc, ◌≤◌, ◌<◌, ◌+◌, List, [], ◌∷◌, length, map, ap, subst, sym, ◌∙◌, refl, arith, ⊎_elim}
+use Rattle.std.proofs.Common.{◌≡◌, ℕ, suc, ◌≤◌, ◌+◌, List, [], ◌∷◌, length, map, ap, subst, sym, ◌∙◌, refl, arith, ⊎_elim}
 use Rattle.std.specs.Prelude.{Contains, Some, slice_get}
 use Rattle.std.specs.List.{AllZip}
 use Rattle.std.proofs.lemmas.Slice.Zip.{AllZip-long}
@@ -16,18 +16,14 @@ use Rattle.access_schema.specs.declared.schema.Schema.{Schema}
 use Rattle.access_schema.specs.Meaning.{meaning_of}
 use Rattle.access_schema.specs.Names.{relation_names}
 use Rattle.sql_select.specs.declared.piece.RawItem.{RawItem}
-use Rattle.sql_select.specs.declared.piece.RawFrom.{RawFrom}
-use Rattle.sql_select.specs.declared.piece.RawSelect.{RawSelect}
 use Rattle.sql_select.specs.declared.named.NamedOperand.{NamedOperand}
 use Rattle.sql_select.specs.declared.named.NamedOperand.TheVariants as named
 use Rattle.sql_select.specs.declared.named.NamedItem.{NamedItem}
 use Rattle.sql_select.specs.declared.named.NamedFrom.{NamedFrom}
 use Rattle.sql_select.specs.declared.named.NamedCondition.{NamedCondition}
 use Rattle.sql_select.specs.declared.named.NamedSelect.{NamedSelect}
-use Rattle.sql_select.specs.Grammar.{IsText}
 use Rattle.sql_select.specs.Naming.{named_from, named_items, named_condition, named_select}
-use Rattle.sql_select.specs.Names.{AreFroms, IsMeant, IsMeaning}
-use Rattle.sql_select.specs.Limits.{IsWithinLimits}
+use Rattle.sql_select.specs.Names.{IsMeant, IsMeaning}
 use Rattle.sql_select.specs.Statements.{IsStatementText, IsBounded, StatementFits}
 use Rattle.sql_select.proofs.FromFaults.{nothing_in}
 

@@ -1,20 +1,19 @@
 -- The faults of the FROM items, and what they are where there is none.
 use Rattle.std.proofs.Common.{◌≡◌, ◌⊎◌, ℕ, suc, ◌+◌, List, [], ◌∷◌, ◌++◌, ap, subst, sym, ◌∙◌, refl, inl, inr, ⊎_elim, arith, append_assoc, Bool, true, false}
-use Rattle.std.specs.Prelude.{Contains, Option, Some, None, slice_get, map, nat_eq, if◌then◌else◌}
+use Rattle.std.specs.Prelude.{Contains, Option, Some, None, slice_get, nat_eq, if◌then◌else◌}
 use Rattle.std.specs.List.{AllZip}
 use Rattle.std.specs.Cmp.Lexicographic.{pointwise, bytes_decides}
 use Rattle.std.specs.Bool.{Decides}
 use Rattle.std.proofs.lemmas.List.{append-nil}
-use Rattle.std.proofs.lemmas.Bool.{cases_Bool}
 use Rattle.meaning.specs.declared.types.Relation.{Relation}
 use Rattle.access_schema.specs.Names.{relation_names, AllDiffer}
 use Rattle.access_schema.specs.Lists.{is_among}
 use Rattle.access_schema.proofs.Texts.{among_contains, not_among, differ_push}
-use Rattle.lists.proofs.Members.{contains_here, contains_there, contains_cases, contains_got, contains_map, some_injective}
+use Rattle.lists.proofs.Members.{contains_here, contains_there, contains_cases, contains_got}
 use Rattle.sql_select.specs.declared.named.NamedFrom.{NamedFrom}
 use Rattle.sql_select.specs.declared.named.NameFault.{NameFault}
 use Rattle.sql_select.specs.declared.named.NameFault.TheVariants as fault
-use Rattle.sql_select.specs.Names.{from_names, AreFroms, IsFromFault, IsFirst}
+use Rattle.sql_select.specs.Names.{from_names, AreFroms, IsFromFault}
 use Rattle.sql_select.specs.Resolving.{place_from, unless_there, unknown_relation, used_name, from_fault, with_place, rels_of}
 use Rattle.sql_select.proofs.Earliest.{Answers, same_answer, either_answer}
 

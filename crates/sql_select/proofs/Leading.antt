@@ -1,5 +1,5 @@
 -- The states follow the table of places, and from every place some pieces lead to the end.
-use Rattle.std.proofs.Common.{◌≡◌, ℕ, List, [], ◌∷◌, ◌++◌, length, ap, subst, sym, ◌∙◌, refl}
+use Rattle.std.proofs.Common.{◌≡◌, List, [], ◌∷◌, ◌++◌, ap, subst, sym, ◌∙◌, refl}
 use Rattle.std.specs.Prelude.{Option, Some, None, Ok, Err}
 use Rattle.pq_text.specs.declared.token.Token.{Token}
 use Rattle.sql_select.specs.declared.piece.Piece.{Piece}

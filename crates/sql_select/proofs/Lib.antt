@@ -14,4 +14,3 @@ pub mod Unique
 pub mod Fitting
 pub mod Answering
 pub mod Literals
-pub mod Nonempty

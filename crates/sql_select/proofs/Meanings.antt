@@ -1,5 +1,5 @@
 -- Names stand for one select at most, and then have no fault.
-use Rattle.std.proofs.Common.{◌≡◌, ◌⊎◌, ℕ, ◌<◌, List, [], ◌∷◌, ◌++◌, length, ap, subst, sym, ◌∙◌, refl, ⊎_elim}
+use Rattle.std.proofs.Common.{◌≡◌, ℕ, List, [], ◌∷◌, ap, subst, sym, ◌∙◌, refl, ⊎_elim}
 use Rattle.std.specs.Prelude.{Contains, Some, slice_get}
 use Rattle.std.specs.List.{AllZip}
 use Rattle.std.proofs.lemmas.List.Elements.{Contains-append_cases}
@@ -8,7 +8,6 @@ use Rattle.meaning.specs.declared.types.Relation.{Relation}
 use Rattle.meaning.specs.declared.types.Operand.{Operand}
 use Rattle.meaning.specs.declared.types.Condition.{Condition}
 use Rattle.meaning.specs.declared.types.Select.{Select}
-use Rattle.access_schema.specs.Names.{relation_names, AllDiffer}
 use Rattle.access_schema.specs.Invariant.{AreRelations}
 use Rattle.sql_select.specs.declared.named.NamedOperand.{NamedOperand}
 use Rattle.sql_select.specs.declared.named.NamedItem.{NamedItem}
@@ -19,7 +18,7 @@ use Rattle.sql_select.specs.Names.{AreFroms, IsColumnAt, IsMeant, IsMeaning, IsF
 use Rattle.sql_select.specs.Resolving.{item_operands, condition_operands}
 use Rattle.sql_select.proofs.Earliest.{one_first}
 use Rattle.sql_select.proofs.FromFaults.{nothing_in, no_from_fault, one_rels}
-use Rattle.sql_select.proofs.ColumnFaults.{OperandFault, one_meaning, no_fault, from_columns}
+use Rattle.sql_select.proofs.ColumnFaults.{one_meaning, no_fault, from_columns}
 
 -- lists that are related place by place to one list are one, where the relation has one value
 zip_one : {A B : Type 0} (R : A → B → Type 0) → ((x : A) (y z : B) → R x y → R x z → y ≡ z) → (xs : List A) (ys zs : List B) → AllZip R xs ys → AllZip R xs zs → ys ≡ zs

@@ -1,13 +1,11 @@
 -- What looking up the names of a select says.
-use Rattle.std.proofs.Common.{◌≡◌, ◌⊎◌, ℕ, List, [], ◌∷◌, ◌++◌, ap, subst, sym, ◌∙◌, refl, inl, inr, ⊎_elim}
-use Rattle.std.specs.Prelude.{Contains, Option, Some, None, Result, Ok, Err, IfOk, IfErr}
-use Rattle.std.specs.List.{AllZip}
+use Rattle.std.proofs.Common.{ℕ, List, [], subst, refl, inl, inr}
+use Rattle.std.specs.Prelude.{Option, Some, None, Result, Ok, Err, IfOk, IfErr}
 use Rattle.std.proofs.lemmas.List.Elements.{Contains-append_left, Contains-append_right}
 use Rattle.meaning.specs.declared.types.Relation.{Relation}
 use Rattle.meaning.specs.declared.types.Select.{Select}
 use Rattle.sql_select.specs.declared.named.NamedSelect.{NamedSelect}
 use Rattle.sql_select.specs.declared.named.NameFault.{NameFault}
-use Rattle.sql_select.specs.declared.named.NameFault.TheVariants as name
 use Rattle.sql_select.specs.declared.fault.SqlFault.{SqlFault}
 use Rattle.sql_select.specs.declared.fault.SqlFault.TheVariants as fault
 use Rattle.sql_select.specs.Names.{AreFroms, IsFromFault, IsColumnFault, IsMeaning, IsNameFault, operands_of}

@@ -1,5 +1,5 @@
 -- The tokens of the parts of a select stand in the text.
-use Rattle.std.proofs.Common.{◌≡◌, ℕ, List, [], ◌∷◌, ◌++◌, map, subst, ⊎_elim, Bool, true, false}
+use Rattle.std.proofs.Common.{ℕ, List, [], ◌∷◌, ◌++◌, map, subst, ⊎_elim, Bool, true, false}
 use Rattle.std.specs.Prelude.{codes, nat_eq, Result, Ok, Err, IfOk, if◌then◌else◌}
 use Rattle.sql_select.specs.declared.reading.WalkFault.{WalkFault}
 use Rattle.std.specs.List.{AllByRecursion}
@@ -19,7 +19,7 @@ use Rattle.sql_select.specs.declared.piece.RawItem.{RawItem}
 use Rattle.sql_select.specs.declared.piece.RawFrom.{RawFrom}
 use Rattle.sql_select.specs.declared.piece.RawCondition.{RawCondition}
 use Rattle.sql_select.specs.declared.piece.RawSelect.{RawSelect}
-use Rattle.sql_select.specs.Words.{written, is_refused_word, name_or_other, word_piece, symbol_piece, piece_for, piece_of, pieces_of}
+use Rattle.sql_select.specs.Words.{written, is_refused_word, name_or_other, word_piece, symbol_piece, piece_for, pieces_of}
 use Rattle.sql_select.specs.Grammar.{shown_operand, shown_alias, shown_item, shown_from, shown_condition, further, parted, shown_where, shown, IsText}
 use Rattle.sql_select.specs.Spanning.{OperandStands, AliasStands, ItemStands, FromStands, ConditionStands, SelectStands}
 

@@ -1,7 +1,5 @@
 -- Bytes are one statement at most, and have one fault at most.
-use Rattle.std.proofs.Common.{◌≡◌, ◌≢◌, ℕ, suc, ◌<◌, ◌≤◌, ◌+◌, List, [], ◌∷◌, ◌++◌, length, drop, ap, subst, sym, ◌∙◌, refl, arith, true, false, Ok, Err, Result, length-append}
-use Rattle.std.specs.Prelude.{MatchResult}
-use Rattle.std.specs.Str.{IsUtf8}
+use Rattle.std.proofs.Common.{◌≡◌, ◌≢◌, ℕ, List, [], ◌∷◌, ◌++◌, length, drop, ap, subst, sym, ◌∙◌, refl, arith, true, false, Ok, Err, length-append}
 use Rattle.access_schema.specs.declared.fault.Limit.{Limit}
 use Rattle.access_schema.specs.declared.fault.Limit.TheVariants as limit
 use Rattle.access_schema.specs.declared.schema.Schema.{Schema}
@@ -14,7 +12,7 @@ use Rattle.pq_text.specs.declared.token.LexFault.{LexFault}
 use Rattle.pq_text.specs.declared.token.LexFault.TheVariants as lex
 use Rattle.pq_text.specs.declared.scan.Found.{Found}
 use Rattle.pq_text.specs.declared.scan.Found.TheVariants.{Begins, Bad, Open}
-use Rattle.pq_text.specs.Tokens.{Lexes, HasFault, token_at}
+use Rattle.pq_text.specs.Tokens.{token_at}
 use Rattle.pq_text.proofs.Lexing.{tokens_only, Lexes-one}
 use Rattle.sql_select.specs.declared.piece.RawSelect.{RawSelect}
 use Rattle.sql_select.specs.declared.named.NameFault.{NameFault}

@@ -11,4 +11,3 @@ pub mod Misfits
 pub mod Spanning
 pub mod Resolving
 pub mod Select
-pub mod Nonempty

@@ -1,5 +1,5 @@
 -- The names of a select looked up one after another, with the first of their faults.
-use Rattle.std.specs.Prelude.{◌≡◌, ◌≤◌, ◌+◌, ◌++◌, ℕ, List, [], ◌∷◌, Contains, Option, Some, None, Bool, true, false, nat_eq, nat_le, length, map, slice_get, if◌then◌else◌}
+use Rattle.std.specs.Prelude.{◌≤◌, ◌+◌, ◌++◌, ℕ, List, [], ◌∷◌, Contains, Option, Some, None, nat_eq, nat_le, length, map, slice_get, if◌then◌else◌}
 use Rattle.std.specs.List.{flat_map}
 use Rattle.std.specs.Cmp.Lexicographic.{pointwise}
 use Rattle.meaning.specs.declared.types.Relation.{Relation}

@@ -1,7 +1,6 @@
 -- The tokens of a select's parts stand in the text.
 use Rattle.std.specs.Prelude.{ℕ, List}
 use Rattle.std.specs.List.{AllByRecursion}
-use Rattle.pq_text.specs.declared.token.Token.{Token}
 use Rattle.pq_text.specs.Spans.{IsSpan}
 use Rattle.sql_select.specs.declared.piece.RawOperand.{RawOperand}
 use Rattle.sql_select.specs.declared.piece.RawOperand.TheVariants as operand

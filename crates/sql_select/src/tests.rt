@@ -1,68 +1,32 @@
 // Texts over small schemas, with what they are read as or the fault that is told.
-ghost use Rattle.std.specs.Prelude.{◌≢◌, [], IfOk};
-ghost use Rattle.access_schema.specs.Faults.{IsNamed, AreNamed};
-ghost use Rattle.sql_select.specs.Nonempty.{AreNonEmpty};
-
 use super::*;
-use access_schema::{Part, Parts, Schema};
+use access_schema::{Part, Parts, Schema, are_named};
 use lists::{Text, Texts};
 use meaning::types::{Condition, Operand, Select, Statement};
 use pq_text::LexFault;
 use std::alloc::{AllocError, Global};
 use std::test::*;
 
-// The names, and one more that is not empty.
-#[tactic(auto, using(crate::proofs::Nonempty::names_push))]
-fn with_name(alloc: Global, names: Texts, name: &str) -> Result<Texts, AllocError>
-    requires names { AreNonEmpty names }
-    requires name { name.now ≢ [] }
-    ensures { IfOk result AreNonEmpty }
-{
-    let text = Text::from_str(alloc, name)?;
-    let mut names = names;
-    names.push(text)?;
-    Ok(names)
+fn relation(alloc: Global, name: &str, columns: &[&str]) -> Result<Part, AllocError> {
+    let mut list = Texts::new(alloc);
+    for column in columns {
+        list.push(Text::from_str(alloc, column)?)?;
+    }
+    Ok(Part::Relation {
+        name: Text::from_str(alloc, name)?,
+        columns: list,
+    })
 }
 
-// The parts, and the relation of this name and these two columns.
-fn with_relation(
-    alloc: Global,
-    parts: Parts,
-    name: &str,
-    first: &str,
-    second: &str,
-) -> Result<Parts, AllocError>
-    requires parts { AreNamed parts }
-    requires name { name.now ≢ [] }
-    requires first { first.now ≢ [] }
-    requires second { second.now ≢ [] }
-    ensures { IfOk result AreNamed }
-{
-    let columns = with_name(alloc, Texts::new(alloc), first)?;
-    let columns = with_name(alloc, columns, second)?;
-    let name = Text::from_str(alloc, name)?;
-    with_part(parts, Part::Relation { name, columns })
-}
-
-#[tactic(auto, using(crate::proofs::Nonempty::parts_push))]
-fn with_part(parts: Parts, part: Part) -> Result<Parts, AllocError>
-    requires parts { AreNamed parts }
-    requires part { IsNamed part }
-    ensures { IfOk result AreNamed }
-{
-    let mut parts = parts;
-    parts.push(part)?;
+fn some_parts(alloc: Global) -> Result<Parts, AllocError> {
+    let mut parts = Parts::new(alloc);
+    parts.push(relation(alloc, "r", &["a", "b"])?)?;
+    parts.push(relation(alloc, "s", &["a", "c"])?)?;
+    parts.push(relation(alloc, "from", &["x", "y"])?)?;
+    parts.push(Part::Constant {
+        text: Text::from_str(alloc, "k")?,
+    })?;
     Ok(parts)
-}
-
-fn some_parts(alloc: Global) -> Result<Parts, AllocError>
-    ensures { IfOk result AreNamed }
-{
-    let parts = with_relation(alloc, Parts::new(alloc), "r", "a", "b")?;
-    let parts = with_relation(alloc, parts, "s", "a", "c")?;
-    let parts = with_relation(alloc, parts, "from", "x", "y")?;
-    let text = Text::from_str(alloc, "k")?;
-    with_part(parts, Part::Constant { text })
 }
 
 // The schema of the relations r(a, b), s(a, c) and "from"(x, y), with the constant 'k'.
@@ -70,7 +34,7 @@ fn schema_of(alloc: Global) -> Option<Schema> {
     let Ok(parts) = some_parts(alloc) else {
         return None;
     };
-    if parts.len() > 1000 {
+    if parts.len() > 1000 || !are_named(parts.as_slice()) {
         return None;
     }
     Schema::build(alloc, parts).ok()

@@ -1,7 +1,6 @@
-use Rattle.std.proofs.Common.{◌≡◌, ◌↔◌, ◌⊎◌, ℕ, List, subst, sym, ◌∙◌}
+use Rattle.std.proofs.Common.{◌↔◌, ◌⊎◌, ℕ, List, subst, sym, ◌∙◌}
 use Rattle.std.specs.Prelude.{Contains}
 use Rattle.std.proofs.lemmas.Result.{IfOk-weaker}
-use Rattle.access_schema.specs.Lists.{once_after}
 use Rattle.access_schema.specs.Names.{AllDiffer}
 use Rattle.access_schema.proofs.Texts.{once_differ}
 use Rattle.sql_select.specs.Known.{literals_in}

@@ -1,4 +1,4 @@
-use Rattle.std.proofs.Common.{◌≡◌, ◌+◌, ◌++◌, length, map}
+use Rattle.std.proofs.Common.{◌≡◌, ◌++◌, length, map}
 use Rattle.std.specs.List.{AllByRecursion}
 use Rattle.sql_select.specs.Spanning.{FromStands}
 use Rattle.sql_select.specs.Naming.{named_from}
