@@ -136,8 +136,8 @@ fn add_row(row: Row, recent: &mut Recent, into: &mut Vec<Row>) -> Result<(), All
     Ok(())
 }
 
-// The values of the output places. A value is moved where no later place has its column.
-fn output_row(alloc: Global, outs: &[Out], row: Row) -> Result<Row, AllocError>
+/// The values of the output places. A value is moved where no later place has its column.
+pub fn output_row(alloc: Global, outs: &[Out], row: Row) -> Result<Row, AllocError>
     ensures { IfOk result (λ values. values ≡ output_of outs.now row) }
 {
     let mut values = Vec::with_capacity(alloc, outs.len())?;

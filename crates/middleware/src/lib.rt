@@ -22,3 +22,6 @@ pub use fault::{Run, RunFault};
 pub use lookup::find_line;
 pub use row_text::csv_text;
 pub use run_plan::execute;
+
+#[cfg(test)]
+mod tests;

@@ -58,8 +58,8 @@ fn join_only(
     Ok(next)
 }
 
-// Adds the rows to which the partial rows grow by one answer. The last of them takes the answer.
-fn join_all(
+/// Adds the rows to which the partial rows grow by one answer. The last of them takes the answer.
+pub fn join_all(
     alloc: Global,
     places: &[Place],
     answer: Rows,
@@ -237,8 +237,8 @@ fn add_joined(
     Ok(())
 }
 
-// The partial row followed by the values at the new places, where the fact's values agree with the other places.
-fn join_row(places: &[Place], values: Row, row: Row) -> Result<Option<Row>, AllocError>
+/// The partial row followed by the values at the new places, where the fact's values agree with the other places.
+pub fn join_row(places: &[Place], values: Row, row: Row) -> Result<Option<Row>, AllocError>
     ensures { IfOk result (λ found. found ≡ joined places.now values row) }
 {
     let mut next = row;
