@@ -241,7 +241,8 @@ fn add_joined(
 pub fn join_row(places: &[Place], values: Row, row: Row) -> Result<Option<Row>, AllocError>
     ensures { IfOk result (λ found. found ≡ joined places.now values row) }
 {
-    let mut next = row;
+    let mut next = row.into_vec();
+    next.reserve_exact(new_places(places))?;
     let mut left = places;
     for value in values.into_vec() {
         let [place, others @ ..] = left else {
@@ -254,7 +255,7 @@ pub fn join_row(places: &[Place], values: Row, row: Row) -> Result<Option<Row>, 
                 }
             }
             Place::Col(column) => {
-                if !has_at(&next, *column, &value) {
+                if !has_at(next.as_slice(), *column, &value) {
                     return Ok(None);
                 }
             }
@@ -263,12 +264,20 @@ pub fn join_row(places: &[Place], values: Row, row: Row) -> Result<Option<Row>, 
         left = others;
     }
     match left {
-        [] => Ok(Some(next)),
+        [] => Ok(Some(Row::from_vec(next))),
         [_, ..] => Ok(None),
     }
 }
 
-fn has_at(row: &Row, column: u32, value: &Text) -> bool
+// How many places make a new column.
+fn new_places(places: &[Place]) -> usize {
+    places
+        .iter()
+        .filter(|place| matches!(place, Place::New))
+        .count()
+}
+
+fn has_at(row: &[Text], column: u32, value: &Text) -> bool
     ensures { result ≡ is_at (slice_get row.now column) value.now }
 {
     match row.get(column as usize) {
