@@ -18,7 +18,7 @@ const DATA: &[u8] = b"a,b\n1,y\n2,x\n3,y\n";
 
 const PLAN: &[u8] = b"plan 1\nbranch\naccess all_r(new, new)\noutput $1\nend\n";
 
-fn numbers(alloc: Global, listed: &[u64]) -> Result<Numbers, AllocError> {
+pub fn numbers(alloc: Global, listed: &[u64]) -> Result<Numbers, AllocError> {
     let mut numbers = Seq::new(alloc);
     for number in listed {
         numbers.push(*number)?;
@@ -26,7 +26,7 @@ fn numbers(alloc: Global, listed: &[u64]) -> Result<Numbers, AllocError> {
     Ok(numbers)
 }
 
-fn words(alloc: Global, listed: &[&str]) -> Result<Vec<Text>, AllocError> {
+pub fn words(alloc: Global, listed: &[&str]) -> Result<Vec<Text>, AllocError> {
     let mut words = Vec::new(alloc);
     for word in listed {
         words.push(Text::from_str(alloc, word)?)?;
@@ -35,7 +35,7 @@ fn words(alloc: Global, listed: &[&str]) -> Result<Vec<Text>, AllocError> {
 }
 
 // Files in memory, which fail at the listed reads. Two of one name are refused.
-fn memory(
+pub fn memory(
     alloc: Global,
     files: &[(&str, &[u8])],
     failing: &[u64],
@@ -54,7 +54,7 @@ fn memory(
 }
 
 // One lane with one source of a kind.
-fn one_lane<S: Drop>(alloc: Global, kind: &str, object: S) -> Result<Vec<Lane<S>>, AllocError> {
+pub fn one_lane<S: Drop>(alloc: Global, kind: &str, object: S) -> Result<Vec<Lane<S>>, AllocError> {
     let mut kinds = Vec::new(alloc);
     kinds.push(Kind {
         name: Text::from_str(alloc, kind)?,
