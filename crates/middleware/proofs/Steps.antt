@@ -323,8 +323,7 @@ len_requests rel positions (v ∷ list) = ap suc (len_requests rel positions lis
 -- rows that were added
 pub added_one : (f : List (List ℕ) → List (List ℕ)) (taken : RowList) (row : List (List ℕ)) (before middle after : RowList) → HasAdded before (map f taken) middle → HasAdded middle (f row ∷ []) after → HasAdded before (map f (taken ++ row ∷ [])) after
 added_one f taken row before middle after first next x =
-    let e : map f (taken ++ row ∷ []) ≡ map f taken ++ f row ∷ [] = map-append f taken (row ∷ []) in
-    (
+    let e : map f (taken ++ row ∷ []) ≡ map f taken ++ f row ∷ [] = map-append f taken (row ∷ []) in (
       (λ c. ⊎_elim
           (λ m. ⊎_elim inl (λ old. inr (subst (λ (l : RowList). Contains l x) (sym e) (append_first (map f taken) (f row ∷ []) x old))) ((first x).0 m))
           (λ new. inr (subst (λ (l : RowList). Contains l x) (sym e) (append_second (map f taken) (f row ∷ []) x new)))
