@@ -1,5 +1,6 @@
 pub mod Flexible
 pub mod Mapped
 pub mod Orders
+pub mod Packing
 pub mod Starts
 pub mod Texts

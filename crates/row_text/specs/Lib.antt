@@ -1,3 +1,5 @@
 pub mod RowText
+pub mod Packed
+pub mod Hash
 pub mod Starts
 pub mod Writer

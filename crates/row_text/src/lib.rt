@@ -1,16 +1,22 @@
 //! Rows in ascending order without doubles, and their text: a header and a line for each row.
 //!
-//! Crates above use this: `ascending_distinct` sorts rows and keeps each once, and `csv_text` writes
-//! what a query answers. Begin at `specs/RowText.antt`.
+//! Crates above use this: `PackedRows` holds rows in one buffer, `ascending_distinct` sorts them and keeps each once, and
+//! `csv_text` writes what a query answers. Begin at `specs/RowText.antt`.
 #![tactic(auto)]
 
+mod hash;
 pub mod laws;
+mod lent;
 mod order;
+mod packed;
 mod recent;
 mod started;
 mod text;
 
+pub use hash::mix;
+pub use lent::LentRow;
 pub use order::ascending_distinct;
+pub use packed::PackedRows;
 pub use recent::Recent;
 pub use text::csv_text;
 

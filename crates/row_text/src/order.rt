@@ -3,38 +3,50 @@ ghost use Rattle.std.specs.Prelude.{◌≡◌, ◌↔◌, Contains, IfOk, List, 
 ghost use Rattle.std.specs.List.Sorted.{IsStrictlySortedBy};
 ghost use Rattle.row_text.specs.RowText.{row_cmp};
 
+use crate::packed::PackedRows;
 use crate::started::Started;
-use lists::{NoMemory, Row};
+use lists::NoMemory;
 use std::alloc::Global;
 
 /// The rows sorted column by column, each column by its bytes, and each once.
-pub fn ascending_distinct(alloc: Global, rows: Vec<Row>) -> Result<Vec<Row>, NoMemory>
-    ensures ascends { IfOk result (λ distinct. IsStrictlySortedBy row_cmp distinct.items) }
-    ensures same { IfOk result (λ distinct. (row : List (List ℕ)) → Contains distinct.items row ↔ Contains rows.items row) }
+pub fn ascending_distinct(alloc: Global, rows: &PackedRows) -> Result<PackedRows, NoMemory>
+    ensures ascends { IfOk result (λ distinct. IsStrictlySortedBy row_cmp distinct) }
+    ensures same { IfOk result (λ distinct. (row : List (List ℕ)) → Contains distinct row ↔ Contains rows.now row) }
+{
+    let members = ascending_members(alloc, rows)?;
+    rows_of(alloc, members.as_slice())
+}
+
+/// The distinct rows, ascending, lent. Rows that ascend already, as those of an execution do, are sorted in linear time.
+pub(crate) fn ascending_members(
+    alloc: Global,
+    rows: &PackedRows,
+) -> Result<Vec<Started<'_>>, NoMemory>
+    ensures ascends { IfOk result (λ members. IsStrictlySortedBy row_cmp (map (λ m. m.row) members.items)) }
+    ensures same { IfOk result (λ members. (row : List (List ℕ)) → Contains (map (λ m. m.row) members.items) row ↔ Contains rows.now row) }
 {
     let mut members = started(alloc, rows)?;
     members.sort_unstable();
     members.dedup();
-    let distinct = rows_of(alloc, members)?;
-    Ok(distinct)
+    Ok(members)
 }
 
-fn started(alloc: Global, rows: Vec<Row>) -> Result<Vec<Started>, NoMemory>
-    ensures { IfOk result (λ members. map (λ m. m.row) members.items ≡ rows.items) }
+fn started(alloc: Global, rows: &PackedRows) -> Result<Vec<Started<'_>>, NoMemory>
+    ensures { IfOk result (λ members. map (λ m. m.row) members.items ≡ rows.now) }
 {
     let mut members = Vec::with_capacity(alloc, rows.len())?;
-    for row in rows {
-        members.push(Started::new(row))?;
+    for number in 0..rows.len() {
+        members.push(Started::new(rows.at(number)))?;
     }
     Ok(members)
 }
 
-fn rows_of(alloc: Global, members: Vec<Started>) -> Result<Vec<Row>, NoMemory>
-    ensures { IfOk result (λ rows. rows.items ≡ map (λ m. m.row) members.items) }
+fn rows_of(alloc: Global, members: &[Started<'_>]) -> Result<PackedRows, NoMemory>
+    ensures { IfOk result (λ rows. rows ≡ map (λ m. m.row) members.now) }
 {
-    let mut rows = Vec::with_capacity(alloc, members.len())?;
+    let mut rows = PackedRows::new(alloc);
     for member in members {
-        rows.push(member.row)?;
+        rows = rows.with_lent(&member.row)?;
     }
     Ok(rows)
 }

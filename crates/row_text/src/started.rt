@@ -7,20 +7,20 @@ ghost use Rattle.std.specs.Ordering.{nat_cmp};
 ghost use Rattle.row_text.specs.RowText.{row_cmp, row_eq};
 ghost use Rattle.row_text.specs.Starts.{first_of, row_start, start_of};
 
-use lists::Row;
+use crate::lent::LentRow;
 use std::cmp::Ordering;
 
-/// A row with the number that the first bytes of its first value make.
+/// A lent row with the number that the first bytes of its first value make.
 #[derive(Drop)]
-pub(crate) struct Started {
+pub(crate) struct Started<'a> {
     start: u64,
-    pub(crate) row: Row,
+    pub(crate) row: LentRow<'a>,
     ghost starts: { start ≡ from_be_bytes w64 (row_start row) },
     ghost bytes: { (place : ℕ) → slice_index (row_start row) place < 256 },
 }
 
-impl Started {
-    pub(crate) fn new(row: Row) -> Started
+impl<'a> Started<'a> {
+    pub(crate) fn new(row: LentRow<'a>) -> Started<'a>
         ensures { result.row ≡ row }
     {
         let start = start_of(first_value(&row));
@@ -29,12 +29,12 @@ impl Started {
 }
 
 // The bytes of the first value, if any.
-fn first_value(row: &Row) -> &[u8]
+fn first_value<'a>(row: &LentRow<'a>) -> &'a [u8]
     ensures { result.now ≡ first_of row.now }
 {
-    match row.as_slice() {
-        [value, ..] => value.as_bytes(),
-        [] => &[],
+    match row.value(0) {
+        Some(value) => value.as_bytes(),
+        None => &[],
     }
 }
 
@@ -64,31 +64,31 @@ fn byte_at(bytes: &[u8], place: usize) -> u8
     }
 }
 
-impl PartialEq for Started {
+impl<'a> PartialEq for Started<'a> {
     ghost eq = { λ x y. row_eq x.row y.row };
 
     ghost laws = { partial_equiv_from_equiv (on_equiv (λ x. x.row) (lists_equiv nat_list_eq_equiv)) };
 
-    fn eq(&self, other: &Started) -> bool {
+    fn eq(&self, other: &Started<'a>) -> bool {
         self.start == other.start && self.row == other.row
     }
 }
 
-impl Eq for Started {
+impl<'a> Eq for Started<'a> {
     ghost laws = { on_equiv (λ x. x.row) (lists_equiv nat_list_eq_equiv) };
 }
 
-impl PartialOrd for Started {
+impl<'a> PartialOrd for Started<'a> {
     ghost partial_cmp = { λ x y. Some (row_cmp x.row y.row) };
 
     ghost laws = { po (on_total (λ x. x.row) (lists_total nat_list_cmp_total)) (λ x y. lists_ties (slice_cmp nat_cmp) texts_ties x.row y.row) };
 
-    fn partial_cmp(&self, other: &Started) -> Option<Ordering> {
+    fn partial_cmp(&self, other: &Started<'a>) -> Option<Ordering> {
         Some(self.cmp(other))
     }
 }
 
-impl Ord for Started {
+impl<'a> Ord for Started<'a> {
     ghost cmp = { λ x y. row_cmp x.row y.row };
 
     ghost total = { on_total (λ x. x.row) (lists_total nat_list_cmp_total) };
@@ -97,7 +97,7 @@ impl Ord for Started {
 
     ghost matches_eq = { λ x y. lists_ties (slice_cmp nat_cmp) texts_ties x.row y.row };
 
-    fn cmp(&self, other: &Started) -> Ordering {
+    fn cmp(&self, other: &Started<'a>) -> Ordering {
         match self.start.cmp(&other.start) {
             Ordering::Equal => self.row.cmp(&other.row),
             unequal => unequal,

@@ -1,6 +1,6 @@
-use Rattle.std.proofs.Common.{◌≡◌, map}
+use Rattle.std.proofs.Common.{◌≡◌, map, take}
 use Rattle.row_text.proofs.order.started.Given as goal
 
 -- the members are the rows so far
-abbrev pub invariant-loop-row : goal.invariant-loop-row
-invariant-loop-row l = map (λ m. m.row) l.members.items ≡ l.yielded
+abbrev pub invariant-loop-number : goal.invariant-loop-number
+invariant-loop-number l = map (λ m. m.row) l.members.items ≡ take l.number l.rows

@@ -8,5 +8,5 @@ use Rattle.row_text.proofs.text.written.Given as goal
 abbrev pub invariant-loop-member : goal.invariant-loop-member
 invariant-loop-member l = record {
   ready : IsReady l.writer;
-  taken : (writer_under l.writer).items ++ writer_pending l.writer ≡ row_text default_writer l.names ++ flat_map (row_text default_writer) (map (λ m. m.now) (take l.member-index l.members));
+  taken : (writer_under l.writer).items ++ writer_pending l.writer ≡ row_text default_writer l.names ++ flat_map (row_text default_writer) (map (λ m. m.row) (take l.member-index l.members));
 }

@@ -1,0 +1,9 @@
+use Rattle.std.proofs.Common.{◌≡◌, ◌≤◌, ◌-◌, drop, take}
+use Rattle.csv.specs.Records.{fields_of}
+use Rattle.row_text.proofs.lent.copy_values.Given as goal
+
+abbrev pub invariant-loop-place : goal.invariant-loop-place
+invariant-loop-place l = record {
+  started : l.start ≤ l.place;
+  copied : l.row.items ≡ take (l.place - l.start) (drop l.start (fields_of l.values));
+}

@@ -1,0 +1,191 @@
+// Rows that hold their values one after another in one buffer.
+ghost use Rattle.std.specs.Prelude.{◌≡◌, ◌<◌, ◌++◌, ◌∷◌, [], length, map, slice_get, slice_index, slice_index_or, IfOk, OnOk};
+ghost use Rattle.csv.specs.Records.{fields_of, prev};
+
+use crate::lent::{LentRow, text_at};
+use csv::StringRecord;
+use lists::{Row, Text};
+use std::alloc::{AllocError, Global};
+use std::marker::Model;
+
+/// Rows, whose values lie in one buffer. A row has no memory of its own: it is lent, or copied out where that is asked for.
+/// A call that adds a row takes the rows and gives them back with it, so that a refused one leaves none half added.
+#[derive(Drop)]
+pub struct PackedRows {
+    // the values of all rows, one after another
+    values: StringRecord,
+    // how many values there are up to the end of each row
+    ends: Vec<usize>,
+}
+
+impl Model for PackedRows {
+    ghost use Rattle.std.specs.Prelude.{List, ℕ, length};
+    ghost use Rattle.csv.specs.Records.{fields_of};
+    ghost use Rattle.row_text.specs.Packed.{AreEnds, rows_cut};
+
+    ghost Value = { List (List (List ℕ)) };
+
+    ghost view = { λ p. rows_cut 0 p.ends.items (fields_of p.values) };
+
+    ghost invariant = { λ p. AreEnds 0 p.ends.items (length (fields_of p.values)) };
+}
+
+impl PackedRows {
+    /// No rows. Takes no memory.
+    pub fn new(alloc: Global) -> PackedRows
+        ensures { result ≡ [] }
+    {
+        PackedRows {
+            values: StringRecord::new(alloc),
+            ends: Vec::new(alloc),
+        }
+    }
+
+    /// These rows, copied.
+    pub fn from_rows(alloc: Global, rows: &[Row]) -> Result<PackedRows, AllocError>
+        ensures { IfOk result (λ packed. packed ≡ rows.now) }
+    {
+        let mut packed = PackedRows::new(alloc);
+        for row in rows {
+            packed = packed.with_row(row.as_slice())?;
+        }
+        Ok(packed)
+    }
+
+    /// The rows and one more, of these values.
+    pub fn with_row(self, row: &[Text]) -> Result<PackedRows, AllocError>
+        ensures { IfOk result (λ more. more ≡ self ++ row.now ∷ []) }
+    {
+        let PackedRows {
+            mut values,
+            mut ends,
+        } = self;
+        push_values(&mut values, row)?;
+        ends.push(values.len())?;
+        Ok(PackedRows { values, ends })
+    }
+
+    /// The rows and one more, of these texts.
+    pub fn with_texts(self, texts: &[&str]) -> Result<PackedRows, AllocError>
+        ensures { IfOk result (λ more. more ≡ self ++ map (λ s. s.now) texts.now ∷ []) }
+    {
+        let PackedRows {
+            mut values,
+            mut ends,
+        } = self;
+        push_texts(&mut values, texts)?;
+        ends.push(values.len())?;
+        Ok(PackedRows { values, ends })
+    }
+
+    /// The rows and one more, of the fields at these places; a field that is not there is the empty text.
+    pub fn with_fields(
+        self,
+        fields: &StringRecord,
+        places: &[usize],
+    ) -> Result<PackedRows, AllocError>
+        ensures { IfOk result (λ more. more ≡ self ++ map (λ p. slice_index_or (fields_of fields.now) p []) places.now ∷ []) }
+    {
+        let PackedRows {
+            mut values,
+            mut ends,
+        } = self;
+        push_fields(&mut values, fields, places)?;
+        ends.push(values.len())?;
+        Ok(PackedRows { values, ends })
+    }
+
+    /// The rows and one more, copied from one that is lent.
+    pub fn with_lent(self, row: &LentRow<'_>) -> Result<PackedRows, AllocError>
+        ensures { IfOk result (λ more. more ≡ self ++ row.now ∷ []) }
+    {
+        let PackedRows {
+            mut values,
+            mut ends,
+        } = self;
+        row.add_to_record(&mut values)?;
+        ends.push(values.len())?;
+        Ok(PackedRows { values, ends })
+    }
+
+    /// How many rows there are.
+    pub fn len(&self) -> usize
+        ensures { result ≡ length self.now }
+    {
+        self.ends.len()
+    }
+
+    /// The row of a number, lent.
+    pub fn at(&self, number: usize) -> LentRow<'_>
+        requires { number < length self.now }
+        ensures { result ≡ slice_index_or self.now number [] }
+    {
+        let (start, end) = bounds(&self.ends, number);
+        LentRow::new(&self.values, start, end)
+    }
+
+    /// A copy of the rows.
+    pub fn copy(&self, alloc: Global) -> Result<PackedRows, AllocError>
+        ensures { IfOk result (λ same. same ≡ self.now) }
+    {
+        Ok(PackedRows {
+            values: self.values.clone()?,
+            ends: Vec::from_slice(alloc, self.ends.as_slice())?,
+        })
+    }
+
+    /// Copies of all rows, in order, each with memory of its own.
+    pub fn rows(&self, alloc: Global) -> Result<Vec<Row>, AllocError>
+        ensures { IfOk result (λ rows. rows.items ≡ self.now) }
+    {
+        let mut rows = Vec::with_capacity(alloc, self.len())?;
+        for number in 0..self.len() {
+            rows.push(self.at(number).copy(alloc)?)?;
+        }
+        Ok(rows)
+    }
+}
+
+// Adds values behind those that are there.
+fn push_values(values: &mut StringRecord, row: &[Text]) -> Result<(), AllocError>
+    ensures { OnOk result (fields_of values.new ≡ fields_of values.old ++ row.now) }
+{
+    for value in row {
+        values.push_field(value.as_str())?;
+    }
+    Ok(())
+}
+
+// Adds texts behind the values that are there.
+fn push_texts(values: &mut StringRecord, texts: &[&str]) -> Result<(), AllocError>
+    ensures { OnOk result (fields_of values.new ≡ fields_of values.old ++ map (λ s. s.now) texts.now) }
+{
+    for text in texts {
+        values.push_field(text)?;
+    }
+    Ok(())
+}
+
+// Adds the fields at these places behind the values that are there.
+fn push_fields(
+    values: &mut StringRecord,
+    fields: &StringRecord,
+    places: &[usize],
+) -> Result<(), AllocError>
+    ensures { OnOk result (fields_of values.new ≡ fields_of values.old ++ map (λ p. slice_index_or (fields_of fields.now) p []) places.now) }
+{
+    for place in places {
+        values.push_field(text_at(fields, *place))?;
+    }
+    Ok(())
+}
+
+// How many values there are up to the start of a row, and up to its end.
+fn bounds(ends: &Vec<usize>, number: usize) -> (usize, usize)
+    requires { number < length ends.now.items }
+    ensures start { result.0 ≡ prev 0 ends.now.items number }
+    ensures end { result.1 ≡ slice_index ends.now.items number }
+{
+    let start = if number == 0 { 0 } else { ends[number - 1] };
+    (start, ends[number])
+}
