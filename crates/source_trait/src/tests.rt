@@ -3,8 +3,8 @@ ghost use Rattle.std.specs.Prelude.{◌≡◌, ◌<◌, ◌^◌, IfOk, length};
 
 use crate::{
     AttachFault, Boxed, CallFault, FileFault, Files, Kind, Lane, MemoryFiles, MemorySink,
-    MemorySource, NamedFile, Sink, SinkFault, Source, Table, attach_on, call_on,
-    locators_differ, names_differ,
+    MemorySource, NamedFile, Sink, SinkFault, Source, Table, attach_on, call_on, locators_differ,
+    names_differ,
 };
 use lists::{Copies, Exact, Numbers, Places, Row, Rows, Seq, Text, Texts};
 use std::alloc::{AllocError, Global};
