@@ -10,7 +10,8 @@ use crate::header::{header_fault, places_of};
 use crate::records::{next_record, open};
 use csv::{ByteRecord, Reader, StringRecord};
 use lists::{NoMemory, Texts};
-use source_trait::{AttachFault, PackedRows};
+use row_text::PackedRows;
+use source_trait::AttachFault;
 use std::alloc::Global;
 
 /// What the bytes of a file offer to a relation with these columns: its rows, or what is wrong with the bytes.

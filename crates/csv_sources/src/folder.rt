@@ -8,9 +8,10 @@ ghost use Rattle.csv_sources.specs.Folder.{CountsBytes, CountsData, IsFresh, off
 ghost use Rattle.csv_sources.specs.Loading.{LoadGives};
 
 use crate::data_file::read_offer;
-use lists::{Copies, NoMemory, Places, Row, Rows, Text, Texts};
+use lists::{Copies, NoMemory, Places, Row, Text, Texts};
+use row_text::PackedRows;
 use source_trait::{
-    AttachFault, CallFault, FileFault, Files, Holding, PackedRows, Request, Requests, Source,
+    AttachFault, CallFault, FileFault, Files, Holding, Request, Requests, Source,
 };
 use std::alloc::Global;
 
@@ -105,7 +106,7 @@ impl<F: Files + Send + Drop> Source for CsvFolder<F> {
         rel: u32,
         positions: &Places,
         values: &Row,
-    ) -> Result<Rows, CallFault>
+    ) -> Result<PackedRows, CallFault>
         ensures gives { CallGives (⟦<CsvFolder<F> as Source>⟧.seen self.old) (⟦<CsvFolder<F> as Source>⟧.seen self.new) rel positions.now values.now result }
         ensures works { ¬ (IsErrOf result CallFault.Failed) }
         ensures faults { (⟦<CsvFolder<F> as Source>⟧.seen self.new).faults ≡ (⟦<CsvFolder<F> as Source>⟧.seen self.old).faults }

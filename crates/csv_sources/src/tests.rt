@@ -2,7 +2,8 @@
 ghost use Rattle.std.specs.Prelude.{◌≡◌, IfOk, length};
 
 use crate::{CsvFolder, FILE_LIMIT, SUM_LIMIT};
-use lists::{Bytes, NoMemory, Numbers, Places, Row, Rows, Seq, Text, Texts};
+use lists::{Bytes, NoMemory, Numbers, Places, Row, Seq, Text, Texts};
+use row_text::PackedRows;
 use source_trait::{AttachFault, MemoryFiles, NamedFile, Source, names_differ};
 use std::alloc::Global;
 use std::test::Fail;
@@ -53,16 +54,13 @@ fn attached(alloc: Global, bytes: Bytes, name: &str) -> Result<Result<(), Attach
 }
 
 // Whether the rows are these, of two values each.
-fn are_rows(rows: &Rows, wanted: &[(&str, &str)]) -> bool {
+fn are_rows(rows: &PackedRows, wanted: &[(&str, &str)]) -> bool {
     let mut left = wanted;
-    for row in rows.as_slice() {
+    for number in 0..rows.len() {
         let [(first, second), rest @ ..] = left else {
             return false;
         };
-        let [a, b] = row.as_slice() else {
-            return false;
-        };
-        if a.as_str() != *first || b.as_str() != *second {
+        if !rows.at(number).is(&[first, second]) {
             return false;
         }
         left = rest;

@@ -1,3 +1,4 @@
+pub mod Comparing
 pub mod Flexible
 pub mod Mapped
 pub mod Orders

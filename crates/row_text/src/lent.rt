@@ -139,6 +139,7 @@ impl<'a> Ord for LentRow<'a> {
 fn compare(left: &LentRow<'_>, right: &LentRow<'_>) -> Ordering
     ensures { result ≡ row_cmp left.now right.now }
 {
+    let count = left.len();
     let mut column = 0;
     while let (Some(value), Some(other)) = (left.value(column), right.value(column)) {
         match value.cmp(other) {
@@ -147,7 +148,7 @@ fn compare(left: &LentRow<'_>, right: &LentRow<'_>) -> Ordering
         }
         column += 1;
     }
-    left.len().cmp(&right.len())
+    count.cmp(&right.len())
 }
 
 /// The field at a place; the empty text where there is none.

@@ -14,7 +14,8 @@ pub fn ascending_distinct(alloc: Global, rows: &PackedRows) -> Result<PackedRows
     ensures same { IfOk result (λ distinct. (row : List (List ℕ)) → Contains distinct row ↔ Contains rows.now row) }
 {
     let members = ascending_members(alloc, rows)?;
-    rows_of(alloc, members.as_slice())
+    let distinct = rows_of(alloc, members.as_slice())?;
+    Ok(distinct)
 }
 
 /// The distinct rows, ascending, lent. Rows that ascend already, as those of an execution do, are sorted in linear time.

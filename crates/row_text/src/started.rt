@@ -21,7 +21,7 @@ pub(crate) struct Started<'a> {
 
 impl<'a> Started<'a> {
     pub(crate) fn new(row: LentRow<'a>) -> Started<'a>
-        ensures { result.row ≡ row }
+        ensures { result.row ≡ row.entry }
     {
         let start = start_of(first_value(&row));
         Started { start, row }

@@ -1,5 +1,6 @@
 // Texts that are known from outside.
-use crate::{Recent, ascending_distinct, csv_text};
+use crate::{PackedRows, Recent, ascending_distinct, csv_text};
+use csv::StringRecord;
 use lists::{NoMemory, Row, Rows, Text, Texts};
 use std::alloc::Global;
 use std::test::Fail;
@@ -94,5 +95,39 @@ fn a_double_of_a_row_that_came_lately_is_told(rt: HostRuntime) -> Result<(), Fai
     for values in list {
         assert!(rt; kept.contains(&row(alloc, values)?), "{values:?}");
     }
+    Ok(())
+}
+
+#[test]
+fn packed_rows_keep_each_value_of_each_row(rt: HostRuntime) -> Result<(), Fail> {
+    let alloc = rt.alloc();
+    let mut packed = PackedRows::new(alloc);
+    packed = packed.with_row(row(alloc, &["1", "αβ"])?.as_slice())?;
+    packed = packed.with_texts(&[])?;
+    let fields = StringRecord::from_fields(alloc, &["a", "b"])?;
+    packed = packed.with_fields(&fields, &[1, 9])?;
+    assert!(rt; packed.len() == 3);
+    assert!(rt; packed.at(0).value(1) == Some("αβ"));
+    assert!(rt; packed.at(0).value(2).is_none());
+    assert!(rt; packed.at(1).is(&[]));
+    assert!(rt; packed.at(2).is(&["b", ""]));
+    assert!(rt; !packed.at(2).is(&["b"]));
+    Ok(())
+}
+
+#[test]
+fn a_lent_row_is_copied_to_other_rows(rt: HostRuntime) -> Result<(), Fail> {
+    let alloc = rt.alloc();
+    let packed = PackedRows::from_rows(alloc, rows(alloc, &[&["x"], &["y", "z"]])?.as_slice())?;
+    assert!(rt; packed.len() == 2);
+    let last = packed.at(1);
+    let more = packed.copy(alloc)?.with_lent(&last)?;
+    assert!(rt; more.len() == 3);
+    assert!(rt; more.at(2).is(&["y", "z"]));
+    assert!(rt; more.at(0).copy(alloc)? == row(alloc, &["x"])?);
+    let mut texts = Vec::new(alloc);
+    more.at(0).add_to(&mut texts)?;
+    last.add_to(&mut texts)?;
+    assert!(rt; texts.as_slice() == ["x", "y", "z"].as_slice());
     Ok(())
 }

@@ -1,5 +1,4 @@
 pub mod Stores
 pub mod LaneSteps
 pub mod Tables
-pub mod Packing
 pub mod Indexing

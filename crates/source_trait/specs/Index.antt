@@ -1,15 +1,12 @@
 -- A hash index of rows on positions, by chains of rows that hash alike (Knuth, The Art of Computer Programming 3, 6.4).
-use Rattle.std.specs.Prelude.{◌≡◌, ◌≢◌, ◌<◌, ◌≤◌, ◌+◌, ◌*◌, ◌%◌, ◌^◌, ◌&&◌, ℕ, List, [], ◌∷◌, ◌++◌, ◌⊎◌, length, map, Option, None, Some, IsSomeAnd, slice_get, slice_index, nat_eq, if◌then◌else◌}
-use Rattle.std.specs.List.{AllByRecursion, fold}
+use Rattle.std.specs.Prelude.{◌≡◌, ◌≢◌, ◌<◌, ◌≤◌, ◌+◌, ◌%◌, ◌&&◌, ℕ, List, [], ◌∷◌, ◌++◌, ◌⊎◌, length, map, Option, None, Some, IsSomeAnd, slice_get, slice_index, nat_eq, if◌then◌else◌}
+use Rattle.std.specs.List.{AllByRecursion}
 use Rattle.std.specs.Cmp.Lexicographic.{pointwise}
+use Rattle.row_text.specs.Hash.{mix}
 use Rattle.source_trait.specs.Asking.{RowList}
 use Rattle.source_trait.specs.Holding.{attachment_in}
 use Rattle.source_trait.specs.declared.holding.Attachment.{Attachment}
 use Rattle.source_trait.specs.declared.index.Index.{Index}
-
--- a hash with a text mixed in, byte by byte; the factor is that of the hashes of Fowler, Noll and Vo
-abbrev pub mix : ℕ → List ℕ → ℕ
-mix hash bytes = fold (λ h byte. ((h * 1099511628211) % 2 ^ 64 + byte) % 2 ^ 64) hash bytes
 
 -- a hash with a value mixed in, if there is one
 abbrev pub mix_some : ℕ → Option (List ℕ) → ℕ

@@ -1,6 +1,5 @@
 pub mod Causes
 pub mod Outside
-pub mod Packed
 pub mod Asking
 pub mod Lanes
 pub mod Holding

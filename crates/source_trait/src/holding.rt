@@ -6,8 +6,8 @@ ghost use Rattle.source_trait.specs.Index.{IndexesOf, OneMore};
 ghost use Rattle.source_trait.specs.Holding.{facts_held, attachment_in, attached_in, others_than, sizes_of};
 
 use crate::index::{Index, find_index};
-use crate::packed::PackedRows;
-use lists::{Copies, Row, Rows, Seq, Text, Texts};
+use lists::{Copies, Text, Texts};
+use row_text::PackedRows;
 use std::alloc::{AllocError, Global};
 use std::marker::Model;
 
@@ -115,23 +115,22 @@ impl Holding {
         rel: u32,
         positions: &[u32],
         values: &[Text],
-    ) -> Result<Rows, AllocError>
+    ) -> Result<PackedRows, AllocError>
         ensures picks { IfOk result (λ rows. rows ≡ pick (facts_held self.old) rel positions.now values.now) }
         ensures fits { IfOk result (λ rows. IfSome (attached_in self.old rel) (λ a. AllByRecursion (λ row. (length row ≡ length a.0) × (agrees positions.now values.now row ≡ true)) rows)) }
         ensures same { self.new ≡ self.old }
     {
         let Some(attachment) = find(&self.list, rel) else {
-            return Ok(Seq::new(alloc));
+            return Ok(PackedRows::new(alloc));
         };
-        let found = indexed(
+        indexed(
             alloc,
             &mut self.indexes,
             rel,
             &attachment.rows,
             positions,
             values,
-        )?;
-        Ok(Seq::from_vec(found))
+        )
     }
 }
 
@@ -205,13 +204,13 @@ fn indexed(
     rows: &PackedRows,
     positions: &[u32],
     values: &[Text],
-) -> Result<Vec<Row>, AllocError>
+) -> Result<PackedRows, AllocError>
     requires { IndexesOf rel rows.now indexes.old.items }
-    ensures found { IfOk result (λ found. found.items ≡ filter (agrees positions.now values.now) rows.now) }
+    ensures found { IfOk result (λ found. found ≡ filter (agrees positions.now values.now) rows.now) }
     ensures made { OneMore rel rows.now indexes.old.items indexes.new.items }
 {
     if positions.is_empty() {
-        return rows.rows(alloc);
+        return rows.copy(alloc);
     }
     if let Some(index) = find_index(indexes, rel, positions) {
         return index.rows_with(alloc, rows, values);

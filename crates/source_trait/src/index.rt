@@ -1,12 +1,12 @@
 // An index of a relation's rows on positions.
-ghost use Rattle.std.specs.Prelude.{◌≡◌, ◌<◌, ◌≤◌, ◌%◌, ℕ, [], length, map, IfOk, option_copied, slice_index, slice_index_or};
+ghost use Rattle.std.specs.Prelude.{◌≡◌, ◌<◌, ◌≤◌, ◌%◌, ℕ, length, map, IfOk, option_copied, slice_index};
 ghost use Rattle.std.specs.List.{AllByRecursion, filter};
 ghost use Rattle.source_trait.specs.Asking.{agrees};
-ghost use Rattle.source_trait.specs.Index.{AreChains, Indexes, codes_of, index_in, key_hash, mix, row_hash};
+ghost use Rattle.source_trait.specs.Index.{AreChains, Indexes, codes_of, index_in, key_hash, row_hash};
 
-use crate::matching::push_matching;
-use crate::packed::PackedRows;
-use lists::{Places, Row, Text};
+use crate::matching::with_matching;
+use lists::{Places, Text};
+use row_text::{LentRow, PackedRows, mix};
 use std::alloc::{AllocError, Global};
 
 /// An index of the rows of a relation on positions: chains of the rows whose values there hash to one code.
@@ -49,18 +49,18 @@ impl Index {
         alloc: Global,
         rows: &PackedRows,
         values: &[Text],
-    ) -> Result<Vec<Row>, AllocError>
+    ) -> Result<PackedRows, AllocError>
         requires { Indexes self.now rows.now }
-        ensures { IfOk result (λ found. found.items ≡ filter (agrees self.now.positions values.now) rows.now) }
+        ensures { IfOk result (λ found. found ≡ filter (agrees self.now.positions values.now) rows.now) }
     {
         let positions = self.positions.as_slice();
         let heads = self.heads.as_slice();
         let next = self.next.as_slice();
         let code = (key_hash(positions, values) % heads.len() as u64) as usize;
-        let mut found = Vec::new(alloc);
+        let mut found = PackedRows::new(alloc);
         let mut number = heads[code];
         while number < rows.len() {
-            push_matching(alloc, &mut found, rows, number, positions, values)?;
+            found = with_matching(found, &rows.at(number), positions, values)?;
             number = next[number];
         }
         Ok(found)
@@ -93,7 +93,7 @@ fn codes(
 {
     let mut codes = Vec::with_capacity(alloc, rows.len())?;
     for number in 0..rows.len() {
-        let code = row_hash(rows, number, positions) % count as u64;
+        let code = row_hash(&rows.at(number), positions) % count as u64;
         codes.push(code as usize)?;
     }
     Ok(codes)
@@ -122,14 +122,13 @@ fn chains(
 }
 
 // The hash of a row's values at the positions.
-fn row_hash(rows: &PackedRows, number: usize, positions: &[u32]) -> u64
-    requires { number < length rows.now }
-    ensures { result ≡ row_hash 0 positions.now (slice_index_or rows.now number []) }
+fn row_hash(row: &LentRow<'_>, positions: &[u32]) -> u64
+    ensures { result ≡ row_hash 0 positions.now row.now }
 {
     let mut hash: u64 = 0;
     let mut places = positions;
     while let [place, rest @ ..] = places {
-        if let Some(value) = rows.value(number, *place as usize) {
+        if let Some(value) = row.value(*place as usize) {
             hash = mix(hash, value.as_bytes());
         }
         places = rest;
@@ -153,17 +152,4 @@ fn key_hash(positions: &[u32], values: &[Text]) -> u64
         wanted = values_left;
     }
     hash
-}
-
-// A hash with a text mixed in.
-fn mix(hash: u64, bytes: &[u8]) -> u64
-    ensures { result ≡ mix hash bytes.now }
-{
-    let mut mixed = hash;
-    for byte in bytes {
-        mixed = mixed
-            .wrapping_mul(1099511628211)
-            .wrapping_add(u64::from(*byte));
-    }
-    mixed
 }

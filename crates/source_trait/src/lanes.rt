@@ -4,8 +4,9 @@ ghost use Rattle.source_trait.specs.Asking.{Seen, AttachGives, CallGives, CanAsk
 ghost use Rattle.source_trait.specs.Lanes.{names_of, place_from, StepsAt, StepsOn, AtKind, KindsStay};
 
 use crate::source::{AttachFault, CallFault, Source};
-use lists::{Places, Row, Rows, Text, Texts};
+use lists::{Places, Row, Text, Texts};
 use meaning::types::Requests;
+use row_text::PackedRows;
 use std::alloc::Global;
 
 /// A source under the name of its kind.
@@ -81,7 +82,7 @@ pub fn call_on<S: Source + Send + Drop>(
     rel: u32,
     positions: &Places,
     values: &Row,
-) -> Result<Rows, CallFault>
+) -> Result<PackedRows, CallFault>
     requires ready { AtKind lane.old.kinds.items kind.now (λ s. CanAsk ((S.seen s).attached rel) positions.now values.now) }
     ensures steps { StepsOn lane.old.kinds.items lane.new.kinds.items kind.now
         (λ s t. CallGives (S.seen s) (S.seen t) rel positions.now values.now result) }
@@ -137,7 +138,7 @@ fn call_at<S: Source + Send + Drop>(
     rel: u32,
     positions: &Places,
     values: &Row,
-) -> Result<Rows, CallFault>
+) -> Result<PackedRows, CallFault>
     requires place { place < length kinds.old.items }
     requires ready { IfSome (slice_get kinds.old.items place) (λ k. CanAsk ((S.seen k.object).attached rel) positions.now values.now) }
     ensures { StepsAt kinds.old.items kinds.new.items place (λ s t. CallGives (S.seen s) (S.seen t) rel positions.now values.now result) }
@@ -171,7 +172,7 @@ impl Source for Boxed {
         rel: u32,
         positions: &Places,
         values: &Row,
-    ) -> Result<Rows, CallFault> {
+    ) -> Result<PackedRows, CallFault> {
         self.object.call(alloc, rel, positions, values)
     }
 

@@ -1,16 +1,15 @@
 // The rows that have values at positions.
-ghost use Rattle.std.specs.Prelude.{◌≡◌, ◌<◌, ◌++◌, ◌∷◌, [], length, slice_index_or, OnOk};
+ghost use Rattle.std.specs.Prelude.{◌≡◌, ◌++◌, ◌∷◌, [], IfOk};
 ghost use Rattle.std.specs.List.{filter};
 ghost use Rattle.source_trait.specs.Asking.{agrees};
 
-use crate::packed::PackedRows;
-use lists::{Row, Text};
-use std::alloc::{AllocError, Global};
+use lists::Text;
+use row_text::{LentRow, PackedRows};
+use std::alloc::AllocError;
 
-/// Whether the row of this number has the values at the positions.
-fn row_agrees(rows: &PackedRows, number: usize, positions: &[u32], values: &[Text]) -> bool
-    requires { number < length rows.now }
-    ensures { result ≡ agrees positions.now values.now (slice_index_or rows.now number []) }
+/// Whether the row has the values at the positions.
+fn row_agrees(row: &LentRow<'_>, positions: &[u32], values: &[Text]) -> bool
+    ensures { result ≡ agrees positions.now values.now row.now }
 {
     let mut places = positions;
     let mut wanted = values;
@@ -18,7 +17,7 @@ fn row_agrees(rows: &PackedRows, number: usize, positions: &[u32], values: &[Tex
         let [value, values_left @ ..] = wanted else {
             return false;
         };
-        match rows.value(number, *place as usize) {
+        match row.value(*place as usize) {
             Some(found) => {
                 if found != value.as_str() {
                     return false;
@@ -32,20 +31,18 @@ fn row_agrees(rows: &PackedRows, number: usize, positions: &[u32], values: &[Tex
     true
 }
 
-/// Adds a copy of the row of this number, if it has the values at the positions.
-pub(crate) fn push_matching(
-    alloc: Global,
-    found: &mut Vec<Row>,
-    rows: &PackedRows,
-    number: usize,
+/// The found rows, and a copy of this row behind them, if it has the values at the positions.
+pub(crate) fn with_matching(
+    found: PackedRows,
+    row: &LentRow<'_>,
     positions: &[u32],
     values: &[Text],
-) -> Result<(), AllocError>
-    requires { number < length rows.now }
-    ensures { OnOk result (found.new.items ≡ found.old.items ++ filter (agrees positions.now values.now) (slice_index_or rows.now number [] ∷ [])) }
+) -> Result<PackedRows, AllocError>
+    ensures { IfOk result (λ more. more ≡ found ++ filter (agrees positions.now values.now) (row.now ∷ [])) }
 {
-    if row_agrees(rows, number, positions, values) {
-        found.push(rows.row(alloc, number)?)?;
+    if row_agrees(row, positions, values) {
+        found.with_lent(row)
+    } else {
+        Ok(found)
     }
-    Ok(())
 }

@@ -8,11 +8,11 @@ ghost use Rattle.source_trait.specs.Tables.{rows_under, offered, bad_row, Offers
 
 use crate::failing::FailingCalls;
 use crate::holding::Holding;
-use crate::packed::PackedRows;
 use crate::source::{AttachFault, CallFault, Source};
 use crate::table::{Table, Tables};
 use lists::{Copies, NoMemory, Numbers, Places, Row, Rows, Seq, Text, Texts};
 use meaning::types::{Request, Requests};
+use row_text::PackedRows;
 use std::alloc::Global;
 
 /// Tables in memory as a source, of which the listed attaches and calls fail.
@@ -109,7 +109,7 @@ impl Source for MemorySource {
         rel: u32,
         positions: &Places,
         values: &Row,
-    ) -> Result<Rows, CallFault>
+    ) -> Result<PackedRows, CallFault>
         ensures gives { CallGives (⟦<MemorySource as Source>⟧.seen self.old) (⟦<MemorySource as Source>⟧.seen self.new) rel positions.now values.now result }
         ensures turn { FailsAsListed self.old.calls self.new.calls self.old.failures self.new.failures (IsErrOf result CallFault.Failed) (IsErrOf result CallFault.NoMemory) }
         ensures attaches { self.new.attaches ≡ self.old.attaches }
@@ -148,7 +148,7 @@ fn answer(
     rel: u32,
     positions: &Places,
     values: &Row,
-) -> Result<Rows, NoMemory>
+) -> Result<PackedRows, NoMemory>
     ensures picks { IfOk result (λ rows. rows ≡ pick (facts_held holding.old) rel positions.now values.now) }
     ensures fits { IfOk result (λ rows. IfSome (attached_in holding.old rel) (λ a. AllByRecursion (λ row. (length row ≡ length a.0) × (agrees positions.now values.now row ≡ true)) rows)) }
     ensures held { holding.new ≡ holding.old }

@@ -2,8 +2,9 @@
 ghost use Rattle.std.specs.Prelude.{◌≡◌, ◌≤◌, option_copied, length};
 ghost use Rattle.source_trait.specs.Asking.{Seen, AttachGives, CallGives, CanAsk};
 
-use lists::{Places, Row, Rows, Text, Texts};
+use lists::{Places, Row, Text, Texts};
 use meaning::types::Requests;
+use row_text::PackedRows;
 use std::alloc::Global;
 
 /// Why a relation is not attached. A column counts from 0, and a number of a row from 1.
@@ -49,7 +50,7 @@ pub trait Source {
         rel: u32,
         positions: &Places,
         values: &Row,
-    ) -> Result<Rows, CallFault>
+    ) -> Result<PackedRows, CallFault>
         requires { CanAsk ((seen self.old).attached rel) positions.now values.now }
         ensures { CallGives (seen self.old) (seen self.new) rel positions.now values.now result };
 

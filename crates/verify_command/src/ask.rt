@@ -6,9 +6,10 @@ ghost use Rattle.verify_command.specs.Asking.{IsReady, AsksOne, AsksInOrder, Ask
 
 use access_schema::Schema;
 use command_io::Stop;
-use lists::{NoMemory, Places, Row, Rows};
+use lists::{NoMemory, Places, Row};
 use meaning::types::{Fact, Instance};
 use middleware::find_line;
+use row_text::PackedRows;
 use source_trait::{CallFault, Lane, Source, call_on};
 use std::alloc::Global;
 
@@ -27,7 +28,7 @@ pub fn ask_all<S: Source + Send + Drop>(
     let mut facts = Instance::new(alloc);
     for rel in rels {
         match ask_one(alloc, schema, lane, *rel) {
-            Ok(rows) => match add_facts(&mut facts, *rel, rows) {
+            Ok(rows) => match add_facts(alloc, &mut facts, *rel, &rows) {
                 Ok(()) => {}
                 Err(_) => return Err(Stop::Memory),
             },
@@ -43,7 +44,7 @@ fn ask_one<S: Source + Send + Drop>(
     schema: &Schema,
     lane: &mut Lane<S>,
     rel: u32,
-) -> Result<Rows, CallFault>
+) -> Result<PackedRows, CallFault>
     requires { IsReady S.seen schema.now lane.old.kinds.items rel }
     ensures asks { AsksOne S.seen schema.now rel result lane.old.kinds.items lane.new.kinds.items }
     ensures stays { KindsStay S.seen lane.old.kinds.items lane.new.kinds.items }
@@ -57,10 +58,16 @@ fn ask_one<S: Source + Send + Drop>(
 }
 
 // Adds the facts of a relation with these rows.
-fn add_facts(facts: &mut Instance, rel: u32, rows: Rows) -> Result<(), NoMemory>
-    ensures { OnOk result (facts.new ≡ facts.old ++ facts_of rel rows) }
+fn add_facts(
+    alloc: Global,
+    facts: &mut Instance,
+    rel: u32,
+    rows: &PackedRows,
+) -> Result<(), NoMemory>
+    ensures { OnOk result (facts.new ≡ facts.old ++ facts_of rel rows.now) }
 {
-    for row in rows.into_vec() {
+    for number in 0..rows.len() {
+        let row = rows.at(number).copy(alloc)?;
         facts.push(Fact { rel, row })?;
     }
     Ok(())

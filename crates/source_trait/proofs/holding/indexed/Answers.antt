@@ -7,7 +7,7 @@ use Rattle.source_trait.proofs.holding.indexed.Goals as goal
 pub returns-then-is_empty-clause-found : goal.returns-then-is_empty-clause-found
 returns-then-is_empty-clause-found c =
     let none : length c.args.positions.now ≡ 0 = search rules in
-    IfOk-weaker c.rows.result _ _ (λ found is. is ∙ all_agree c.args.positions.now c.args.values.now c.args.rows.now none) c.rows.ensures
+    IfOk-weaker c.copy.result _ _ (λ found is. is ∙ all_agree c.args.positions.now c.args.values.now c.args.rows.now none) c.copy.ensures
 
 pub rows_with-requires : goal.rows_with-requires
 rows_with-requires c =

@@ -1,4 +1,4 @@
-use Rattle.std.proofs.Common.{◌∙◌, sym, ap, length, arith}
+use Rattle.std.proofs.Common.{ap, length, arith}
 use Rattle.csv.specs.Records.{fields_of}
 use Rattle.row_text.proofs.Packing.{length-rows_cut, row_part}
 use Rattle.row_text.proofs.packed.PackedRows.at.Goals as goal

@@ -1,6 +1,5 @@
 use Rattle.std.proofs.Common.{◌≡◌, rules, Some, None, length}
-use Rattle.std.specs.List.{filter}
-use Rattle.source_trait.specs.Asking.{agrees}
+use Rattle.std.proofs.lemmas.Result.{IfOk-weaker}
 use Rattle.source_trait.specs.Holding.{attachment_in, attached_in}
 use Rattle.source_trait.proofs.Stores.{picked, picked_none, kept_fits, rows_fit}
 use Rattle.source_trait.proofs.Indexing.{indexes_of}
@@ -30,6 +29,5 @@ returns-clause-fits c =
     let a = c.in-Some.attachment.now in
     let at : attachment_in c.self.inside.list.items c.args.rel ≡ Some a = search rules in
     let fit = kept_fits (length a.columns) c.args.positions.now c.args.values.now a.rows (rows_fit c.self.inside.list.items c.args.rel a c.self.invariant.0 at) in
-    let rows_are : c.from_vec.result ≡ filter (agrees c.args.positions.now c.args.values.now) a.rows = search rules in
     let there : attached_in c.args.self.now c.args.rel ≡ Some (a.columns, a.locator) = search rules in
-    rw (there, rows_are) fit
+    rw there (IfOk-weaker c.indexed.result _ _ (λ rows is. rw is fit) c.indexed.ensures.found)

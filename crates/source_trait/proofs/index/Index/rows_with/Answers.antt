@@ -11,7 +11,7 @@ loop-number-init c =
     let code = c.key_hash.result % length c.as_slice-heads.result.now in
     let code_is : code ≡ key_hash 0 index.positions c.args.values.now % length index.heads.items = rw (c.key_hash.ensures, c.as_slice-heads.ensures.value, c.as_slice-positions.ensures) refl in
     let at : get_or c.as_slice-heads.result.now code 0 ≡ get_or index.heads.items code 0 = rw c.as_slice-heads.ensures.value refl in
-    rw c.new-found.ensures.items
+    rw c.new-found.ensures
     (found_first index.positions c.args.values.now c.args.rows.now (length index.heads.items) index.heads.items index.next.items code (get_or c.as_slice-heads.result.now code 0) refl c.requires.0 c.requires.1 code_is at)
 
 pub loop-number-preserved : goal.loop-number-preserved
@@ -19,7 +19,7 @@ loop-number-preserved c =
     let index = c.args.self.now in
     let rows = c.args.rows.now in
     let at : get_or c.as_slice-next.result.now c.loop-number.number 0 ≡ get_or index.next.items c.loop-number.number 0 = rw c.as_slice-next.ensures.value refl in
-    let found : c.push_matching.new.found.items ≡ c.loop-number.found.items ++ filter (agrees index.positions c.args.values.now) (get_or rows c.loop-number.number [] ∷ []) = rw (← c.as_slice-positions.ensures) c.in_ok-push_matching.ensures in
+    let found : c.in_ok-found.found ≡ c.loop-number.found ++ filter (agrees index.positions c.args.values.now) (get_or rows c.loop-number.number [] ∷ []) = rw (← c.as_slice-positions.ensures, ← c.at.ensures) c.in_ok-found.ensures in
     rw found
-    (found_more index.positions c.args.values.now c.args.rows.now (length index.heads.items) index.heads.items index.next.items c.loop-number.number (get_or c.as_slice-next.result.now c.loop-number.number 0) c.loop-number.found.items c.loop-number.invariant c.requires.1
+    (found_more index.positions c.args.values.now c.args.rows.now (length index.heads.items) index.heads.items index.next.items c.loop-number.number (get_or c.as_slice-next.result.now c.loop-number.number 0) c.loop-number.found c.loop-number.invariant c.requires.1
     (omega (arith, c.loop-number-test.true, c.len.ensures)) at)
