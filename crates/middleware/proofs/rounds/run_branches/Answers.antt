@@ -6,7 +6,7 @@ use Rattle.middleware.proofs.rounds.run_branches.Goals as goal
 
 pub loop-branch-init : goal.loop-branch-init
 loop-branch-init g c = record {
-  done = done_none g.S.Source.seen c.args.schema.now c.args.plan.now c.new.result.items c.new.ensures.items c.args.lane.now.kinds.items;
+  done = done_none g.S.Source.seen c.args.schema.now c.args.plan.now c.new.result c.new.ensures c.args.lane.now.kinds.items;
   number = refl;
   within = omega arith;
   stopped = refl;
