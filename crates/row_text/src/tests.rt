@@ -152,6 +152,11 @@ fn copies_of_packed_rows_are_the_same_rows(rt: HostRuntime) -> Result<(), Fail> 
     let copies = packed.rows(alloc)?;
     assert!(rt; copies.len() == 2);
     let again = PackedRows::from_rows(alloc, copies.as_slice())?;
-    assert!(rt; are(&again.with_lent(&packed.at(0))?, &[&["x", "y"], &["z"], &["x", "y"]]));
+    assert!(rt;
+        are(
+            &again.with_lent(&packed.at(0))?,
+            &[&["x", "y"], &["z"], &["x", "y"]]
+        )
+    );
     Ok(())
 }
