@@ -3,4 +3,3 @@ pub mod Choosing
 pub mod Pairing
 pub mod First
 pub mod Written
-pub mod Each

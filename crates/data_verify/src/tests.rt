@@ -1,9 +1,6 @@
 // The staff database, a schema without rules, and graphs whose least broken rows are worked out by hand.
-ghost use Rattle.std.specs.Prelude.{◌≡◌, ◌≢◌, [], ℕ, List, true, Contains};
-ghost use Rattle.access_schema.specs.Faults.{IsNamed, AreNamed};
-
 use crate::{verification_text, verify};
-use access_schema::{BuildFault, NamedAtom, NamedAtoms, NamedTerm, Part, Parts, Schema};
+use access_schema::{BuildFault, NamedAtom, NamedAtoms, NamedTerm, Part, Parts, Schema, are_named};
 use lists::{Bytes, NoMemory, Row, Seq, Text, Texts};
 use meaning::types::{Fact, Instance};
 use std::alloc::Global;
@@ -68,41 +65,6 @@ fn rule(
         body: atoms(alloc, body)?,
         head: atoms(alloc, head)?,
     })
-}
-
-fn none_empty(all: &[Text]) -> bool
-    ensures { result ≡ true → (text : List ℕ) → Contains all.now text → text ≢ [] }
-{
-    for text in all {
-        if text.as_bytes().is_empty() {
-            return false;
-        }
-    }
-    true
-}
-
-/// Whether no name of the part is empty; only relations and rules are looked at.
-fn is_named(part: &Part) -> bool
-    ensures { result ≡ true → IsNamed part.now }
-{
-    match part {
-        Part::Relation { name, columns } => {
-            !name.as_bytes().is_empty() && none_empty(columns.as_slice())
-        }
-        Part::Rule { .. } => true,
-        _ => false,
-    }
-}
-
-fn are_named(parts: &[Part]) -> bool
-    ensures { result ≡ true → AreNamed parts.now }
-{
-    for part in parts {
-        if !is_named(part) {
-            return false;
-        }
-    }
-    true
 }
 
 fn instance(alloc: Global, facts: &[(u32, &[&str])]) -> Result<Instance, NoMemory> {

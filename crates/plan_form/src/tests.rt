@@ -1,9 +1,8 @@
-ghost use Rattle.std.specs.Prelude.{◌≡◌, ◌≢◌, ◌<◌, ◌≤◌, ◌+◌, [], ◌∷◌, length, IfOk};
-ghost use Rattle.access_schema.specs.Faults.{AreNamed};
+ghost use Rattle.std.specs.Prelude.{◌<◌, length};
 
 use super::*;
-use access_schema::{Part, Parts, Schema};
-use lists::{NoMemory, Seq, Text, Texts};
+use access_schema::{BuildFault, Part, Parts, Schema, are_named};
+use lists::{NoMemory, Text, Texts};
 use meaning::types::{Out, Place};
 use std::alloc::Global;
 use std::test::*;
@@ -166,58 +165,42 @@ fn a_fault_is_told_on_one_line(rt: HostRuntime) -> Result<(), Fail> {
     Ok(())
 }
 
-// A list of one name.
-fn one(alloc: Global, name: &str) -> Result<Texts, NoMemory>
-    ensures { IfOk result (λ names. names ≡ name.now ∷ []) }
-{
-    let mut names = Seq::new(alloc);
-    names.push(Text::from_str(alloc, name)?)?;
-    Ok(names)
+fn texts(alloc: Global, all: &[&str]) -> Result<Texts, NoMemory> {
+    let mut made = Texts::new(alloc);
+    for text in all {
+        made.push(Text::from_str(alloc, text)?)?;
+    }
+    Ok(made)
 }
 
-fn relation(alloc: Global) -> Result<Part, NoMemory>
-    ensures { IfOk result (λ part. AreNamed (part ∷ [])) }
-{
-    let name = Text::from_str(alloc, "r")?;
-    let mut columns = one(alloc, "a")?;
-    columns.push(Text::from_str(alloc, "b")?)?;
-    Ok(Part::Relation { name, columns })
-}
-
-fn method(alloc: Global, name: &str, inputs: Texts) -> Result<Part, NoMemory>
-    requires { name.now ≢ [] }
-    ensures { IfOk result (λ part. AreNamed (part ∷ [])) }
-{
+fn method(alloc: Global, name: &str, inputs: &[&str]) -> Result<Part, NoMemory> {
     Ok(Part::Method {
         name: Text::from_str(alloc, name)?,
         relation: Text::from_str(alloc, "r")?,
-        inputs,
+        inputs: texts(alloc, inputs)?,
         cost: 1,
     })
 }
 
-// The parts and one more.
-fn with(parts: Parts, part: Part) -> Result<Parts, NoMemory>
-    requires few { length parts < 100 }
-    requires named { AreNamed parts }
-    requires part { AreNamed (part ∷ []) }
-    ensures few { IfOk result (λ more. length more ≡ length parts + 1) }
-    ensures named { IfOk result (λ more. AreNamed more) }
-{
-    let mut more = parts;
-    more.push(part)?;
-    Ok(more)
+// The relation r(a, b), asked without an input, by its first and by its second column.
+fn pairs(alloc: Global) -> Result<Parts, NoMemory> {
+    let mut parts = Parts::new(alloc);
+    parts.push(Part::Relation {
+        name: Text::from_str(alloc, "r")?,
+        columns: texts(alloc, &["a", "b"])?,
+    })?;
+    parts.push(method(alloc, "all_r", &[])?)?;
+    parts.push(method(alloc, "by_a", &["a"])?)?;
+    parts.push(method(alloc, "by_b", &["b"])?)?;
+    Ok(parts)
 }
 
-// The relation r(a, b), asked without an input, by its first and by its second column.
-fn pairs(alloc: Global) -> Result<Parts, NoMemory>
-    ensures few { IfOk result (λ parts. length parts ≤ 4) }
-    ensures named { IfOk result (λ parts. AreNamed parts) }
-{
-    let parts = with(Seq::new(alloc), relation(alloc)?)?;
-    let parts = with(parts, method(alloc, "all_r", Seq::new(alloc))?)?;
-    let parts = with(parts, method(alloc, "by_a", one(alloc, "a")?)?)?;
-    with(parts, method(alloc, "by_b", one(alloc, "b")?)?)
+fn schema_of_pairs(alloc: Global) -> Result<Schema, BuildFault> {
+    let parts = pairs(alloc)?;
+    if parts.len() > 100 || !are_named(parts.as_slice()) {
+        return Err(BuildFault::NoMemory);
+    }
+    Schema::build(alloc, parts)
 }
 
 // What `lawful` says of the plan of a text.
@@ -235,9 +218,8 @@ fn judged(
 
 #[test]
 fn the_first_fault_of_a_plan_is_told(rt: HostRuntime) -> Result<(), Fail> {
-    let parts = pairs(rt.alloc())?;
-    let schema = Schema::build(rt.alloc(), parts)?;
-    let known = one(rt.alloc(), "k")?;
+    let schema = schema_of_pairs(rt.alloc())?;
+    let known = texts(rt.alloc(), &["k"])?;
     let at = |branch: u32, step: u32, place: u32, kind: PlanFaultKind| Some(PlanFault {
         branch,
         step,

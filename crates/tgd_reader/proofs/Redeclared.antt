@@ -3,7 +3,7 @@ use Rattle.std.proofs.Common.{◌≡◌, ◌≢◌, ℕ, zero, suc, ◌+◌, ◌
 use Rattle.std.specs.Prelude.{Contains, map, filter_map, flat_map, option_map, IsTrue}
 use Rattle.std.specs.List.{AllByRecursion, cons_option}
 use Rattle.std.proofs.lemmas.Bool.{cases_Bool}
-use Rattle.std.proofs.lemmas.List.{append-nil}
+use Rattle.std.proofs.lemmas.List.{append-nil, map-id}
 use Rattle.std.proofs.lemmas.List.Concat.{flat_map-append}
 use Rattle.std.proofs.lemmas.List.Elements.{filter_map-append, Contains-append_cases}
 use Rattle.meaning.specs.declared.types.Relation.{Relation}
@@ -83,10 +83,6 @@ given_none : {X Y : Type 0} (f : X → Part) (h : Part → Option Y) (xs : List 
 given_none f h [] none = refl
 given_none f h (x ∷ xs) none = cons_same (h (f x)) None (filter_map h (map f xs)) [] (none x) (given_none f h xs none)
 
-map_id : {X : Type 0} (xs : List X) → map (λ x. x) xs ≡ xs
-map_id [] = refl
-map_id (x ∷ xs) = ap (λ ys. x ∷ ys) (map_id xs)
-
 -- the five kinds one behind another
 module _ {Y : Type 0} (h : Part → Option Y) (a b c d e : List Part) where
   pub given_five : (p q r s t : List Y) → filter_map h a ≡ p → filter_map h b ≡ q → filter_map h c ≡ r → filter_map h d ≡ s → filter_map h e ≡ t → filter_map h (a ++ (b ++ (c ++ (d ++ e)))) ≡ p ++ (q ++ (r ++ (s ++ t)))
@@ -126,7 +122,7 @@ module _ (schema : Schema) where
   pub relations_declared : relations_of (parts_of schema) ≡ schema.relations
   relations_declared =
       given_five relation_of (map relation_part schema.relations) (map (method_part schema.relations) schema.methods) (map (rule_part schema.relations) schema.rules) (map ConstantPart schema.constants) (map (source_part schema.relations) schema.sources)
-      schema.relations [] [] [] [] (given_all relation_part relation_of (λ r. r) schema.relations (λ r there. refl) ∙ map_id schema.relations)
+      schema.relations [] [] [] [] (given_all relation_part relation_of (λ r. r) schema.relations (λ r there. refl) ∙ map-id schema.relations)
       (given_none (method_part schema.relations) relation_of schema.methods (λ x. refl)) (given_none (rule_part schema.relations) relation_of schema.rules (λ x. refl)) (given_none ConstantPart relation_of schema.constants (λ x. refl)) (given_none (source_part schema.relations) relation_of schema.sources (λ x. refl))
       ∙ append-nil schema.relations
 
@@ -134,7 +130,7 @@ module _ (schema : Schema) where
   methods_declared =
       let h : Part → Option Method = method_of schema.relations in
       given_five h (map relation_part schema.relations) (map (method_part schema.relations) schema.methods) (map (rule_part schema.relations) schema.rules) (map ConstantPart schema.constants) (map (source_part schema.relations) schema.sources)
-      [] schema.methods [] [] [] (given_none relation_part h schema.relations (λ x. refl)) (given_all (method_part schema.relations) h (λ m. m) schema.methods method_again ∙ map_id schema.methods)
+      [] schema.methods [] [] [] (given_none relation_part h schema.relations (λ x. refl)) (given_all (method_part schema.relations) h (λ m. m) schema.methods method_again ∙ map-id schema.methods)
       (given_none (rule_part schema.relations) h schema.rules (λ x. refl)) (given_none ConstantPart h schema.constants (λ x. refl)) (given_none (source_part schema.relations) h schema.sources (λ x. refl))
       ∙ append-nil schema.methods
 
@@ -143,7 +139,7 @@ module _ (schema : Schema) where
       let h : Part → Option Rule = rule_of schema.relations in
       given_five h (map relation_part schema.relations) (map (method_part schema.relations) schema.methods) (map (rule_part schema.relations) schema.rules) (map ConstantPart schema.constants) (map (source_part schema.relations) schema.sources)
       [] [] schema.rules [] [] (given_none relation_part h schema.relations (λ x. refl)) (given_none (method_part schema.relations) h schema.methods (λ x. refl))
-      (given_all (rule_part schema.relations) h (λ r. r) schema.rules rule_declared ∙ map_id schema.rules) (given_none ConstantPart h schema.constants (λ x. refl)) (given_none (source_part schema.relations) h schema.sources (λ x. refl))
+      (given_all (rule_part schema.relations) h (λ r. r) schema.rules rule_declared ∙ map-id schema.rules) (given_none ConstantPart h schema.constants (λ x. refl)) (given_none (source_part schema.relations) h schema.sources (λ x. refl))
       ∙ append-nil schema.rules
 
   pub sources_declared : sources_of schema.relations (parts_of schema) ≡ schema.sources
@@ -151,7 +147,7 @@ module _ (schema : Schema) where
       let h : Part → Option SourceLine = source_of schema.relations in
       given_five h (map relation_part schema.relations) (map (method_part schema.relations) schema.methods) (map (rule_part schema.relations) schema.rules) (map ConstantPart schema.constants) (map (source_part schema.relations) schema.sources)
       [] [] [] [] schema.sources (given_none relation_part h schema.relations (λ x. refl)) (given_none (method_part schema.relations) h schema.methods (λ x. refl))
-      (given_none (rule_part schema.relations) h schema.rules (λ x. refl)) (given_none ConstantPart h schema.constants (λ x. refl)) (given_all (source_part schema.relations) h (λ s. s) schema.sources source_again ∙ map_id schema.sources)
+      (given_none (rule_part schema.relations) h schema.rules (λ x. refl)) (given_none ConstantPart h schema.constants (λ x. refl)) (given_all (source_part schema.relations) h (λ s. s) schema.sources source_again ∙ map-id schema.sources)
 
   -- ---- on the lines of a printed text
 
