@@ -1,8 +1,9 @@
-// Texts that are known from outside.
+// Texts that are known from outside, and rows in one buffer.
 use crate::{PackedRows, Recent, ascending_distinct, csv_text};
 use csv::StringRecord;
-use lists::{NoMemory, Row, Rows, Text, Texts};
+use lists::{Exact, NoMemory, Row, Text, Texts};
 use std::alloc::Global;
+use std::cmp::Ordering;
 use std::test::Fail;
 
 fn row(alloc: Global, values: &[&str]) -> Result<Row, NoMemory> {
@@ -13,12 +14,25 @@ fn row(alloc: Global, values: &[&str]) -> Result<Row, NoMemory> {
     Ok(row)
 }
 
-fn rows(alloc: Global, values: &[&[&str]]) -> Result<Rows, NoMemory> {
-    let mut rows = Rows::new(alloc);
-    for value in values {
-        rows.push(row(alloc, value)?)?;
+fn rows(alloc: Global, list: &[&[&str]]) -> Result<PackedRows, NoMemory> {
+    let mut rows = PackedRows::new(alloc);
+    for texts in list {
+        rows = rows.with_texts(texts)?;
     }
     Ok(rows)
+}
+
+// Whether the rows are these, in this order.
+fn are(rows: &PackedRows, list: &[&[&str]]) -> bool {
+    if rows.len() != list.len() {
+        return false;
+    }
+    for number in 0..list.len() {
+        if number >= rows.len() || !rows.at(number).is(list[number]) {
+            return false;
+        }
+    }
+    true
 }
 
 #[test]
@@ -53,8 +67,8 @@ fn rows_that_begin_alike_are_told_apart_by_the_rest(rt: HostRuntime) -> Result<(
         &["abcdefgha", "2"],
         &["abcdefghb"],
     ];
-    let distinct = ascending_distinct(alloc, rows(alloc, &list)?.into_vec())?;
-    assert!(rt; Rows::from_vec(distinct) == rows(alloc, &ascending)?);
+    let distinct = ascending_distinct(alloc, &rows(alloc, &list)?)?;
+    assert!(rt; are(&distinct, &ascending));
     Ok(())
 }
 
@@ -74,7 +88,7 @@ fn values_are_quoted_where_they_need_it(rt: HostRuntime) -> Result<(), Fail> {
 fn no_rows_leave_the_header(rt: HostRuntime) -> Result<(), Fail> {
     let alloc = rt.alloc();
     let names: Texts = row(alloc, &["a", "b"])?;
-    let text = csv_text(alloc, &names, &Rows::new(alloc))?;
+    let text = csv_text(alloc, &names, &PackedRows::new(alloc))?;
     assert!(rt; text.as_slice() == b"a,b\n".as_slice());
     Ok(())
 }
@@ -83,18 +97,13 @@ fn no_rows_leave_the_header(rt: HostRuntime) -> Result<(), Fail> {
 fn a_double_of_a_row_that_came_lately_is_told(rt: HostRuntime) -> Result<(), Fail> {
     let alloc = rt.alloc();
     let mut recent = Recent::new(alloc, 1000)?;
-    let mut kept = Vec::new(alloc);
-    for values in [["a", "1"], ["b", "1"], ["a", "1"], ["a1", ""], ["b", "1"]] {
-        let next = row(alloc, &values)?;
-        if !recent.has(kept.as_slice(), &next) {
-            kept.push(next)?;
+    let mut kept = PackedRows::new(alloc);
+    for texts in [["a", "1"], ["b", "1"], ["a", "1"], ["a1", ""], ["b", "1"]] {
+        if !recent.has(&kept, &texts) {
+            kept = kept.with_texts(&texts)?;
         }
     }
-    assert_eq!(rt; kept.len(), 3);
-    let list: [&[&str]; 3] = [&["a", "1"], &["b", "1"], &["a1", ""]];
-    for values in list {
-        assert!(rt; kept.contains(&row(alloc, values)?), "{values:?}");
-    }
+    assert!(rt; are(&kept, &[&["a", "1"], &["b", "1"], &["a1", ""]]));
     Ok(())
 }
 
@@ -103,31 +112,51 @@ fn packed_rows_keep_each_value_of_each_row(rt: HostRuntime) -> Result<(), Fail> 
     let alloc = rt.alloc();
     let mut packed = PackedRows::new(alloc);
     packed = packed.with_row(row(alloc, &["1", "αβ"])?.as_slice())?;
-    packed = packed.with_texts(&[])?;
+    packed = packed.with_row(&[])?;
     let fields = StringRecord::from_fields(alloc, &["a", "b"])?;
     packed = packed.with_fields(&fields, &[1, 9])?;
-    assert!(rt; packed.len() == 3);
-    assert!(rt; packed.at(0).value(1) == Some("αβ"));
-    assert!(rt; packed.at(0).value(2).is_none());
-    assert!(rt; packed.at(1).is(&[]));
-    assert!(rt; packed.at(2).is(&["b", ""]));
-    assert!(rt; !packed.at(2).is(&["b"]));
+    assert!(rt; are(&packed, &[&["1", "αβ"], &[], &["b", ""]]));
     Ok(())
 }
 
 #[test]
-fn a_lent_row_is_copied_to_other_rows(rt: HostRuntime) -> Result<(), Fail> {
+fn a_lent_row_gives_its_values(rt: HostRuntime) -> Result<(), Fail> {
     let alloc = rt.alloc();
-    let packed = PackedRows::from_rows(alloc, rows(alloc, &[&["x"], &["y", "z"]])?.as_slice())?;
+    let packed = rows(alloc, &[&["x"], &["1", "αβ"], &[]])?;
+    assert!(rt; packed.len() == 3);
+    let lent = packed.at(1);
+    assert!(rt; lent.len() == 2 && lent.value(1) == Some("αβ") && lent.value(2).is_none());
+    assert!(rt; lent.copy(alloc)?.same(&row(alloc, &["1", "αβ"])?));
+    assert!(rt; !lent.is(&["1"]) && !lent.is(&["1", "αβ", ""]));
+    Ok(())
+}
+
+#[test]
+fn lent_rows_compare_by_the_bytes_of_each_column(rt: HostRuntime) -> Result<(), Fail> {
+    let alloc = rt.alloc();
+    let packed = rows(alloc, &[&["a", "b"], &["a", "c"], &["a"], &["ab"]])?;
+    assert!(rt; packed.len() == 4);
+    assert!(rt; packed.at(0).cmp(&packed.at(1)) == Ordering::Less);
+    assert!(rt; packed.at(0).cmp(&packed.at(2)) == Ordering::Greater);
+    assert!(rt; packed.at(3).cmp(&packed.at(0)) == Ordering::Greater);
+    assert!(rt; packed.at(2) == packed.at(2));
+    Ok(())
+}
+
+#[test]
+fn copies_of_packed_rows_are_the_same_rows(rt: HostRuntime) -> Result<(), Fail> {
+    let alloc = rt.alloc();
+    let packed = rows(alloc, &[&["x", "y"], &["z"]])?;
     assert!(rt; packed.len() == 2);
-    let last = packed.at(1);
-    let more = packed.copy(alloc)?.with_lent(&last)?;
-    assert!(rt; more.len() == 3);
-    assert!(rt; more.at(2).is(&["y", "z"]));
-    assert!(rt; more.at(0).copy(alloc)? == row(alloc, &["x"])?);
-    let mut texts = Vec::new(alloc);
-    more.at(0).add_to(&mut texts)?;
-    last.add_to(&mut texts)?;
-    assert!(rt; texts.as_slice() == ["x", "y", "z"].as_slice());
+    assert!(rt; are(&packed.copy(alloc)?, &[&["x", "y"], &["z"]]));
+    let copies = packed.rows(alloc)?;
+    assert!(rt; copies.len() == 2);
+    let again = PackedRows::from_rows(alloc, copies.as_slice())?;
+    assert!(rt;
+        are(
+            &again.with_lent(&packed.at(0))?,
+            &[&["x", "y"], &["z"], &["x", "y"]]
+        )
+    );
     Ok(())
 }

@@ -42,11 +42,7 @@ fn written(alloc: Global, names: &Texts, members: &[Started<'_>]) -> Result<Vec<
 }
 
 // Writes the line of the names.
-fn write_names(
-    alloc: Global,
-    writer: &mut Writer<Vec<u8>>,
-    names: &Texts,
-) -> Result<(), NoMemory>
+fn write_names(alloc: Global, writer: &mut Writer<Vec<u8>>, names: &Texts) -> Result<(), NoMemory>
     requires { IsReady writer.old }
     ensures ready { OnOk result (IsReady writer.new) }
     ensures grown { OnOk result ((writer_under writer.new).items ++ writer_pending writer.new ≡ ((writer_under writer.old).items ++ writer_pending writer.old) ++ row_text default_writer names.now) }

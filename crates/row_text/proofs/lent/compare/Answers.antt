@@ -9,8 +9,8 @@ returns-in_default-cmp c =
     let left = sym c.value.ensures ∙ ap (option_map (λ s. s.now)) c.in-Some-Some.is-0 in
     let right = sym c.value-in-loop-value.ensures ∙ ap (option_map (λ s. s.now)) c.in-Some-Some.is-1 in
     sym (c.loop-value.invariant.same
-      ∙ rows_step c.args.left.now c.args.right.now c.loop-value.column c.in-Some-Some.value.now c.in-Some-Some.other.now left right
-      ∙ rw (← c.cmp.ensures) (then_other c.cmp.result _ c.in_default-cmp.not-Equal))
+    ∙ rows_step c.args.left.now c.args.right.now c.loop-value.column c.in-Some-Some.value.now c.in-Some-Some.other.now left right
+    ∙ rw (← c.cmp.ensures) (then_other c.cmp.result _ c.in_default-cmp.not-Equal))
 
 pub overflow_add-column : goal.overflow_add-column
 overflow_add-column c =
@@ -37,7 +37,7 @@ loop-value-preserved c =
 pub returns : goal.returns
 returns c =
     rw (c.cmp-2.ensures, c.len-count.ensures, c.len.ensures) (sym (c.loop-value.invariant.same
-        ∙ rows_ended c.args.left.now c.args.right.now c.loop-value.column c.loop-value.invariant.left c.loop-value.invariant.right (elim c.match-value.branch [
-          | in_default w ↦ inr (sym c.value-in-loop-value.ensures ∙ ap (option_map (λ s. s.now)) w.in_default.is-1)
-          | in_default-2 w ↦ inl (sym c.value.ensures ∙ ap (option_map (λ s. s.now)) w.in_default.is-0)
-        ])))
+    ∙ rows_ended c.args.left.now c.args.right.now c.loop-value.column c.loop-value.invariant.left c.loop-value.invariant.right (elim c.match-value.branch [
+      | in_default w ↦ inr (sym c.value-in-loop-value.ensures ∙ ap (option_map (λ s. s.now)) w.in_default.is-1)
+      | in_default-2 w ↦ inl (sym c.value.ensures ∙ ap (option_map (λ s. s.now)) w.in_default.is-0)
+    ])))
