@@ -1,10 +1,10 @@
 -- The joined rows of a round are the next partial rows, and its list is the round's.
-use Rattle.std.proofs.Common.{◌≡◌, ◌⊎◌, ◌↔◌, inl, inr, ⊎_elim, ℕ, zero, suc, ◌+◌, ◌<◌, ◌≤◌, List, [], ◌∷◌, ◌++◌, length, map, Option, None, Some, Bool, true, false, cond, ◌&&◌, nat_eq, refl, sym, ◌∙◌, ap, subst, append_assoc, arith}
+use Rattle.std.proofs.Common.{◌≡◌, ◌⊎◌, ◌↔◌, inl, inr, ⊎_elim, ℕ, zero, suc, ◌+◌, ◌<◌, ◌≤◌, List, [], ◌∷◌, ◌++◌, length, map, take, get_or, Option, None, Some, Bool, true, false, cond, ◌&&◌, nat_eq, refl, sym, ◌∙◌, ap, subst, append_assoc, arith}
 use Rattle.std.specs.Prelude.{Contains, slice_get, flat_map}
 use Rattle.std.specs.List.{AllZip, filter}
 use Rattle.std.specs.Cmp.Lexicographic.{pointwise, nat_list_eq_equiv}
 use Rattle.std.proofs.lemmas.Bool.Decides.{nat_tests}
-use Rattle.std.proofs.lemmas.List.{length_push, append-nil, map-append}
+use Rattle.std.proofs.lemmas.List.{length_push, append-nil, map-append, take_more}
 use Rattle.std.proofs.lemmas.Slice.Eq.{bytes_eq-Decides}
 use Rattle.std.specs.declared.cmp.Ordering.TheVariants.{Less}
 use Rattle.lists.proofs.Members.{contains_here, contains_there, contains_cases, contains_map, contains_mapped, got_before, got_below, got_mapped}
@@ -332,3 +332,15 @@ added_one f taken row before middle after first next x =
           (λ b. (next x).1 (inl ((first x).1 (inl b))))
           (λ c. ⊎_elim (λ old. (next x).1 (inl ((first x).1 (inr old)))) (λ new. (next x).1 (inr new)) (in_append (map f taken) (f row ∷ []) x (subst (λ (l : RowList). Contains l x) e c))),
     )
+
+pub added_next : (f : List (List ℕ) → List (List ℕ)) (rows : RowList) (n : ℕ) (row : List (List ℕ)) (before middle after : RowList) → n < length rows → row ≡ get_or rows n []
+    → HasAdded before (map f (take n rows)) middle → HasAdded middle (f row ∷ []) after → HasAdded before (map f (take (n + 1) rows)) after
+added_next f rows n row before middle after less at first next =
+    let taken : take (n + 1) rows ≡ take n rows ++ row ∷ [] = take_more rows n [] less ∙ ap (λ (r : List (List ℕ)). take n rows ++ r ∷ []) (sym at) in
+    subst (λ (l : RowList). HasAdded before (map f l) after) (sym taken) (added_one f (take n rows) row before middle after first next)
+
+pub added_last : (before : RowList) (row : List (List ℕ)) (after : RowList) → after ≡ before ++ row ∷ [] → HasAdded before (row ∷ []) after
+added_last before row after is x = (
+  (λ c. in_append before (row ∷ []) x (subst (λ (l : RowList). Contains l x) is c)),
+  (λ c. subst (λ (l : RowList). Contains l x) (sym is) (⊎_elim (append_first before (row ∷ []) x) (append_second before (row ∷ []) x) c)),
+)

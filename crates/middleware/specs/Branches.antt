@@ -1,5 +1,5 @@
 -- How far the rounds of a branch, and of a plan, have come.
-use Rattle.std.specs.Prelude.{◌≡◌, ◌↔◌, ◌⊎◌, ℕ, ◌-◌, ◌+◌, ◌^◌, ◌<◌, ◌≤◌, min, Bool, true, false, List, [], ◌∷◌, ◌++◌, length, map, take, Contains, slice_get, Option, Some, None, nat_eq, if◌then◌else◌}
+use Rattle.std.specs.Prelude.{◌≡◌, ◌↔◌, ◌⊎◌, ℕ, ◌-◌, ◌+◌, ◌^◌, ◌<◌, ◌≤◌, min, List, [], ◌∷◌, ◌++◌, length, map, take, Contains, slice_get, Option, Some, None}
 use Rattle.meaning.specs.declared.types.Fact.{Fact}
 use Rattle.meaning.specs.declared.types.Method.{Method}
 use Rattle.meaning.specs.declared.types.SchemaParts.{SchemaParts}
@@ -77,12 +77,6 @@ out_value row (Made k) = text_or (slice_get row k)
 -- the output of a partial row
 abbrev pub output_of : List Out → List (List ℕ) → List (List ℕ)
 output_of outs row = map (out_value row) outs
-
--- an output place has the column
-abbrev pub has_column : ℕ → List Out → Bool
-has_column column [] = false
-has_column column (Fixed c ∷ outs) = has_column column outs
-has_column column (Made k ∷ outs) = if nat_eq k column then true else has_column column outs
 
 -- the rows of one list were added to those of another
 abbrev pub HasAdded : RowList → RowList → RowList → Type 0

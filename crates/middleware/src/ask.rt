@@ -4,12 +4,13 @@ ghost use Rattle.source_trait.specs.Asking.{CanAsk};
 ghost use Rattle.source_trait.specs.Lanes.{AtKind, StepsOn};
 ghost use Rattle.middleware.specs.Rounds.{AnswersAll};
 
-use lists::{Places, Row, Rows, Seq, Text};
+use lists::{Places, Row, Seq, Text};
+use row_text::PackedRows;
 use source_trait::{CallFault, Lane, Source, call_on};
 use std::alloc::Global;
 
 /// The answers to requests, in their order.
-pub type Answers = Seq<Rows>;
+pub type Answers = Seq<PackedRows>;
 
 /// The answers of the lane's source of the kind to the requests, which are asked in order, each once.
 pub fn ask_all<S: Source + Send + Drop>(

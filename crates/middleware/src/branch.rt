@@ -1,17 +1,15 @@
 // The rounds of one branch.
-ghost use Rattle.std.specs.Prelude.{◌≡◌, ◌≢◌, ◌≤◌, ◌++◌, ℕ, IfOk, IfErr, OnOk, [], ◌∷◌, map, slice_get};
+ghost use Rattle.std.specs.Prelude.{◌≡◌, ◌≤◌, IfOk, IfErr, OnOk, [], ◌∷◌, map};
 ghost use Rattle.access_schema.specs.Meaning.{meaning_of};
-ghost use Rattle.middleware.specs.Joining.{text_or};
-ghost use Rattle.middleware.specs.Branches.{AreReady, IsReadyBranch, AreAskable, Reached, BranchStops, BranchGoes, stop_of, out_value, output_of, has_column, HasAdded};
+ghost use Rattle.middleware.specs.Branches.{AreReady, IsReadyBranch, AreAskable, Reached, BranchStops, BranchGoes, stop_of, out_value, output_of, HasAdded};
 
+use crate::partial_rows::text_at;
 use crate::round::{Progress, RoundFault, next_round};
 use access_schema::Schema;
-use lists::{Copies, Row, Text};
 use meaning::types::{Branch, Out, Step};
-use row_text::Recent;
+use row_text::{LentRow, PackedRows, Recent};
 use source_trait::{Lane, Source};
 use std::alloc::{AllocError, Global};
-use std::mem;
 
 /// Why the rounds of a branch stop.
 #[derive(Clone, Copy, Debug, PartialEq, Eq)]
@@ -33,13 +31,12 @@ pub fn next_branch<S: Source + Send + Drop>(
     requires ready { IsReadyBranch (meaning_of schema.now) branch.now }
     requires askable { AreAskable S.seen schema.now lane.old.kinds.items branch.now.steps }
     requires cap { progress.made ≤ cap }
-    ensures goes { IfOk result (λ p. BranchGoes S.seen schema.now branch.now progress.rows.items p.rows.items progress.made p.made lane.old.kinds.items lane.new.kinds.items) }
+    ensures goes { IfOk result (λ p. BranchGoes S.seen schema.now branch.now progress.rows p.rows progress.made p.made lane.old.kinds.items lane.new.kinds.items) }
     ensures within { IfOk result (λ p. p.made ≤ cap) }
     ensures stops { IfErr result (λ fault. BranchStops S.seen schema.now branch.now.steps progress.made cap fault lane.old.kinds.items lane.new.kinds.items) }
     ensures stopped { lane.new.stopped ≡ lane.old.stopped }
 {
-    let made = progress.made;
-    let mut rows = progress.rows;
+    let Progress { rows, made } = progress;
     let first = match no_columns(alloc) {
         Ok(first) => Progress { rows: first, made },
         Err(_) => return Err(BranchFault::NoMemory),
@@ -47,8 +44,8 @@ pub fn next_branch<S: Source + Send + Drop>(
     match run_steps(alloc, schema, lane, branch.steps.as_slice(), first, cap) {
         Ok(reached) => {
             let outs = branch.output.as_slice();
-            match add_outputs(alloc, outs, reached.rows, &mut rows) {
-                Ok(()) => Ok(Progress {
+            match add_outputs(alloc, outs, &reached.rows, rows) {
+                Ok(rows) => Ok(Progress {
                     rows,
                     made: reached.made,
                 }),
@@ -60,12 +57,10 @@ pub fn next_branch<S: Source + Send + Drop>(
 }
 
 // The one partial row before the first step.
-fn no_columns(alloc: Global) -> Result<Vec<Row>, AllocError>
-    ensures { IfOk result (λ rows. rows.items ≡ [] ∷ []) }
+fn no_columns(alloc: Global) -> Result<PackedRows, AllocError>
+    ensures { IfOk result (λ rows. rows ≡ [] ∷ []) }
 {
-    let mut rows = Vec::new(alloc);
-    rows.push(Row::new(alloc))?;
-    Ok(rows)
+    PackedRows::new(alloc).with_texts(&[])
 }
 
 // Asks the rounds of the steps in order.
@@ -79,9 +74,9 @@ fn run_steps<S: Source + Send + Drop>(
 ) -> Result<Progress, BranchFault>
     requires ready { AreReady (meaning_of schema.now) steps.now }
     requires askable { AreAskable S.seen schema.now lane.old.kinds.items steps.now }
-    requires empty { first.rows.items ≡ [] ∷ [] }
+    requires empty { first.rows ≡ [] ∷ [] }
     requires cap { first.made ≤ cap }
-    ensures reached { IfOk result (λ p. Reached S.seen schema.now steps.now p.rows.items first.made p.made lane.old.kinds.items lane.new.kinds.items) }
+    ensures reached { IfOk result (λ p. Reached S.seen schema.now steps.now p.rows first.made p.made lane.old.kinds.items lane.new.kinds.items) }
     ensures within { IfOk result (λ p. p.made ≤ cap) }
     ensures stops { IfErr result (λ fault. BranchStops S.seen schema.now steps.now first.made cap fault lane.old.kinds.items lane.new.kinds.items) }
     ensures stopped { lane.new.stopped ≡ lane.old.stopped }
@@ -113,98 +108,51 @@ fn stop_at(step: usize, made: u32, fault: RoundFault) -> BranchFault
 fn add_outputs(
     alloc: Global,
     outs: &[Out],
-    rows: Vec<Row>,
-    into: &mut Vec<Row>,
-) -> Result<(), AllocError>
-    ensures { OnOk result (HasAdded into.old.items (map (output_of outs.now) rows.items) into.new.items) }
+    rows: &PackedRows,
+    into: PackedRows,
+) -> Result<PackedRows, AllocError>
+    ensures { IfOk result (λ more. HasAdded into (map (output_of outs.now) rows.now) more) }
 {
     let mut recent = Recent::new(alloc, rows.len())?;
-    for row in rows {
-        let output = output_row(alloc, outs, row)?;
-        add_row(output, &mut recent, into)?;
+    let mut texts = Vec::new(alloc);
+    let mut more = into;
+    for number in 0..rows.len() {
+        output_texts(outs, &rows.at(number), &mut texts)?;
+        more = add_row(texts.as_slice(), &mut recent, more)?;
+    }
+    Ok(more)
+}
+
+// Adds the row of these texts, where it is no double of one that came lately.
+fn add_row(texts: &[&str], recent: &mut Recent, into: PackedRows) -> Result<PackedRows, AllocError>
+    ensures { IfOk result (λ more. HasAdded into (map (λ s. s.now) texts.now ∷ []) more) }
+{
+    if recent.has(&into, texts) {
+        return Ok(into);
+    }
+    into.with_texts(texts)
+}
+
+/// The texts of the output places, in place of those that were there.
+pub fn output_texts<'a>(
+    outs: &'a [Out],
+    row: &LentRow<'a>,
+    texts: &mut Vec<&'a str>,
+) -> Result<(), AllocError>
+    ensures { OnOk result (map (λ s. s.now) texts.new.items ≡ output_of outs.now row.now) }
+{
+    texts.clear();
+    for out in outs {
+        texts.push(out_text(out, row))?;
     }
     Ok(())
 }
 
-// Adds the row, where it is no double of one that came lately.
-fn add_row(row: Row, recent: &mut Recent, into: &mut Vec<Row>) -> Result<(), AllocError>
-    ensures { OnOk result (HasAdded into.old.items (row ∷ []) into.new.items) }
-{
-    if !recent.has(into.as_slice(), &row) {
-        into.push(row)?;
-    }
-    Ok(())
-}
-
-/// The values of the output places. A value is moved where no later place has its column.
-pub fn output_row(alloc: Global, outs: &[Out], row: Row) -> Result<Row, AllocError>
-    ensures { IfOk result (λ values. values ≡ output_of outs.now row) }
-{
-    let mut values = Vec::with_capacity(alloc, outs.len())?;
-    let mut texts = row.into_vec();
-    let mut left = outs;
-    while let [out, rest @ ..] = left {
-        values.push(out_text(alloc, out, rest, &mut texts)?)?;
-        left = rest;
-    }
-    Ok(Row::from_vec(values))
-}
-
-fn out_text(
-    alloc: Global,
-    out: &Out,
-    later: &[Out],
-    texts: &mut Vec<Text>,
-) -> Result<Text, AllocError>
-    ensures value { IfOk result (λ value. value ≡ out_value texts.old.items out.now) }
-    ensures later { output_of later.now texts.new.items ≡ output_of later.now texts.old.items }
+fn out_text<'a>(out: &'a Out, row: &LentRow<'a>) -> &'a str
+    ensures { result.now ≡ out_value row.now out.now }
 {
     match out {
-        Out::Const(text) => text.copy(alloc),
-        Out::Col(column) => {
-            if has_column(later, *column) {
-                copy_at(alloc, texts.as_slice(), *column)
-            } else {
-                Ok(take_at(alloc, texts, *column))
-            }
-        }
-    }
-}
-
-fn has_column(outs: &[Out], column: u32) -> bool
-    ensures { result ≡ has_column column outs.now }
-{
-    let mut left = outs;
-    while let [out, rest @ ..] = left {
-        match out {
-            Out::Col(other) => {
-                if *other == column {
-                    return true;
-                }
-            }
-            Out::Const(_) => {}
-        }
-        left = rest;
-    }
-    false
-}
-
-fn copy_at(alloc: Global, texts: &[Text], column: u32) -> Result<Text, AllocError>
-    ensures { IfOk result (λ value. value ≡ text_or (slice_get texts.now column)) }
-{
-    match texts.get(column as usize) {
-        Some(value) => value.copy(alloc),
-        None => Ok(Text::new(String::new(alloc))),
-    }
-}
-
-// The value at the column, which is empty from then on.
-fn take_at(alloc: Global, texts: &mut Vec<Text>, column: u32) -> Text
-    ensures value { result ≡ text_or (slice_get texts.old.items column) }
-    ensures others { (other : ℕ) → other ≢ column → slice_get texts.new.items other ≡ slice_get texts.old.items other }
-{
-    match texts.get_mut(column as usize) {
-        Some(value) => mem::replace(value, Text::new(String::new(alloc))),
-        None => Text::new(String::new(alloc)),
+        Out::Const(text) => text.as_str(),
+        Out::Col(column) => text_at(row, *column),
     }
 }

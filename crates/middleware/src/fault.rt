@@ -1,11 +1,11 @@
 // What an execution gives, and why it stops.
-use lists::Rows;
+use row_text::PackedRows;
 use source_trait::AttachFault;
 
 /// The rows of a plan, ascending and each once, and how many requests were made for them.
 #[derive(Drop)]
 pub struct Run {
-    pub rows: Rows,
+    pub rows: PackedRows,
     pub made: u32,
 }
 

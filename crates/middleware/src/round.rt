@@ -10,18 +10,18 @@ ghost use Rattle.middleware.specs.Branches.{IsAskable, RoundGoes, RoundStops};
 
 use crate::ask::ask_all;
 use crate::lookup::{find_line, find_method};
-use crate::partial_rows::{input_row, join};
+use crate::partial_rows::{input_texts, join};
 use access_schema::{Method, Schema};
 use lists::{Row, Text};
 use meaning::types::{Place, Step};
-use row_text::ascending_distinct;
+use row_text::{PackedRows, ascending_distinct};
 use source_trait::{CallFault, Lane, Source};
 use std::alloc::{AllocError, Global};
 
 /// The rows so far, and how many requests were made for them.
 #[derive(Drop)]
 pub struct Progress {
-    pub rows: Vec<Row>,
+    pub rows: PackedRows,
     pub made: u32,
 }
 
@@ -45,9 +45,9 @@ pub fn next_round<S: Source + Send + Drop>(
     requires named { (method : Method) × IsMethod (meaning_of schema.now) step.now.method method }
     requires askable { (method : Method) → IsMethod (meaning_of schema.now) step.now.method method → IsAskable S.seen schema.now lane.old.kinds.items method }
     requires cap { progress.made ≤ cap }
-    ensures goes { IfOk result (λ p. RoundGoes S.seen schema.now step.now progress.rows.items p.rows.items progress.made p.made lane.old.kinds.items lane.new.kinds.items) }
+    ensures goes { IfOk result (λ p. RoundGoes S.seen schema.now step.now progress.rows p.rows progress.made p.made lane.old.kinds.items lane.new.kinds.items) }
     ensures within { IfOk result (λ p. p.made ≤ cap) }
-    ensures stops { IfErr result (λ fault. RoundStops S.seen schema.now step.now progress.rows.items (cap - progress.made) fault lane.old.kinds.items lane.new.kinds.items) }
+    ensures stops { IfErr result (λ fault. RoundStops S.seen schema.now step.now progress.rows (cap - progress.made) fault lane.old.kinds.items lane.new.kinds.items) }
     ensures stopped { lane.new.stopped ≡ lane.old.stopped }
 {
     let Some(method) = find_method(schema, &step.method) else {
@@ -81,7 +81,7 @@ pub fn next_round<S: Source + Send + Drop>(
 /// The distinct partial rows, and their distinct input rows, ascending.
 #[derive(Drop)]
 struct Wanted {
-    rows: Vec<Row>,
+    rows: PackedRows,
     requests: Vec<Row>,
 }
 
@@ -89,7 +89,7 @@ struct Wanted {
 #[derive(Drop)]
 struct Round {
     requests: Vec<Row>,
-    rows: Vec<Row>,
+    rows: PackedRows,
 }
 
 // Asks the requests of one step, each once and in ascending order, and joins the answers with the partial rows.
@@ -99,16 +99,16 @@ fn ask_step<S: Source + Send + Drop>(
     kind: &Text,
     method: &Method,
     places: &[Place],
-    rows: Vec<Row>,
+    rows: PackedRows,
     room: usize,
 ) -> Result<Round, RoundFault>
     requires ready { AtKind lane.old.kinds.items kind.now (λ s. CanAskAll ((S.seen s).attached method.now.rel) method.now) }
-    ensures wanted { IfOk result (λ r. IsWanted places.now method.now.inputs rows.items r.requests.items) }
+    ensures wanted { IfOk result (λ r. IsWanted places.now method.now.inputs rows r.requests.items) }
     ensures fits { IfOk result (λ r. length r.requests.items ≤ room) }
     ensures answers { IfOk result (λ r. StepsOn lane.old.kinds.items lane.new.kinds.items kind.now
-        (λ s t. RoundAnswers places.now method.now rows.items r.requests.items r.rows.items (S.seen s) (S.seen t))) }
+        (λ s t. RoundAnswers places.now method.now rows r.requests.items r.rows (S.seen s) (S.seen t))) }
     ensures refused { IfErr result (λ fault. StepsOn lane.old.kinds.items lane.new.kinds.items kind.now
-        (λ s t. RoundRefused places.now method.now rows.items room fault (S.seen s) (S.seen t))) }
+        (λ s t. RoundRefused places.now method.now rows room fault (S.seen s) (S.seen t))) }
     ensures stopped { lane.new.stopped ≡ lane.old.stopped }
 {
     let inputs = method.inputs.as_slice();
@@ -134,8 +134,8 @@ fn ask_step<S: Source + Send + Drop>(
                 places,
                 inputs,
                 requests.as_slice(),
-                answers.into_vec(),
-                rows,
+                answers.as_slice(),
+                &rows,
             ) {
                 Ok(next) => Ok(Round {
                     requests,
@@ -154,14 +154,15 @@ fn wanted_rows(
     alloc: Global,
     places: &[Place],
     inputs: &[u32],
-    rows: Vec<Row>,
+    rows: PackedRows,
 ) -> Result<Wanted, AllocError>
-    ensures wanted { IfOk result (λ w. IsWanted places.now inputs.now rows.items w.requests.items) }
-    ensures same { IfOk result (λ w. (row : List (List ℕ)) → Contains w.rows.items row ↔ Contains rows.items row) }
+    ensures wanted { IfOk result (λ w. IsWanted places.now inputs.now rows w.requests.items) }
+    ensures same { IfOk result (λ w. (row : List (List ℕ)) → Contains w.rows row ↔ Contains rows row) }
 {
-    let distinct = ascending_distinct(alloc, rows)?;
-    let list = input_rows(alloc, places, inputs, distinct.as_slice())?;
-    let requests = ascending_distinct(alloc, list)?;
+    let distinct = ascending_distinct(alloc, &rows)?;
+    let list = input_rows(alloc, places, inputs, &distinct)?;
+    let asked = ascending_distinct(alloc, &list)?;
+    let requests = asked.rows(alloc)?;
     Ok(Wanted {
         rows: distinct,
         requests,
@@ -173,13 +174,15 @@ fn input_rows(
     alloc: Global,
     places: &[Place],
     inputs: &[u32],
-    rows: &[Row],
-) -> Result<Vec<Row>, AllocError>
-    ensures { IfOk result (λ list. list.items ≡ map (input_row_of places.now inputs.now) rows.now) }
+    rows: &PackedRows,
+) -> Result<PackedRows, AllocError>
+    ensures { IfOk result (λ list. list ≡ map (input_row_of places.now inputs.now) rows.now) }
 {
-    let mut list = Vec::with_capacity(alloc, rows.len())?;
-    for row in rows {
-        list.push(input_row(alloc, places, inputs, row)?)?;
+    let mut texts = Vec::new(alloc);
+    let mut list = PackedRows::new(alloc);
+    for number in 0..rows.len() {
+        input_texts(places, inputs, &rows.at(number), &mut texts)?;
+        list = list.with_texts(texts.as_slice())?;
     }
     Ok(list)
 }

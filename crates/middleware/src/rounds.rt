@@ -12,9 +12,8 @@ use crate::branch::{BranchFault, next_branch};
 use crate::fault::{Run, RunFault};
 use crate::round::Progress;
 use access_schema::Schema;
-use lists::Seq;
 use meaning::types::Plan;
-use row_text::ascending_distinct;
+use row_text::{PackedRows, ascending_distinct};
 use source_trait::{Lane, Source};
 use std::alloc::Global;
 
@@ -40,11 +39,8 @@ pub fn run_rounds<S: Source + Send + Drop>(
     match run_branches(alloc, schema, lane, plan, cap) {
         Ok(progress) => {
             let made = progress.made;
-            match ascending_distinct(alloc, progress.rows) {
-                Ok(rows) => Ok(Run {
-                    rows: Seq::from_vec(rows),
-                    made,
-                }),
+            match ascending_distinct(alloc, &progress.rows) {
+                Ok(rows) => Ok(Run { rows, made }),
                 Err(_) => Err(RunFault::NoMemory),
             }
         }
@@ -68,13 +64,13 @@ fn run_branches<S: Source + Send + Drop>(
     requires few { length plan.now.branches < 2 ^ 32 }
     requires short { (branch : Branch) → Contains plan.now.branches branch → length branch.steps < 2 ^ 32 }
     requires cap { cap ≤ 1000000 }
-    ensures done { IfOk result (λ p. Done S.seen schema.now plan.now plan.now.branches p.rows.items p.made lane.old.kinds.items lane.new.kinds.items) }
+    ensures done { IfOk result (λ p. Done S.seen schema.now plan.now plan.now.branches p.rows p.made lane.old.kinds.items lane.new.kinds.items) }
     ensures within { IfOk result (λ p. p.made ≤ cap) }
     ensures stops { IfErr result (λ fault. PlanStops S.seen schema.now plan.now cap fault lane.old.kinds.items lane.new.kinds.items) }
     ensures stopped { lane.new.stopped ≡ lane.old.stopped }
 {
     let mut progress = Progress {
-        rows: Vec::new(alloc),
+        rows: PackedRows::new(alloc),
         made: 0,
     };
     let mut number: usize = 0;

@@ -1,30 +1,23 @@
 // Joins and outputs worked out by hand.
 
-use crate::branch::output_row;
-use crate::partial_rows::{join_all, join_row};
+use crate::branch::output_texts;
+use crate::partial_rows::{join, join_row};
 use lists::{Row, Rows, Text};
 use meaning::types::{Out, Place};
+use row_text::PackedRows;
 use std::alloc::{AllocError, Global};
 use std::test::Fail;
 
-fn row(alloc: Global, values: &[&str]) -> Result<Row, AllocError> {
-    let mut row = Row::new(alloc);
-    for value in values {
-        row.push(Text::from_str(alloc, value)?)?;
+fn rows(alloc: Global, rows: &[&[&str]]) -> Result<PackedRows, AllocError> {
+    let mut packed = PackedRows::new(alloc);
+    for row in rows {
+        packed = packed.with_texts(row)?;
     }
-    Ok(row)
-}
-
-fn rows(alloc: Global, values: &[&[&str]]) -> Result<Rows, AllocError> {
-    let mut rows = Rows::new(alloc);
-    for value in values {
-        rows.push(row(alloc, value)?)?;
-    }
-    Ok(rows)
+    Ok(packed)
 }
 
 #[test]
-fn a_value_is_moved_where_no_later_place_needs_it(rt: HostRuntime) -> Result<(), Fail> {
+fn an_output_has_the_texts_of_its_places(rt: HostRuntime) -> Result<(), Fail> {
     let alloc = rt.alloc();
     let outs = [
         Out::Col(2),
@@ -32,8 +25,11 @@ fn a_value_is_moved_where_no_later_place_needs_it(rt: HostRuntime) -> Result<(),
         Out::Col(0),
         Out::Col(2),
     ];
-    let output = output_row(alloc, &outs, row(alloc, &["a", "b", "c"])?)?;
-    assert!(rt; output == row(alloc, &["c", "k", "a", "c"])?);
+    let rows = PackedRows::new(alloc).with_texts(&["a", "b", "c"])?;
+    let mut texts = Vec::new(alloc);
+    output_texts(&outs, &rows.at(0), &mut texts)?;
+    let output: &[&str] = &["c", "k", "a", "c"];
+    assert!(rt; texts.as_slice() == output);
     Ok(())
 }
 
@@ -46,12 +42,10 @@ fn a_fact_joins_a_partial_row_that_it_agrees_with(rt: HostRuntime) -> Result<(),
         Place::Col(0),
         Place::Col(1),
     ];
-    let joined = join_row(
-        &places,
-        row(alloc, &["n", "x", "p", "n"])?,
-        row(alloc, &["p"])?,
-    )?;
-    assert!(rt; joined == Some(row(alloc, &["p", "n"])?));
+    let mut texts = Vec::from_slice(alloc, &["p"])?;
+    let fits = join_row(&places, &["n", "x", "p", "n"], &mut texts)?;
+    let joined: &[&str] = &["p", "n"];
+    assert!(rt; fits && texts.as_slice() == joined);
     let others: [&[&str]; 5] = [
         &["n", "y", "p", "n"],
         &["n", "x", "q", "n"],
@@ -60,8 +54,9 @@ fn a_fact_joins_a_partial_row_that_it_agrees_with(rt: HostRuntime) -> Result<(),
         &["n", "x", "p", "n", "n"],
     ];
     for values in others {
-        let joined = join_row(&places, row(alloc, values)?, row(alloc, &["p"])?)?;
-        assert!(rt; joined.is_none());
+        let mut texts = Vec::from_slice(alloc, &["p"])?;
+        let fits = join_row(&places, values, &mut texts)?;
+        assert!(rt; !fits);
     }
     Ok(())
 }
@@ -70,22 +65,19 @@ fn a_fact_joins_a_partial_row_that_it_agrees_with(rt: HostRuntime) -> Result<(),
 fn each_partial_row_grows_by_each_row_of_the_answer(rt: HostRuntime) -> Result<(), Fail> {
     let alloc = rt.alloc();
     let places = [Place::New, Place::New];
-    let answer: [&[&str]; 2] = [&["1", "2"], &["3", "4"]];
-    let partial: [&[&str]; 2] = [&["a"], &["b"]];
-    let grown: [&[&str]; 4] = [
-        &["a", "1", "2"],
-        &["a", "3", "4"],
-        &["b", "1", "2"],
-        &["b", "3", "4"],
-    ];
-    let mut next = Vec::new(alloc);
-    join_all(
+    let requests = [Row::new(alloc)];
+    let answers = [rows(alloc, &[&["1", "2"], &["3", "4"]])?];
+    let partial = rows(alloc, &[&["a"], &["b"]])?;
+    let next = join(alloc, &places, &[], &requests, &answers, &partial)?;
+    let grown = rows(
         alloc,
-        &places,
-        rows(alloc, &answer)?,
-        rows(alloc, &partial)?.into_vec(),
-        &mut next,
+        &[
+            &["a", "1", "2"],
+            &["a", "3", "4"],
+            &["b", "1", "2"],
+            &["b", "3", "4"],
+        ],
     )?;
-    assert!(rt; Rows::from_vec(next) == rows(alloc, &grown)?);
+    assert!(rt; Rows::from_vec(next.rows(alloc)?) == Rows::from_vec(grown.rows(alloc)?));
     Ok(())
 }

@@ -16,10 +16,10 @@ run_steps-requires-clause-askable g c κs within = λ step method among named.
 pub returns-in-Ok-add_outputs-clause-goes : goal.returns-in-Ok-add_outputs-clause-goes
 returns-in-Ok-add_outputs-clause-goes g c =
     branch_goes g.S.Source.seen c.args.schema.now (well_formed c.args.schema.now) c.args.branch.now c.requires.ready c.as_slice.result.now c.as_slice.ensures c.as_slice-outs.result.now c.as_slice-outs.ensures
-    c.in-Ok-run_steps.reached.rows.items c.in-Ok-run_steps.reached.rows.items c.args.progress.rows.items c.add_outputs.new.into.items refl
+    c.in-Ok-run_steps.reached.rows c.in-Ok-run_steps.reached.rows c.args.progress.rows c.in-Ok-add_outputs.rows refl
     c.args.progress.made c.in-Ok-run_steps.reached.made c.args.lane.now.kinds.items c.run_steps.new.lane.kinds.items c.in-Ok-run_steps.ensures.reached c.in-Ok-add_outputs.ensures
 
-pub returns-in-Err-add_outputs-clause-stops : goal.returns-in-Err-add_outputs-clause-stops
-returns-in-Err-add_outputs-clause-stops g c =
-    branch_full g.S.Source.seen c.args.schema.now (well_formed c.args.schema.now) c.args.branch.now.steps c.as_slice.result.now c.as_slice.ensures c.in-Ok-run_steps.reached.rows.items c.args.progress.made c.in-Ok-run_steps.reached.made c.args.cap
+pub returns-in-Ok-run_steps-clause-stops : goal.returns-in-Ok-run_steps-clause-stops
+returns-in-Ok-run_steps-clause-stops g c =
+    branch_full g.S.Source.seen c.args.schema.now (well_formed c.args.schema.now) c.args.branch.now.steps c.as_slice.result.now c.as_slice.ensures c.in-Ok-run_steps.reached.rows c.args.progress.made c.in-Ok-run_steps.reached.made c.args.cap
     c.args.lane.now.kinds.items c.run_steps.new.lane.kinds.items c.in-Ok-run_steps.ensures.reached

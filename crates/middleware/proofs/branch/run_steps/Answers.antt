@@ -7,7 +7,7 @@ use Rattle.middleware.proofs.branch.run_steps.Goals as goal
 
 pub loop-step-init : goal.loop-step-init
 loop-step-init g c = record {
-  reached = reached_none g.S.Source.seen c.args.schema.now (well_formed c.args.schema.now) c.args.first.rows.items c.requires.empty c.args.first.made c.args.lane.now.kinds.items;
+  reached = reached_none g.S.Source.seen c.args.schema.now (well_formed c.args.schema.now) c.args.first.rows c.requires.empty c.args.first.made c.args.lane.now.kinds.items;
   number = refl;
   within = c.requires.cap;
   stopped = refl;
@@ -27,7 +27,7 @@ next_round-requires-clause-askable g c κs within = λ method named.
 pub loop-step-preserved : goal.loop-step-preserved
 loop-step-preserved g c = record {
   reached = one_more g.S.Source.seen c.args.schema.now (well_formed c.args.schema.now) c.args.steps.now c.requires.ready c.loop-step.step-index c.step-item.result (omega arith) c.step-item.is
-      c.loop-step.progress.rows.items c.in-Ok.progress.rows.items c.args.first.made c.loop-step.progress.made c.in-Ok.progress.made c.args.lane.now.kinds.items c.loop-step.lane.kinds.items c.next_round.new.lane.kinds.items
+      c.loop-step.progress.rows c.in-Ok.progress.rows c.args.first.made c.loop-step.progress.made c.in-Ok.progress.made c.args.lane.now.kinds.items c.loop-step.lane.kinds.items c.next_round.new.lane.kinds.items
       c.loop-step.invariant.reached c.in-Ok.ensures.goes;
   number = ap (λ (n : ℕ). n + 1) c.loop-step.invariant.number;
   within = c.in-Ok.ensures.within;
@@ -37,10 +37,10 @@ loop-step-preserved g c = record {
 pub returns-in-Err-clause-stops : goal.returns-in-Err-clause-stops
 returns-in-Err-clause-stops g c =
     rw c.stop_at.ensures (steps_stop g.S.Source.seen c.args.schema.now (well_formed c.args.schema.now) c.args.steps.now c.requires.ready c.loop-step.step-index c.loop-step.number c.loop-step.invariant.number c.step-item.result (omega arith) c.step-item.is
-    c.loop-step.progress.rows.items c.args.first.made c.loop-step.progress.made c.args.cap c.loop-step.invariant.within c.in-Err.fault c.args.lane.now.kinds.items c.loop-step.lane.kinds.items c.next_round.new.lane.kinds.items
+    c.loop-step.progress.rows c.args.first.made c.loop-step.progress.made c.args.cap c.loop-step.invariant.within c.in-Err.fault c.args.lane.now.kinds.items c.loop-step.lane.kinds.items c.next_round.new.lane.kinds.items
     c.loop-step.invariant.reached c.in-Err.ensures.stops)
 
 pub returns-clause-reached : goal.returns-clause-reached
 returns-clause-reached g c =
-    all_reached g.S.Source.seen c.args.schema.now (well_formed c.args.schema.now) c.args.steps.now c.loop-step.step-index (omega arith) c.loop-step.progress.rows.items c.args.first.made c.loop-step.progress.made c.args.lane.now.kinds.items c.loop-step.lane.kinds.items
+    all_reached g.S.Source.seen c.args.schema.now (well_formed c.args.schema.now) c.args.steps.now c.loop-step.step-index (omega arith) c.loop-step.progress.rows c.args.first.made c.loop-step.progress.made c.args.lane.now.kinds.items c.loop-step.lane.kinds.items
     c.loop-step.invariant.reached

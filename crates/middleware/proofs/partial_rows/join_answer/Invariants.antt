@@ -2,5 +2,5 @@ use Rattle.std.proofs.Common.{◌≡◌, ◌++◌, take}
 use Rattle.middleware.specs.Joining.{grown}
 use Rattle.middleware.proofs.partial_rows.join_answer.Given as goal
 
-abbrev pub invariant-loop-values : goal.invariant-loop-values
-invariant-loop-values l = l.into.items ≡ l.fn.into.items ++ grown l.places (take l.values-index l.answer) l.row
+abbrev pub invariant-loop-number : goal.invariant-loop-number
+invariant-loop-number l = l.more ≡ l.fn.into ++ grown l.places (take l.number l.answer) l.row

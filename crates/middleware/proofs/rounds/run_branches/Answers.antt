@@ -6,7 +6,7 @@ use Rattle.middleware.proofs.rounds.run_branches.Goals as goal
 
 pub loop-branch-init : goal.loop-branch-init
 loop-branch-init g c = record {
-  done = done_none g.S.Source.seen c.args.schema.now c.args.plan.now c.new.result.items c.new.ensures.items c.args.lane.now.kinds.items;
+  done = done_none g.S.Source.seen c.args.schema.now c.args.plan.now c.new.result c.new.ensures c.args.lane.now.kinds.items;
   number = refl;
   within = omega arith;
   stopped = refl;
@@ -25,7 +25,7 @@ next_branch-requires-clause-askable g c κs within =
 pub loop-branch-preserved : goal.loop-branch-preserved
 loop-branch-preserved g c = record {
   done = done_more g.S.Source.seen c.args.schema.now c.args.plan.now c.as_slice-branch-items.result.now c.as_slice-branch-items.ensures c.loop-branch.branch-index c.branch-item.result (omega arith) c.branch-item.is
-      c.loop-branch.progress.rows.items c.in-Ok.progress.rows.items c.loop-branch.progress.made c.in-Ok.progress.made c.args.lane.now.kinds.items c.loop-branch.lane.kinds.items c.next_branch.new.lane.kinds.items
+      c.loop-branch.progress.rows c.in-Ok.progress.rows c.loop-branch.progress.made c.in-Ok.progress.made c.args.lane.now.kinds.items c.loop-branch.lane.kinds.items c.next_branch.new.lane.kinds.items
       c.loop-branch.invariant.done c.in-Ok.ensures.goes;
   number = ap (λ (n : ℕ). n + 1) c.loop-branch.invariant.number;
   within = c.in-Ok.ensures.within;
@@ -35,7 +35,7 @@ loop-branch-preserved g c = record {
 pub returns-in-Err-clause-stops : goal.returns-in-Err-clause-stops
 returns-in-Err-clause-stops g c =
     rw c.run_fault.ensures (plan_stop g.S.Source.seen c.args.schema.now c.args.plan.now c.requires.ready c.as_slice-branch-items.result.now c.as_slice-branch-items.ensures c.loop-branch.branch-index c.loop-branch.number c.loop-branch.invariant.number c.branch-item.result (omega arith) c.branch-item.is
-    c.loop-branch.progress.rows.items c.loop-branch.progress.made c.args.cap c.requires.cap c.in-Err.fault c.args.lane.now.kinds.items c.loop-branch.lane.kinds.items c.next_branch.new.lane.kinds.items
+    c.loop-branch.progress.rows c.loop-branch.progress.made c.args.cap c.requires.cap c.in-Err.fault c.args.lane.now.kinds.items c.loop-branch.lane.kinds.items c.next_branch.new.lane.kinds.items
     c.loop-branch.invariant.done c.in-Err.ensures.stops)
 
 pub run_fault-requires-clause-step : goal.run_fault-requires-clause-step
@@ -46,5 +46,5 @@ run_fault-requires-clause-step g c =
 
 pub returns-clause-done : goal.returns-clause-done
 returns-clause-done g c =
-    done_all g.S.Source.seen c.args.schema.now c.args.plan.now c.as_slice-branch-items.result.now c.as_slice-branch-items.ensures c.loop-branch.branch-index (omega arith) c.loop-branch.progress.rows.items c.loop-branch.progress.made c.args.lane.now.kinds.items c.loop-branch.lane.kinds.items
+    done_all g.S.Source.seen c.args.schema.now c.args.plan.now c.as_slice-branch-items.result.now c.as_slice-branch-items.ensures c.loop-branch.branch-index (omega arith) c.loop-branch.progress.rows c.loop-branch.progress.made c.args.lane.now.kinds.items c.loop-branch.lane.kinds.items
     c.loop-branch.invariant.done
