@@ -124,11 +124,7 @@ fn add_outputs(
 }
 
 // Adds the row of these texts, where it is no double of one that came lately.
-fn add_row(
-    texts: &[&str],
-    recent: &mut Recent,
-    into: PackedRows,
-) -> Result<PackedRows, AllocError>
+fn add_row(texts: &[&str], recent: &mut Recent, into: PackedRows) -> Result<PackedRows, AllocError>
     ensures { IfOk result (λ more. HasAdded into (map (λ s. s.now) texts.now ∷ []) more) }
 {
     if recent.has(&into, texts) {

@@ -9,6 +9,7 @@ use lists::{Row, Text};
 use meaning::types::Place;
 use row_text::{LentRow, PackedRows};
 use std::alloc::{AllocError, Global};
+use std::cmp::Ordering;
 
 /// The partial rows after a step: each partial row grown by the rows of the answer to its request.
 ///
@@ -31,7 +32,7 @@ pub fn join(
     let mut next = PackedRows::new(alloc);
     for number in 0..rows.len() {
         let row = rows.at(number);
-        match answer_to(alloc, places, inputs, requests, answers, &row)? {
+        match answer_to(places, inputs, requests, answers, &row, &mut values)? {
             Some(answer) => {
                 next = join_answer(places, answer, &row, &mut values, &mut texts, next)?;
             }
@@ -41,14 +42,15 @@ pub fn join(
     Ok(next)
 }
 
-// The answer to the request of the partial row. An only answer is not searched for.
+// The answer to the request of the partial row. An only answer is not searched for. `values` is room for texts: what stood in
+// it may be dropped.
 fn answer_to<'a>(
-    alloc: Global,
-    places: &[Place],
+    places: &'a [Place],
     inputs: &[u32],
     requests: &[Row],
     answers: &'a [PackedRows],
-    row: &LentRow<'_>,
+    row: &LentRow<'a>,
+    values: &mut Vec<&'a str>,
 ) -> Result<Option<&'a PackedRows>, AllocError>
     requires ascends { IsStrictlySortedBy row_cmp requests.now }
     requires asked { Contains requests.now (input_row_of places.now inputs.now row.now) }
@@ -58,24 +60,8 @@ fn answer_to<'a>(
     if let [only] = answers {
         return Ok(Some(only));
     }
-    let values = input_row(alloc, places, inputs, row)?;
-    Ok(answer_for(requests, answers, &values))
-}
-
-// The values that the partial row has at the input positions.
-fn input_row(
-    alloc: Global,
-    places: &[Place],
-    inputs: &[u32],
-    row: &LentRow<'_>,
-) -> Result<Row, AllocError>
-    ensures { IfOk result (λ values. values ≡ input_row_of places.now inputs.now row.now) }
-{
-    let mut values = Row::new(alloc);
-    for input in inputs {
-        values.push(Text::from_str(alloc, input_text(places, *input, row))?)?;
-    }
-    Ok(values)
+    input_texts(places, inputs, row, values)?;
+    Ok(answer_for(requests, answers, values.as_slice()))
 }
 
 /// The texts that the partial row has at the input positions, in place of those that were there.
@@ -119,12 +105,17 @@ pub fn text_at<'a>(row: &LentRow<'a>, column: u32) -> &'a str
 fn answer_for<'a>(
     requests: &[Row],
     answers: &'a [PackedRows],
-    values: &Row,
+    values: &[&str],
 ) -> Option<&'a PackedRows>
     requires ascends { IsStrictlySortedBy row_cmp requests.now }
-    ensures { (answer : List (List ℕ) → RowList) → answers.now ≡ map answer requests.now → Contains requests.now values.now → option_copied result ≡ Some (answer values.now) }
+    ensures { (answer : List (List ℕ) → RowList) → answers.now ≡ map answer requests.now → Contains requests.now (map (λ s. s.now) values.now) → option_copied result ≡ Some (answer (map (λ s. s.now) values.now)) }
 {
-    match requests.binary_search(values) {
+    let found = requests.binary_search_by(
+        |request: &Row| -> Ordering
+            ensures { result ≡ row_cmp request.now (map (λ s. s.now) values.entry.now) }
+        { compare(request.as_slice(), values) },
+    );
+    match found {
         Ok(number) => answer_at(answers, number),
         Err(_) => None,
     }
@@ -136,8 +127,30 @@ fn answer_at(answers: &[PackedRows], number: usize) -> Option<&PackedRows>
     answers.get(number)
 }
 
-// Adds the rows to which the partial row grows by the rows of an answer. The lists are room for texts; what stood in them
-// is dropped.
+// Compares a row with the row of these texts, column by column.
+fn compare(row: &[Text], texts: &[&str]) -> Ordering
+    ensures { result ≡ row_cmp row.now (map (λ s. s.now) texts.now) }
+{
+    let mut left = texts;
+    for value in row {
+        let [text, rest @ ..] = left else {
+            return Ordering::Greater;
+        };
+        match value.as_str().cmp(*text) {
+            Ordering::Equal => {}
+            unequal => return unequal,
+        }
+        left = rest;
+    }
+    if left.is_empty() {
+        Ordering::Equal
+    } else {
+        Ordering::Less
+    }
+}
+
+// Adds the rows to which the partial row grows by the rows of an answer. `values` and `texts` are room for texts: what stood
+// in them is dropped.
 fn join_answer<'a>(
     places: &[Place],
     answer: &'a PackedRows,

@@ -6,7 +6,7 @@ use crate::{
     MemorySource, NamedFile, Sink, SinkFault, Source, Table, attach_on, call_on, locators_differ,
     names_differ,
 };
-use lists::{Copies, Exact, Numbers, Places, Row, Rows, Seq, Text, Texts};
+use lists::{Copies, Numbers, Places, Row, Seq, Text, Texts};
 use std::alloc::{AllocError, Global};
 use std::test::Fail;
 

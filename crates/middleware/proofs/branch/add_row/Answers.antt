@@ -8,4 +8,4 @@ pub returns : goal.returns
 returns c =
     let row = map (λ s. s.now) c.args.texts.now in
     IfOk-weaker c.with_texts.result (λ more. more ≡ c.args.into ++ row ∷ []) (λ more. HasAdded c.args.into (row ∷ []) more)
-        (λ more e. added_last c.args.into row more e) c.with_texts.ensures
+    (λ more e. added_last c.args.into row more e) c.with_texts.ensures

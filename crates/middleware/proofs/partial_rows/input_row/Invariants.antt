@@ -1,6 +1,0 @@
-use Rattle.std.proofs.Common.{◌≡◌, take}
-use Rattle.middleware.specs.Joining.{input_row_of}
-use Rattle.middleware.proofs.partial_rows.input_row.Given as goal
-
-abbrev pub invariant-loop-input : goal.invariant-loop-input
-invariant-loop-input l = l.values ≡ input_row_of l.places (take l.input-index l.inputs) l.row
