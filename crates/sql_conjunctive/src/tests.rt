@@ -1,11 +1,8 @@
 // Forms of selects over one relation of two columns, worked out by hand.
-ghost use Rattle.std.specs.Prelude.{IfOk, ◌<◌, ◌^◌, length};
-ghost use Rattle.access_schema.specs.Faults.{AreNamed};
-
 use crate::{
     Conjunctive, MOST_FROMS, answers, conjunctive, is_instance, select_fits, statement_fits,
 };
-use access_schema::{Part, Parts, Schema};
+use access_schema::{Part, Parts, Schema, are_named};
 use lists::{Exact, Row, Rows, Seq, Text};
 use meaning::types::{Condition, Fact, Instance, Operand, Query, Select, Statement, Term};
 use std::alloc::{AllocError, Global};
@@ -13,10 +10,7 @@ use std::process::Abort;
 use std::test::Fail;
 
 /// The declaration `relation r(a, b)`.
-fn parts(alloc: Global) -> Result<Parts, AllocError>
-    ensures few { IfOk result (λ parts. length parts < 2 ^ 32) }
-    ensures named { IfOk result AreNamed }
-{
+fn parts(alloc: Global) -> Result<Parts, AllocError> {
     let mut columns = Seq::new(alloc);
     columns.push(Text::from_str(alloc, "a")?)?;
     columns.push(Text::from_str(alloc, "b")?)?;
@@ -27,7 +21,11 @@ fn parts(alloc: Global) -> Result<Parts, AllocError>
 }
 
 fn schema(alloc: Global) -> Result<Schema, AllocError> {
-    match Schema::build(alloc, parts(alloc)?) {
+    let parts = parts(alloc)?;
+    if parts.len() > 100 || !are_named(parts.as_slice()) {
+        return Err(AllocError);
+    }
+    match Schema::build(alloc, parts) {
         Ok(schema) => Ok(schema),
         Err(_) => Err(AllocError),
     }
