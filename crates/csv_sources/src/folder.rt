@@ -10,9 +10,7 @@ ghost use Rattle.csv_sources.specs.Loading.{LoadGives};
 use crate::data_file::read_offer;
 use lists::{Copies, NoMemory, Places, Row, Text, Texts};
 use row_text::PackedRows;
-use source_trait::{
-    AttachFault, CallFault, FileFault, Files, Holding, Request, Requests, Source,
-};
+use source_trait::{AttachFault, CallFault, FileFault, Files, Holding, Request, Requests, Source};
 use std::alloc::Global;
 
 /// The most bytes that a data file may have.
