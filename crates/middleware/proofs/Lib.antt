@@ -12,3 +12,4 @@ pub mod Planning
 pub mod Accessing
 pub mod Lacking
 pub mod Finished
+pub mod Whole

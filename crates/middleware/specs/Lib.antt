@@ -4,6 +4,7 @@ pub mod Attaching
 pub mod Asked
 pub mod Causes
 pub mod Joining
+pub mod WholeAnswer
 pub mod Rounds
 pub mod Branches
 pub mod Sources

@@ -15,6 +15,7 @@ mod partial_rows;
 mod round;
 mod rounds;
 mod run_plan;
+mod whole_answer;
 
 pub use accesses::{first_kindless, first_lineless};
 pub use attach::{Refused, attach_all};

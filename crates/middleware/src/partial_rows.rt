@@ -5,6 +5,7 @@ ghost use Rattle.source_trait.specs.Asking.{RowList};
 ghost use Rattle.row_text.specs.RowText.{row_cmp};
 ghost use Rattle.middleware.specs.Joining.{joined, grown, is_at, input_row_of, input_value_or, text_or};
 
+use crate::whole_answer::{grows_to_answer, only_answer};
 use lists::{Row, Text};
 use meaning::types::Place;
 use row_text::{LentRow, PackedRows};
@@ -13,8 +14,30 @@ use std::cmp::Ordering;
 
 /// The partial rows after a step: each partial row grown by the rows of the answer to its request.
 ///
-/// The answers stand in the order of the requests, and each partial row's request is among them.
+/// The answers stand in the order of the requests, and each partial row's request is among them. An answer that is itself what
+/// the partial rows grow to is taken as it is.
 pub fn join(
+    alloc: Global,
+    places: &[Place],
+    inputs: &[u32],
+    requests: &[Row],
+    answers: Vec<PackedRows>,
+    rows: &PackedRows,
+) -> Result<PackedRows, AllocError>
+    requires ascends { IsStrictlySortedBy row_cmp requests.now }
+    requires asked { (row : List (List ℕ)) → Contains rows.now row → Contains requests.now (input_row_of places.now inputs.now row) }
+    ensures { (answer : List (List ℕ) → RowList) → answers.items ≡ map answer requests.now
+        → IfOk result (λ next. next ≡ flat_map (λ row. grown places.now (answer (input_row_of places.now inputs.now row)) row) rows.now) }
+{
+    if grows_to_answer(places, answers.as_slice(), rows) {
+        return Ok(only_answer(alloc, answers));
+    }
+    let next = join_each(alloc, places, inputs, requests, answers.as_slice(), rows)?;
+    Ok(next)
+}
+
+// Each partial row joined with the answer to its request.
+fn join_each(
     alloc: Global,
     places: &[Place],
     inputs: &[u32],

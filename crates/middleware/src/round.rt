@@ -134,7 +134,7 @@ fn ask_step<S: Source + Send + Drop>(
                 places,
                 inputs,
                 requests.as_slice(),
-                answers.as_slice(),
+                answers.into_vec(),
                 &rows,
             ) {
                 Ok(next) => Ok(Round {

@@ -66,9 +66,10 @@ fn each_partial_row_grows_by_each_row_of_the_answer(rt: HostRuntime) -> Result<(
     let alloc = rt.alloc();
     let places = [Place::New, Place::New];
     let requests = [Row::new(alloc)];
-    let answers = [rows(alloc, &[&["1", "2"], &["3", "4"]])?];
+    let mut answers = Vec::new(alloc);
+    answers.push(rows(alloc, &[&["1", "2"], &["3", "4"]])?)?;
     let partial = rows(alloc, &[&["a"], &["b"]])?;
-    let next = join(alloc, &places, &[], &requests, &answers, &partial)?;
+    let next = join(alloc, &places, &[], &requests, answers, &partial)?;
     let grown = rows(
         alloc,
         &[
@@ -79,5 +80,25 @@ fn each_partial_row_grows_by_each_row_of_the_answer(rt: HostRuntime) -> Result<(
         ],
     )?;
     assert!(rt; Rows::from_vec(next.rows(alloc)?) == Rows::from_vec(grown.rows(alloc)?));
+    Ok(())
+}
+
+// How many rows a partial row without columns grows to by two new columns and this answer.
+fn grown(alloc: Global, answer: &[&[&str]]) -> Result<usize, AllocError> {
+    let places = [Place::New, Place::New];
+    let requests = [Row::new(alloc)];
+    let first = rows(alloc, &[&[]])?;
+    let mut answers = Vec::new(alloc);
+    answers.push(rows(alloc, answer)?)?;
+    let next = join(alloc, &places, &[], &requests, answers, &first)?;
+    Ok(next.len())
+}
+
+#[test]
+fn an_answer_is_taken_whole_only_where_its_rows_fit(rt: HostRuntime) -> Result<(), Fail> {
+    let alloc = rt.alloc();
+    assert_eq!(rt; grown(alloc, &[&["1", "2"], &["3", "4"]])?, 2);
+    assert_eq!(rt; grown(alloc, &[&["1", "2"], &["3"]])?, 1);
+    assert_eq!(rt; grown(alloc, &[&["1"], &["3", "4", "5"]])?, 0);
     Ok(())
 }

@@ -27,7 +27,7 @@ pub returns-in-Ok-join-clause-answers : goal.returns-in-Ok-join-clause-answers
 returns-in-Ok-join-clause-answers g c =
     lane_answers c.args.places.now c.args.method.now c.args.rows c.args.room g.S.Source.seen c.args.kind.now c.args.lane.now.kinds.items c.ask_all.new.lane.kinds.items
     c.as_slice-inputs.result.now c.as_slice-inputs.ensures c.in-Ok.wanted.requests.items c.as_slice.result.now c.as_slice.ensures.value c.in-Ok.ensures.wanted
-    c.in-Ok-ask_all.answers c.as_slice-in-Ok-ask_all-2.result.now c.as_slice-in-Ok-ask_all-2.ensures c.as_slice-in-Ok-ask_all.result.now c.in-Ok-join.next c.as_slice-in-Ok-ask_all.ensures.value
+    c.in-Ok-ask_all.answers c.into_vec.result.items c.into_vec.ensures c.as_slice-in-Ok-ask_all.result.now c.in-Ok-join.next c.as_slice-in-Ok-ask_all.ensures.value
     (λ answer is. joined_same c.args.rows c.in-Ok.wanted.rows c.in-Ok.ensures.same
     (λ row. grown c.args.places.now (answer (input_row_of c.args.places.now c.as_slice-inputs.result.now row)) row) c.in-Ok-join.next (c.in-Ok-join.ensures answer is))
     c.in-Ok-ask_all.ensures.steps

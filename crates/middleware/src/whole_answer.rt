@@ -1,0 +1,72 @@
+// An answer that is itself what the partial rows grow to.
+ghost use Rattle.std.specs.Prelude.{◌≡◌, ◌∷◌, [], IsTrue};
+ghost use Rattle.source_trait.specs.Asking.{HaveArity, RowList};
+ghost use Rattle.middleware.specs.WholeAnswer.{AreNew, GrowsToAnswer};
+
+use meaning::types::Place;
+use row_text::PackedRows;
+use std::alloc::Global;
+
+/// Whether the only partial row has no column yet, and each row of the only answer has one value for each place, which all make new
+/// columns.
+pub fn grows_to_answer(places: &[Place], answers: &[PackedRows], rows: &PackedRows) -> bool
+    ensures { IsTrue result → GrowsToAnswer places.now answers.now rows.now }
+{
+    let [answer] = answers else {
+        return false;
+    };
+    if !is_first(rows) {
+        return false;
+    }
+    if !are_new(places) {
+        return false;
+    }
+    have_arity(answer, places.len())
+}
+
+// Whether the only row has no column.
+fn is_first(rows: &PackedRows) -> bool
+    ensures { IsTrue result → rows.now ≡ [] ∷ [] }
+{
+    if rows.len() != 1 {
+        return false;
+    }
+    have_arity(rows, 0)
+}
+
+/// The only answer.
+pub fn only_answer(alloc: Global, answers: Vec<PackedRows>) -> PackedRows
+    ensures { (answer : RowList) → answers.items ≡ answer ∷ [] → result ≡ answer }
+{
+    let mut answers = answers;
+    match answers.pop() {
+        Some(answer) => answer,
+        None => PackedRows::new(alloc),
+    }
+}
+
+fn are_new(places: &[Place]) -> bool
+    ensures { IsTrue result → AreNew places.now }
+{
+    let mut left = places;
+    while let [place, rest @ ..] = left {
+        match place {
+            Place::New => {}
+            Place::Const(_) => return false,
+            Place::Col(_) => return false,
+        }
+        left = rest;
+    }
+    true
+}
+
+fn have_arity(rows: &PackedRows, arity: usize) -> bool
+    ensures { IsTrue result → HaveArity arity rows.now }
+{
+    for number in 0..rows.len() {
+        if rows.at(number).len() != arity {
+            return false;
+        }
+    }
+    true
+}
