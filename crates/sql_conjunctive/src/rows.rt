@@ -20,7 +20,7 @@ use access_schema::Schema;
 use homomorphism::{Assignment, Bindings, Store, all_matches};
 use lists::{Copies, NoMemory, Row, Rows, Seq, Text};
 use meaning::types::{Instance, Query, Select, Statement, Term, Val};
-use row_text::ascending_distinct;
+use row_text::{PackedRows, ascending_distinct};
 use std::alloc::Global;
 
 /// The answers of the statement on the instance, ascending column by column by their bytes, each once.
@@ -41,7 +41,8 @@ pub fn answers(
         let mut more = select_rows(alloc, select, schema, &store)?;
         rows.append(&mut more)?;
     }
-    let distinct = ascending_distinct(alloc, rows)?;
+    let packed = PackedRows::from_rows(alloc, rows.as_slice())?;
+    let distinct = ascending_distinct(alloc, &packed)?.rows(alloc)?;
     Ok(Seq::from_vec(distinct))
 }
 
