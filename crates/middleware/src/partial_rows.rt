@@ -1,5 +1,5 @@
 // A round's answers joined with the partial rows.
-ghost use Rattle.std.specs.Prelude.{◌≡◌, ◌++◌, List, ℕ, [], ◌∷◌, Contains, IfOk, OnOk, Some, None, if◌then◌else◌, map, flat_map, option_copied, slice_get};
+ghost use Rattle.std.specs.Prelude.{◌≡◌, ◌++◌, List, ℕ, Contains, IfOk, OnOk, Some, None, if◌then◌else◌, map, flat_map, option_copied, slice_get};
 ghost use Rattle.std.specs.List.Sorted.{IsStrictlySortedBy};
 ghost use Rattle.source_trait.specs.Asking.{RowList};
 ghost use Rattle.row_text.specs.RowText.{row_cmp};
