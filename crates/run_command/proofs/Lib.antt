@@ -1,4 +1,1 @@
-pub mod WholePlans
-pub mod Decided
-pub mod WellFormed
 pub mod Results

@@ -1,5 +1,5 @@
--- What a delivery of the plan of one access makes of a statement.
-use Rattle.std.proofs.Common.{◌≡◌, ◌≤◌, ℕ, List, [], ◌∷◌, Option, Result, Ok, Err, Some, None, refl, sym, ap, ◌∙◌, subst}
+-- What a delivery of a plan makes of its statement.
+use Rattle.std.proofs.Common.{◌≡◌, ℕ, List, [], ◌∷◌, Option, Result, Ok, Err, None, refl, ap}
 use Rattle.std.specs.Prelude.{Contains}
 use Rattle.meaning.specs.declared.types.Fact.{Fact}
 use Rattle.meaning.specs.declared.types.Select.{Select}
@@ -7,7 +7,7 @@ use Rattle.meaning.specs.declared.types.Statement.{Statement}
 use Rattle.meaning.specs.declared.types.Plan.{Plan}
 use Rattle.meaning.specs.Rows.{IsRow}
 use Rattle.meaning.specs.Answers.{Answers}
-use Rattle.meaning.specs.Claims.{IsEquivalent, IsModel}
+use Rattle.meaning.specs.Claims.{IsModel}
 use Rattle.access_schema.specs.declared.schema.Schema.{Schema}
 use Rattle.access_schema.specs.Meaning.{meaning_of}
 use Rattle.plan_form.specs.Printing.{plan_text}
@@ -27,35 +27,9 @@ use Rattle.command_io.specs.Writing.{TookAll}
 use Rattle.command_io.specs.Telling.{Tells}
 use Rattle.command_io.specs.Executing.{Executes, Delivers}
 use Rattle.command_io.specs.Executing.Delivers.{done as delivered_all, no_rows, no_text as no_text_made, cut as delivered_part}
-use Rattle.run_command.specs.WholePlan.{AsksWhole, whole_plan}
-use Rattle.run_command.specs.Deciding.{Taken, taken}
-use Rattle.run_command.specs.Ends.{IsPlanFor, IsResult, PlanEnds, result_names, known_of}
+use Rattle.proof_search.specs.Plans.{IsPlanFor}
+use Rattle.run_command.specs.Ends.{IsResult, PlanEnds, result_names}
 use Rattle.run_command.specs.Ends.PlanEnds.{unplanned, untold, stopped, no_text, cut, done}
-use Rattle.run_command.proofs.WholePlans.{whole_lawful, whole_equivalent}
-use Rattle.run_command.proofs.Decided.{taken_is}
-use Rattle.run_command.proofs.WellFormed.{well_formed}
-
--- the plan of the access that is taken is one for the statement
-pub plan_for : (schema : Schema) (statement : Statement) (access : Taken) (plan : Plan) → taken (meaning_of schema) statement ≡ Some access →
-    plan ≡ whole_plan access.method access.relation access.select → IsPlanFor schema statement plan
-plan_for schema statement access plan takes is = rw is (record {
-  lawful = whole_lawful (meaning_of schema) access.select access.method access.relation found.1 (known_of schema statement);
-  equivalent = subst P (sym same) (whole_equivalent (meaning_of schema) access.select access.method access.relation found.1 (well_formed schema));
-})
-  where
-    found : (statement.selects ≡ access.select ∷ []) × AsksWhole (meaning_of schema) access.select access.method access.relation
-    found = taken_is (meaning_of schema) statement access takes
-
-    P : Statement → Type 0
-    P s = IsEquivalent (whole_plan access.method access.relation access.select) s (meaning_of schema)
-
-    same : statement ≡ record { selects = access.select ∷ [] }
-    same = let make : List Select → Statement = λ list. record { selects = list } in ap make found.0
-
--- the names of the result are those of the select that is taken
-pub names_are : (schema : Schema) (statement : Statement) (access : Taken) → taken (meaning_of schema) statement ≡ Some access →
-    result_names statement.selects ≡ access.select.names
-names_are schema statement access takes = ap result_names (taken_is (meaning_of schema) statement access takes).0
 
 module _ {S : Type 0} (seen : S → Seen) (schema : Schema) (statement : Statement) (plan : Plan) (is : IsPlanFor schema statement plan)
     (columns : List (List ℕ)) (named : result_names statement.selects ≡ columns) (old new : List (Lane S)) where
@@ -108,3 +82,7 @@ with_files seen schema statement names before after old new result (stopped plan
 with_files seen schema statement names before after old new result (no_text plan middle run end is told executes why out) = no_text plan middle run end is told executes why out
 with_files seen schema statement names before after old new result (cut plan middle run text end is told executes of_rows took why) = cut plan middle run text end is told executes of_rows took why
 with_files seen schema statement names before after old new result (done plan run text is told executes of_rows took) = done plan run text is told executes of_rows took
+
+-- the names of the result are the select's
+pub names_are : (statement : Statement) (select : Select) → statement.selects ≡ select ∷ [] → result_names statement.selects ≡ select.names
+names_are statement select one = ap result_names one

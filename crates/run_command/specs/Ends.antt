@@ -1,17 +1,14 @@
 -- How the command `run` ends, and what is so of each way.
-use Rattle.std.specs.Prelude.{◌≡◌, ◌++◌, ℕ, List, [], ◌∷◌, Contains, Option, Result, Ok, Err}
+use Rattle.std.specs.Prelude.{◌≡◌, ℕ, List, [], ◌∷◌, Option, Result, Ok, Err}
 use Rattle.meaning.specs.declared.types.Fact.{Fact}
 use Rattle.meaning.specs.declared.types.Select.{Select}
 use Rattle.meaning.specs.declared.types.Statement.{Statement}
 use Rattle.meaning.specs.declared.types.Plan.{Plan}
-use Rattle.meaning.specs.Plans.{IsLawful}
 use Rattle.meaning.specs.Rows.{IsRow}
 use Rattle.meaning.specs.Answers.{Answers}
-use Rattle.meaning.specs.Claims.{IsEquivalent, IsModel}
+use Rattle.meaning.specs.Claims.{IsModel}
 use Rattle.access_schema.specs.declared.schema.Schema.{Schema}
 use Rattle.access_schema.specs.Meaning.{meaning_of}
-use Rattle.access_schema.specs.Lists.{once_after}
-use Rattle.sql_select.specs.Known.{literals_in}
 use Rattle.plan_form.specs.Printing.{plan_text}
 use Rattle.source_trait.specs.Asking.{Seen}
 use Rattle.source_trait.specs.Causes.{Rose}
@@ -29,17 +26,8 @@ use Rattle.command_io.specs.Writing.{TookAll, TookPrefix}
 use Rattle.command_io.specs.FaultLines.{Names}
 use Rattle.command_io.specs.Telling.{StopsFor}
 use Rattle.command_io.specs.Executing.{Executes, stop_of_run}
-use Rattle.run_command.specs.Deciding.{HasNoWholePlan}
-
--- The known constants: those of the schema, which hold those of its rules, and those of the statement.
-abbrev pub known_of : Schema → Statement → List (List ℕ)
-known_of schema statement = once_after schema.constants (literals_in statement.selects)
-
--- The plan calls each method with known constants or received values alone, and has the statement's answers on every
--- instance that meets the rules.
-pub record IsPlanFor (schema : Schema) (statement : Statement) (plan : Plan) : Type 0 where
-  pub lawful : IsLawful plan (meaning_of schema) (known_of schema statement)
-  pub equivalent : IsEquivalent plan statement (meaning_of schema)
+use Rattle.proof_search.specs.Plans.{IsPlanFor}
+use Rattle.proof_search.specs.Whole.{HasNoWholePlan}
 
 -- Why there is no plan: memory was wanted, or in this stage no plan of the statement is looked for.
 pub data UnplannedStop (schema : Schema) (statement : Statement) : Stop → Type 0 where

@@ -1,3 +1,1 @@
-pub mod WholePlan
-pub mod Deciding
 pub mod Ends

@@ -8,12 +8,12 @@ ghost use Rattle.command_io.specs.Moments.{Moment, Stays, DecisionStop};
 ghost use Rattle.command_io.specs.Writing.{TookAll, TookPrefix};
 ghost use Rattle.run_command.specs.Ends.{PlanEnds, RunEnds};
 
-use crate::decide::{plan_of, whole_access};
 use access_schema::Schema;
 use command_io::{FileNames, Stop, deliver, print, schema_of, statement_of, tell};
 use lists::Text;
 use meaning::types::{Plan, Statement};
 use plan_form::plan_text;
+use proof_search::{only_select, plan_for};
 use source_trait::{Files, Lane, Sink, Source};
 use std::alloc::Global;
 
@@ -75,18 +75,17 @@ fn answer<S: Source + Send + Drop, O: Sink, E: Sink>(
     ensures later_err { E.faults err.old ≤ E.faults err.new }
 {
     let relations = schema.relations.as_slice();
-    let Some(access) = whole_access(schema, statement) else {
-        return Err(tell(alloc, err, Stop::NoPlanYet, names, relations));
-    };
-    let plan = match plan_of(alloc, access) {
-        Ok(plan) => plan,
+    let plan = match plan_for(alloc, schema, statement) {
+        Ok(Some(plan)) => plan,
+        Ok(None) => return Err(tell(alloc, err, Stop::NoPlanYet, names, relations)),
         Err(_) => return Err(tell(alloc, err, Stop::Memory, names, relations)),
     };
     match write_plan(alloc, &plan, err) {
         Ok(()) => {}
         Err(stop) => return Err(tell(alloc, err, stop, names, relations)),
     }
-    match deliver(alloc, schema, &plan, &access.select.names, lanes, out) {
+    let columns = &only_select(statement).names;
+    match deliver(alloc, schema, &plan, columns, lanes, out) {
         Ok(()) => Ok(()),
         Err(stop) => Err(tell(alloc, err, stop, names, relations)),
     }

@@ -1,27 +1,27 @@
 -- The ways of a statement, by where the function returns.
-use Rattle.std.proofs.Common.{◌≡◌, ◌≤◌, ℕ, List, Option, Some, None, refl, sym, ap, arith}
+use Rattle.std.proofs.Common.{◌≤◌, refl, arith}
 use Rattle.access_schema.specs.Meaning.{meaning_of}
-use Rattle.source_trait.specs.Causes.{Rose}
 use Rattle.source_trait.proofs.LaneSteps.{LanesStay-refl}
 use Rattle.command_io.specs.declared.stop.Stop.TheVariants as stop
 use Rattle.command_io.proofs.Later.{rose_between, decision_later, tells_later}
-use Rattle.run_command.specs.Deciding.{Taken, taken}
-use Rattle.run_command.specs.Ends.{known_of}
+use Rattle.proof_search.specs.Plans.{IsPlanFor, known_of}
+use Rattle.proof_search.specs.Whole.{HasNoWholePlan}
 use Rattle.run_command.specs.Ends.UnplannedStop.{no_memory, no_plan_yet}
 use Rattle.run_command.specs.Ends.PlanEnds.{unplanned, untold}
-use Rattle.run_command.proofs.Decided.{none_taken}
-use Rattle.run_command.proofs.Results.{plan_for, names_are, delivered, not_delivered, lanes_stay}
+use Rattle.run_command.proofs.Results.{names_are, delivered, not_delivered, lanes_stay}
 use Rattle.run_command.proofs.run.answer.Goals as goal
 
-pub returns-in_default-clause-ends : goal.returns-in_default-clause-ends
-returns-in_default-clause-ends g c = unplanned c.tell.result (record {
-  given = stop.NoPlanYet;
-  cause = no_plan_yet (none_taken (meaning_of c.args.schema.now) c.args.statement.now (sym (rw c.in_default.is at c.whole_access.ensures)));
-  tells = rw c.as_slice-relations.ensures at c.tell.ensures.tells;
-}) refl refl
+pub returns-in-Ok-None-clause-ends : goal.returns-in-Ok-None-clause-ends
+returns-in-Ok-None-clause-ends g c =
+    let none : HasNoWholePlan (meaning_of c.args.schema.now) c.args.statement.now = (rw c.in-Ok-None.field-0-is at c.in-Ok-None.ensures).none in
+    unplanned c.tell.result (record {
+      given = stop.NoPlanYet;
+      cause = no_plan_yet none;
+      tells = rw c.as_slice-relations.ensures at c.tell.ensures.tells;
+    }) refl refl
 
-pub returns-in_default-clause-lanes : goal.returns-in_default-clause-lanes
-returns-in_default-clause-lanes g c = LanesStay-refl g.S.Source.seen c.args.lanes.now.items
+pub returns-in-Ok-None-clause-lanes : goal.returns-in-Ok-None-clause-lanes
+returns-in-Ok-None-clause-lanes g c = LanesStay-refl g.S.Source.seen c.args.lanes.now.items
 
 pub returns-in-Err-clause-ends : goal.returns-in-Err-clause-ends
 returns-in-Err-clause-ends g c = unplanned c.tell-in-Err.result (record {
@@ -35,12 +35,11 @@ returns-in-Err-clause-lanes g c = LanesStay-refl g.S.Source.seen c.args.lanes.no
 
 pub returns-in-Err-write_plan-clause-ends : goal.returns-in-Err-write_plan-clause-ends
 returns-in-Err-write_plan-clause-ends g c =
-    let access : Taken = record { select = c.in-Some.access.select.now; method = c.in-Some.access.method.now; relation = c.in-Some.access.relation.now } in
-    let takes : taken (meaning_of c.args.schema.now) c.args.statement.now ≡ Some access = sym (rw c.in-Some.is at c.whole_access.ensures) in
+    let is : IsPlanFor c.args.schema.now c.args.statement.now c.in-Ok-Some.plan = (rw c.in-Ok-Some.field-0-is at c.in-Ok-Some.ensures).plan in
     let begun : g.E.Sink.faults c.args.err.now ≤ g.E.Sink.faults c.write_plan.new.err = c.write_plan.ensures.later in
     let ended : g.E.Sink.faults c.write_plan.new.err ≤ g.E.Sink.faults c.tell-in-Err-write_plan.new.err = c.tell-in-Err-write_plan.ensures.later in
-    untold c.in-Ok.plan (g.E.Sink.taken c.write_plan.new.err) c.tell-in-Err-write_plan.result
-    (plan_for c.args.schema.now c.args.statement.now access c.in-Ok.plan takes c.in-Ok.ensures) c.in-Err-write_plan.ensures.prefix (record {
+    untold c.in-Ok-Some.plan (g.E.Sink.taken c.write_plan.new.err) c.tell-in-Err-write_plan.result
+    is c.in-Err-write_plan.ensures.prefix (record {
       given = c.in-Err-write_plan.stop;
       cause = decision_later _ _ c.in-Err-write_plan.stop (rose_between _ _ _ _ (omega arith) ended) c.in-Err-write_plan.ensures.cause;
       tells = tells_later _ _ _ _ _ _ _ (rose_between _ _ _ _ begun (omega arith)) (rw c.as_slice-relations.ensures at c.tell-in-Err-write_plan.ensures.tells);
@@ -51,27 +50,24 @@ returns-in-Err-write_plan-clause-lanes g c = LanesStay-refl g.S.Source.seen c.ar
 
 pub deliver-requires-clause-lawful : goal.deliver-requires-clause-lawful
 deliver-requires-clause-lawful g c κs within =
-    let access : Taken = record { select = c.in-Some.access.select.now; method = c.in-Some.access.method.now; relation = c.in-Some.access.relation.now } in
-    let takes : taken (meaning_of c.args.schema.now) c.args.statement.now ≡ Some access = sym (rw c.in-Some.is at c.whole_access.ensures) in
-    (known_of c.args.schema.now c.args.statement.now, (plan_for c.args.schema.now c.args.statement.now access c.in-Ok.plan takes c.in-Ok.ensures).lawful)
+    let is : IsPlanFor c.args.schema.now c.args.statement.now c.in-Ok-Some.plan = (rw c.in-Ok-Some.field-0-is at c.in-Ok-Some.ensures).plan in
+    (known_of c.args.schema.now c.args.statement.now, is.lawful)
 
 pub returns-in-Ok-deliver-clause-ends : goal.returns-in-Ok-deliver-clause-ends
 returns-in-Ok-deliver-clause-ends g c =
-    let access : Taken = record { select = c.in-Some.access.select.now; method = c.in-Some.access.method.now; relation = c.in-Some.access.relation.now } in
-    let takes : taken (meaning_of c.args.schema.now) c.args.statement.now ≡ Some access = sym (rw c.in-Some.is at c.whole_access.ensures) in
-    delivered g.S.Source.seen c.args.schema.now c.args.statement.now c.in-Ok.plan
-    (plan_for c.args.schema.now c.args.statement.now access c.in-Ok.plan takes c.in-Ok.ensures)
-    c.in-Some.access.select.now.names (names_are c.args.schema.now c.args.statement.now access takes) _ _ _ _ _ (g.E.Sink.taken c.write_plan.new.err)
-    c.in-Ok-write_plan.ensures.whole c.in-Ok-deliver.ensures.delivers
+    let is : IsPlanFor c.args.schema.now c.args.statement.now c.in-Ok-Some.plan = (rw c.in-Ok-Some.field-0-is at c.in-Ok-Some.ensures).plan in
+    delivered g.S.Source.seen c.args.schema.now c.args.statement.now c.in-Ok-Some.plan
+    is
+    c.only_select.result.now.names (names_are c.args.statement.now c.only_select.result.now c.only_select.ensures) _ _ _ _ _ (g.E.Sink.taken c.write_plan.new.err)
+    c.in-Ok.ensures.whole c.in-Ok-deliver.ensures.delivers
 
 pub returns-clause-ends : goal.returns-clause-ends
 returns-clause-ends g c =
-    let access : Taken = record { select = c.in-Some.access.select.now; method = c.in-Some.access.method.now; relation = c.in-Some.access.relation.now } in
-    let takes : taken (meaning_of c.args.schema.now) c.args.statement.now ≡ Some access = sym (rw c.in-Some.is at c.whole_access.ensures) in
-    not_delivered g.S.Source.seen c.args.schema.now c.args.statement.now c.in-Ok.plan
-    (plan_for c.args.schema.now c.args.statement.now access c.in-Ok.plan takes c.in-Ok.ensures)
-    c.in-Some.access.select.now.names (names_are c.args.schema.now c.args.statement.now access takes) _ _ _ _ _ (g.E.Sink.taken c.write_plan.new.err)
-    c.in-Err-deliver.stop c.tell-in-Err-deliver.result c.in-Ok-write_plan.ensures.whole c.in-Err-deliver.ensures.delivers
+    let is : IsPlanFor c.args.schema.now c.args.statement.now c.in-Ok-Some.plan = (rw c.in-Ok-Some.field-0-is at c.in-Ok-Some.ensures).plan in
+    not_delivered g.S.Source.seen c.args.schema.now c.args.statement.now c.in-Ok-Some.plan
+    is
+    c.only_select.result.now.names (names_are c.args.statement.now c.only_select.result.now c.only_select.ensures) _ _ _ _ _ (g.E.Sink.taken c.write_plan.new.err)
+    c.in-Err-deliver.stop c.tell-in-Err-deliver.result c.in-Ok.ensures.whole c.in-Err-deliver.ensures.delivers
     (tells_later _ _ _ _ _ _ _ (rose_between _ _ _ _ c.write_plan.ensures.later (omega arith)) (rw c.as_slice-relations.ensures at c.tell-in-Err-deliver.ensures.tells))
 
 pub returns-clause-lanes : goal.returns-clause-lanes

@@ -1,6 +1,5 @@
 -- A text is refused, or the statement is answered.
-use Rattle.std.proofs.Common.{◌≡◌, ◌≤◌, ◌∙◌, ℕ, List, [], refl, sym, arith}
-use Rattle.source_trait.specs.Causes.{Rose}
+use Rattle.std.proofs.Common.{◌≤◌, refl, arith}
 use Rattle.source_trait.proofs.LaneSteps.{LanesStay-refl}
 use Rattle.command_io.proofs.Later.{rose_between, query_later}
 use Rattle.run_command.specs.Ends.RunEnds.{no_schema, no_statement, read}

@@ -1,0 +1,5 @@
+pub mod Turns
+pub mod Literals
+pub mod OneAtom
+pub mod Planned
+pub mod Unplanned

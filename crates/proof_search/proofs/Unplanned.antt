@@ -1,0 +1,53 @@
+-- Where no plan is made, no method asks for what the statement selects whole.
+use Rattle.std.proofs.Common.{◌≡◌, ℕ, List, [], ◌∷◌, sym, ap, ◌∙◌, subst, refl, arith}
+use Rattle.std.specs.Prelude.{Contains}
+use Rattle.std.specs.List.{AllZip}
+use Rattle.meaning.specs.declared.types.Atom.{Atom}
+use Rattle.meaning.specs.declared.types.Condition.{Condition}
+use Rattle.meaning.specs.declared.types.Operand.{Operand}
+use Rattle.meaning.specs.declared.types.Operand.TheVariants.{Literal}
+use Rattle.meaning.specs.declared.types.Query.{Query}
+use Rattle.meaning.specs.declared.types.SchemaParts.{SchemaParts}
+use Rattle.meaning.specs.declared.types.Select.{Select}
+use Rattle.meaning.specs.declared.types.Statement.{Statement}
+use Rattle.meaning.specs.Conjunctive.{AreJoined, given, alike, turned, chained, IsAtomFor, IsConjunctive}
+use Rattle.sql_conjunctive.specs.Form.{Clashes}
+use Rattle.proof_search.specs.Whole.{TakesColumns, HasNoWholePlan}
+use Rattle.proof_search.specs.Exposing.{HasNoFreeMethod}
+
+-- two lists of one member have the same one
+one_select : (statement : Statement) (first second : Select) → statement.selects ≡ first ∷ [] → statement.selects ≡ second ∷ [] → first ≡ second
+one_select statement first second a b = let same : first ∷ [] ≡ second ∷ [] = sym a ∙ b in cc
+
+-- the select is not of the kind that is planned
+pub other_kind : (schema : SchemaParts) (statement : Statement) (select : Select) → statement.selects ≡ select ∷ [] → (TakesColumns select → ⊥) → HasNoWholePlan schema statement
+other_kind schema statement select one not_so other method whole asks = not_so (subst TakesColumns (one_select statement other select whole one) asks.takes)
+
+-- no condition joins nothing but an operand with itself
+nothing_joined : (conditions : List Condition) → ((c : Condition) → Contains conditions c → ⊥) → {o p : Operand} → AreJoined conditions o p → o ≡ p
+nothing_joined conditions none (given condition c) = absurd (none condition c)
+nothing_joined conditions none (alike o) = refl
+nothing_joined conditions none (turned j) = sym (nothing_joined conditions none j)
+nothing_joined conditions none (chained i j) = nothing_joined conditions none i ∙ nothing_joined conditions none j
+
+-- without conditions nothing clashes
+pub no_clash : (select : Select) → TakesColumns select → Clashes select.conditions → ⊥
+no_clash select takes (a, b, apart, joined) =
+    let same : Literal a ≡ Literal b = nothing_joined select.conditions (λ c among. absurd (none c (subst (λ list. Contains list c) takes.free among))) joined in
+    apart (cc)
+  where
+    none : (c : Condition) → Contains [] c → ⊥
+    none c among = omega (arith, among.1)
+
+one_atom : (schema : SchemaParts) (rel : ℕ) (atoms : List Atom) → AllZip (IsAtomFor schema) (rel ∷ []) atoms → (atom : Atom) × (atoms ≡ atom ∷ []) × (atom.rel ≡ rel)
+one_atom schema rel [] is = absurd is
+one_atom schema rel (atom ∷ []) is = (atom, refl, is.0.0)
+one_atom schema rel (atom ∷ other ∷ atoms) is = absurd is.1
+
+-- no method asks for the one atom without inputs
+pub no_method : (schema : SchemaParts) (statement : Statement) (select : Select) (query : Query) → statement.selects ≡ select ∷ [] → IsConjunctive schema select query → HasNoFreeMethod schema query → HasNoWholePlan schema statement
+no_method schema statement select query one form none other method whole asks =
+    let same = one_select statement other select whole one in
+    let froms : select.froms ≡ method.rel ∷ [] = ap (λ (s : Select). s.froms) (sym same) ∙ asks.of_relation in
+    let (atom, atoms, rel) = one_atom schema method.rel query.atoms (subst (λ list. AllZip (IsAtomFor schema) list query.atoms) froms form.atoms) in
+    none atom method atoms asks.of_schema (sym rel) asks.free

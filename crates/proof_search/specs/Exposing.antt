@@ -1,0 +1,24 @@
+-- Which method exposes a frozen atom, where nothing is exposed yet.
+use Rattle.std.specs.Prelude.{◌≡◌, ℕ, List, [], ◌∷◌, Contains, slice_get, Some}
+use Rattle.meaning.specs.declared.types.Method.{Method}
+use Rattle.meaning.specs.declared.types.Atom.{Atom}
+use Rattle.meaning.specs.declared.types.Query.{Query}
+use Rattle.meaning.specs.declared.types.SchemaParts.{SchemaParts}
+use Rattle.meaning.specs.declared.types.Val.{Val}
+use Rattle.meaning.specs.declared.types.Val.TheVariants.{Const}
+use Rattle.meaning.specs.declared.types.Ground.{Ground}
+use Rattle.meaning.specs.Values.{Value}
+
+-- The value at a position is a known constant.
+abbrev pub IsConstantAt : List Value → List Val → ℕ → Type 0
+IsConstantAt known vals position = (text : Value) × (slice_get vals position ≡ Some (Const text)) × Contains known text
+
+-- The method asks for the fact's relation, with known constants of the fact as its inputs.
+pub record CanExpose (known : List Value) (fact : Ground) (method : Method) : Type 0 where
+  pub of_relation : method.rel ≡ fact.rel
+  pub inputs : (position : ℕ) → Contains method.inputs position → IsConstantAt known fact.vals position
+
+-- No method asks for the query's one atom without inputs.
+abbrev pub HasNoFreeMethod : SchemaParts → Query → Type 0
+HasNoFreeMethod schema query = (atom : Atom) (method : Method) → query.atoms ≡ atom ∷ [] → Contains schema.methods method →
+    method.rel ≡ atom.rel → method.inputs ≡ [] → ⊥

@@ -1,0 +1,27 @@
+-- What makes a plan one for a statement.
+use Rattle.std.specs.Prelude.{◌≡◌, List, Contains, length}
+use Rattle.meaning.specs.declared.types.Branch.{Branch}
+use Rattle.meaning.specs.declared.types.Plan.{Plan}
+use Rattle.meaning.specs.declared.types.Statement.{Statement}
+use Rattle.meaning.specs.Values.{Value}
+use Rattle.meaning.specs.Plans.{IsLawful}
+use Rattle.meaning.specs.Claims.{IsEquivalent}
+use Rattle.access_schema.specs.declared.schema.Schema.{Schema}
+use Rattle.access_schema.specs.Meaning.{meaning_of}
+use Rattle.access_schema.specs.Lists.{once_after}
+use Rattle.sql_select.specs.Known.{literals_in}
+
+-- The known constants: those of the schema, which hold those of its rules, and those of the statement.
+abbrev pub known_of : Schema → Statement → List Value
+known_of schema statement = once_after schema.constants (literals_in statement.selects)
+
+-- The plan calls each method with known constants or received values alone, and has the statement's answers on every
+-- instance that meets the rules.
+pub record IsPlanFor (schema : Schema) (statement : Statement) (plan : Plan) : Type 0 where
+  pub lawful : IsLawful plan (meaning_of schema) (known_of schema statement)
+  pub equivalent : IsEquivalent plan statement (meaning_of schema)
+
+-- The plan is one access: it has one branch, of one step.
+pub record IsOneAccess (plan : Plan) : Type 0 where
+  pub branches : length plan.branches ≡ 1
+  pub steps : (branch : Branch) → Contains plan.branches branch → length branch.steps ≡ 1
