@@ -35,7 +35,7 @@ pub counted : {X Y : Type 0} (p : X → Bool) (h : X → Option Y) → ((x : X) 
 counted p h agree [] = refl
 counted p h agree (x ∷ xs) = cons_counted p h x xs (agree x) (counted p h agree xs)
 
-relation_agrees : (part : Part) → ((relation_of part ≡ None) × (is_relation part ≡ false)) ⊎ ((y : Relation) × (relation_of part ≡ Some y) × (is_relation part ≡ true))
+pub relation_agrees : (part : Part) → ((relation_of part ≡ None) × (is_relation part ≡ false)) ⊎ ((y : Relation) × (relation_of part ≡ Some y) × (is_relation part ≡ true))
 relation_agrees (RelationPart name columns) = inr (_, refl, refl)
 relation_agrees (MethodPart name relation inputs cost) = inl (refl, refl)
 relation_agrees (RulePart line body head) = inl (refl, refl)
@@ -60,7 +60,7 @@ named_relation (KeyPart line relation columns target target_columns) name is = a
 named_relation (ConstantPart text) name is = absurd (cc)
 named_relation (SourcePart relation kind locator) name is = absurd (cc)
 
-method_agrees : (relations : List Relation) (part : Part) → ((method_of relations part ≡ None) × (is_method part ≡ false)) ⊎ ((y : Method) × (method_of relations part ≡ Some y) × (is_method part ≡ true))
+pub method_agrees : (relations : List Relation) (part : Part) → ((method_of relations part ≡ None) × (is_method part ≡ false)) ⊎ ((y : Method) × (method_of relations part ≡ Some y) × (is_method part ≡ true))
 method_agrees relations (RelationPart name columns) = inl (refl, refl)
 method_agrees relations (MethodPart name relation inputs cost) = inr (_, refl, refl)
 method_agrees relations (RulePart line body head) = inl (refl, refl)

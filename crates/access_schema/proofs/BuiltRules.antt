@@ -315,7 +315,7 @@ rule_constant_there parts line body head c of has =
     contains_among (constants_of parts) c (once_taken [] (flat_map declared_constants parts ++ flat_map rule_constants parts) c
     (Contains-append_right (flat_map declared_constants parts) (flat_map rule_constants parts) c (given_of rule_constants parts (RulePart line body head) c of has)))
 
-rule_agrees : (relations : List Relation) (part : Part) → ((rule_of relations part ≡ None) × (is_rule part ≡ false)) ⊎ ((y : Rule) × (rule_of relations part ≡ Some y) × (is_rule part ≡ true))
+pub rule_agrees : (relations : List Relation) (part : Part) → ((rule_of relations part ≡ None) × (is_rule part ≡ false)) ⊎ ((y : Rule) × (rule_of relations part ≡ Some y) × (is_rule part ≡ true))
 rule_agrees relations (RelationPart name columns) = inl (refl, refl)
 rule_agrees relations (MethodPart name relation inputs cost) = inl (refl, refl)
 rule_agrees relations (RulePart line body head) = inr (_, refl, refl)

@@ -1,6 +1,7 @@
 -- No rules, which fit every schema and do not lead round.
 use Rattle.std.proofs.Common.{ℕ, List, [], ◌∷◌, arith}
-use Rattle.access_schema.specs.Feeding.{Feeds, IsChain}
+use Rattle.meaning.specs.RuleOrder.{Feeds}
+use Rattle.access_schema.specs.Feeding.{IsChain}
 use Rattle.access_schema.specs.Invariant.{AreRules}
 use Rattle.meaning.specs.declared.types.Relation.{Relation}
 

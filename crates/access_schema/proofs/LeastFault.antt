@@ -21,7 +21,8 @@ use Rattle.access_schema.specs.declared.fault.SchemaFault.TheVariants.{Duplicate
 use Rattle.access_schema.specs.declared.limits.TheConstants.{MOST_CONSTANTS, MOST_RULES, MOST_BODY_ATOMS, MOST_HEAD_ATOMS, MOST_VARIABLES}
 use Rattle.access_schema.specs.Lists.{once_after, each_once}
 use Rattle.access_schema.specs.Content.{number_of, is_named, atom_of, variables_of, rule_of, rules_of, part_constants}
-use Rattle.access_schema.specs.Feeding.{Feeds, IsChain, AreRecursive}
+use Rattle.meaning.specs.RuleOrder.{Feeds}
+use Rattle.access_schema.specs.Feeding.{IsChain, AreRecursive}
 use Rattle.access_schema.specs.Faults.{is_rule, is_unknown, repeats_name, uses_unknown, has_wrong_arity, has_unknown_column, passed_limit, plain_fault, is_outside, rule_limit, has_many_constants, IsFaultOf, IsLeastFault, IsFaultless, fault_number}
 use Rattle.access_schema.specs.Links.{link_of, links_of, Joins, IsBelow, AreBelow, LeadRound}
 use Rattle.access_schema.specs.Progress.{StandsFor}

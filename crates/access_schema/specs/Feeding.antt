@@ -1,18 +1,7 @@
--- Which relation feeds which through the rules, and rules that are not recursive.
-use Rattle.std.specs.Prelude.{◌≡◌, ℕ, List, [], ◌∷◌, Contains}
-use Rattle.meaning.specs.declared.types.Atom.{Atom}
+-- Chains of relations of which each feeds the next through the rules, and rules that are not recursive.
+use Rattle.std.specs.Prelude.{ℕ, List, [], ◌∷◌}
 use Rattle.meaning.specs.declared.types.Rule.{Rule}
-
--- some rule has the one relation in its body and the other in its head
-pub record Feeds (rules : List Rule) (source target : ℕ) : Type 0 where
-  pub rule : Rule
-  pub body : Atom
-  pub head : Atom
-  pub of_rules : Contains rules rule
-  pub in_body : Contains rule.body body
-  pub in_head : Contains rule.head head
-  pub reads : body.rel ≡ source
-  pub makes : head.rel ≡ target
+use Rattle.meaning.specs.RuleOrder.{Feeds}
 
 -- steps lead from the one number over those between to the other
 abbrev pub IsChain : (ℕ → ℕ → Type 0) → ℕ → List ℕ → ℕ → Type 0

@@ -33,6 +33,7 @@ pub use meaning::types::{
     Terms,
 };
 pub use named::are_named;
+pub use names::add_once;
 pub use part::{NamedAtom, NamedAtoms, NamedTerm, NamedTerms, Part, Parts};
 pub use schema::{Schema, SourceLine, SourceLines};
 

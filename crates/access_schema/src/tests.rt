@@ -1,7 +1,7 @@
-// A schema that is worked out by hand, each fault with its part, and names that are there or not.
+// A schema that is worked out by hand, each fault with its part, names that are there or not, and texts that are added once.
 use crate::{
     BuildFault, Limit, NamedAtom, NamedAtoms, NamedTerm, NamedTerms, Part, Parts, Schema,
-    SchemaFault, are_named,
+    SchemaFault, add_once, are_named,
 };
 use lists::{NoMemory, Text, Texts};
 use meaning::types::{Atom, Term};
@@ -322,5 +322,16 @@ fn names_are_there_or_not(rt: HostRuntime) -> Result<(), Fail> {
     ] {
         assert!(rt; !are_named(parts(alloc, &[named[0], unnamed])?.as_slice()));
     }
+    Ok(())
+}
+
+#[test]
+fn a_text_is_added_once(rt: HostRuntime) -> Result<(), Fail> {
+    let alloc = rt.alloc();
+    let mut known = texts(alloc, &["a", "b"])?.into_vec();
+    for text in ["b", "c", "", "a", "c", ""] {
+        add_once(alloc, &mut known, &Text::from_str(alloc, text)?)?;
+    }
+    assert_eq!(rt; names_text(alloc, known.as_slice())?.as_str(), " a b c ");
     Ok(())
 }

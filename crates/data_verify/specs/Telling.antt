@@ -1,17 +1,13 @@
 -- What is told of a verification.
-use Rattle.std.specs.Prelude.{◌++◌, ℕ, List, [], ◌∷◌, flat_map, codes, slice_get, Option, Some, None}
+use Rattle.std.specs.Prelude.{◌++◌, ℕ, List, [], codes, slice_get, Option, Some, None}
 use Rattle.std.specs.Fmt.{decimal}
 use Rattle.meaning.specs.declared.types.Rule.{Rule}
 use Rattle.meaning.specs.declared.types.Relation.{Relation}
 use Rattle.meaning.specs.declared.types.Fact.{Fact}
 use Rattle.access_schema.specs.declared.schema.Schema.{Schema}
 use Rattle.pq_text.specs.Printing.{printed_name, printed_value}
+use Rattle.pq_text.specs.Listed.{listed}
 use Rattle.data_verify.specs.declared.broken.Broken.{Broken}
-
--- The members, parted by a comma and a blank.
-abbrev pub listed : {X : Type 0} → (X → List ℕ) → List X → List ℕ
-listed text [] = []
-listed text (x ∷ xs) = text x ++ flat_map (λ y. codes ", " ++ text y) xs
 
 -- A relation is named as a name is printed, and one that is not there has no text.
 abbrev pub name_text : Option Relation → List ℕ

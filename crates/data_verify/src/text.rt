@@ -1,7 +1,8 @@
 // The text of a verification.
 ghost use Rattle.std.specs.Prelude.{◌≡◌, ◌++◌, OnOk, IfOk, slice_get};
 ghost use Rattle.pq_text.specs.Printing.{printed_value};
-ghost use Rattle.data_verify.specs.Telling.{listed, fact_text, name_text, line_of, broken_text, verification_text};
+ghost use Rattle.pq_text.specs.Listed.{listed};
+ghost use Rattle.data_verify.specs.Telling.{fact_text, name_text, line_of, broken_text, verification_text};
 
 use crate::broken::Broken;
 use access_schema::Schema;

@@ -10,9 +10,9 @@ use Rattle.meaning.specs.declared.types.Plan.{Plan}
 use Rattle.meaning.specs.Plans.{IsMethod}
 use Rattle.access_schema.specs.declared.schema.Schema.{Schema}
 use Rattle.access_schema.specs.Meaning.{meaning_of}
+use Rattle.access_schema.proofs.Keeping.{well_formed}
 use Rattle.middleware.specs.PlanSources.{IsAccessed}
 use Rattle.middleware.specs.Sources.{StepAccesses, StepsAccess, BranchesAccess}
-use Rattle.middleware.proofs.Finding.{well_formed}
 use Rattle.middleware.proofs.Steps.{in_append, append_first, append_second}
 
 no_member : {X : Type 0} (x : X) → Contains [] x → ⊥

@@ -1,14 +1,12 @@
 -- Methods and source lines that are found.
-use Rattle.std.proofs.Common.{◌≡◌, ◌≢◌, ℕ, List, length, None, Some, refl, sym, ◌∙◌, ap, subst}
+use Rattle.std.proofs.Common.{◌≡◌, ◌≢◌, ℕ, List, None, Some, sym, ◌∙◌, ap, subst}
 use Rattle.std.specs.Prelude.{Contains, slice_get}
-use Rattle.std.proofs.lemmas.Option.{slice_get_read}
 use Rattle.lists.proofs.Members.{map_got, some_injective}
 use Rattle.meaning.specs.declared.types.Method.{Method}
-use Rattle.meaning.specs.Plans.{IsWellFormed}
 use Rattle.access_schema.specs.declared.schema.Schema.{Schema}
 use Rattle.access_schema.specs.declared.schema.SourceLine.{SourceLine}
-use Rattle.access_schema.specs.Meaning.{meaning_of}
 use Rattle.access_schema.specs.Names.{method_names}
+use Rattle.access_schema.proofs.Texts.{got_contained}
 use Rattle.source_trait.specs.Asking.{Seen}
 use Rattle.source_trait.specs.Lanes.{AtKind}
 use Rattle.source_trait.specs.declared.lanes.Kind.{Kind}
@@ -16,14 +14,11 @@ use Rattle.middleware.specs.PlanSources.{line_for}
 use Rattle.middleware.specs.Rounds.{CanAskAll}
 use Rattle.middleware.specs.Branches.{IsAskable}
 
-pub got_contained : {X : Type 0} (xs : List X) (x : X) → Contains xs x → (k : ℕ) × (slice_get xs k ≡ Some x)
-got_contained xs x (k, l, e) = (k, slice_get_read xs (length xs) k x refl l (sym e))
-
 -- a name at no place is no method's
 pub no_method : (methods : List Method) (name : List ℕ) → ((k : ℕ) → slice_get (method_names methods) k ≢ Some name) → (method : Method) → Contains methods method × (method.name ≡ name) → ⊥
 no_method methods name none method named =
-    let (k, at) = got_contained methods method named.0 in
-    none k (map_got (λ (m : Method). m.name) methods k method at ∙ ap Some named.1)
+    let there = named.0 in
+    none there.0 (map_got (λ (m : Method). m.name) methods there.0 method (got_contained methods method there) ∙ ap Some named.1)
 
 pub no_line : (rel : ℕ) (lines sources : List SourceLine) (line : SourceLine) → None ≡ line_for rel lines → lines ≡ sources → line_for rel sources ≡ Some line → ⊥
 no_line rel lines sources line e is there = let h : None ≡ Some line = e ∙ ap (line_for rel) is ∙ there in cc
@@ -37,13 +32,3 @@ pub ready_line : {S : Type 0} (seen : S → Seen) (schema : Schema) (kinds : Lis
 ready_line seen schema kinds method line is askable =
     let same : askable.line ≡ line = some_injective askable.line line (sym askable.line_is ∙ is) in
     subst (λ (l : SourceLine). AtKind kinds l.kind (λ s. CanAskAll ((seen s).attached method.rel) method)) same askable.ready
-
-pub well_formed : (schema : Schema) → IsWellFormed (meaning_of schema)
-well_formed schema = record {
-  once = λ first second a b same.
-      let i = got_contained schema.methods first a in
-      let j = got_contained schema.methods second b in
-      let at : i.0 ≡ j.0 = schema.valid.methods_are.differ i.0 j.0 second.name (map_got (λ (m : Method). m.name) schema.methods i.0 first i.1 ∙ ap Some same) (map_got (λ (m : Method). m.name) schema.methods j.0 second j.1) in
-      some_injective first second (sym i.1 ∙ ap (slice_get schema.methods) at ∙ j.1);
-  inputs = λ method relation p among at input. schema.valid.methods_are.inputs method relation p among at input;
-}

@@ -18,6 +18,7 @@ use Rattle.meaning.specs.Requests.{AreRequests}
 use Rattle.access_schema.specs.declared.schema.Schema.{Schema}
 use Rattle.access_schema.specs.declared.schema.SourceLine.{SourceLine}
 use Rattle.access_schema.specs.Meaning.{meaning_of}
+use Rattle.access_schema.proofs.Keeping.{well_formed}
 use Rattle.source_trait.specs.Asking.{Seen, Rises}
 use Rattle.source_trait.specs.Lanes.{names_of, source_of, KindsStay, LanesStay}
 use Rattle.source_trait.specs.declared.source.AttachFault.{AttachFault}
@@ -38,7 +39,6 @@ use Rattle.middleware.specs.Sources.{first_lineless, first_kindless, has_place, 
 use Rattle.middleware.specs.Running.{StopsOn, RunsOn, refused_as, IsUnknownKind, LacksFirstKind, LaneGives, RunsAlone}
 use Rattle.middleware.proofs.Answering.{asked_nothing}
 use Rattle.middleware.proofs.LaneRuns.{OnlyFirst-refl, OnlyFirst-trans, OnlyFirst-map}
-use Rattle.middleware.proofs.Finding.{well_formed}
 use Rattle.middleware.proofs.Lacking.{above, kindless_none, kindless_some, lineless_none, lineless_some, place_none, place_source, rises_strictly, the_line}
 use Rattle.middleware.proofs.Existing.{branches_exist}
 use Rattle.middleware.proofs.Branching.{branch_ready, steps_earlier}

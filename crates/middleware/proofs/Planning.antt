@@ -17,6 +17,7 @@ use Rattle.meaning.specs.Rows.{IsBranchRow}
 use Rattle.meaning.specs.Requests.{AreBranchesRequests}
 use Rattle.access_schema.specs.declared.schema.Schema.{Schema}
 use Rattle.access_schema.specs.Meaning.{meaning_of}
+use Rattle.access_schema.proofs.Keeping.{well_formed}
 use Rattle.source_trait.specs.Asking.{RowList, Seen}
 use Rattle.source_trait.specs.declared.lanes.Kind.{Kind}
 use Rattle.middleware.specs.PlanSources.{IsAccessed}
@@ -26,7 +27,6 @@ use Rattle.middleware.specs.Branches.{IsReadyBranch, AreAskable, HoldSteps, Asks
 use Rattle.middleware.specs.declared.branch.BranchFault.{BranchFault}
 use Rattle.middleware.specs.declared.branch.BranchFault.TheVariants as branch
 use Rattle.middleware.specs.declared.fault.RunFault.TheVariants as fault
-use Rattle.middleware.proofs.Finding.{well_formed}
 use Rattle.middleware.proofs.Steps.{in_append, append_first, append_second}
 use Rattle.middleware.proofs.Existing.{split_at, branches_exist, branches_append, branches_one}
 use Rattle.middleware.proofs.Laning.{AsksLane-refl, AsksLane-trans}

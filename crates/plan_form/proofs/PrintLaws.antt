@@ -10,6 +10,7 @@ use Rattle.pq_text.specs.declared.lexeme.Lexeme.{Lexeme}
 use Rattle.pq_text.specs.Lines.{feeds}
 use Rattle.pq_text.specs.Forms.{Slot, Key, Mark, Takes, list_form, IsSome}
 use Rattle.pq_text.specs.Printing.{printed_name, printed_value, Stops}
+use Rattle.pq_text.specs.Listed.{listed}
 use Rattle.pq_text.specs.Pieces.{Piece, behind_blank, text_of, piece_lexeme, IsPrintedLine, ArePrintedLines, lines_text, numbered, word_piece, mark_piece, name_piece, value_piece, number_piece, further_pieces, list_pieces}
 use Rattle.pq_text.proofs.Pieces.{printed_lines}
 use Rattle.pq_text.proofs.PieceLaws.{goes_on, name_is_lexed, value_is_lexed, word_is_lexed, open_is_lexed, close_is_lexed, dollar_is_lexed, number_is_lexed, text_of-append, AreLexed-append, AreInLine-append, Reads, Reads-append, name_fits, value_reads, name_in_line, IsPrinted, list_lexed, list_reads, list_in_line}
@@ -21,7 +22,7 @@ use Rattle.meaning.specs.declared.types.Step.{Step}
 use Rattle.meaning.specs.declared.types.Branch.{Branch}
 use Rattle.meaning.specs.declared.types.Plan.{Plan}
 use Rattle.plan_form.specs.Fitting.{IsWritablePlace, IsWritableOut, IsWritableStep, IsWritableBranch, IsWritable}
-use Rattle.plan_form.specs.Printing.{listed, place_text, out_text, step_text, branch_text, plan_text}
+use Rattle.plan_form.specs.Printing.{place_text, out_text, step_text, branch_text, plan_text}
 use Rattle.plan_form.specs.Grammar.{place_form, out_form, opening_form, access_form, output_form, branch_forms, plan_forms, IsOfForm, behind_tokens, written, IsPlanText}
 use Rattle.plan_form.proofs.ReadLines.{is_some}
 

@@ -1,7 +1,8 @@
 -- How a plan is printed, and how the fault of a plan that is not lawful is.
-use Rattle.std.specs.Prelude.{◌++◌, ◌+◌, ℕ, List, [], ◌∷◌, flat_map, codes}
+use Rattle.std.specs.Prelude.{◌++◌, ◌+◌, ℕ, List, [], flat_map, codes}
 use Rattle.std.specs.Fmt.{decimal}
 use Rattle.pq_text.specs.Printing.{printed_name, printed_value}
+use Rattle.pq_text.specs.Listed.{listed}
 use Rattle.meaning.specs.declared.types.Place.{Place}
 use Rattle.meaning.specs.declared.types.Place.TheVariants.{Const, Col, New}
 use Rattle.meaning.specs.declared.types.Out.{Out}
@@ -14,11 +15,6 @@ use Rattle.plan_form.specs.declared.fault.PlanFaultKind.TheVariants.{NoSuchMetho
 use Rattle.plan_form.specs.declared.fault.PlanFault.{PlanFault}
 
 -- ---- plans
-
--- the members, parted by a comma and a blank
-abbrev pub listed : {X : Type 0} → (X → List ℕ) → List X → List ℕ
-listed text [] = []
-listed text (x ∷ xs) = text x ++ flat_map (λ y. codes ", " ++ text y) xs
 
 -- a dollar sign and the number of a column
 abbrev pub column_text : ℕ → List ℕ

@@ -1,6 +1,7 @@
 // The text of a plan.
 ghost use Rattle.std.specs.Prelude.{◌≡◌, ◌++◌, OnOk, IfOk, codes, flat_map};
-ghost use Rattle.plan_form.specs.Printing.{listed, place_text, out_text, column_text, step_text, branch_text, plan_text};
+ghost use Rattle.pq_text.specs.Listed.{listed};
+ghost use Rattle.plan_form.specs.Printing.{place_text, out_text, column_text, step_text, branch_text, plan_text};
 
 use lists::Bytes;
 use meaning::types::{Branch, Out, Place, Plan, Step};

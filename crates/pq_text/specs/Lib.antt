@@ -7,4 +7,5 @@ pub mod Lines
 pub mod Numbers
 pub mod Forms
 pub mod Printing
+pub mod Listed
 pub mod Pieces

@@ -11,8 +11,8 @@ use Rattle.std.proofs.lemmas.Option.{slice_get-get_or, slice_get_within}
 use Rattle.lists.proofs.Members.{contains_got, some_injective}
 use Rattle.meaning.specs.declared.types.Atom.{Atom}
 use Rattle.meaning.specs.declared.types.Rule.{Rule}
-use Rattle.meaning.specs.RuleOrder.{IsFed}
-use Rattle.access_schema.specs.Feeding.{Feeds, IsChain, AreNonRecursive}
+use Rattle.meaning.specs.RuleOrder.{Feeds, IsFed}
+use Rattle.access_schema.specs.Feeding.{IsChain, AreNonRecursive}
 use Rattle.access_schema.proofs.Circles.{chain_on}
 use Rattle.rule_pass.specs.Levels.{AreShort}
 
@@ -83,16 +83,6 @@ chained rules straight (suc n) rel (source, feeds, fed) =
     let before = chained rules straight n source fed in
     let number : ℕ = feeds.of_rules.0 in
     let numbered : slice_get rules number ≡ Some feeds.rule = slice_get-get_or rules number feeds.rule feeds.of_rules.1 ∙ ap Some feeds.of_rules.2 in
-    let step : Feeds rules source rel = record {
-      rule = feeds.rule;
-      body = feeds.body;
-      head = feeds.head;
-      of_rules = feeds.of_rules;
-      in_body = feeds.in_body;
-      in_head = feeds.in_head;
-      reads = feeds.reads;
-      makes = feeds.makes;
-    } in
     let here : IsUsed rules rel number = record { rule = feeds.rule; numbered = numbered; head = feeds.head; in_head = feeds.in_head; leads = inl feeds.makes } in
     record {
       used = number ∷ before.used;
@@ -100,7 +90,7 @@ chained rules straight (suc n) rel (source, feeds, fed) =
       apart = (fresh number before.used (λ among. not_again rules source number feeds.rule feeds.body straight numbered feeds.in_body feeds.reads (before.each number among)), before.apart);
       each = λ other among. ⊎_elim
           (λ same. subst (IsUsed rules rel) (equal other number same) here)
-          (λ differs. used_on rules source rel other step (before.each other (rw differs at among)))
+          (λ differs. used_on rules source rel other feeds (before.each other (rw differs at among)))
           (cases_Bool (eqb other number));
     }
   where

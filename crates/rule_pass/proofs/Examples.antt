@@ -9,7 +9,8 @@ use Rattle.meaning.specs.declared.types.Val.{Val}
 use Rattle.meaning.specs.declared.types.Val.TheVariants.{Label}
 use Rattle.meaning.specs.Triggers.{AreNumbered, IsNumbered, LabelsBelow, bound}
 use Rattle.access_schema.specs.declared.limits.TheConstants.{MOST_RULES, MOST_VARIABLES}
-use Rattle.access_schema.specs.Feeding.{Feeds, IsChain}
+use Rattle.meaning.specs.RuleOrder.{Feeds}
+use Rattle.access_schema.specs.Feeding.{IsChain}
 use Rattle.rule_pass.specs.Orderly.{AreOrderly}
 use Rattle.rule_pass.specs.Levels.{AreBelow}
 

@@ -1,10 +1,10 @@
 // The constants of the schema and of the statement, each once, by first occurrence.
-ghost use Rattle.std.specs.Prelude.{◌≡◌, ◌↔◌, ◌⊎◌, ◌∷◌, [], ℕ, List, IfOk, Contains};
-ghost use Rattle.access_schema.specs.Lists.{is_among, once_after};
+ghost use Rattle.std.specs.Prelude.{◌≡◌, ◌↔◌, ◌⊎◌, ℕ, List, IfOk, Contains};
+ghost use Rattle.access_schema.specs.Lists.{once_after};
 ghost use Rattle.access_schema.specs.Names.{AllDiffer};
 ghost use Rattle.sql_select.specs.Known.{literals_in, with_operand, with_items, with_conditions, with_selects};
 
-use access_schema::Schema;
+use access_schema::{Schema, add_once};
 use lists::{Copies, Seq, Text, Texts};
 use meaning::types::{Condition, Operand, Select, Statement};
 use std::alloc::{AllocError, Global};
@@ -70,22 +70,7 @@ fn note_operand(alloc: Global, seen: &mut Vec<Text>, operand: &Operand) -> Resul
     ensures { IfOk result (λ _. seen.new.items ≡ with_operand seen.old.items operand.now) }
 {
     match operand {
-        Operand::Literal(text) => note(alloc, seen, text),
+        Operand::Literal(text) => add_once(alloc, seen, text),
         Operand::Column { .. } => Ok(()),
     }
-}
-
-fn note(alloc: Global, seen: &mut Vec<Text>, text: &Text) -> Result<(), AllocError>
-    ensures { IfOk result (λ _. seen.new.items ≡ once_after seen.old.items (text.now ∷ [])) }
-{
-    if !is_among(seen.as_slice(), text) {
-        seen.push(text.copy(alloc)?)?;
-    }
-    Ok(())
-}
-
-fn is_among(texts: &[Text], text: &Text) -> bool
-    ensures { result ≡ is_among texts.now text.now }
-{
-    texts.contains(text)
 }

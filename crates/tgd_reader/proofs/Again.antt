@@ -1,5 +1,5 @@
 -- The text of a schema declares the schema again.
-use Rattle.std.proofs.Common.{◌≡◌, ◌≢◌, ◌⊎◌, ℕ, zero, suc, ◌+◌, ◌<◌, ◌≤◌, ◌^◌, max, Bool, true, false, not, ◌||◌, List, [], ◌∷◌, ◌++◌, length, take, drop, slice_get, Option, None, Some, refl, sym, ap, subst, ◌∙◌, arith, inl, inr, ⊎_elim, nat_le, nat_lt}
+use Rattle.std.proofs.Common.{◌≡◌, ◌≢◌, ◌⊎◌, ℕ, zero, suc, ◌+◌, ◌<◌, ◌≤◌, ◌^◌, max, Bool, true, false, not, ◌||◌, List, [], ◌∷◌, ◌++◌, length, take, drop, slice_get, Option, None, Some, refl, sym, ap, subst, ◌∙◌, arith, ⊎_elim, nat_le, nat_lt}
 use Rattle.std.specs.Prelude.{Contains, map, filter, filter_map, flat_map, slice_index_or, ◌==◌}
 use Rattle.std.specs.List.{AllByRecursion, list_any, range_with_len}
 use Rattle.std.proofs.lemmas.Bool.Decides.{nat_tests}
@@ -19,7 +19,8 @@ use Rattle.access_schema.specs.declared.limits.TheConstants.{MOST_RELATIONS, MOS
 use Rattle.access_schema.specs.Content.{columns_of, relation_of, relations_of, method_of, methods_of, rule_of, rules_of, sources_of, constants_of, variable_of, variables_of, part_constants, Builds}
 use Rattle.meaning.specs.declared.types.Rule.{Rule}
 use Rattle.meaning.specs.Triggers.{terms_bound}
-use Rattle.access_schema.proofs.Built.{counted}
+use Rattle.access_schema.proofs.Built.{counted, relation_agrees, method_agrees}
+use Rattle.access_schema.proofs.BuiltRules.{rule_agrees}
 use Rattle.access_schema.proofs.BuiltSchema.{is_schema}
 use Rattle.access_schema.proofs.Ordered.{ordered_from}
 use Rattle.access_schema.specs.Invariant.{AtomFits, terms_of}
@@ -112,30 +113,6 @@ module _ (s : Schema) where
   none_lacking (SourcePart relation kind locator) of = refl
 
 -- ---- limits
-
-relation_agrees : (part : Part) → ((relation_of part ≡ None) × (is_relation part ≡ false)) ⊎ ((y : Relation) × (relation_of part ≡ Some y) × (is_relation part ≡ true))
-relation_agrees (RelationPart name columns) = inr (_, refl, refl)
-relation_agrees (MethodPart name relation inputs cost) = inl (refl, refl)
-relation_agrees (RulePart line body head) = inl (refl, refl)
-relation_agrees (KeyPart line relation columns target target_columns) = inl (refl, refl)
-relation_agrees (ConstantPart text) = inl (refl, refl)
-relation_agrees (SourcePart relation kind locator) = inl (refl, refl)
-
-method_agrees : (relations : List Relation) (part : Part) → ((method_of relations part ≡ None) × (is_method part ≡ false)) ⊎ ((y : Method) × (method_of relations part ≡ Some y) × (is_method part ≡ true))
-method_agrees relations (RelationPart name columns) = inl (refl, refl)
-method_agrees relations (MethodPart name relation inputs cost) = inr (_, refl, refl)
-method_agrees relations (RulePart line body head) = inl (refl, refl)
-method_agrees relations (KeyPart line relation columns target target_columns) = inl (refl, refl)
-method_agrees relations (ConstantPart text) = inl (refl, refl)
-method_agrees relations (SourcePart relation kind locator) = inl (refl, refl)
-
-rule_agrees : (relations : List Relation) (part : Part) → ((rule_of relations part ≡ None) × (is_rule part ≡ false)) ⊎ ((y : Rule) × (rule_of relations part ≡ Some y) × (is_rule part ≡ true))
-rule_agrees relations (RelationPart name columns) = inl (refl, refl)
-rule_agrees relations (MethodPart name relation inputs cost) = inl (refl, refl)
-rule_agrees relations (RulePart line body head) = inr (_, refl, refl)
-rule_agrees relations (KeyPart line relation columns target target_columns) = inr (_, refl, refl)
-rule_agrees relations (ConstantPart text) = inl (refl, refl)
-rule_agrees relations (SourcePart relation kind locator) = inl (refl, refl)
 
 range_long : (from count : ℕ) → length (range_with_len from count) ≡ count
 range_long from zero = refl

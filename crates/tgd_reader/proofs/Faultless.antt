@@ -18,7 +18,8 @@ use Rattle.access_schema.specs.declared.schema.SourceLine.{SourceLine}
 use Rattle.access_schema.specs.declared.schema.Schema.{Schema}
 use Rattle.access_schema.specs.Names.{relation_names, method_names, AllDiffer}
 use Rattle.access_schema.specs.Lists.{is_among, repeats, each_once}
-use Rattle.access_schema.specs.Feeding.{Feeds, IsChain, AreRecursive}
+use Rattle.meaning.specs.RuleOrder.{Feeds}
+use Rattle.access_schema.specs.Feeding.{IsChain, AreRecursive}
 use Rattle.access_schema.specs.Content.{number_of, columns_of, relation_of, relations_of, method_of, methods_of, rule_of, rules_of, source_of, sources_of, part_constants}
 use Rattle.access_schema.specs.Faults.{is_relation_named, is_method_named, is_source_of, is_unknown, is_misfit, lacks}
 use Rattle.access_schema.proofs.Texts.{text_is, any_found, contains_among, among_contains, got_contained}

@@ -1,7 +1,7 @@
 use Rattle.std.proofs.Common.{List, refl, subst}
 use Rattle.std.specs.Prelude.{Contains}
 use Rattle.meaning.specs.declared.types.Step.{Step}
-use Rattle.middleware.proofs.Finding.{well_formed}
+use Rattle.access_schema.proofs.Keeping.{well_formed}
 use Rattle.middleware.proofs.Branching.{branch_none, branch_full, branch_goes}
 use Rattle.middleware.proofs.branch.next_branch.Goals as goal
 

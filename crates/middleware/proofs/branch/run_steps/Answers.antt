@@ -1,7 +1,7 @@
 use Rattle.std.proofs.Common.{◌≡◌, Some, refl, ◌+◌, ◌∙◌, ap, sym, arith, ℕ}
 use Rattle.std.specs.Prelude.{Contains, slice_get}
 use Rattle.std.proofs.lemmas.Option.{slice_get_read}
-use Rattle.middleware.proofs.Finding.{well_formed}
+use Rattle.access_schema.proofs.Keeping.{well_formed}
 use Rattle.middleware.proofs.Branching.{reached_none, one_more, all_reached, steps_stop, askable_later}
 use Rattle.middleware.proofs.branch.run_steps.Goals as goal
 
