@@ -1,18 +1,19 @@
 -- Relations with rows in ascending order, each once: what sorting and dropping doubles leaves of an instance.
-use Rattle.std.proofs.Common.{◌≡◌, ◌↔◌, ℕ, List, [], ◌∷◌, map, length, Bool, true, false, ◌&&◌, refl, sym, ap, ◌∙◌, subst, inl, inr, ⊎_elim, arith}
+use Rattle.std.proofs.Common.{◌≡◌, ℕ, List, [], ◌∷◌, map, Bool, true, false, ◌&&◌, refl, sym, ap, ◌∙◌, subst, ⊎_elim, arith}
 use Rattle.std.specs.Prelude.{Contains, nat_eq}
 use Rattle.std.specs.List.{AllByRecursion, dedup}
 use Rattle.std.specs.List.Sorted.{IsPermutation, IsSorted, IsStrictlySortedBy}
 use Rattle.std.specs.Ordering.{nat_cmp, ordering_then, eq_by_cmp}
 use Rattle.std.specs.Cmp.{IsTotalOrder, IsEquivalence, on_equiv, and_equiv, both_tied, unsigned_tied}
-use Rattle.std.specs.Cmp.Lexicographic.{slice_cmp, pointwise, same_text, texts_ties, lists_ties}
+use Rattle.std.specs.Cmp.Lexicographic.{slice_cmp, pointwise}
 use Rattle.std.specs.declared.cmp.Ordering.{Ordering}
 use Rattle.std.specs.declared.cmp.Ordering.TheVariants.{Less, Equal}
 use Rattle.std.proofs.lemmas.Bool.{eqb-true}
-use Rattle.std.proofs.lemmas.Cmp.{tied_itself, then_total, on_total, lists_total, lists_equiv, nat_cmp_total, nat_eq_equiv, nat_list_eq_equiv}
+use Rattle.std.proofs.lemmas.Cmp.{tied_itself, then_total, on_total, nat_cmp_total, nat_eq_equiv}
 use Rattle.std.proofs.lemmas.List.Kept.{Contains-dedup, Contains-from_dedup, IsStrictlySortedBy-dedup}
 use Rattle.std.proofs.lemmas.List.Sorted.{Contains-permutation, IsPermutation-sym}
 use Rattle.lists.proofs.Members.{contains_cases, contains_map, contains_mapped}
+use Rattle.lists.proofs.Orders.{rows_equiv, rows_same_equal, rows_ties, rows_total}
 use Rattle.meaning.specs.declared.types.Fact.{Fact}
 use Rattle.meaning.specs.declared.types.Val.TheVariants.{Const}
 use Rattle.meaning.specs.declared.types.Ground.{Ground}
@@ -32,33 +33,23 @@ abbrev pub pair_same : Pair → Pair → Bool
 pair_same x y = nat_eq x.0 y.0 && pointwise (pointwise nat_eq) x.1 y.1
 
 pair_total : IsTotalOrder pair_cmp
-pair_total = then_total (on_total (λ (t : Pair). t.0) nat_cmp_total) (on_total (λ (t : Pair). t.1) (lists_total (lists_total nat_cmp_total)))
+pair_total = then_total (on_total (λ (t : Pair). t.0) nat_cmp_total) (on_total (λ (t : Pair). t.1) rows_total)
 
 pair_ties : (x y : Pair) → pair_same x y ≡ eq_by_cmp pair_cmp x y
-pair_ties x y = both_tied _ _ (nat_cmp x.0 y.0) (slice_cmp (slice_cmp nat_cmp) x.1 y.1) (sym (unsigned_tied x.0 y.0)) (lists_ties (slice_cmp nat_cmp) texts_ties x.1 y.1)
+pair_ties x y = both_tied _ _ (nat_cmp x.0 y.0) (slice_cmp (slice_cmp nat_cmp) x.1 y.1) (sym (unsigned_tied x.0 y.0)) (rows_ties x.1 y.1)
 
 pair_equiv : IsEquivalence pair_same
-pair_equiv = and_equiv (on_equiv (λ (t : Pair). t.0) nat_eq_equiv) (on_equiv (λ (t : Pair). t.1) (lists_equiv nat_list_eq_equiv))
+pair_equiv = and_equiv (on_equiv (λ (t : Pair). t.0) nat_eq_equiv) (on_equiv (λ (t : Pair). t.1) rows_equiv)
 
 both_hold : (a b : Bool) → (a && b) ≡ true → (a ≡ true) × (b ≡ true)
 both_hold true b e = (refl, e)
 both_hold false b e = absurd (cc)
 
-rows_equal : (xs ys : List (List ℕ)) → pointwise (pointwise nat_eq) xs ys ≡ true → xs ≡ ys
-rows_equal [] [] e = refl
-rows_equal [] (y ∷ ys) e = absurd (cc)
-rows_equal (x ∷ xs) [] e = absurd (cc)
-rows_equal (x ∷ xs) (y ∷ ys) e =
-    let (first, rest) = both_hold (pointwise nat_eq x y) (pointwise (pointwise nat_eq) xs ys) e in
-    let here : x ≡ y = same_text x y (sym first) in
-    let after : xs ≡ ys = rows_equal xs ys rest in
-    cc
-
 pair_equal : (x y : Pair) → pair_same x y ≡ true → x ≡ y
 pair_equal x y e =
     let (first, rest) = both_hold (nat_eq x.0 y.0) (pointwise (pointwise nat_eq) x.1 y.1) e in
     let rel : x.0 ≡ y.0 = eqb-true x.0 y.0 first in
-    let row : x.1 ≡ y.1 = rows_equal x.1 y.1 rest in
+    let row : x.1 ≡ y.1 = rows_same_equal x.1 y.1 rest in
     λ i. (rel i, row i)
 
 -- what ascends strictly has nothing twice

@@ -18,7 +18,7 @@ use Rattle.meaning.specs.Plans.{IsWellFormed}
 use Rattle.meaning.specs.Requests.{IsRound, AreStepsRequests, AreBranchesRequests}
 use Rattle.source_trait.specs.Asking.{RowList}
 use Rattle.row_text.specs.RowText.{row_cmp}
-use Rattle.row_text.proofs.Orders.{rows_equal, rows_total}
+use Rattle.lists.proofs.Orders.{rows_equal, rows_total}
 use Rattle.middleware.specs.Joining.{input_row_of}
 use Rattle.middleware.specs.Rounds.{requests_of, IsWanted, next_rows}
 use Rattle.middleware.specs.Branches.{IsReady, AreReady, ArePartial}

@@ -1,5 +1,5 @@
--- Rows in order: neighbours, and the place that a binary search finds.
-use Rattle.std.proofs.Common.{◌≡◌, ◌<◌, ◌+◌, ℕ, zero, suc, List, [], ◌∷◌, length, map, get_or, Some, false, inl, inr, sym, ◌∙◌, ap, arith}
+-- Rows in order: the place that a binary search finds.
+use Rattle.std.proofs.Common.{◌≡◌, ◌<◌, ◌+◌, ℕ, suc, List, length, map, get_or, Some, false, inl, inr, sym, ◌∙◌, ap, arith}
 use Rattle.std.specs.Prelude.{Contains, slice_get, Err}
 use Rattle.std.specs.List.{HoldsAt}
 use Rattle.std.specs.List.Sorted.{IsStrictlySortedBy, IsSortedBy, IsBinarySearchResult}
@@ -11,16 +11,8 @@ use Rattle.std.proofs.lemmas.List.Sorted.{searchable_from_sorted}
 use Rattle.std.proofs.lemmas.Option.{slice_get-get_or}
 use Rattle.std.proofs.lemmas.Bool.{cases_lt}
 use Rattle.lists.proofs.Members.{map_got}
+use Rattle.lists.proofs.Orders.{adjacent, rows_equal, rows_total}
 use Rattle.row_text.specs.RowText.{row_cmp}
-use Rattle.row_text.proofs.Orders.{rows_equal, rows_total}
-
--- neighbours rise
-pub adjacent : (xs : List (List (List ℕ))) (i : ℕ) (a b : List (List ℕ)) → IsStrictlySortedBy row_cmp xs → slice_get xs i ≡ Some a → slice_get xs (suc i) ≡ Some b → row_cmp a b ≡ Less
-unfolding IsStrictlySortedBy
-adjacent [] i a b s e f = absurd (cc)
-adjacent (x ∷ []) zero a b s e f = absurd (cc)
-adjacent (x ∷ y ∷ xs) zero a b s e f = let here = s.0.0 in cc
-adjacent (x ∷ xs) (suc i) a b s e f = adjacent xs i a b s.1 e f
 
 not_below : (o p : Ordering) → o ≡ Less → p ≡ ordering_reverse o → is_lt p ≡ false
 not_below o p e f = cc
@@ -30,7 +22,7 @@ sorted xs s k d low high =
     let next : k + 1 ≡ suc k = omega arith in
     let a = slice_get-get_or xs k d (omega arith) in
     let b = slice_get-get_or xs (suc k) d (omega arith) in
-    rw next (not_below _ _ (adjacent xs k _ _ s a b) (rows_total.antisymm (get_or xs (suc k) d) (get_or xs k d)))
+    rw next (not_below _ _ (adjacent row_cmp xs k _ _ s a b) (rows_total.antisymm (get_or xs (suc k) d) (get_or xs k d)))
 
 -- a row that stands in the list is found
 pub found_there : (xs : List (List (List ℕ))) (x : List (List ℕ)) (i : ℕ) → IsStrictlySortedBy row_cmp xs → IsBinarySearchResult (λ y. row_cmp y x) xs (Err i) → Contains xs x → ⊥

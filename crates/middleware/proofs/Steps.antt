@@ -24,7 +24,7 @@ use Rattle.row_text.specs.RowText.{row_cmp}
 use Rattle.middleware.specs.Joining.{joined, listed, grown, is_at, input_value_or, input_row_of}
 use Rattle.middleware.specs.Rounds.{requests_of, IsWanted, next_rows}
 use Rattle.middleware.specs.Branches.{IsInput, columns_after, ArePartial, HasAdded}
-use Rattle.middleware.proofs.Orders.{adjacent}
+use Rattle.lists.proofs.Orders.{adjacent}
 
 texts_equal : (x y : List ℕ) → pointwise nat_eq x y ≡ true → x ≡ y
 texts_equal x y h = (bytes_eq-Decides x y).0 h
@@ -287,7 +287,7 @@ module _ (schema : SchemaParts) (well : IsWellFormed schema) (facts : List Fact)
         let (a, at, is) = got_mapped (λ v. record { rel = method.rel; positions = method.inputs; values = v }) list i first e in
         let next : i + 1 ≡ suc i = omega arith in
         let (b, bt, bs) = got_mapped (λ v. record { rel = method.rel; positions = method.inputs; values = v }) list (suc i) second (rw next at f) in
-        let less = adjacent list i a b wanted.ascends at bt in
+        let less = adjacent row_cmp list i a b wanted.ascends at bt in
         subst (λ (r : Request). row_cmp first.values r.values ≡ Less) bs (subst (λ (r : Request). row_cmp r.values b ≡ Less) is less);
     exactly = λ request. (
       (λ c.

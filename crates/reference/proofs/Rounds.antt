@@ -19,7 +19,7 @@ use Rattle.meaning.specs.Requests.{AreBranchesRequests, AreStepsRequests, IsRoun
 use Rattle.reference.specs.Exactly.{Exactly, FromOne}
 use Rattle.reference.specs.Requesting.{GivesInput, IsInputRow, request_with}
 use Rattle.reference.proofs.Exact.{exactly_same}
-use Rattle.reference.proofs.Orders.{adjacent}
+use Rattle.lists.proofs.Orders.{adjacent}
 use Rattle.reference.proofs.Turns.{contains_none, turn}
 use Rattle.reference.proofs.Zips.{IsFunctional}
 
@@ -55,7 +55,7 @@ module _ (schema : SchemaParts) (well : IsWellFormed schema) (facts : List Fact)
         let (x, got, same) = got_mapped (request_with method.rel method.inputs) rows i first e in
         let next : i + 1 ≡ suc i = omega arith in
         let (y, got_next, same_next) = got_mapped (request_with method.rel method.inputs) rows (i + 1) second f in
-        subst (λ (q : Request). rows_cmp q.values second.values ≡ Less) same (subst (λ (q : Request). rows_cmp x q.values ≡ Less) same_next (adjacent rows i x y sorted got (subst (λ n. slice_get rows n ≡ Some y) next got_next)));
+        subst (λ (q : Request). rows_cmp q.values second.values ≡ Less) same (subst (λ (q : Request). rows_cmp x q.values ≡ Less) same_next (adjacent rows_cmp rows i x y sorted got (subst (λ n. slice_get rows n ≡ Some y) next got_next)));
     exactly = λ request. (
       (λ c. let (values, among, same) = contains_mapped (request_with method.rel method.inputs) rows request c in
           let (row, leads, gives) = (exact values).0 among in

@@ -6,7 +6,8 @@ use Rattle.std.specs.Cmp.Lexicographic.{slice_cmp}
 use Rattle.std.specs.declared.cmp.Ordering.{Ordering}
 use Rattle.std.specs.declared.cmp.Ordering.TheVariants.{Less, Equal, Greater}
 use Rattle.std.specs.Cmp.{nat_cmp_is}
-use Rattle.std.proofs.lemmas.List.{append_assoc, length-drop, take_all}
+use Rattle.std.proofs.lemmas.List.{append-nil, append_assoc, length-append, length-drop, length-map, length-take, take_all}
+use Rattle.std.proofs.lemmas.Option.{slice_get_within}
 use Rattle.lists.proofs.Members.{some_injective}
 use Rattle.row_text.specs.RowText.{row_cmp}
 
@@ -68,6 +69,34 @@ prefix_step f all self (y ∷ rest) d k x begins got some same =
     ∙ sym (append_assoc (take k self) (x ∷ []) (map f rest))
     ∙ ap (λ (l : List (List ℕ)). l ++ map f rest) (sym (take_got self k x got))
     ∙ ap (λ l. take (k + 1) self ++ map f l) (sym whole)
+
+-- where nothing follows all members, the lists are the same
+pub prefix_all : {X : Type 0} (f : X → List ℕ) (all self : List (List ℕ)) (left : List X) (k : ℕ)
+    → all ≡ take k self ++ map f left → k ≡ length self → length left ≡ 0 → self ≡ all
+prefix_all f all self [] k begins whole none = sym (begins ∙ append-nil (take k self) ∙ take_all k self (omega arith))
+prefix_all f all self (y ∷ rest) k begins whole none = absurd (omega arith)
+
+-- where such lists are the same, they go on as long, and with the same member
+pub rest_length : {X : Type 0} (f : X → List ℕ) (all self : List (List ℕ)) (left : List X) (k : ℕ)
+    → all ≡ take k self ++ map f left → k ≤ length self → self ≡ all → k + length left ≡ length self
+rest_length f all self left k begins within same =
+    omega (arith, ap length (same ∙ begins), length-append (take k self) (map f left), length-take k self, length-map left f)
+
+got_behind : {X : Type 0} (xs : List X) (k : ℕ) (y : X) (ys : List X) → k ≤ length xs → slice_get (take k xs ++ y ∷ ys) k ≡ Some y
+got_behind xs zero y ys within = refl
+got_behind [] (suc k) y ys within = absurd (omega arith)
+got_behind (x ∷ xs) (suc k) y ys within = got_behind xs k y ys (omega arith)
+
+pub rest_head : {X : Type 0} (f : X → List ℕ) (all self : List (List ℕ)) (left : List X) (d : X) (k : ℕ) (x : List ℕ)
+    → all ≡ take k self ++ map f left → slice_get self k ≡ Some x → 1 ≤ length left → self ≡ all → x ≡ f (get_or left 0 d)
+rest_head f all self [] d k x begins got some same = absurd (omega (arith, some))
+rest_head f all self (y ∷ rest) d k x begins got some same =
+    some_injective x (f y)
+    (sym got ∙ ap (λ l. slice_get l k) (same ∙ begins) ∙ got_behind self k (f y) (map f rest) (omega (arith, slice_get_within self k x got)))
+
+pub not_true : (b : Bool) → true ≡ not b → false ≡ b
+not_true true e = absurd (cc)
+not_true false e = refl
 
 pub not_false : (b : Bool) → false ≡ not b → true ≡ b
 not_false true e = refl

@@ -8,7 +8,7 @@ use Rattle.std.specs.declared.cmp.Ordering.TheVariants.{Less}
 use Rattle.std.proofs.lemmas.List.Kept.{Any-dedup, Contains-from_dedup, IsStrictlySortedBy-dedup}
 use Rattle.std.proofs.lemmas.List.Sorted.{Contains-permutation, IsPermutation-sym}
 use Rattle.row_text.specs.RowText.{row_cmp, row_eq}
-use Rattle.row_text.proofs.Orders.{rows_equiv, rows_same_equal, rows_ties, rows_total}
+use Rattle.lists.proofs.Orders.{rows_equiv, rows_same_equal, rows_ties, rows_total}
 use Rattle.lists.proofs.Members.{contains_map, contains_mapped}
 
 module _ {X : Type 0} (row : X → List (List ℕ)) where

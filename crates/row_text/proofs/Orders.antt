@@ -1,57 +1,15 @@
--- The order of rows: it is total, rows that tie are the same, and a strictly ascending list is fixed by its members.
-use Rattle.std.proofs.Common.{◌≡◌, ◌<◌, ◌↔◌, ℕ, List, [], ◌∷◌, Bool, true, inl, inr, refl, sym, ◌∙◌, ap, subst, arith}
-use Rattle.std.specs.Prelude.{Contains, nat_eq}
+-- Rows in order: a strictly ascending list is fixed by its members.
+use Rattle.std.proofs.Common.{◌≡◌, ◌↔◌, ℕ, List, [], ◌∷◌, inl, inr, refl, sym, ◌∙◌, ap, subst, arith}
+use Rattle.std.specs.Prelude.{Contains}
 use Rattle.std.specs.List.{AllByRecursion}
 use Rattle.std.specs.List.Sorted.{IsStrictlySortedBy}
-use Rattle.std.specs.Ordering.{nat_cmp, ordering_then, MatchOrdering, is_eq, eq_by_cmp, ordering_reverse}
-use Rattle.std.specs.Cmp.{IsTotalOrder, IsEquivalence}
-use Rattle.std.specs.Cmp.Lexicographic.{slice_cmp, pointwise, texts_ties, lists_ties, nat_list_eq_equiv, lists_equiv}
+use Rattle.std.specs.Ordering.{ordering_reverse}
 use Rattle.std.specs.declared.cmp.Ordering.{Ordering}
-use Rattle.std.specs.declared.cmp.Ordering.TheVariants.{Less, Equal, Greater}
-use Rattle.std.proofs.lemmas.Cmp.{ranked, tied_itself, lists_total, nat_cmp_total}
+use Rattle.std.specs.declared.cmp.Ordering.TheVariants.{Less, Equal}
+use Rattle.std.proofs.lemmas.Cmp.{tied_itself}
 use Rattle.lists.proofs.Members.{contains_cases, contains_there}
+use Rattle.lists.proofs.Orders.{rows_total}
 use Rattle.row_text.specs.RowText.{row_cmp}
-
-then_equal : (o p : Ordering) → ordering_then o p ≡ Equal → (o ≡ Equal) × (p ≡ Equal)
-then_equal Less p h = absurd (cc)
-then_equal Equal p h = (refl, h)
-then_equal Greater p h = absurd (cc)
-
-lists_equal : {X : Type 0} (R : X → X → Ordering) (same : (x y : X) → R x y ≡ Equal → x ≡ y) (xs ys : List X) → slice_cmp R xs ys ≡ Equal → xs ≡ ys
-lists_equal R same [] [] h = refl
-lists_equal R same [] (y ∷ ys) h = absurd (cc)
-lists_equal R same (x ∷ xs) [] h = absurd (cc)
-lists_equal R same (x ∷ xs) (y ∷ ys) h =
-    let e = then_equal (R x y) (slice_cmp R xs ys) h in
-    let first = same x y e.0 in
-    let rest = lists_equal R same xs ys e.1 in
-    cc
-
-numbers_equal : (x y : ℕ) → nat_cmp x y ≡ Equal → x ≡ y
-numbers_equal x y h = subst (λ (o : Ordering). MatchOrdering o (x < y) (x ≡ y) (y < x)) h (ranked x y (nat_cmp x y) refl)
-
-pub rows_equal : (x y : List (List ℕ)) → row_cmp x y ≡ Equal → x ≡ y
-rows_equal = lists_equal (slice_cmp nat_cmp) (lists_equal nat_cmp numbers_equal)
-
-is_equal : (o : Ordering) → is_eq o ≡ true → o ≡ Equal
-is_equal Less h = absurd (cc)
-is_equal Equal h = refl
-is_equal Greater h = absurd (cc)
-
-abbrev pub rows_same : List (List ℕ) → List (List ℕ) → Bool
-rows_same x y = pointwise (pointwise nat_eq) x y
-
-pub rows_ties : (x y : List (List ℕ)) → rows_same x y ≡ eq_by_cmp row_cmp x y
-rows_ties = lists_ties (slice_cmp nat_cmp) texts_ties
-
-pub rows_same_equal : (x y : List (List ℕ)) → rows_same x y ≡ true → x ≡ y
-rows_same_equal x y h = rows_equal x y (is_equal (row_cmp x y) (sym (rows_ties x y) ∙ h))
-
-pub rows_total : IsTotalOrder row_cmp
-rows_total = lists_total (lists_total nat_cmp_total)
-
-pub rows_equiv : IsEquivalence rows_same
-rows_equiv = lists_equiv nat_list_eq_equiv
 
 none : {X : Type 0} (x : X) → Contains [] x → ⊥
 none x (k, l, e) = omega (arith, l)

@@ -10,7 +10,7 @@ use Rattle.std.proofs.Math.Nat.{mul-le-mul_right}
 use Rattle.std.proofs.lemmas.Cmp.{ranked, nat_cmp_total, lists_total}
 use Rattle.row_text.specs.RowText.{row_cmp}
 use Rattle.row_text.specs.Starts.{row_start, start_of}
-use Rattle.row_text.proofs.Orders.{rows_total}
+use Rattle.lists.proofs.Orders.{rows_total}
 
 -- so many bytes of a value, with zeros behind a shorter one
 padded : ℕ → List ℕ → List ℕ

@@ -1,5 +1,5 @@
 // A row of packed rows, lent.
-ghost use Rattle.std.specs.Prelude.{◌≡◌, ◌≤◌, ◌-◌, ◌++◌, Some, IsTrue, IfOk, OnOk, length, map, drop, take, option_map, refl, slice_get, slice_index_or, []};
+ghost use Rattle.std.specs.Prelude.{◌≡◌, ◌≤◌, ◌-◌, ◌++◌, ◌↔◌, Some, IsTrue, IfOk, OnOk, length, map, drop, take, option_map, refl, slice_get, slice_index_or, []};
 ghost use Rattle.std.specs.Cmp.{partial_equiv_from_equiv, po};
 ghost use Rattle.std.specs.Cmp.Lexicographic.{lists_equiv, lists_ties, lists_total, nat_list_cmp_total, nat_list_eq_equiv, slice_cmp, texts_ties};
 ghost use Rattle.std.specs.Ordering.{nat_cmp};
@@ -82,7 +82,7 @@ impl<'a> LentRow<'a> {
 
     /// Whether its values are these texts.
     pub fn is(&self, texts: &[&str]) -> bool
-        ensures { IsTrue result → self.now ≡ map (λ s. s.now) texts.now }
+        ensures { IsTrue result ↔ (self.now ≡ map (λ s. s.now) texts.now) }
     {
         let mut column = 0;
         let mut left = texts;

@@ -1,6 +1,6 @@
 use Rattle.std.proofs.Common.{◌∙◌, sym, ap}
 use Rattle.std.specs.Ordering.{is_eq}
-use Rattle.row_text.proofs.Orders.{rows_ties}
+use Rattle.lists.proofs.Orders.{rows_ties}
 use Rattle.row_text.proofs.lent.LentRowPartialEq.eq.Goals as goal
 
 pub returns : goal.returns
