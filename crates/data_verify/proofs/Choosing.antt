@@ -1,5 +1,5 @@
 -- The least rows of the unmet matches, one match after another.
-use Rattle.std.proofs.Common.{◌≡◌, ℕ, ◌+◌, ◌<◌, List, [], ◌∷◌, ◌++◌, map, length, take, ◌≤◌, slice_index_or, Option, Some, None, refl, sym, ap, ◌∙◌, subst, inl, inr, ⊎_elim, arith, Bool, true, false, cond, ◌⊎◌}
+use Rattle.std.proofs.Common.{◌≡◌, ℕ, ◌+◌, ◌<◌, List, [], ◌∷◌, ◌++◌, map, length, take, ◌≤◌, slice_index_or, Option, Some, None, refl, sym, ap, ◌∙◌, subst, inl, inr, ⊎_elim, arith, true, false, cond, ◌⊎◌}
 use Rattle.std.specs.Prelude.{◌≢◌, Contains}
 use Rattle.std.specs.Ordering.{ord_min, is_lt, is_gt, ordering_reverse}
 use Rattle.std.specs.Cmp.{IsTotalOrder}
@@ -19,11 +19,12 @@ use Rattle.meaning.specs.Matching.{MeetsRule, GroundsOf}
 use Rattle.meaning.specs.Triggers.{bound}
 use Rattle.homomorphism.specs.declared.assignment.Assignment.{Assignment}
 use Rattle.homomorphism.specs.Bindings.{at, values_of}
-use Rattle.homomorphism.specs.Rules.{AreBodyMatches, IsMet, IsUnmet, IsUnmetMatch}
+use Rattle.homomorphism.specs.Rules.{AreBodyMatches, IsMet, IsUnmet}
 use Rattle.homomorphism.proofs.Members.{contains_none}
 use Rattle.homomorphism.proofs.Giving.{unmet_match, all_met}
 use Rattle.data_verify.specs.Breaking.{row_under, facts_under, row_lists_cmp}
-use Rattle.data_verify.specs.Unmet.{text_at, lesser, AreLeastRows, AreLeastRowsIf, AreLeastUnmet}
+use Rattle.homomorphism.specs.Texts.{text_at}
+use Rattle.data_verify.specs.Unmet.{lesser, AreLeastRows, AreLeastRowsIf, AreLeastUnmet}
 
 total : IsTotalOrder row_lists_cmp
 total = lists_total (lists_total (lists_total nat_cmp_total))

@@ -1,43 +1,32 @@
 -- An instance and the store of its facts: what the one breaks, the other breaks.
-use Rattle.std.proofs.Common.{◌≡◌, ◌↔◌, ℕ, ◌<◌, List, [], ◌∷◌, map, length, refl, sym, ap, ◌∙◌, subst, ⊎_elim, arith}
+use Rattle.std.proofs.Common.{◌≡◌, ℕ, ◌<◌, List, [], ◌∷◌, map, refl, sym, ap, ◌∙◌, subst, ⊎_elim, arith}
 use Rattle.std.specs.Prelude.{◌≢◌, Contains}
 use Rattle.std.specs.declared.cmp.Ordering.TheVariants.{Greater}
-use Rattle.std.proofs.lemmas.List.FromFn.{length-map-range_with_len, get_or-map-range_with_len}
-use Rattle.lists.proofs.Members.{contains_cases, contains_map, contains_mapped, map_same}
+use Rattle.std.proofs.lemmas.List.FromFn.{length-map-range_with_len}
+use Rattle.lists.proofs.Members.{contains_cases, contains_mapped, map_same}
 use Rattle.meaning.specs.declared.types.Term.{Term}
-use Rattle.meaning.specs.declared.types.Term.TheVariants.{Var, Const as Said}
+use Rattle.meaning.specs.declared.types.Term.TheVariants.{Var}
 use Rattle.meaning.specs.declared.types.Val.{Val}
-use Rattle.meaning.specs.declared.types.Val.TheVariants.{Const, Label}
+use Rattle.meaning.specs.declared.types.Val.TheVariants.{Const}
 use Rattle.meaning.specs.declared.types.Atom.{Atom}
 use Rattle.meaning.specs.declared.types.Rule.{Rule}
 use Rattle.meaning.specs.declared.types.Fact.{Fact}
 use Rattle.meaning.specs.declared.types.Ground.{Ground}
 use Rattle.meaning.specs.Matching.{value_of, AreFacts, OccursIn, MeetsRule, itself, FactsOf, GroundsOf}
-use Rattle.meaning.specs.Homomorphisms.{image, fact_of}
+use Rattle.meaning.specs.Homomorphisms.{image}
 use Rattle.meaning.specs.Triggers.{bound, ground}
-use Rattle.meaning_laws.proofs.Carrying.{image_values, occurs_below}
+use Rattle.meaning_laws.proofs.Carrying.{occurs_below}
 use Rattle.meaning_laws.proofs.Deciding.{same_values, same_facts}
 use Rattle.homomorphism.specs.Bindings.{at, values_of}
 use Rattle.homomorphism.specs.Rules.{IsUnmetMatch}
 use Rattle.homomorphism.specs.Instances.{ground_of, AreFactsOf}
-use Rattle.data_verify.specs.Breaking.{Breaks, row_under, facts_under, row_lists_cmp, AreLeastBreaking}
-use Rattle.data_verify.specs.Unmet.{blank, text_at, AreLeastUnmet}
-
--- an assignment of texts, as one of constants
-abbrev pub said : (ℕ → List ℕ) → ℕ → Val
-said b x = Const (b x)
+use Rattle.homomorphism.specs.Texts.{blank, text_at}
+use Rattle.homomorphism.proofs.Instances.{said, said_at, facts_there, facts_back}
+use Rattle.data_verify.specs.Breaking.{Breaks, row_under, row_lists_cmp, AreLeastBreaking}
+use Rattle.data_verify.specs.Unmet.{AreLeastUnmet}
 
 abbrev pub said_list : Rule → (ℕ → List ℕ) → List Val
 said_list rule a = values_of (bound rule.body) (said a)
-
-said_values : (b : ℕ → List ℕ) (terms : List Term) → map (value_of Const (said b)) terms ≡ map Const (map (value_of itself b) terms)
-said_values b [] = refl
-said_values b (Var x ∷ terms) = ap (λ l. Const (b x) ∷ l) (said_values b terms)
-said_values b (Said c ∷ terms) = ap (λ l. Const c ∷ l) (said_values b terms)
-
-image_said : (row : List (List ℕ)) → map (image blank) (map Const row) ≡ row
-image_said [] = refl
-image_said (c ∷ row) = ap (λ l. c ∷ l) (image_said row)
 
 -- a variable whose atom is a fact of texts has a text
 known_term : (terms : List Term) (row : List (List ℕ)) (a : ℕ → Val) (x : ℕ) → map (value_of Const a) terms ≡ map Const row → Contains terms (Var x) → Const (image blank (a x)) ≡ a x
@@ -52,58 +41,36 @@ known_term (term ∷ terms) (text ∷ row) a x e c =
     (contains_cases term terms (Var x) c)
 
 module _ (instance : List Fact) (facts : List Ground) (of : AreFactsOf instance facts) where
-  there : (b : ℕ → List ℕ) (atom : Atom) → FactsOf instance atom.rel (row_under b atom) → Contains facts (ground (said b) atom)
-  there b atom c =
-      let made : ground_of (record { rel = atom.rel; row = row_under b atom }) ≡ ground (said b) atom = ap (λ vals. record { rel = atom.rel; vals = vals }) (sym (said_values b atom.terms)) in
-      (of (ground (said b) atom)).1 (subst (Contains (map ground_of instance)) made (contains_map ground_of instance (record { rel = atom.rel; row = row_under b atom }) c))
-
-  back : (fact : Ground) → Contains facts fact → Contains instance (fact_of blank fact)
-  back fact c =
-      let (one, among, e) = contains_mapped ground_of instance fact ((of fact).0 c) in
-      let same : one ≡ fact_of blank (ground_of one) = ap (λ row. record { rel = one.rel; row = row }) (sym (image_said one.row)) in
-      subst (Contains instance) (same ∙ ap (fact_of blank) e) among
-
-  pub facts_there : (b : ℕ → List ℕ) (atoms : List Atom) → AreFacts itself (FactsOf instance) b atoms → AreFacts Const (GroundsOf facts) (said b) atoms
-  unfolding there
-  facts_there b atoms are atom c = there b atom (are atom c)
-
-  pub facts_back : (a : ℕ → Val) (atoms : List Atom) → AreFacts Const (GroundsOf facts) a atoms → AreFacts itself (FactsOf instance) (λ x. image blank (a x)) atoms
-  unfolding back
-  facts_back a atoms are atom c =
-      subst (λ row. Contains instance (record { rel = atom.rel; row = row })) (image_values blank a atom.terms) (back (ground a atom) (are atom c))
-
   known : (a : ℕ → Val) (atoms : List Atom) (x : ℕ) → AreFacts Const (GroundsOf facts) a atoms → OccursIn atoms x → Const (image blank (a x)) ≡ a x
   known a atoms x are (atom, c, occurs) =
       let (one, among, e) = contains_mapped ground_of instance (ground a atom) ((of (ground a atom)).0 (are atom c)) in
       known_term atom.terms one.row a x (ap (λ (f : Ground). f.vals) (sym e)) occurs
 
   pub meets : (rule : Rule) → MeetsRule Const (GroundsOf facts) rule → MeetsRule itself (FactsOf instance) rule
-  unfolding facts_there facts_back
   meets rule m a body =
-      let (b, ext) = m (said a) (facts_there a rule.body body) in
-      ((λ x. image blank (b x)), record { agrees = λ x occurs. ap (image blank) (ext.agrees x occurs); head = facts_back b rule.head ext.head })
+      let (b, ext) = m (said a) (facts_there instance facts of a rule.body body) in
+      ((λ x. image blank (b x)), record { agrees = λ x occurs. ap (image blank) (ext.agrees x occurs); head = facts_back instance facts of b rule.head ext.head })
 
   pub breaks : (rule : Rule) (values : List Val) → IsUnmetMatch facts rule values → Breaks instance rule (text_at values)
-  unfolding facts_there facts_back known
+  unfolding known
   breaks rule values m = record {
-    body = facts_back (at values) rule.body m.body;
+    body = facts_back instance facts of (at values) rule.body m.body;
     unmet = λ b ext. m.unmet (said b) (record {
       agrees = λ x occurs. ap Const (ext.agrees x occurs) ∙ known (at values) rule.body x m.body occurs;
-      head = facts_there b rule.head ext.head;
+      head = facts_there instance facts of b rule.head ext.head;
     });
   }
 
   pub unmet_from : (rule : Rule) (a : ℕ → List ℕ) → Breaks instance rule a →
       (values : List Val) × IsUnmetMatch facts rule values × (map (row_under (text_at values)) rule.body ≡ map (row_under a) rule.body)
-  unfolding facts_there facts_back
   unmet_from rule a br = (
     said_list rule a,
     record {
       width = length-map-range_with_len (said a) 0 (bound rule.body);
-      body = same_facts facts (said a) (at (said_list rule a)) rule.body (λ x occurs. sym (same x (occurs_below rule.body x occurs))) (facts_there a rule.body br.body);
+      body = same_facts facts (said a) (at (said_list rule a)) rule.body (λ x occurs. sym (same x (occurs_below rule.body x occurs))) (facts_there instance facts of a rule.body br.body);
       unmet = λ b ext. br.unmet (λ x. image blank (b x)) (record {
         agrees = λ x occurs. ap (image blank) (ext.agrees x occurs ∙ same x (occurs_below rule.body x occurs));
-        head = facts_back b rule.head ext.head;
+        head = facts_back instance facts of b rule.head ext.head;
       });
     },
     map_same (row_under (text_at (said_list rule a))) (row_under a) rule.body
@@ -111,7 +78,7 @@ module _ (instance : List Fact) (facts : List Ground) (of : AreFactsOf instance 
   )
     where
       same : (x : ℕ) → x < bound rule.body → at (said_list rule a) x ≡ Const (a x)
-      same x l = get_or-map-range_with_len (said a) 0 (bound rule.body) x x (Label 0) l (omega arith)
+      same x l = said_at (bound rule.body) a x l
 
   pub least_breaking : (rule : Rule) (found : List Fact) → AreLeastUnmet facts rule found → AreLeastBreaking instance rule found
   unfolding breaks unmet_from

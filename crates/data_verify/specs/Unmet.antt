@@ -1,25 +1,16 @@
--- The rows of a match, and the least among the unmet ones.
-use Rattle.std.specs.Prelude.{◌≡◌, ◌≢◌, ℕ, List, [], ◌∷◌, Contains, map, slice_index_or, Option, Some, None}
+-- The least rows of unmet matches.
+use Rattle.std.specs.Prelude.{◌≡◌, ◌≢◌, List, Contains, map, Option, Some, None}
 use Rattle.std.specs.Ordering.{ord_min}
 use Rattle.std.specs.declared.cmp.Ordering.TheVariants.{Greater}
 use Rattle.meaning.specs.declared.types.Rule.{Rule}
 use Rattle.meaning.specs.declared.types.Fact.{Fact}
 use Rattle.meaning.specs.declared.types.Val.{Val}
 use Rattle.meaning.specs.declared.types.Ground.{Ground}
-use Rattle.meaning.specs.Values.{Value, Row}
-use Rattle.meaning.specs.Homomorphisms.{image}
+use Rattle.meaning.specs.Values.{Row}
 use Rattle.homomorphism.specs.declared.assignment.Assignment.{Assignment}
-use Rattle.homomorphism.specs.Bindings.{at}
+use Rattle.homomorphism.specs.Texts.{text_at}
 use Rattle.homomorphism.specs.Rules.{IsMet, IsUnmet, IsUnmetMatch}
 use Rattle.data_verify.specs.Breaking.{row_under, facts_under, row_lists_cmp}
-
--- Each label as the empty text: in an instance there are none.
-abbrev pub blank : ℕ → Value
-blank k = []
-
--- The values as texts.
-abbrev pub text_at : List Val → ℕ → Value
-text_at values x = image blank (at values x)
 
 -- The first of two lists of rows in their order.
 abbrev pub lesser : Option (List Row) → List Row → List Row

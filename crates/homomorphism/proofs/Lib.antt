@@ -6,3 +6,4 @@ pub mod Giving
 pub mod Adding
 pub mod Pairs
 pub mod Covering
+pub mod Instances

@@ -12,12 +12,14 @@ mod instance;
 mod matching;
 mod rules;
 mod store;
+mod texts;
 
 pub use assignment::{Assignment, Assignments, Bindings};
 pub use conditions::{is_covered, is_numbered};
 pub use find::{all_matches, first_match};
 pub use rules::{body_matches, first_unmet, is_met, variables_width};
 pub use store::Store;
+pub use texts::row_under;
 
 #[cfg(test)]
 mod tests;

@@ -82,7 +82,7 @@ pub fn is_met(alloc: Global, rule: &Rule, store: &Store, values: &[Val]) -> Resu
     }
 }
 
-/// The first match of the body, in the order of `body_matches`, that has no extension.
+/// A match of the body at which the rule is unmet; none comes exactly where the facts meet the rule.
 pub fn first_unmet(
     alloc: Global,
     rule: &Rule,

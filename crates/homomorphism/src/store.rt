@@ -77,6 +77,7 @@ impl Store {
 
     /// Adds the fact as the last one where it is not there yet, and says whether it did. Where memory is refused,
     /// nothing changes.
+    #[tactic(auto, using(crate::proofs::Members::distinct_push))]
     pub fn insert(&mut self, _alloc: Global, fact: Ground) -> Result<bool, NoMemory>
         ensures there { IfOk result (λ added. (added ≡ false) ↔ Contains self.old fact) }
         ensures kept { IfOk result (λ added. self.new ≡ (if added then self.old ++ fact ∷ [] else self.old)) }

@@ -1,9 +1,9 @@
 // Small graphs, whose paths are counted by hand; each call that takes memory answers with ample memory.
 use crate::{
     Assignment, Bindings, Store, all_matches, body_matches, first_match, first_unmet, is_covered,
-    is_met, is_numbered, variables_width,
+    is_met, is_numbered, row_under, variables_width,
 };
-use lists::{Copies, Exact, Seq, Text};
+use lists::{Copies, Exact, Row, Seq, Text};
 use meaning::types::{Atom, Atoms, Fact, Ground, Instance, Rule, Term, Val};
 use std::alloc::{AllocError, Global};
 use std::test::Fail;
@@ -43,6 +43,14 @@ fn atom(alloc: Global, rel: u32, texts: &[&str]) -> Result<Atom, AllocError> {
         terms.push(term(alloc, text)?)?;
     }
     Ok(Atom { rel, terms })
+}
+
+fn row(alloc: Global, texts: &[&str]) -> Result<Row, AllocError> {
+    let mut made = Seq::new(alloc);
+    for text in texts {
+        made.push(Text::from_str(alloc, text)?)?;
+    }
+    Ok(made)
 }
 
 fn atoms(alloc: Global, list: &[(u32, &[&str])]) -> Result<Atoms, AllocError> {
@@ -229,5 +237,18 @@ fn a_match_is_met_or_not(rt: HostRuntime) -> Result<(), Fail> {
         head: atoms(alloc, &[(EDGE, &["y", "x"])])?,
     };
     assert!(rt; !is_numbered(&turned));
+    Ok(())
+}
+
+#[test]
+fn a_row_has_the_texts_of_the_values(rt: HostRuntime) -> Result<(), Fail> {
+    let alloc = rt.alloc();
+    let terms = atom(alloc, EDGE, &["y", "c", "x", "z", "x"])?.terms;
+    let mut values = ground(alloc, EDGE, &["a", "b"])?.vals;
+    let found = row_under(alloc, terms.as_slice(), values.as_slice())?;
+    assert!(rt; found.same(&row(alloc, &["b", "c", "a", "", "a"])?));
+    values.push(Val::Label(7))?;
+    let found = row_under(alloc, terms.as_slice(), values.as_slice())?;
+    assert!(rt; found.same(&row(alloc, &["b", "c", "a", "", "a"])?));
     Ok(())
 }

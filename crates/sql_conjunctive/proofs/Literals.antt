@@ -23,7 +23,7 @@ abbrev pub IsSide : List Condition → Operand → Type 0
 IsSide conditions o = (condition : Condition) × Contains conditions condition × ((condition.left ≡ o) ⊎ (condition.right ≡ o))
 
 -- operands that are joined are one, or both are sides
-joined_sides : (conditions : List Condition) {o p : Operand} → AreJoined conditions o p → (o ≡ p) ⊎ (IsSide conditions o × IsSide conditions p)
+pub joined_sides : (conditions : List Condition) {o p : Operand} → AreJoined conditions o p → (o ≡ p) ⊎ (IsSide conditions o × IsSide conditions p)
 joined_sides conditions (given condition among) = inr ((condition, among, inl refl), (condition, among, inr refl))
 joined_sides conditions (alike o) = inl refl
 joined_sides conditions (turned j) = ⊎_elim (λ e. inl (sym e)) (λ both. inr (both.1, both.0)) (joined_sides conditions j)

@@ -5,98 +5,56 @@ use Rattle.std.proofs.lemmas.List.{take_more, take_all, map-append}
 use Rattle.std.proofs.lemmas.List.Elements.{All-contains, Contains-append_left, Contains-append_right, Contains-append_cases, Contains-push}
 use Rattle.meaning.specs.declared.types.Term.{Term}
 use Rattle.meaning.specs.declared.types.Term.TheVariants.{Var, Const as Said}
-use Rattle.meaning.specs.declared.types.Atom.{Atom}
 use Rattle.meaning.specs.declared.types.Fact.{Fact}
 use Rattle.meaning.specs.declared.types.Ground.{Ground}
 use Rattle.meaning.specs.declared.types.Query.{Query}
 use Rattle.meaning.specs.declared.types.Val.{Val}
-use Rattle.meaning.specs.declared.types.Val.TheVariants.{Const}
 use Rattle.meaning.specs.declared.types.SchemaParts.{SchemaParts}
 use Rattle.meaning.specs.declared.types.Select.{Select}
 use Rattle.meaning.specs.Values.{Value, Row}
 use Rattle.meaning.specs.Instances.{IsInstance}
-use Rattle.meaning.specs.Matching.{value_of, AreFacts, OccursIn, itself, FactsOf, GroundsOf, AnswersQuery}
+use Rattle.meaning.specs.Homomorphisms.{image}
+use Rattle.meaning.specs.Matching.{value_of, OccursIn, itself, AnswersQuery}
 use Rattle.meaning.specs.Answers.{AnswersSelect}
 use Rattle.meaning.specs.Triggers.{bound}
-use Rattle.meaning_laws.proofs.Conjoining.{range_at}
 use Rattle.meaning_laws.proofs.Carrying.{occurs_below}
 use Rattle.access_schema.specs.Invariant.{terms_of}
 use Rattle.access_schema.proofs.Ordered.{ordered_from, occurs, occurs_in, bound_is}
 use Rattle.homomorphism.specs.declared.assignment.Assignment.{Assignment}
 use Rattle.homomorphism.specs.Bindings.{Agrees, at, values_of}
-use Rattle.homomorphism.specs.Instances.{ground_of, AreFactsOf}
+use Rattle.homomorphism.specs.Instances.{AreFactsOf}
+use Rattle.homomorphism.specs.Texts.{blank, text_at, row_of}
+use Rattle.homomorphism.proofs.Instances.{said, said_at, facts_there, facts_back}
 use Rattle.homomorphism.specs.Matches.{AreMatches, AreCovered}
-use Rattle.lists.proofs.Members.{contains_got, contains_map, contains_mapped, map_got, map_same}
-use Rattle.std.specs.List.{range_with_len}
+use Rattle.lists.proofs.Members.{contains_got, contains_map, contains_mapped, map_same}
 use Rattle.sql_conjunctive.specs.declared.form.Conjunctive.{Conjunctive}
 use Rattle.sql_conjunctive.specs.declared.form.Conjunctive.TheVariants as form
 use Rattle.sql_conjunctive.specs.Form.{IsNumbered, AnswersForm}
-use Rattle.sql_conjunctive.specs.Rows.{AreRowsOf, AreFree, text_of, text_or_empty, text_at, head_of, head_under}
-
--- the text of a term's value is its value among texts
-text_values : (values : ℕ → Val) (terms : List Term) → map text_of (map (value_of Const values) terms) ≡ map (value_of itself (λ x. text_of (values x))) terms
-text_values values [] = refl
-text_values values (Var x ∷ terms) = ap (λ rest. text_of (values x) ∷ rest) (text_values values terms)
-text_values values (Said c ∷ terms) = ap (λ rest. c ∷ rest) (text_values values terms)
-
-text_consts : (row : Row) → map text_of (map Const row) ≡ row
-text_consts [] = refl
-text_consts (text ∷ row) = ap (λ rest. text ∷ rest) (text_consts row)
-
-const_values : (a : ℕ → Value) (terms : List Term) → map (value_of Const (λ x. Const (a x))) terms ≡ map Const (map (value_of itself a) terms)
-const_values a [] = refl
-const_values a (Var x ∷ terms) = ap (λ rest. Const (a x) ∷ rest) (const_values a terms)
-const_values a (Said c ∷ terms) = ap (λ rest. Const c ∷ rest) (const_values a terms)
-
-text_at_is : (values : List Val) (x : ℕ) → text_at values x ≡ text_of (at values x)
-text_at_is [] x = refl
-text_at_is (value ∷ values) zero = refl
-text_at_is (value ∷ values) (suc x) = text_at_is values x
+use Rattle.sql_conjunctive.specs.Rows.{AreRowsOf, AreFree, head_under}
 
 module _ (facts : List Fact) (store : List Ground) (are : AreFactsOf facts store) where
-  facts_sound : (values : ℕ → Val) (atoms : List Atom) → AreFacts Const (GroundsOf store) values atoms → AreFacts itself (FactsOf facts) (λ x. text_of (values x)) atoms
-  facts_sound values atoms holds atom among =
-      let (fact, member, e) = contains_mapped ground_of facts (record { rel = atom.rel; vals = map (value_of Const values) atom.terms }) ((are (record { rel = atom.rel; vals = map (value_of Const values) atom.terms })).0 (holds atom among)) in
-      let rel : fact.rel ≡ atom.rel = ap (λ (g : Ground). g.rel) e in
-      let vals : map Const fact.row ≡ map (value_of Const values) atom.terms = ap (λ (g : Ground). g.vals) e in
-      let row : fact.row ≡ map (value_of itself (λ x. text_of (values x))) atom.terms = sym (text_consts fact.row) ∙ ap (map text_of) vals ∙ text_values values atom.terms in
-      subst (λ r. Contains facts (record { rel = r; row = map (value_of itself (λ x. text_of (values x))) atom.terms })) rel (subst (λ r. Contains facts (record { rel = fact.rel; row = r })) row member)
-
-  facts_complete : (a : ℕ → Value) (atoms : List Atom) → AreFacts itself (FactsOf facts) a atoms → AreFacts Const (GroundsOf store) (λ x. Const (a x)) atoms
-  facts_complete a atoms holds atom among =
-      (are (record { rel = atom.rel; vals = map (value_of Const (λ x. Const (a x))) atom.terms })).1
-      (subst (λ vals. Contains (map ground_of facts) (record { rel = atom.rel; vals = vals })) (sym (const_values a atom.terms))
-      (contains_map ground_of facts (record { rel = atom.rel; row = map (value_of itself a) atom.terms }) (holds atom among)))
-
   -- the rows of the head under all matches are the answers
   pub rows_are : (query : Query) (fixed : List (Option Val)) (matches : List Assignment) → AreMatches store query.atoms fixed matches → AreFree fixed → bound query.atoms ≤ length fixed →
       ((x : ℕ) → Contains query.head (Var x) → OccursIn query.atoms x) → (row : Row) → Contains (map (head_under query.head) matches) row ↔ AnswersQuery query facts row
   rows_are query fixed matches is free wide head row = (sound, complete)
     where
-      same_text : (values : List Val) (term : Term) → value_of itself (text_at values) term ≡ value_of itself (λ x. text_of (at values x)) term
-      same_text values (Var x) = text_at_is values x
-      same_text values (Said c) = refl
-
       sound : Contains (map (head_under query.head) matches) row → AnswersQuery query facts row
       sound c =
           let (m, among, e) = contains_mapped (head_under query.head) matches row c in
-          ((λ x. text_of (at m.vals x)), facts_sound (at m.vals) query.atoms (is.each m among).facts_are, sym e ∙ map_same (value_of itself (text_at m.vals)) (value_of itself (λ x. text_of (at m.vals x))) query.head (λ term there. same_text m.vals term))
+          (text_at m.vals, facts_back facts store are (at m.vals) query.atoms (is.each m among).facts_are, sym e)
 
       agrees : (a : ℕ → Val) → Agrees fixed a
       agrees a x v got = let none : Some v ≡ None = All-contains (λ value. value ≡ None) fixed (Some v) free (contains_got fixed x (Some v) got) in absurd (cc)
 
-      kept : (a : ℕ → Value) (x : ℕ) → x < length fixed → text_at (values_of (length fixed) (λ y. Const (a y))) x ≡ a x
-      kept a x below = ap text_or_empty (map_got (λ y. Const (a y)) (range_with_len 0 (length fixed)) x x (range_at (length fixed) x below))
-
-      head_text : (a : ℕ → Value) (term : Term) → Contains query.head term → value_of itself (text_at (values_of (length fixed) (λ y. Const (a y)))) term ≡ value_of itself a term
+      head_text : (a : ℕ → Value) (term : Term) → Contains query.head term → value_of itself (text_at (values_of (length fixed) (said a))) term ≡ value_of itself a term
       head_text a (Said c) there = refl
-      head_text a (Var x) there = let below : x < bound query.atoms = occurs_below query.atoms x (head x there) in kept a x (omega arith)
+      head_text a (Var x) there = let below : x < bound query.atoms = occurs_below query.atoms x (head x there) in ap (image blank) (said_at (length fixed) a x (omega arith))
 
       complete : AnswersQuery query facts row → Contains (map (head_under query.head) matches) row
       complete (a, holds, e) =
           subst (λ r. Contains (map (head_under query.head) matches) r)
-          (map_same (value_of itself (text_at (values_of (length fixed) (λ y. Const (a y))))) (value_of itself a) query.head (head_text a) ∙ sym e)
-          (contains_map (head_under query.head) matches (record { vals = values_of (length fixed) (λ y. Const (a y)) }) (is.all (λ y. Const (a y)) (agrees (λ y. Const (a y))) (facts_complete a query.atoms holds)))
+          (map_same (value_of itself (text_at (values_of (length fixed) (said a)))) (value_of itself a) query.head (head_text a) ∙ sym e)
+          (contains_map (head_under query.head) matches (record { vals = values_of (length fixed) (said a) }) (is.all (said a) (agrees (said a)) (facts_there facts store are a query.atoms holds)))
 
 -- the atoms of a numbered query have all its variables
 pub covered : (query : Query) (fixed : List (Option Val)) → IsNumbered query → length fixed ≡ query.variables → AreCovered query.atoms fixed
@@ -161,7 +119,7 @@ pub rows_moved : (facts : List Fact) (selects : List Select) (rows sorted : List
 rows_moved facts selects rows sorted same is row = ((λ c. (is row).0 ((same row).0 c)), (λ answer. (same row).1 ((is row).1 answer)))
 
 -- the row of one assignment more
-pub rows_push : (head : List Term) (assignments : List Assignment) (i : ℕ) (one : Assignment) (rows : List Row) (row : Row) → i < length assignments → one ≡ get_or assignments i one → rows ≡ map (head_under head) (take i assignments) → row ≡ head_of head one.vals →
+pub rows_push : (head : List Term) (assignments : List Assignment) (i : ℕ) (one : Assignment) (rows : List Row) (row : Row) → i < length assignments → one ≡ get_or assignments i one → rows ≡ map (head_under head) (take i assignments) → row ≡ row_of head one.vals →
     rows ++ row ∷ [] ≡ map (head_under head) (take (i + 1) assignments)
 rows_push head assignments i one rows row below is so e =
     let next : take (i + 1) assignments ≡ take i assignments ++ one ∷ [] = take_more assignments i one below ∙ ap (λ a. take i assignments ++ a ∷ []) (sym is) in

@@ -1,16 +1,15 @@
--- Rows of selects, and texts of labelled values.
-use Rattle.std.specs.Prelude.{◌≡◌, ◌≤◌, ◌↔◌, ℕ, List, [], All, Contains, Option, Some, None, length, map, slice_get}
+-- Rows of selects and of heads.
+use Rattle.std.specs.Prelude.{◌≡◌, ◌≤◌, ◌↔◌, List, All, Contains, Option, None, length}
 use Rattle.meaning.specs.declared.types.Term.{Term}
 use Rattle.meaning.specs.declared.types.Fact.{Fact}
 use Rattle.meaning.specs.declared.types.Val.{Val}
-use Rattle.meaning.specs.declared.types.Val.TheVariants.{Const, Label}
 use Rattle.meaning.specs.declared.types.SchemaParts.{SchemaParts}
 use Rattle.meaning.specs.declared.types.Select.{Select}
-use Rattle.meaning.specs.Values.{Value, Row}
-use Rattle.meaning.specs.Matching.{value_of, itself}
+use Rattle.meaning.specs.Values.{Row}
 use Rattle.meaning.specs.Answers.{AnswersSelect}
 use Rattle.meaning.specs.Conjunctive.{SelectFits}
 use Rattle.homomorphism.specs.declared.assignment.Assignment.{Assignment}
+use Rattle.homomorphism.specs.Texts.{row_of}
 use Rattle.sql_conjunctive.specs.declared.limits.TheConstants.{MOST_FROMS}
 
 -- A select has few FROM items where they are within the limit.
@@ -31,24 +30,6 @@ AreRowsOf facts selects rows =
 abbrev pub AreFree : List (Option Val) → Type 0
 AreFree fixed = All (λ value. value ≡ None) fixed
 
--- The text of a value; a label has the empty text.
-abbrev pub text_of : Val → Value
-text_of (Const text) = text
-text_of (Label label) = []
-
--- The text of a value, where there is one.
-abbrev pub text_or_empty : Option Val → Value
-text_or_empty None = []
-text_or_empty (Some value) = text_of value
-
--- The text of the value with that number.
-abbrev pub text_at : List Val → ℕ → Value
-text_at values x = text_or_empty (slice_get values x)
-
--- The row of a head under these values.
-abbrev pub head_of : List Term → List Val → Row
-head_of head values = map (value_of itself (text_at values)) head
-
 -- The row of a head under an assignment.
 abbrev pub head_under : List Term → Assignment → Row
-head_under head assignment = head_of head assignment.vals
+head_under head assignment = row_of head assignment.vals

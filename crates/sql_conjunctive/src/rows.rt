@@ -5,21 +5,21 @@ ghost use Rattle.meaning.specs.declared.types.Fact.{Fact};
 ghost use Rattle.meaning.specs.declared.types.Term.TheVariants.{Var};
 ghost use Rattle.meaning.specs.Values.{Row};
 ghost use Rattle.meaning.specs.Instances.{IsInstance};
-ghost use Rattle.meaning.specs.Matching.{OccursIn, AnswersQuery, itself, value_of};
+ghost use Rattle.meaning.specs.Matching.{OccursIn, AnswersQuery};
 ghost use Rattle.meaning.specs.Answers.{Answers, AnswersSelect};
 ghost use Rattle.meaning.specs.Conjunctive.{SelectFits};
 ghost use Rattle.access_schema.specs.Meaning.{meaning_of};
 ghost use Rattle.row_text.specs.RowText.{row_cmp};
 ghost use Rattle.homomorphism.specs.Instances.{AreFactsOf};
 ghost use Rattle.sql_conjunctive.specs.Form.{IsNumbered};
-ghost use Rattle.sql_conjunctive.specs.Rows.{AreFree, FitsWithFew, HasFew, head_of, head_under, text_at};
+ghost use Rattle.sql_conjunctive.specs.Rows.{AreFree, FitsWithFew, HasFew, head_under};
 
 use crate::conjoin::conjunctive;
 use crate::form::Conjunctive;
 use access_schema::Schema;
-use homomorphism::{Assignment, Bindings, Store, all_matches};
-use lists::{Copies, NoMemory, Row, Rows, Seq, Text};
-use meaning::types::{Instance, Query, Select, Statement, Term, Val};
+use homomorphism::{Assignment, Bindings, Store, all_matches, row_under};
+use lists::{NoMemory, Row, Rows, Seq};
+use meaning::types::{Instance, Query, Select, Statement, Term};
 use row_text::{PackedRows, ascending_distinct};
 use std::alloc::Global;
 
@@ -42,8 +42,15 @@ pub fn answers(
         rows.append(&mut more)?;
     }
     let packed = PackedRows::from_rows(alloc, rows.as_slice())?;
-    let distinct = ascending_distinct(alloc, &packed)?.rows(alloc)?;
-    Ok(Seq::from_vec(distinct))
+    let distinct = ascending_distinct(alloc, &packed)?;
+    Ok(unpacked(alloc, &distinct)?)
+}
+
+/// The rows, each with memory of its own.
+fn unpacked(alloc: Global, packed: &PackedRows) -> Result<Rows, NoMemory>
+    ensures { IfOk result (λ rows. rows ≡ packed.now) }
+{
+    Ok(Seq::from_vec(packed.rows(alloc)?))
 }
 
 /// The answers of the select on the facts of the store, in any order.
@@ -95,30 +102,7 @@ fn head_rows(alloc: Global, head: &[Term], assignments: &[Assignment]) -> Result
 {
     let mut rows = Vec::with_capacity(alloc, assignments.len())?;
     for assignment in assignments {
-        rows.push(head_row(alloc, head, assignment.vals.as_slice())?)?;
+        rows.push(row_under(alloc, head, assignment.vals.as_slice())?)?;
     }
     Ok(rows)
-}
-
-fn head_row(alloc: Global, head: &[Term], values: &[Val]) -> Result<Row, NoMemory>
-    ensures { IfOk result (λ row. row ≡ head_of head.now values.now) }
-{
-    let mut row = Vec::with_capacity(alloc, head.len())?;
-    for term in head {
-        row.push(term_text(alloc, term, values)?)?;
-    }
-    Ok(Seq::from_vec(row))
-}
-
-/// The text of a term; a variable without one has the empty text.
-fn term_text(alloc: Global, term: &Term, values: &[Val]) -> Result<Text, NoMemory>
-    ensures { IfOk result (λ text. text ≡ value_of itself (text_at values.now) term.now) }
-{
-    match term {
-        Term::Const(text) => text.copy(alloc),
-        Term::Var(variable) => match values.get(*variable as usize) {
-            Some(Val::Const(text)) => text.copy(alloc),
-            _ => Text::from_str(alloc, ""),
-        },
-    }
 }

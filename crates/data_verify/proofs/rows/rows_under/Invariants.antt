@@ -1,6 +1,6 @@
 use Rattle.std.proofs.Common.{◌≡◌, map, take}
 use Rattle.data_verify.specs.Breaking.{row_under}
-use Rattle.data_verify.specs.Unmet.{text_at}
+use Rattle.homomorphism.specs.Texts.{text_at}
 use Rattle.data_verify.proofs.rows.rows_under.Given as goal
 
 abbrev pub invariant-loop-atom : goal.invariant-loop-atom

@@ -10,6 +10,6 @@ loop-select-preserved c = subst (λ (rs : List Row). AreRowsOf c.args.instance.n
     (c.in_ok-more.ensures c.args.instance.now c.requires.instance c.in_ok-store.ensures))
 
 pub returns-clause-members : goal.returns-clause-members
-returns-clause-members c = rw (c.from_vec.ensures, c.in_ok-distinct.ensures)
-    (rows_moved c.args.instance.now c.args.statement.now.selects c.loop-select.rows.items _ (rw (c.in_ok-packed.ensures, c.as_slice.ensures.value) at c.in_ok-ascending_distinct.ensures.same)
+returns-clause-members c = rw c.in_ok-unpacked.ensures
+    (rows_moved c.args.instance.now c.args.statement.now.selects c.loop-select.rows.items _ (rw (c.in_ok-packed.ensures, c.as_slice.ensures.value) at c.in_ok-distinct.ensures.same)
     (rows_all c.args.instance.now c.args.statement.now.selects c.loop-select.select-index c.loop-select.rows.items (rw c.as_slice-select-items.ensures at c.loop-select-test.false) (rw c.as_slice-select-items.ensures at c.loop-select.invariant)))
