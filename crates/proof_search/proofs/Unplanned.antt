@@ -1,5 +1,5 @@
 -- Where no plan is made, no method asks for what the statement selects whole.
-use Rattle.std.proofs.Common.{◌≡◌, ℕ, List, [], ◌∷◌, sym, ap, ◌∙◌, subst, refl, arith}
+use Rattle.std.proofs.Common.{◌≡◌, ℕ, List, [], ◌∷◌, sym, ap, ◌∙◌, subst, ⊎_elim, refl, arith}
 use Rattle.std.specs.Prelude.{Contains}
 use Rattle.std.specs.List.{AllZip}
 use Rattle.meaning.specs.declared.types.Atom.{Atom}
@@ -10,8 +10,9 @@ use Rattle.meaning.specs.declared.types.Query.{Query}
 use Rattle.meaning.specs.declared.types.SchemaParts.{SchemaParts}
 use Rattle.meaning.specs.declared.types.Select.{Select}
 use Rattle.meaning.specs.declared.types.Statement.{Statement}
-use Rattle.meaning.specs.Conjunctive.{AreJoined, given, alike, turned, chained, IsAtomFor, IsConjunctive}
+use Rattle.meaning.specs.Conjunctive.{IsAtomFor, IsConjunctive}
 use Rattle.sql_conjunctive.specs.Form.{Clashes}
+use Rattle.sql_conjunctive.proofs.Literals.{joined_sides}
 use Rattle.proof_search.specs.Whole.{TakesColumns, HasNoWholePlan}
 use Rattle.proof_search.specs.Exposing.{HasNoFreeMethod}
 
@@ -23,21 +24,15 @@ one_select statement first second a b = let same : first ∷ [] ≡ second ∷ [
 pub other_kind : (schema : SchemaParts) (statement : Statement) (select : Select) → statement.selects ≡ select ∷ [] → (TakesColumns select → ⊥) → HasNoWholePlan schema statement
 other_kind schema statement select one not_so other method whole asks = not_so (subst TakesColumns (one_select statement other select whole one) asks.takes)
 
--- no condition joins nothing but an operand with itself
-nothing_joined : (conditions : List Condition) → ((c : Condition) → Contains conditions c → ⊥) → {o p : Operand} → AreJoined conditions o p → o ≡ p
-nothing_joined conditions none (given condition c) = absurd (none condition c)
-nothing_joined conditions none (alike o) = refl
-nothing_joined conditions none (turned j) = sym (nothing_joined conditions none j)
-nothing_joined conditions none (chained i j) = nothing_joined conditions none i ∙ nothing_joined conditions none j
-
 -- without conditions nothing clashes
 pub no_clash : (select : Select) → TakesColumns select → Clashes select.conditions → ⊥
 no_clash select takes (a, b, apart, joined) =
-    let same : Literal a ≡ Literal b = nothing_joined select.conditions (λ c among. absurd (none c (subst (λ list. Contains list c) takes.free among))) joined in
-    apart (cc)
+    ⊎_elim (λ (same : Literal a ≡ Literal b). apart (cc))
+    (λ sides. none sides.0.0 (subst (λ list. Contains list sides.0.0) takes.free sides.0.1))
+    (joined_sides select.conditions joined)
   where
-    none : (c : Condition) → Contains [] c → ⊥
-    none c among = omega (arith, among.1)
+    none : (condition : Condition) → Contains [] condition → ⊥
+    none condition among = omega (arith, among.1)
 
 one_atom : (schema : SchemaParts) (rel : ℕ) (atoms : List Atom) → AllZip (IsAtomFor schema) (rel ∷ []) atoms → (atom : Atom) × (atoms ≡ atom ∷ []) × (atom.rel ≡ rel)
 one_atom schema rel [] is = absurd is
