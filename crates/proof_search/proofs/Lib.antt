@@ -1,5 +1,6 @@
 pub mod Turns
 pub mod Literals
 pub mod OneAtom
+pub mod Asked
 pub mod Planned
 pub mod Unplanned

@@ -4,7 +4,6 @@ use Rattle.std.specs.Prelude.{Contains}
 use Rattle.std.specs.List.{AllZip}
 use Rattle.meaning.specs.declared.types.Atom.{Atom}
 use Rattle.meaning.specs.declared.types.Condition.{Condition}
-use Rattle.meaning.specs.declared.types.Operand.{Operand}
 use Rattle.meaning.specs.declared.types.Operand.TheVariants.{Literal}
 use Rattle.meaning.specs.declared.types.Query.{Query}
 use Rattle.meaning.specs.declared.types.SchemaParts.{SchemaParts}
@@ -22,7 +21,7 @@ one_select statement first second a b = let same : first ∷ [] ≡ second ∷ [
 
 -- the select is not of the kind that is planned
 pub other_kind : (schema : SchemaParts) (statement : Statement) (select : Select) → statement.selects ≡ select ∷ [] → (TakesColumns select → ⊥) → HasNoWholePlan schema statement
-other_kind schema statement select one not_so other method whole asks = not_so (subst TakesColumns (one_select statement other select whole one) asks.takes)
+other_kind schema statement select one not_so whole = not_so (subst TakesColumns (one_select statement whole.select select whole.one one) whole.asks.takes)
 
 -- without conditions nothing clashes
 pub no_clash : (select : Select) → TakesColumns select → Clashes select.conditions → ⊥
@@ -41,8 +40,9 @@ one_atom schema rel (atom ∷ other ∷ atoms) is = absurd is.1
 
 -- no method asks for the one atom without inputs
 pub no_method : (schema : SchemaParts) (statement : Statement) (select : Select) (query : Query) → statement.selects ≡ select ∷ [] → IsConjunctive schema select query → HasNoFreeMethod schema query → HasNoWholePlan schema statement
-no_method schema statement select query one form none other method whole asks =
-    let same = one_select statement other select whole one in
-    let froms : select.froms ≡ method.rel ∷ [] = ap (λ (s : Select). s.froms) (sym same) ∙ asks.of_relation in
+no_method schema statement select query one form none whole =
+    let method = whole.method in
+    let same = one_select statement whole.select select whole.one one in
+    let froms : select.froms ≡ method.rel ∷ [] = ap (λ (s : Select). s.froms) (sym same) ∙ whole.asks.of_relation in
     let (atom, atoms, rel) = one_atom schema method.rel query.atoms (subst (λ list. AllZip (IsAtomFor schema) list query.atoms) froms form.atoms) in
-    none atom method atoms asks.of_schema (sym rel) asks.free
+    none atom method atoms whole.asks.of_schema (sym rel) whole.asks.free

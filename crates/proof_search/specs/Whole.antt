@@ -25,7 +25,13 @@ pub record AsksWhole (schema : SchemaParts) (select : Select) (method : Method) 
   pub of_relation : select.froms ≡ method.rel ∷ []
   pub free : method.inputs ≡ []
 
--- No method asks for what the statement selects whole.
+-- Some method asks for what the statement selects whole.
+pub record IsAskedWhole (schema : SchemaParts) (statement : Statement) : Type 0 where
+  pub select : Select
+  pub method : Method
+  pub one : statement.selects ≡ select ∷ []
+  pub asks : AsksWhole schema select method
+
+-- No method does.
 abbrev pub HasNoWholePlan : SchemaParts → Statement → Type 0
-HasNoWholePlan schema statement =
-    (select : Select) (method : Method) → statement.selects ≡ select ∷ [] → AsksWhole schema select method → ⊥
+HasNoWholePlan schema statement = IsAskedWhole schema statement → ⊥

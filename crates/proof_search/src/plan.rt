@@ -4,8 +4,8 @@ ghost use Rattle.meaning.specs.Fitting.{QueryFits, QueryHasConstants};
 ghost use Rattle.access_schema.specs.Meaning.{meaning_of};
 ghost use Rattle.sql_select.specs.Statements.{StatementFits};
 ghost use Rattle.plan_extract.specs.Branches.{IsBranchOf};
-ghost use Rattle.proof_search.specs.Whole.{AreColumns, TakesColumns, HasNoWholePlan};
-ghost use Rattle.proof_search.specs.Exposing.{HasNoFreeMethod};
+ghost use Rattle.proof_search.specs.Whole.{AreColumns, TakesColumns, IsAskedWhole, HasNoWholePlan};
+ghost use Rattle.proof_search.specs.Exposing.{IsExposed, HasNoFreeMethod};
 ghost use Rattle.proof_search.specs.Plans.{IsPlanFor, IsOneAccess};
 
 use crate::exposing::exposing_method;
@@ -19,7 +19,7 @@ use std::alloc::Global;
 
 /// The plan of a statement: that of its conjunctive query, over the known constants.
 ///
-/// In this stage a plan is made where the statement takes columns of one relation that a method asks for whole.
+/// In this stage a plan is made exactly where the statement takes columns of one relation that a method asks for whole.
 pub fn plan_for(
     alloc: Global,
     schema: &Schema,
@@ -28,6 +28,7 @@ pub fn plan_for(
     requires { StatementFits schema.now statement.now }
     ensures plan { IfOk result (λ found. IfSome found (IsPlanFor schema.now statement.now)) }
     ensures one { IfOk result (λ found. IfSome found IsOneAccess) }
+    ensures asked { IfOk result (λ found. IfSome found (λ plan. IsAskedWhole (meaning_of schema.now) statement.now)) }
     ensures none { IfOk result (λ found. IfNone found (HasNoWholePlan (meaning_of schema.now) statement.now)) }
 {
     let select = only_select(statement);
@@ -89,6 +90,7 @@ fn branch_for(
     requires fits { QueryFits (meaning_of schema.now) query.now }
     requires constants { QueryHasConstants known.now query.now }
     ensures branch { IfOk result (λ found. IfSome found (IsBranchOf (meaning_of schema.now) known.now query.now)) }
+    ensures exposed { IfOk result (λ found. IfSome found (λ branch. IsExposed (meaning_of schema.now) known.now query.now)) }
     ensures one_step { IfOk result (λ found. IfSome found (λ branch. length branch.steps ≡ 1)) }
     ensures none { IfOk result (λ found. IfNone found (HasNoFreeMethod (meaning_of schema.now) query.now)) }
 {

@@ -31,3 +31,15 @@ returns-clause-branch c =
     one_exposed (meaning_of c.args.schema.now) c.args.known.now c.args.query.now c.fact-item.result c.in-Some.method.now c.as_slice-5.result.now c.in_ok-branch.branch
     (well_formed c.args.schema.now) c.requires.fits c.requires.constants facts
     (subst (λ list. Contains list c.in-Some.method.now) c.as_slice-3.ensures c.in-Some.ensures.of_schema) c.in-Some.ensures.exposes head c.in_ok-branch.ensures
+
+pub returns-clause-exposed : goal.returns-clause-exposed
+returns-clause-exposed c =
+    let one = one_member c.as_slice-2.result.now c.fact-item.result c.in-len1.len_at_least c.in-len1.len_below c.fact-item.is in
+    let facts : map (ground Label) c.args.query.now.atoms ≡ c.fact-item.result ∷ [] = ap (map (ground Label)) (sym c.as_slice.ensures) ∙ sym c.in_ok-facts.ensures ∙ sym c.as_slice-2.ensures.value ∙ one in
+    record {
+      fact = c.fact-item.result;
+      method = c.in-Some.method.now;
+      facts = facts;
+      of_schema = subst (λ list. Contains list c.in-Some.method.now) c.as_slice-3.ensures c.in-Some.ensures.of_schema;
+      exposes = c.in-Some.ensures.exposes;
+    }
