@@ -1,7 +1,6 @@
 pub mod Bindings
 pub mod Matches
 pub mod Rules
-pub mod Growing
 pub mod Instances
 pub mod Narrowing
 pub mod Ways

@@ -1,7 +1,7 @@
 // Distinct facts, by number.
 ghost use Rattle.std.specs.Prelude.{◌≡◌, ◌↔◌, IsTrue, ◌⊎◌, [], ◌∷◌, ◌++◌, Contains, IfOk, OnErr, OnOk, slice_get, option_copied, true, false, if◌then◌else◌, take, length};
 ghost use Rattle.meaning.specs.Search.{AreDistinct};
-ghost use Rattle.homomorphism.specs.Growing.{Grows};
+ghost use Rattle.meaning.specs.Added.{with_fact, with_facts};
 ghost use Rattle.homomorphism.specs.Instances.{AreFactsOf};
 
 use crate::instance::distinct_grounds;
@@ -77,10 +77,10 @@ impl Store {
 
     /// Adds the fact as the last one where it is not there yet, and says whether it did. Where memory is refused,
     /// nothing changes.
-    #[tactic(auto, using(crate::proofs::Members::distinct_push))]
+    #[tactic(auto, using(crate::proofs::Members::distinct_push, crate::proofs::Adding::stays, crate::proofs::Adding::pushed))]
     pub fn insert(&mut self, _alloc: Global, fact: Ground) -> Result<bool, NoMemory>
         ensures there { IfOk result (λ added. (added ≡ false) ↔ Contains self.old fact) }
-        ensures kept { IfOk result (λ added. self.new ≡ (if added then self.old ++ fact ∷ [] else self.old)) }
+        ensures kept { OnOk result (self.new ≡ with_fact self.old fact) }
         ensures refused { OnErr result (self.new ≡ self.old) }
     {
         if self.contains(&fact) {
@@ -92,8 +92,7 @@ impl Store {
 
     /// Adds copies of the facts that are not there yet, behind those that are. Where memory is refused, nothing changes.
     pub fn add_all(&mut self, alloc: Global, news: &[Ground]) -> Result<(), NoMemory>
-        ensures front { OnOk result (take (length self.old) self.new ≡ self.old) }
-        ensures grows { OnOk result (Grows self.old news.now self.new) }
+        ensures added { OnOk result (self.new ≡ with_facts self.old news.now) }
         ensures refused { OnErr result (self.new ≡ self.old) }
     {
         let count = self.facts.len();
@@ -117,7 +116,7 @@ impl Store {
     /// Adds the facts that are not there yet; where memory is refused, some of them stand at the end.
     fn add_copies(&mut self, alloc: Global, news: &[Ground]) -> Result<(), NoMemory>
         ensures front { take (length self.old) self.new ≡ self.old }
-        ensures grows { OnOk result (Grows self.old news.now self.new) }
+        ensures added { OnOk result (self.new ≡ with_facts self.old news.now) }
     {
         for fact in news {
             self.insert(alloc, fact.copy(alloc)?)?;

@@ -9,6 +9,7 @@ pub mod Requests
 pub mod Claims
 pub mod Costs
 pub mod Homomorphisms
+pub mod Added
 pub mod Triggers
 pub mod RuleOrder
 pub mod Runs

@@ -13,6 +13,7 @@ use Rattle.meaning.specs.declared.types.Val.TheVariants.{Const, Label}
 use Rattle.meaning.specs.declared.types.Firing.TheVariants.{Base, Copy, Expose}
 use Rattle.meaning.specs.Values.{Value}
 use Rattle.meaning.specs.Matching.{value_of, IsQueryAnswer, GroundsOf}
+use Rattle.meaning.specs.Added.{with_facts}
 use Rattle.meaning.specs.Triggers.{State, ground, IsActive, IsQuiet, fired}
 use Rattle.meaning.specs.RuleOrder.{StandsBefore}
 
@@ -119,13 +120,13 @@ IsOrderedRun schema constants part proof (firing ∷ log) end =
     × ((next : Proof) × Fires schema constants proof firing next
     × IsOrderedRun schema constants (part_of firing) next log end)
 
--- The opening proof of a query has its atoms as base facts, with variable k as label k, and nothing else.
+-- The opening proof of a query has its atoms, each once, as base facts, with variable k as label k, and nothing else.
 abbrev pub opening : Query → Proof
-opening query = record { base = map (ground Label) query.atoms; exposed = []; copy = []; next = query.variables }
+opening query = record { base = with_facts [] (map (ground Label) query.atoms); exposed = []; copy = []; next = query.variables }
 
--- The opening state of a query: its frozen atoms.
+-- The opening state of a query: its frozen atoms, each once.
 abbrev pub opening_state : Query → State
-opening_state query = record { facts = map (ground Label) query.atoms; next = query.variables }
+opening_state query = record { facts = with_facts [] (map (ground Label) query.atoms); next = query.variables }
 
 -- The frozen head of a query has variable k as label k.
 abbrev pub frozen_head : Query → List Val

@@ -1,5 +1,5 @@
 -- Firing of rules on labelled facts (Fagin, Kolaitis, Miller and Popa 2005, chase steps).
-use Rattle.std.specs.Prelude.{◌≡◌, ℕ, ◌+◌, ◌-◌, ◌<◌, ◌≤◌, max, List, [], ◌∷◌, ◌++◌, Contains, map, length, slice_get, slice_index_or, Some, if◌then◌else◌, nat_lt}
+use Rattle.std.specs.Prelude.{◌≡◌, ℕ, ◌+◌, ◌-◌, ◌<◌, ◌≤◌, max, List, [], ◌∷◌, Contains, map, length, slice_get, slice_index_or, Some, if◌then◌else◌, nat_lt}
 use Rattle.meaning.specs.declared.types.Term.{Term}
 use Rattle.meaning.specs.declared.types.Atom.{Atom}
 use Rattle.meaning.specs.declared.types.Rule.{Rule}
@@ -8,6 +8,7 @@ use Rattle.meaning.specs.declared.types.Ground.{Ground}
 use Rattle.meaning.specs.declared.types.Trigger.{Trigger}
 use Rattle.meaning.specs.declared.types.Term.TheVariants.{Var, Const as Said}
 use Rattle.meaning.specs.declared.types.Val.TheVariants.{Const, Label}
+use Rattle.meaning.specs.Added.{with_facts}
 use Rattle.meaning.specs.Matching.{value_of, AreFacts, OccursIn, Extends, GroundsOf}
 
 -- One more than the greatest variable of terms.
@@ -69,10 +70,10 @@ pub record IsActive (rules : List Rule) (state : State) (trigger : Trigger) (rul
 abbrev pub IsQuiet : List Rule → State → Type 0
 IsQuiet rules state = (trigger : Trigger) (rule : Rule) → IsActive rules state trigger rule → ⊥
 
--- A firing adds the head's facts, and the labels that it gave are used up.
+-- A firing adds the head's facts that are not there yet, and the labels that it gave are used up.
 abbrev pub fired : State → Trigger → Rule → State
 fired state trigger rule = record {
-  facts = state.facts ++ map (ground (assigned trigger)) rule.head;
+  facts = with_facts state.facts (map (ground (assigned trigger)) rule.head);
   next = trigger.fresh + (bound rule.head - bound rule.body);
 }
 

@@ -7,8 +7,8 @@ use Rattle.std.specs.List.{range_with_len}
 use Rattle.std.proofs.lemmas.List.{same_lists, get_or_default}
 use Rattle.std.proofs.lemmas.List.FromFn.{length-map-range_with_len, get_or-map-range_with_len, take-map-range_with_len}
 use Rattle.std.proofs.lemmas.Bool.{cases_lt}
-use Rattle.std.proofs.lemmas.List.Elements.{Contains-append_cases}
 use Rattle.lists.proofs.Members.{contains_here, contains_there, contains_cases, contains_got, contains_map, contains_mapped}
+use Rattle.meaning_laws.proofs.Added.{added_cases}
 use Rattle.meaning_laws.proofs.Joined.{joined_below, joined_above}
 use Rattle.meaning.specs.declared.types.Term.{Term}
 use Rattle.meaning.specs.declared.types.Term.TheVariants.{Var, Const as Said}
@@ -88,7 +88,7 @@ module _ (rules : List Rule) (state : State) (trigger : Trigger) (rule : Rule) (
   pub fired_below : LabelsBelow (fired state trigger rule).facts (fired state trigger rule).next
   fired_below fact k c l =
       ⊎_elim (λ old. let was : k < state.next = below fact k old l in let up = is.fresh in omega arith)
-      (λ new. new_below new) (Contains-append_cases state.facts (map (ground (assigned trigger)) rule.head) fact c)
+      (λ new. new_below new) (added_cases state.facts (map (ground (assigned trigger)) rule.head) fact c)
     where
       term_fresh : (term : Term) (atom : Atom) → Contains rule.head atom → Contains atom.terms term → value_of Const (assigned trigger) term ≡ Label k → k < trigger.fresh + (bound rule.head - bound rule.body)
       term_fresh (Said t) atom among within e = absurd (cc)
@@ -137,7 +137,7 @@ module _ (rules : List Rule) (state : State) (trigger : Trigger) (rule : Rule) (
           subst (λ (f : Ground). Contains instance (record { rel = f.rel; row = map (image g) f.vals })) e
           (subst (λ row. Contains instance (record { rel = atom.rel; row = row })) (sym (image_values g (assigned trigger) atom.terms))
           (subst (λ f. Contains instance (record { rel = atom.rel; row = map (value_of itself f) atom.terms })) (sym (fun_ext each)) (extends.head atom among))))
-          (Contains-append_cases state.facts (map (ground (assigned trigger)) rule.head) fact c)
+          (added_cases state.facts (map (ground (assigned trigger)) rule.head) fact c)
 
   -- one firing
   pub extend_firing : (instance : List Fact) (h : ℕ → List ℕ) → MeetsAll itself (FactsOf instance) rules → Carries h state.facts instance → (g : ℕ → List ℕ) × ((k : ℕ) → k < state.next → g k ≡ h k) × Carries g (fired state trigger rule).facts instance

@@ -3,8 +3,9 @@ use Rattle.std.proofs.Common.{length, ◌≡◌, ℕ, ◌+◌, ◌-◌, ◌<◌,
 use Rattle.std.specs.Prelude.{Contains, map}
 use Rattle.std.proofs.lemmas.Bool.{cases_lt}
 use Rattle.std.proofs.lemmas.List.{append-nil, length-map}
-use Rattle.std.proofs.lemmas.List.Elements.{Contains-append_cases, Contains-push_cases}
+use Rattle.std.proofs.lemmas.List.Elements.{Contains-push_cases}
 use Rattle.lists.proofs.Members.{contains_cases, contains_got, contains_map, contains_mapped, some_injective}
+use Rattle.meaning_laws.proofs.Added.{added_cases}
 use Rattle.meaning_laws.proofs.Fits.{fits_alike}
 use Rattle.meaning_laws.proofs.Carrying.{fresh_is}
 use Rattle.meaning_laws.proofs.Extracting.{columns_kept, columns_have}
@@ -121,7 +122,7 @@ fired_old rules state trigger rule is numbered k l (f, c, i) =
     (λ new. let (atom, among, e) = contains_mapped (ground (assigned trigger)) rule.head f new in
     let (term, has, same) = contains_mapped (value_of Const (assigned trigger)) atom.terms (Label k) (subst (λ (g : Ground). Contains g.vals (Label k)) (sym e) i) in
     each term same)
-    (Contains-append_cases state.facts (map (ground (assigned trigger)) rule.head) f c)
+    (added_cases state.facts (map (ground (assigned trigger)) rule.head) f c)
   where
     fresh : (i : ℕ) → Label (trigger.fresh + i) ≡ Label k → ⊥
     fresh i e = let same : trigger.fresh + i ≡ k = cc in let up = is.fresh in omega arith

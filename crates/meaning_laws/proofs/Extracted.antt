@@ -3,6 +3,7 @@ use Rattle.std.proofs.Common.{◌≡◌, ℕ, ◌<◌, ◌≤◌, List, [], ◌�
 use Rattle.std.specs.Prelude.{Contains, map}
 use Rattle.std.specs.List.{AllZip}
 use Rattle.lists.proofs.Members.{contains_cases, contains_map, contains_mapped}
+use Rattle.meaning_laws.proofs.Added.{opened_from}
 use Rattle.meaning_laws.proofs.Carrying.{image_values, extend_run, run_below, occurs_below}
 use Rattle.meaning_laws.proofs.Extracting.{steps_image, steps_map, outs_image, outs_row, columns_have, columns_kept, same_vals}
 use Rattle.meaning.specs.declared.types.Term.{Term}
@@ -43,7 +44,7 @@ all_have columns (first ∷ exposures) e k c l =
 module _ (schema : SchemaParts) (well : IsWellFormed schema) (numbered : AreNumbered schema.rules) (query : Query) (base : List Trigger) (middle : State) (exposures : List Exposure) (copy : List Trigger) (end : State) (derivation : IsDerivation schema query base middle exposures copy end) where
   opening_below : LabelsBelow (opening_state query).facts (opening_state query).next
   opening_below fact k c l =
-      let (atom, among, e) = contains_mapped (ground Label) query.atoms fact c in
+      let (atom, among, e) = contains_mapped (ground Label) query.atoms fact (opened_from query fact c) in
       let (term, has, is) = contains_mapped (value_of Const Label) atom.terms (Label k) (subst (λ (f : Ground). Contains f.vals (Label k)) (sym e) l) in
       term_case term atom among has is
     where
@@ -79,7 +80,7 @@ module _ (schema : SchemaParts) (well : IsWellFormed schema) (numbered : AreNumb
   pub extract_complete : (instance : List Fact) (row : List (List ℕ)) → Meets instance schema → IsHeadKnown exposures (frozen_head query) → ((k : ℕ) → Contains (frozen_head query) (Label k) → k < query.variables) → AnswersQuery query instance row → IsBranchRow schema (branch_of exposures (frozen_head query)) instance row
   extract_complete instance row meets known head_below (a, are, e) =
       let start : Carries a (opening_state query).facts instance =
-      λ fact c. let (atom, among, same) = contains_mapped (ground Label) query.atoms fact c in
+      λ fact c. let (atom, among, same) = contains_mapped (ground Label) query.atoms fact (opened_from query fact c) in
       subst (λ f. Contains instance (fact_of a f)) same (subst (λ r. Contains instance (record { rel = atom.rel; row = r })) (sym (image_values a Label atom.terms)) (are atom among)) in
       let (g, same, carries) = extend_run schema.rules base (opening_state query) middle instance a numbered meets opening_below derivation.base_run start in
       let head = frozen_head query in

@@ -6,6 +6,7 @@ use Rattle.std.proofs.lemmas.Option.{get_or_from_slice_get, slice_get_within, sl
 use Rattle.std.proofs.lemmas.List.{length_push}
 use Rattle.std.proofs.lemmas.List.FromFn.{length-map-range_with_len, get_or-map-range_with_len, map-range_with_len_more}
 use Rattle.lists.proofs.Members.{contains_here, contains_there, contains_cases, contains_mapped, got_push, got_before, map_same}
+use Rattle.meaning_laws.proofs.Added.{opened_from}
 use Rattle.meaning_laws.proofs.Monotone.{joins_length}
 use Rattle.meaning.specs.declared.types.Atom.{Atom}
 use Rattle.meaning.specs.declared.types.Place.{Place}
@@ -161,7 +162,7 @@ pub contained : (schema : SchemaParts) (constants : List (List ℕ)) (query othe
 contained schema constants query other log end rules fits have run match instance row meets (a, are, e) =
     let opened = kept_opening schema constants query fits have in
     let start : Carries a (opening_state query).facts instance =
-    λ fact c. let (atom, among, same) = contains_mapped (ground Label) query.atoms fact c in
+    λ fact c. let (atom, among, same) = contains_mapped (ground Label) query.atoms fact (opened_from query fact c) in
     subst (λ f. Contains instance (fact_of a f)) same (subst (λ r. Contains instance (record { rel = atom.rel; row = r })) (sym (image_values a Label atom.terms)) (are atom among)) in
     let (g, same, carries) = extend_run schema.rules log (opening_state query) end instance a rules.numbered meets (λ fact k c i. opened.base_named fact (Label k) c i) run start in
     let heads : map (image g) (frozen_head query) ≡ row = map_same (image g) (image a) (frozen_head query) (λ v c. same_image g a query.variables same v (λ k is. opened.head_named (Label k) (subst (λ w. Contains (frozen_head query) w) is c))) ∙ image_values a Label query.head ∙ sym e in

@@ -3,8 +3,8 @@ use Rattle.std.proofs.Common.{◌≡◌, ℕ, ◌+◌, ◌-◌, ◌<◌, ◌≤�
 use Rattle.std.specs.Prelude.{Contains, map}
 use Rattle.std.proofs.lemmas.Bool.{cases_lt}
 use Rattle.std.proofs.lemmas.List.{length-map}
-use Rattle.std.proofs.lemmas.List.Elements.{Contains-append_cases, Contains-append_left}
 use Rattle.lists.proofs.Members.{contains_got, contains_map, contains_mapped}
+use Rattle.meaning_laws.proofs.Added.{added_cases, added_left}
 use Rattle.meaning_laws.proofs.Carrying.{occurs_below, fresh_is}
 use Rattle.meaning.specs.declared.types.Term.{Term}
 use Rattle.meaning.specs.declared.types.Term.TheVariants.{Var, Const as Said}
@@ -33,7 +33,7 @@ module _ (constants : List (List ℕ)) (rules : List Rule) (state : State) (trig
       (λ new. let (atom, among, e) = contains_mapped (ground (assigned trigger)) rule.head fact new in
       let (term, has, same) = contains_mapped (value_of Const (assigned trigger)) atom.terms v (subst (λ (f : Ground). Contains f.vals v) (sym e) inside) in
       subst (λ w. IsNamed constants (fired state trigger rule).next w) same (term_named term atom among has))
-      (Contains-append_cases state.facts (map (ground (assigned trigger)) rule.head) fact c)
+      (added_cases state.facts (map (ground (assigned trigger)) rule.head) fact c)
     where
       up : state.next ≤ trigger.fresh → state.next ≤ trigger.fresh + (bound rule.head - bound rule.body)
       up l = omega arith
@@ -59,7 +59,7 @@ module _ (constants : List (List ℕ)) (rules : List Rule) (state : State) (trig
       ⊎_elim (λ old. fit fact old)
       (λ new. let (atom, among, e) = contains_mapped (ground (assigned trigger)) rule.head fact new in
       fits_alike schema atom.rel fact.rel atom.terms fact.vals (ap (λ (f : Ground). f.rel) e) (ap (λ (f : Ground). length f.vals) (sym e) ∙ length-map atom.terms (value_of Const (assigned trigger))) (heads atom among))
-      (Contains-append_cases state.facts (map (ground (assigned trigger)) rule.head) fact c)
+      (added_cases state.facts (map (ground (assigned trigger)) rule.head) fact c)
 
 -- what a whole run keeps
 pub record Keeps (schema : SchemaParts) (constants : List (List ℕ)) (state end : State) : Type 0 where
@@ -76,7 +76,7 @@ run_keeps schema constants (trigger ∷ log) state end rules named fit (rule, is
     let rest = run_keeps schema constants log (fired state trigger rule) end rules (fired_named constants schema.rules state trigger rule is its (rules.have rule among).1 named)
     (fired_fits constants schema.rules state trigger rule is its schema (λ atom c. rules.heads rule atom among c) fit) more in
     record {
-      grows = λ fact c. rest.grows fact (Contains-append_left state.facts (map (ground (assigned trigger)) rule.head) fact c);
+      grows = λ fact c. rest.grows fact (added_left state.facts (map (ground (assigned trigger)) rule.head) fact c);
       next = (let up = is.fresh in let on = rest.next in omega arith);
       named = rest.named;
       fit = rest.fit;

@@ -4,6 +4,7 @@ use Rattle.std.specs.Prelude.{Contains, map}
 use Rattle.std.proofs.lemmas.List.{length-map}
 use Rattle.std.proofs.lemmas.List.Elements.{Contains-append_left, Contains-push, Contains-push_cases}
 use Rattle.lists.proofs.Members.{contains_map, contains_mapped}
+use Rattle.meaning_laws.proofs.Added.{added_right, opened_from}
 use Rattle.meaning_laws.proofs.Carrying.{occurs_below}
 use Rattle.meaning_laws.proofs.Keeping.{Keeps, named_more, run_keeps}
 use Rattle.meaning_laws.proofs.Witness.{witness_refutes}
@@ -41,16 +42,16 @@ frozen_named constants n terms below have v c =
 
 pub kept_opening : (schema : SchemaParts) (constants : List (List ℕ)) (query : Query) → QueryFits schema query → QueryHasConstants constants query → IsKept schema constants query (opening query)
 kept_opening schema constants query fits have = record {
-  base_fits = λ fact c. let (atom, among, e) = contains_mapped (ground Label) query.atoms fact c in
+  base_fits = λ fact c. let (atom, among, e) = contains_mapped (ground Label) query.atoms fact (opened_from query fact c) in
       fits_alike schema atom.rel fact.rel atom.terms fact.vals (ap (λ (f : Ground). f.rel) e) (ap (λ (f : Ground). length f.vals) (sym e) ∙ length-map atom.terms (value_of Const Label)) (fits.arity atom among);
   copy_fits = λ fact c. absurd (none fact c);
-  base_named = λ fact v c i. let (atom, among, e) = contains_mapped (ground Label) query.atoms fact c in
+  base_named = λ fact v c i. let (atom, among, e) = contains_mapped (ground Label) query.atoms fact (opened_from query fact c) in
       frozen_named constants query.variables atom.terms (λ x h. low x (occurs_below query.atoms x (atom, among, h))) (λ t h. have.atoms atom t among h) v (subst (λ (f : Ground). Contains f.vals v) (sym e) i);
   copy_named = λ fact v c i. absurd (none fact c);
   head_named = frozen_named constants query.variables query.head (λ x c. low x (occurs_below query.atoms x (fits.head x c))) have.head;
   exposed_base = λ fact c. absurd (none fact c);
   exposed_copy = λ fact c. absurd (none fact c);
-  answered = (Label, (λ atom among. contains_map (ground Label) query.atoms atom among), refl);
+  answered = (Label, (λ atom among. added_right [] (map (ground Label) query.atoms) (ground Label atom) (contains_map (ground Label) query.atoms atom among)), refl);
 }
   where
     none : (fact : Ground) → Contains [] fact → ⊥

@@ -1,6 +1,7 @@
 pub mod Joined
 pub mod Fits
 pub mod Monotone
+pub mod Added
 pub mod Carrying
 pub mod Keeping
 pub mod Deciding

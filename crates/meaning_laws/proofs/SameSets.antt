@@ -1,7 +1,7 @@
 -- Runs and goals depend on the set of facts alone, so a search may look at sets.
 use Rattle.std.proofs.Common.{◌≡◌, ℕ, ◌≤◌, List, [], ◌∷◌, refl, sym, ◌∙◌, subst, ⊎_elim}
 use Rattle.std.specs.Prelude.{Contains, map}
-use Rattle.std.proofs.lemmas.List.Elements.{Contains-append_cases, Contains-append_left, Contains-append_right}
+use Rattle.meaning_laws.proofs.Added.{added_cases, added_left, added_right}
 use Rattle.meaning.specs.declared.types.Val.{Val}
 use Rattle.meaning.specs.declared.types.Rule.{Rule}
 use Rattle.meaning.specs.declared.types.Ground.{Ground}
@@ -40,9 +40,9 @@ run_alike rules (trigger ∷ log) first end second alike (rule, is, more) =
   where
     grown : (s t : State) → ((fact : Ground) → Contains s.facts fact → Contains t.facts fact) → (fact : Ground) → Contains (fired s trigger rule).facts fact → Contains (fired t trigger rule).facts fact
     grown s t within fact c =
-        ⊎_elim (λ old. Contains-append_left t.facts (map (ground (assigned trigger)) rule.head) fact (within fact old))
-        (λ new. Contains-append_right t.facts (map (ground (assigned trigger)) rule.head) fact new)
-        (Contains-append_cases s.facts (map (ground (assigned trigger)) rule.head) fact c)
+        ⊎_elim (λ old. added_left t.facts (map (ground (assigned trigger)) rule.head) fact (within fact old))
+        (λ new. added_right t.facts (map (ground (assigned trigger)) rule.head) fact new)
+        (added_cases s.facts (map (ground (assigned trigger)) rule.head) fact c)
 
 -- a goal after one order of the exposures is one after every order
 pub goal_alike : (schema : SchemaParts) (queries : List Query) (head : List Val) (next : ℕ) (first second : List Exposure) → ((fact : Ground) → (Contains (exposed_facts first) fact → Contains (exposed_facts second) fact) × (Contains (exposed_facts second) fact → Contains (exposed_facts first) fact)) → HasGoalAfter schema queries head next first → HasGoalAfter schema queries head next second

@@ -3,6 +3,7 @@ use Rattle.std.proofs.Common.{◌≡◌, ◌⊎◌, ℕ, ◌≤◌, List, [], �
 use Rattle.std.specs.Prelude.{Contains, map, slice_get, Some}
 use Rattle.std.proofs.lemmas.List.Elements.{Contains-append_cases, Contains-append_left, Contains-append_right, Contains-push, Contains-push_cases}
 use Rattle.lists.proofs.Members.{contains_here, contains_there, contains_cases, contains_mapped, contains_map, some_injective}
+use Rattle.meaning_laws.proofs.Added.{added_cases, added_left, added_right}
 use Rattle.meaning_laws.proofs.Deciding.{dec_contains}
 use Rattle.meaning.specs.declared.types.Val.{Val}
 use Rattle.meaning.specs.declared.types.Val.TheVariants.{Const}
@@ -48,7 +49,7 @@ unfolding body_facts head_facts
 serves_keep rules state trigger rule needed after wanted kept is serves split body small low has =
     let up : state.next ≤ trigger.fresh = is.fresh in
     let (last, run, leaves) = serves (fired small trigger rule) (omega arith)
-    (λ fact c. ⊎_elim (λ old. Contains-append_left small.facts (map (ground (assigned trigger)) rule.head) fact (has fact old)) (λ new. Contains-append_right small.facts (map (ground (assigned trigger)) rule.head) fact new) (split fact c)) in
+    (λ fact c. ⊎_elim (λ old. added_left small.facts (map (ground (assigned trigger)) rule.head) fact (has fact old)) (λ new. added_right small.facts (map (ground (assigned trigger)) rule.head) fact new) (split fact c)) in
     (last, (rule, record { numbered = is.numbered; width = is.width; fresh = omega arith; body = body_in trigger rule.body small.facts (λ fact c. has fact (body fact c)) }, run), leaves)
 
 -- the facts of a list that stood before, where each stood before or is new
@@ -80,7 +81,7 @@ firings_trim rules state end (trigger ∷ log) wanted (rule, is, more) within =
     let (kept, after, among, serves) = firings_trim rules (fired state trigger rule) end log wanted more within in
     ⊎_elim (λ all. (kept, after, all, serves_skip rules state trigger rule after wanted kept is serves))
     (λ some.
-    let (part, old, split) = older after state.facts (head_facts trigger rule) (λ f c. Contains-append_cases state.facts (map (ground (assigned trigger)) rule.head) f (among f c)) in (
+    let (part, old, split) = older after state.facts (head_facts trigger rule) (λ f c. added_cases state.facts (map (ground (assigned trigger)) rule.head) f (among f c)) in (
       trigger ∷ kept,
       body_facts trigger rule ++ part,
       (λ f c. ⊎_elim (λ b. body_of f b) (λ p. old f p) (Contains-append_cases (body_facts trigger rule) part f c)),

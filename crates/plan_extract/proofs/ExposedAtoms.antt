@@ -20,6 +20,7 @@ use Rattle.meaning.specs.Triggers.{ground}
 use Rattle.meaning.specs.Runs.{opening_state, frozen_head}
 use Rattle.meaning.specs.Fitting.{RulesFit, QueryFits, QueryHasConstants}
 use Rattle.meaning.specs.Extract.{Exposure, exposed_facts, steps_of, all_columns, out_of, IsExposing, branch_of}
+use Rattle.meaning_laws.proofs.Added.{added_right}
 use Rattle.meaning_laws.proofs.Decided.{extracted}
 use Rattle.plan_extract.specs.Branches.{IsBranchOf}
 
@@ -64,11 +65,11 @@ module _ (schema : SchemaParts) (constants : List Value) (query : Query) (exposu
     head = fits.head;
   }
 
-  exposing_there : (base exposed : List Ground) (es : List Exposure) → IsExposing schema constants base exposed es → IsExposing (record schema { rules = [] }) constants base exposed es
-  exposing_there base exposed [] is = tt
-  exposing_there base exposed (e ∷ es) (first, rest) = (
-    record { of_base = first.of_base; new = first.new; of_schema = first.of_schema; of_relation = first.of_relation; inputs = first.inputs },
-    exposing_there base (exposed ++ e.fact ∷ []) es rest,
+  exposing_there : (exposed : List Ground) (es : List Exposure) → IsExposing schema constants (map (ground Label) query.atoms) exposed es → IsExposing (record schema { rules = [] }) constants (opening_state query).facts exposed es
+  exposing_there exposed [] is = tt
+  exposing_there exposed (e ∷ es) (first, rest) = (
+    record { of_base = added_right [] (map (ground Label) query.atoms) e.fact first.of_base; new = first.new; of_schema = first.of_schema; of_relation = first.of_relation; inputs = first.inputs },
+    exposing_there (exposed ++ e.fact ∷ []) es rest,
   )
 
   meets : (facts : List Fact) → Meets facts (record schema { rules = [] })
@@ -81,7 +82,7 @@ module _ (schema : SchemaParts) (constants : List Value) (query : Query) (exposu
   is_branch_of =
       let got = extracted (record schema { rules = [] }) constants query query (record { once = well.once; inputs = well.inputs }) rules_fit query_fits query_fits have
       [] (opening_state query) exposures [] (record { facts = exposed_facts exposures; next = query.variables }) refl
-      (exposing_there (map (ground Label) query.atoms) [] exposures exposing) refl match in
+      (exposing_there [] exposures exposing) refl match in
       record {
         lawful = lawful_over schema [] constants 0 (steps_of [] exposures) (map (out_of (all_columns [] exposures)) (frozen_head query)) got.0;
         width = length-map (frozen_head query) (out_of (all_columns [] exposures)) ∙ length-map query.head (value_of Const Label);

@@ -1,23 +1,21 @@
 -- How far the variables of atoms and the labels of facts go.
-use Rattle.std.proofs.Common.{◌≡◌, ◌⊎◌, ℕ, ◌+◌, ◌-◌, ◌<◌, ◌≤◌, max, List, [], ◌∷◌, ◌++◌, length, map, refl, sym, ap, ◌∙◌, subst, ⊎_elim, arith}
+use Rattle.std.proofs.Common.{ℕ, ◌+◌, ◌-◌, ◌≤◌, List, [], ◌∷◌, ◌++◌, map, refl, subst, ⊎_elim, arith}
 use Rattle.std.specs.Prelude.{Contains}
-use Rattle.std.proofs.lemmas.List.Elements.{Contains-append_left, Contains-append_right, Contains-append_cases}
-use Rattle.lists.proofs.Members.{contains_cases, contains_got}
+use Rattle.lists.proofs.Members.{contains_cases}
 use Rattle.meaning.specs.declared.types.Term.{Term}
 use Rattle.meaning.specs.declared.types.Term.TheVariants.{Var, Const as Said}
-use Rattle.meaning.specs.declared.types.Val.TheVariants.{Label}
 use Rattle.meaning.specs.declared.types.Atom.{Atom}
 use Rattle.meaning.specs.declared.types.Ground.{Ground}
 use Rattle.meaning.specs.declared.types.Rule.{Rule}
 use Rattle.meaning.specs.declared.types.Trigger.{Trigger}
+use Rattle.meaning.specs.Added.{with_facts}
 use Rattle.meaning.specs.Triggers.{State, LabelsBelow, AreNumbered, IsTrigger, assigned, ground, bound, terms_bound, fired}
+use Rattle.meaning_laws.proofs.Added.{added_cases, added_right}
 use Rattle.meaning_laws.proofs.Carrying.{run_below}
 use Rattle.access_schema.specs.declared.schema.Schema.{Schema}
 use Rattle.access_schema.proofs.Ordered.{bound_is}
 use Rattle.access_schema.proofs.Keeping.{rules_fit}
-use Rattle.homomorphism.specs.Growing.{Grows}
 use Rattle.rule_pass.specs.Orderly.{AreOrderly}
-use Rattle.rule_pass.specs.States.{AreAlike}
 
 -- greatest variables
 pub term_below : (terms : List Term) (term : Term) → Contains terms term → terms_bound (term ∷ []) ≤ terms_bound terms
@@ -39,30 +37,15 @@ atom_below (t ∷ atoms) atom c = ⊎_elim (λ e. subst (λ (z : Atom). terms_bo
 pub room : (fresh n m w : ℕ) → n ≤ m → fresh + (m - w) ≤ 4294967296 → fresh + (n - w) ≤ 4294967296
 room fresh n m w l e = omega arith
 
--- labels of facts that grow
-pub below_grown : (facts news grown : List Ground) (old next : ℕ) → LabelsBelow facts old → old ≤ next → LabelsBelow news next → Grows facts news grown → LabelsBelow grown next
-below_grown facts news grown old next below later new g fact k among has =
-    ⊎_elim (λ h. let l = below fact k h has in omega arith) (λ h. new fact k h has) (g.only fact among)
+-- labels of facts to which others are added
+pub below_added : (facts news : List Ground) (old next : ℕ) → LabelsBelow facts old → old ≤ next → LabelsBelow news next → LabelsBelow (with_facts facts news) next
+below_added facts news old next below later new fact k among has =
+    ⊎_elim (λ h. let l = below fact k h has in omega arith) (λ h. new fact k h has) (added_cases facts news fact among)
 
 pub made_below : (rules : List Rule) (state : State) (trigger : Trigger) (rule : Rule) → AreNumbered rules → IsTrigger rules state trigger rule → LabelsBelow state.facts state.next
     → LabelsBelow (map (ground (assigned trigger)) rule.head) (fired state trigger rule).next
 made_below rules state trigger rule numbered is below fact k among has =
-    (run_below rules (trigger ∷ []) state (fired state trigger rule) numbered below (rule, is, refl)).0 fact k (Contains-append_right state.facts (map (ground (assigned trigger)) rule.head) fact among) has
-
--- the facts of a firing, added to a store
-pub grown_alike : (state after : State) (trigger : Trigger) (rule : Rule) → Grows state.facts (map (ground (assigned trigger)) rule.head) after.facts → (fired state trigger rule).next ≡ after.next → AreAlike (fired state trigger rule) after
-grown_alike state after trigger rule g next = record {
-  to = λ fact among. ⊎_elim (λ h. g.kept fact h) (λ h. g.added fact h) (Contains-append_cases state.facts (map (ground (assigned trigger)) rule.head) fact among);
-  from = λ fact among. ⊎_elim (λ h. Contains-append_left state.facts (map (ground (assigned trigger)) rule.head) fact h) (λ h. Contains-append_right state.facts (map (ground (assigned trigger)) rule.head) fact h) (g.only fact among);
-  next = next;
-}
-
-pub alike_grown : (state after : State) (trigger : Trigger) (rule : Rule) → AreAlike (fired state trigger rule) after → Grows state.facts (map (ground (assigned trigger)) rule.head) after.facts
-alike_grown state after trigger rule alike = record {
-  only = λ fact among. Contains-append_cases state.facts (map (ground (assigned trigger)) rule.head) fact (alike.from fact among);
-  kept = λ fact among. alike.to fact (Contains-append_left state.facts (map (ground (assigned trigger)) rule.head) fact among);
-  added = λ fact among. alike.to fact (Contains-append_right state.facts (map (ground (assigned trigger)) rule.head) fact among);
-}
+    (run_below rules (trigger ∷ []) state (fired state trigger rule) numbered below (rule, is, refl)).0 fact k (added_right state.facts (map (ground (assigned trigger)) rule.head) fact among) has
 
 -- the rules of a schema
 pub orderly : (schema : Schema) → AreOrderly schema.rules

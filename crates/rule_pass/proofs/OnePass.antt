@@ -1,100 +1,91 @@
 -- Why one pass in the rule order leaves nothing active: a rule that was gone through stays met, since no later rule
 -- feeds it; and the matches of a rule's body, taken before its firings, are all that there are after them, since it does
 -- not feed itself.
-use Rattle.std.proofs.Common.{◌≡◌, ℕ, ◌+◌, ◌-◌, ◌*◌, ◌<◌, ◌≤◌, List, [], ◌∷◌, ◌++◌, length, Some, refl, sym, ap, ◌∙◌, subst, ⊎_elim, arith, Contains, map, take, slice_get, slice_index_or}
-use Rattle.std.proofs.lemmas.List.{take_more}
-use Rattle.std.proofs.lemmas.List.Elements.{Contains-append_left, Contains-append_right, Contains-append_cases, Contains-push, Contains-push_cases}
+use Rattle.std.proofs.Common.{◌≡◌, ℕ, ◌+◌, ◌*◌, ◌<◌, ◌≤◌, List, [], ◌∷◌, ◌++◌, length, max, append_assoc, Some, refl, sym, ap, ◌∙◌, subst, ⊎_elim, arith, Contains, map, take, slice_get, slice_index_or}
+use Rattle.std.proofs.lemmas.List.{take_more, append-nil}
+use Rattle.std.proofs.lemmas.List.Elements.{Contains-append_left, Contains-push, Contains-push_cases}
 use Rattle.std.proofs.lemmas.List.FromFn.{get_or-map-range_with_len}
 use Rattle.std.proofs.lemmas.Option.{slice_get-get_or}
 use Rattle.lists.proofs.Members.{contains_map, contains_mapped, contains_got, some_injective}
 use Rattle.meaning.specs.declared.types.Val.{Val}
 use Rattle.meaning.specs.declared.types.Val.TheVariants.{Const, Label}
-use Rattle.meaning.specs.declared.types.Atom.{Atom}
 use Rattle.meaning.specs.declared.types.Ground.{Ground}
 use Rattle.meaning.specs.declared.types.Rule.{Rule}
 use Rattle.meaning.specs.declared.types.Trigger.{Trigger}
 use Rattle.meaning.specs.Matching.{OccursIn, AreFacts, GroundsOf, MeetsRule, MeetsAll}
+use Rattle.meaning.specs.Added.{with_facts}
 use Rattle.meaning.specs.Triggers.{State, ground, bound, assigned, fired, IsActive, IsQuiet}
 use Rattle.meaning.specs.RuleOrder.{StandsBefore}
 use Rattle.meaning.specs.Runs.{IsFirstActive, IsBaseRun}
 use Rattle.meaning_laws.proofs.Joined.{joined_below}
+use Rattle.meaning_laws.proofs.Added.{added_left, added_right, added_cases}
 use Rattle.meaning_laws.proofs.Carrying.{occurs_below}
 use Rattle.meaning_laws.proofs.Deciding.{same_facts}
 use Rattle.homomorphism.specs.declared.assignment.Assignment.{Assignment}
 use Rattle.homomorphism.specs.Bindings.{at, values_of}
 use Rattle.homomorphism.specs.Rules.{AreBodyMatches, IsMet, IsUnmet, IsUnmetMatch}
-use Rattle.homomorphism.specs.Growing.{Grows}
 use Rattle.access_schema.specs.declared.limits.TheConstants.{MOST_VARIABLES}
 use Rattle.rule_pass.specs.Orderly.{AreOrderly}
 use Rattle.rule_pass.specs.Order.{IsRuleOrder}
-use Rattle.rule_pass.specs.States.{AreAlike, LeadsTo, SomeActive}
-use Rattle.rule_pass.specs.Passing.{AreMet, Goes}
+use Rattle.rule_pass.specs.States.{Goes}
+use Rattle.rule_pass.specs.Passing.{AreMet}
 use Rattle.rule_pass.proofs.Ordered.{FeedsNot, stands_earlier, feeds_no_earlier}
-use Rattle.rule_pass.proofs.Bounds.{alike_grown}
 
 -- what a firing adds
 abbrev made : Trigger → Rule → List Ground
 made trigger rule = map (ground (assigned trigger)) rule.head
 
 -- a body that the rule does not feed is matched after the firing only where it was before
-pull : (facts grown : List Ground) (trigger : Trigger) (rule other : Rule) (a : ℕ → Val) → FeedsNot rule other → Grows facts (made trigger rule) grown → AreFacts Const (GroundsOf grown) a other.body → AreFacts Const (GroundsOf facts) a other.body
-pull facts grown trigger rule other a not g are atom among =
+pull : (facts : List Ground) (trigger : Trigger) (rule other : Rule) (a : ℕ → Val) → FeedsNot rule other → AreFacts Const (GroundsOf (with_facts facts (made trigger rule))) a other.body → AreFacts Const (GroundsOf facts) a other.body
+pull facts trigger rule other a not are atom among =
     ⊎_elim (λ h. h) (λ h. let (head, in_head, e) = contains_mapped (ground (assigned trigger)) rule.head (ground a atom) h in absurd (not head atom in_head among (ap (λ (f : Ground). f.rel) e)))
-    (g.only (ground a atom) (are atom among))
+    (added_cases facts (made trigger rule) (ground a atom) (are atom among))
 
 -- a rule that is met and not fed stays met
-met_stays : (facts grown : List Ground) (trigger : Trigger) (rule other : Rule) → FeedsNot rule other → Grows facts (made trigger rule) grown → MeetsRule Const (GroundsOf facts) other → MeetsRule Const (GroundsOf grown) other
-met_stays facts grown trigger rule other not g meets a body =
-    let (b, ext) = meets a (pull facts grown trigger rule other a not g body) in
-    (b, record { agrees = ext.agrees; head = λ atom c. g.kept (ground b atom) (ext.head atom c) })
+met_stays : (facts : List Ground) (trigger : Trigger) (rule other : Rule) → FeedsNot rule other → MeetsRule Const (GroundsOf facts) other → MeetsRule Const (GroundsOf (with_facts facts (made trigger rule))) other
+met_stays facts trigger rule other not meets a body =
+    let (b, ext) = meets a (pull facts trigger rule other a not body) in
+    (b, record { agrees = ext.agrees; head = λ atom c. added_left facts (made trigger rule) (ground b atom) (ext.head atom c) })
 
-is_met_stays : (facts grown news : List Ground) (rule : Rule) (values : List Val) → Grows facts news grown → IsMet facts rule values → IsMet grown rule values
-is_met_stays facts grown news rule values g (b, ext) = (b, record { agrees = ext.agrees; head = λ atom c. g.kept (ground b atom) (ext.head atom c) })
+is_met_stays : (facts news : List Ground) (rule : Rule) (values : List Val) → IsMet facts rule values → IsMet (with_facts facts news) rule values
+is_met_stays facts news rule values (b, ext) = (b, record { agrees = ext.agrees; head = λ atom c. added_left facts news (ground b atom) (ext.head atom c) })
 
 -- the assignment of a trigger is its values on the body
 values_first : (trigger : Trigger) (rule : Rule) → length trigger.values ≡ bound rule.body → (x : ℕ) → OccursIn rule.body x → assigned trigger x ≡ at trigger.values x
 values_first trigger rule width x occurs = joined_below (length trigger.values) (λ y. slice_index_or trigger.values y (Label 0)) (λ i. Label (trigger.fresh + i)) x (let l = occurs_below rule.body x occurs in omega arith)
 
 -- after the firing its own match is met
-fired_met : (facts grown : List Ground) (trigger : Trigger) (rule : Rule) → length trigger.values ≡ bound rule.body → Grows facts (made trigger rule) grown → IsMet grown rule trigger.values
-fired_met facts grown trigger rule width g = (
+fired_met : (facts : List Ground) (trigger : Trigger) (rule : Rule) → length trigger.values ≡ bound rule.body → IsMet (with_facts facts (made trigger rule)) rule trigger.values
+fired_met facts trigger rule width = (
   assigned trigger,
   record {
     agrees = λ x occurs. values_first trigger rule width x occurs;
-    head = λ atom c. g.added (ground (assigned trigger) atom) (contains_map (ground (assigned trigger)) rule.head atom c);
+    head = λ atom c. added_right facts (made trigger rule) (ground (assigned trigger) atom) (contains_map (ground (assigned trigger)) rule.head atom c);
   },
 )
 
--- the run with one firing more
-run_more : (rules : List Rule) (start middle : State) (log : List Trigger) (trigger : Trigger) (rule : Rule) → IsBaseRun rules start log middle → IsFirstActive rules middle trigger rule → IsBaseRun rules start (log ++ trigger ∷ []) (fired middle trigger rule)
-run_more rules start middle [] trigger rule e first = (rule, subst (λ s. IsFirstActive rules s trigger rule) e first, ap (λ s. fired s trigger rule) e)
-run_more rules start middle (t ∷ log) trigger rule (r, is, run) first = (r, is, run_more rules (fired start t r) middle log trigger rule run first)
+-- one run after another
+run_on : (rules : List Rule) (start middle end : State) (log more : List Trigger) → IsBaseRun rules start log middle → IsBaseRun rules middle more end → IsBaseRun rules start (log ++ more) end
+run_on rules start middle end [] more e run = subst (λ s. IsBaseRun rules s more end) e run
+run_on rules start middle end (trigger ∷ log) more (rule, is, before) run = (rule, is, run_on rules (fired start trigger rule) middle end log more before run)
 
--- states that are alike
-alike_back : (first second : State) → AreAlike first second → AreAlike second first
-alike_back first second alike = record { to = alike.from; from = alike.to; next = sym alike.next }
+pub goes_none : (rules : List Rule) (state : State) (log : List Trigger) → Goes rules state log state log
+goes_none rules state log = record { more = []; logged = sym (append-nil log); run = refl }
 
-alike_on : (first second third : State) → AreAlike first second → AreAlike second third → AreAlike first third
-alike_on first second third a b = record { to = λ fact c. b.to fact (a.to fact c); from = λ fact c. a.from fact (b.from fact c); next = a.next ∙ b.next }
-
-alike_fired : (first second : State) (trigger : Trigger) (rule : Rule) → AreAlike first second → AreAlike (fired first trigger rule) (fired second trigger rule)
-alike_fired first second trigger rule alike = record {
-  to = λ fact c. ⊎_elim (λ h. Contains-append_left second.facts (made trigger rule) fact (alike.to fact h)) (λ h. Contains-append_right second.facts (made trigger rule) fact h) (Contains-append_cases first.facts (made trigger rule) fact c);
-  from = λ fact c. ⊎_elim (λ h. Contains-append_left first.facts (made trigger rule) fact (alike.from fact h)) (λ h. Contains-append_right first.facts (made trigger rule) fact h) (Contains-append_cases second.facts (made trigger rule) fact c);
-  next = refl;
+pub goes_on : (rules : List Rule) (first middle end : State) (before log after : List Trigger) → Goes rules first before middle log → Goes rules middle log end after → Goes rules first before end after
+goes_on rules first middle end before log after one two = record {
+  more = one.more ++ two.more;
+  logged = two.logged ∙ ap (λ l. l ++ two.more) one.logged ∙ append_assoc before one.more two.more;
+  run = run_on rules first middle end one.more two.more one.run two.run;
 }
 
-active_alike : (rules : List Rule) (first second : State) (trigger : Trigger) (rule : Rule) → AreAlike first second → IsActive rules first trigger rule → IsActive rules second trigger rule
-active_alike rules first second trigger rule alike active = record {
-  trigger_is = record {
-    numbered = active.trigger_is.numbered;
-    width = active.trigger_is.width;
-    fresh = subst (λ n. n ≤ trigger.fresh) alike.next active.trigger_is.fresh;
-    body = λ atom c. alike.to (ground (assigned trigger) atom) (active.trigger_is.body atom c);
-  };
-  next = active.next ∙ alike.next;
-  unmet = λ b ext. active.unmet b (record { agrees = ext.agrees; head = λ atom c. alike.from (ground b atom) (ext.head atom c) });
-}
+goes_fired : (rules : List Rule) (first now : State) (before log : List Trigger) (trigger : Trigger) (rule : Rule) → Goes rules first before now log → IsFirstActive rules now trigger rule → Goes rules first before (fired now trigger rule) (log ++ trigger ∷ [])
+goes_fired rules first now before log trigger rule goes is =
+    goes_on rules first now (fired now trigger rule) before log (log ++ trigger ∷ []) goes (record { more = trigger ∷ []; logged = refl; run = (rule, is, refl) })
+
+-- a log that was empty is the run
+pub goes_run : (rules : List Rule) (first now : State) (before log : List Trigger) → before ≡ [] → Goes rules first before now log → IsBaseRun rules first log now
+goes_run rules first now before log e goes = subst (λ l. IsBaseRun rules first l now) (sym (goes.logged ∙ ap (λ l. l ++ goes.more) e)) goes.run
 
 -- rules that are met have no active trigger
 met_inactive : (rules : List Rule) (now : State) (other : Trigger) (its : Rule) → MeetsRule Const (GroundsOf now.facts) its → IsActive rules now other its → ⊥
@@ -122,22 +113,6 @@ first_active rules now trigger rule numbered width next body unmet before = reco
   first = λ other its active stands. met_inactive rules now other its (before other.rule its stands active.trigger_is.numbered) active;
 }
 
--- the log with the firing
-leads_more : (rules : List Rule) (start now after : State) (log : List Trigger) (trigger : Trigger) (rule : Rule) → LeadsTo rules start log now → IsFirstActive rules now trigger rule → AreAlike (fired now trigger rule) after
-    → LeadsTo rules start (log ++ trigger ∷ []) after
-leads_more rules start now after log trigger rule l first alike = record {
-  end = fired l.end trigger rule;
-  run = run_more rules start l.end log trigger rule l.run (record {
-    active = active_alike rules now l.end trigger rule (alike_back l.end now l.alike) first.active;
-    first = λ other its active stands. first.first other its (active_alike rules l.end now other its l.alike active) stands;
-  });
-  alike = alike_on (fired l.end trigger rule) (fired now trigger rule) after (alike_fired l.end now trigger rule l.alike) alike;
-}
-
--- nothing fired yet
-pub leads_start : (rules : List Rule) (start : State) (log : List Trigger) → log ≡ [] → LeadsTo rules start log start
-leads_start rules start log e = subst (λ z. LeadsTo rules start z start) (sym e) (record { end = start; run = refl; alike = record { to = λ fact c. c; from = λ fact c. c; next = refl } })
-
 -- the trigger of an unmet match of the rule at a place of the order
 pub unmet_first : (rules : List Rule) (order : List ℕ) (k : ℕ) (rule : Rule) (now : State) (values : List Val) (fresh : ℕ) → IsRuleOrder rules order → k < length order →
     slice_get rules (slice_index_or order k 0) ≡ Some rule → AreMet rules now.facts (take k order) → IsUnmetMatch now.facts rule values → fresh ≡ now.next →
@@ -154,19 +129,19 @@ pub record Passing (rules : List Rule) (order : List ℕ) (first : State) (begun
   pub each : (m : Assignment) → Contains found m → AreFacts Const (GroundsOf now.facts) (at m.vals) rule.body
   pub all : (a : ℕ → Val) → AreFacts Const (GroundsOf now.facts) a rule.body → Contains found (record { vals = values_of (bound rule.body) a })
   pub met : (m : Assignment) → Contains done m → IsMet now.facts rule m.vals
-  pub budget_kept : length log ≤ budget
+  pub budget_kept : length log ≤ max (length begun) budget
   pub labels_kept : now.next + length begun * MOST_VARIABLES ≤ first.next + length log * MOST_VARIABLES
 
 pub passing_start : (rules : List Rule) (order : List ℕ) (first : State) (begun : List Trigger) (k budget : ℕ) (rule : Rule) (found : List Assignment) →
-    AreMet rules first.facts (take k order) → AreBodyMatches first.facts rule found → length begun ≤ budget → Passing rules order first begun k budget rule found [] begun first
-passing_start rules order first begun k budget rule found m b spare = record {
-  goes = λ start z. z;
+    AreMet rules first.facts (take k order) → AreBodyMatches first.facts rule found → Passing rules order first begun k budget rule found [] begun first
+passing_start rules order first begun k budget rule found m b = record {
+  goes = goes_none rules first begun;
   before = m;
   width = b.width;
   each = b.each;
   all = b.all;
   met = λ one c. absurd (omega arith);
-  budget_kept = spare;
+  budget_kept = omega arith;
   labels_kept = omega arith;
 }
 
@@ -193,26 +168,27 @@ module _ (rules : List Rule) (order : List ℕ) (first : State) (begun : List Tr
   pub passing_first : IsFirstActive rules now plain rule
   passing_first = unmet_first rules order k rule now one.vals fresh ordered l numbered p.before (record { width = p.width one among; body = p.each one among; unmet = unmet }) next
 
-  pub passing_room : (trigger : Trigger) (other : Rule) → trigger ≡ plain → slice_get rules trigger.rule ≡ Some other → budget ≤ 100000 → first.next ≤ 1048576 + length begun * MOST_VARIABLES → (fired now trigger other).next < 4294967296
-  passing_room trigger other is got few low =
+  pub passing_room : (trigger : Trigger) (other : Rule) → trigger ≡ plain → slice_get rules trigger.rule ≡ Some other → length log < budget → budget ≤ 100000 → first.next ≤ 1048576 + length begun * MOST_VARIABLES → (fired now trigger other).next < 4294967296
+  passing_room trigger other is got spare few low =
       let small = orderly.variables other (contains_got rules trigger.rule other got) in
       let same : trigger.fresh ≡ now.next = ap (λ (t : Trigger). t.fresh) is ∙ next in
-      let a = p.budget_kept in let b = p.labels_kept in omega arith
+      let b = p.labels_kept in omega arith
 
-  pub passing_fired : (trigger : Trigger) (after : State) → trigger ≡ plain → length log < budget → AreAlike (fired now trigger rule) after → Passing rules order first begun k budget rule found (done ++ one ∷ []) (log ++ trigger ∷ []) after
-  passing_fired trigger after is spare = subst (λ t. AreAlike (fired now t rule) after → Passing rules order first begun k budget rule found (done ++ one ∷ []) (log ++ t ∷ []) after) (sym is)
-      (λ alike. let g = alike_grown now after plain rule alike in record {
-        goes = λ start z. leads_more rules start now after log plain rule (p.goes start z) passing_first alike;
-        before = λ j other c e. met_stays now.facts after.facts plain rule other (feeds_no_earlier rules order ordered k (slice_index_or order k 0) j rule other l refl (earlier j c) numbered e) g (p.before j other c e);
+  pub passing_fired : (trigger : Trigger) (after : State) → trigger ≡ plain → length log < budget → after ≡ fired now trigger rule → Passing rules order first begun k budget rule found (done ++ one ∷ []) (log ++ trigger ∷ []) after
+  passing_fired trigger after is spare e =
+      subst (λ s. Passing rules order first begun k budget rule found (done ++ one ∷ []) (log ++ trigger ∷ []) s) (sym e)
+      (subst (λ t. Passing rules order first begun k budget rule found (done ++ one ∷ []) (log ++ t ∷ []) (fired now t rule)) (sym is) (record {
+        goes = goes_fired rules first now begun log plain rule p.goes passing_first;
+        before = λ j other c e. met_stays now.facts plain rule other (feeds_no_earlier rules order ordered k (slice_index_or order k 0) j rule other l refl (earlier j c) numbered e) (p.before j other c e);
         width = p.width;
-        each = λ m c atom d. g.kept (ground (at m.vals) atom) (p.each m c atom d);
-        all = λ a are. p.all a (pull now.facts after.facts plain rule rule a (feeds_no_earlier rules order ordered k (slice_index_or order k 0) (slice_index_or order k 0) rule rule l refl self numbered numbered) g are);
-        met = λ m c. ⊎_elim (λ h. is_met_stays now.facts after.facts (made plain rule) rule m.vals g (p.met m h))
-            (λ e. subst (λ (x : Assignment). IsMet after.facts rule x.vals) e (fired_met now.facts after.facts plain rule (p.width one among) g)) (Contains-push_cases done one m c);
+        each = λ m c atom d. added_left now.facts (made plain rule) (ground (at m.vals) atom) (p.each m c atom d);
+        all = λ a are. p.all a (pull now.facts plain rule rule a (feeds_no_earlier rules order ordered k (slice_index_or order k 0) (slice_index_or order k 0) rule rule l refl self numbered numbered) are);
+        met = λ m c. ⊎_elim (λ h. is_met_stays now.facts (made plain rule) rule m.vals (p.met m h))
+            (λ e. subst (λ (x : Assignment). IsMet (with_facts now.facts (made plain rule)) rule x.vals) e (fired_met now.facts plain rule (p.width one among))) (Contains-push_cases done one m c);
         budget_kept = let n = length_push log plain in omega arith;
         labels_kept =
-            let n = length_push log plain in let b = p.labels_kept in let small = orderly.variables rule (contains_got rules (slice_index_or order k 0) rule numbered) in let up = alike.next in omega arith;
-      })
+            let n = length_push log plain in let b = p.labels_kept in let small = orderly.variables rule (contains_got rules (slice_index_or order k 0) rule numbered) in omega arith;
+      }))
     where
       earlier : (j : ℕ) → Contains (take k order) j → Contains (take (k + 1) order) j
       earlier j c = subst (λ z. Contains z j) (sym (take_more order k 0 l)) (Contains-append_left (take k order) (slice_index_or order k 0 ∷ []) j c)

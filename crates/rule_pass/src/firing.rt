@@ -4,7 +4,7 @@ ghost use Rattle.meaning.specs.declared.types.Val.TheVariants.{Const};
 ghost use Rattle.meaning.specs.declared.types.Rule.{Rule};
 ghost use Rattle.meaning.specs.Matching.{value_of};
 ghost use Rattle.meaning.specs.Triggers.{AreNumbered, assigned, ground, terms_bound, bound, fired};
-ghost use Rattle.rule_pass.specs.States.{AreAlike, IsActiveTrigger};
+ghost use Rattle.rule_pass.specs.States.{IsActiveTrigger};
 
 use crate::state::State;
 use homomorphism::variables_width;
@@ -23,7 +23,7 @@ pub fn fire(
     requires numbered { AreNumbered rules.now }
     requires active { IsActiveTrigger rules.now state.old trigger.now }
     requires labels { (rule : Rule) → slice_get rules.now trigger.now.rule ≡ Some rule → (fired state.old trigger.now rule).next < 2 ^ 32 }
-    ensures fired { OnOk result ((rule : Rule) → slice_get rules.now trigger.now.rule ≡ Some rule → AreAlike (fired state.old trigger.now rule) state.new) }
+    ensures fired { OnOk result ((rule : Rule) → slice_get rules.now trigger.now.rule ≡ Some rule → state.new ≡ fired state.old trigger.now rule) }
     ensures refused { OnErr result (state.new ≡ state.old) }
 {
     let rule = &rules.as_slice()[trigger.rule as usize];

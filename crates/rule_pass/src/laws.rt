@@ -4,9 +4,10 @@ ghost use Rattle.meaning.specs.Values.{Value};
 ghost use Rattle.meaning.specs.Matching.{itself, FactsOf, MeetsAll};
 ghost use Rattle.meaning.specs.Homomorphisms.{Carries};
 ghost use Rattle.meaning.specs.Triggers.{AreNumbered};
+ghost use Rattle.meaning.specs.Runs.{IsBaseRun};
 ghost use Rattle.access_schema.specs.declared.schema.Schema.{Schema};
 ghost use Rattle.rule_pass.specs.Orderly.{AreOrderly};
-ghost use Rattle.rule_pass.specs.States.{Fires, LeadsTo};
+ghost use Rattle.rule_pass.specs.States.{Fires};
 
 use crate::state::State;
 use lists::Row;
@@ -24,7 +25,7 @@ pub fn extend_along(
     map: &Row,
 )
     requires numbered { AreNumbered rules.now }
-    requires run { LeadsTo rules.now start.now log.now end.now }
+    requires run { IsBaseRun rules.now start.now log.now end.now }
     requires meets { MeetsAll itself (FactsOf instance.now) rules.now }
     requires values { length map.now ≡ start.now.next }
     requires carries { Carries (λ k. slice_index_or map.now k []) start.now.facts instance.now }

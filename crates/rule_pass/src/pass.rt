@@ -1,14 +1,15 @@
 // One pass through the rules.
-ghost use Rattle.std.specs.Prelude.{◌≡◌, ◌+◌, ◌*◌, ◌<◌, ◌≤◌, ◌^◌, [], ◌∷◌, ◌++◌, length, take, OnOk, OnErr, IfOk, Ok, Some, slice_get, slice_index_or};
+ghost use Rattle.std.specs.Prelude.{◌≡◌, ◌+◌, ◌*◌, ◌<◌, ◌≤◌, ◌^◌, [], ◌∷◌, ◌++◌, length, max, take, OnOk, OnErr, IfOk, Ok, Some, slice_get, slice_index_or};
 ghost use Rattle.meaning.specs.declared.types.Rule.{Rule};
 ghost use Rattle.meaning.specs.declared.types.Val.TheVariants.{Const};
 ghost use Rattle.meaning.specs.Matching.{MeetsAll, GroundsOf};
 ghost use Rattle.meaning.specs.Triggers.{AreNumbered, fired, IsQuiet};
+ghost use Rattle.meaning.specs.Runs.{IsBaseRun};
 ghost use Rattle.access_schema.specs.declared.limits.TheConstants.{MOST_VARIABLES};
 ghost use Rattle.rule_pass.specs.Orderly.{AreOrderly};
 ghost use Rattle.rule_pass.specs.Order.{IsRuleOrder};
-ghost use Rattle.rule_pass.specs.States.{AreAlike, LeadsTo, IsActiveTrigger, SomeActive};
-ghost use Rattle.rule_pass.specs.Passing.{AreMet, Goes};
+ghost use Rattle.rule_pass.specs.States.{IsActiveTrigger, SomeActive, Goes};
+ghost use Rattle.rule_pass.specs.Passing.{AreMet};
 ghost use Rattle.rule_pass.specs.declared.pass.Stopped.TheVariants.{Ended, Spent};
 
 use crate::firing::fire;
@@ -47,7 +48,7 @@ pub fn run_rules(
     requires empty { log.old ≡ [] }
     requires budget { budget ≤ MOST_FIRINGS }
     requires labels { state.old.next ≤ HIGHEST_FIRST_LABEL }
-    ensures run { LeadsTo rules.now state.old log.new state.new }
+    ensures run { IsBaseRun rules.now state.old log.new state.new }
     ensures budget { length log.new ≤ budget }
     ensures labels { state.new.next ≤ state.old.next + length log.new * MOST_VARIABLES }
     ensures met { result ≡ Ok Ended → MeetsAll Const (GroundsOf state.new.facts) rules.now }
@@ -58,8 +59,11 @@ pub fn run_rules(
     Ok(run_in_order(alloc, state, rules, order.as_slice(), budget as usize, log)?)
 }
 
-/// Goes through the rules once, in this order.
-fn run_in_order(
+/// Goes through the rules once, in this order, which is the rule order, and fires the active triggers of each.
+///
+/// The firings go to the end of the log, each only while the log has fewer than `budget` firings. Ended comes exactly
+/// where nothing is active at the end. Where memory is refused, the state is that of the firings in the log, each whole.
+pub fn run_in_order(
     alloc: Global,
     state: &mut State,
     rules: &Rules,
@@ -69,14 +73,14 @@ fn run_in_order(
 ) -> Result<Stopped, NoMemory>
     requires orderly { AreOrderly rules.now }
     requires ordered { IsRuleOrder rules.now order.now }
-    requires empty { log.old ≡ [] }
     requires budget { budget ≤ MOST_FIRINGS }
-    requires labels { state.old.next ≤ HIGHEST_FIRST_LABEL }
-    ensures run { LeadsTo rules.now state.old log.new state.new }
-    ensures budget { length log.new ≤ budget }
-    ensures labels { state.new.next ≤ state.old.next + length log.new * MOST_VARIABLES }
+    requires labels { state.old.next ≤ HIGHEST_FIRST_LABEL + length log.old * MOST_VARIABLES }
+    ensures run { Goes rules.now state.old log.old state.new log.new }
+    ensures budget { length log.new ≤ max (length log.old) budget }
+    ensures labels { state.new.next + length log.old * MOST_VARIABLES ≤ state.old.next + length log.new * MOST_VARIABLES }
     ensures met { result ≡ Ok Ended → MeetsAll Const (GroundsOf state.new.facts) rules.now }
-    ensures spent { result ≡ Ok Spent → (length log.new ≡ budget) × SomeActive rules.now state.new }
+    ensures ended { result ≡ Ok Ended → IsQuiet rules.now state.new }
+    ensures spent { result ≡ Ok Spent → (budget ≤ length log.new) × SomeActive rules.now state.new }
 {
     for place in 0..order.len() {
         if let Stopped::Spent = run_rule(alloc, state, rules, order, place, budget, log)? {
@@ -100,14 +104,13 @@ fn run_rule(
     requires ordered { IsRuleOrder rules.now order.now }
     requires place { place < length order.now }
     requires met { AreMet rules.now state.old.facts (take place order.now) }
-    requires spare { length log.old ≤ budget }
     requires budget { budget ≤ MOST_FIRINGS }
     requires labels { state.old.next ≤ HIGHEST_FIRST_LABEL + length log.old * MOST_VARIABLES }
     ensures run { Goes rules.now state.old log.old state.new log.new }
-    ensures budget { length log.new ≤ budget }
+    ensures budget { length log.new ≤ max (length log.old) budget }
     ensures labels { state.new.next + length log.old * MOST_VARIABLES ≤ state.old.next + length log.new * MOST_VARIABLES }
     ensures ended { result ≡ Ok Ended → AreMet rules.now state.new.facts (take (place + 1) order.now) }
-    ensures spent { result ≡ Ok Spent → (length log.new ≡ budget) × SomeActive rules.now state.new }
+    ensures spent { result ≡ Ok Spent → (budget ≤ length log.new) × SomeActive rules.now state.new }
 {
     let number = order[place];
     let rule = &rules.as_slice()[number as usize];
@@ -147,7 +150,7 @@ fn step(
     requires active { IsActiveTrigger rules.now state.old trigger.now }
     requires labels { (rule : Rule) → slice_get rules.now trigger.now.rule ≡ Some rule → (fired state.old trigger.now rule).next < 2 ^ 32 }
     ensures logged { OnOk result (log.new ≡ log.old ++ trigger.now ∷ []) }
-    ensures fired { OnOk result ((rule : Rule) → slice_get rules.now trigger.now.rule ≡ Some rule → AreAlike (fired state.old trigger.now rule) state.new) }
+    ensures fired { OnOk result ((rule : Rule) → slice_get rules.now trigger.now.rule ≡ Some rule → state.new ≡ fired state.old trigger.now rule) }
     ensures unlogged { OnErr result (log.new ≡ log.old) }
     ensures refused { OnErr result (state.new ≡ state.old) }
 {

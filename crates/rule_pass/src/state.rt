@@ -1,8 +1,7 @@
 // Labelled facts and the next label.
-ghost use Rattle.std.specs.Prelude.{◌≡◌, ◌≤◌, IfOk, OnOk, OnErr};
+ghost use Rattle.std.specs.Prelude.{◌≡◌, ◌≤◌, [], IfOk, OnOk, OnErr};
+ghost use Rattle.meaning.specs.Added.{with_facts};
 ghost use Rattle.meaning.specs.Triggers.{LabelsBelow};
-ghost use Rattle.homomorphism.specs.Growing.{Grows};
-ghost use Rattle.rule_pass.specs.States.{AreAlike};
 
 use homomorphism::Store;
 use lists::NoMemory;
@@ -31,7 +30,7 @@ impl State {
     /// The state of these facts, with this next label.
     pub fn start(alloc: Global, facts: &Grounds, next: u32) -> Result<State, NoMemory>
         requires { LabelsBelow facts.now next }
-        ensures { IfOk result (λ state. AreAlike (record { facts = facts.now; next = next }) state) }
+        ensures { IfOk result (λ state. state ≡ record { facts = with_facts [] facts.now; next = next }) }
     {
         let mut store = Store::new(alloc);
         store.add_all(alloc, facts.as_slice())?;
@@ -58,8 +57,7 @@ impl State {
     pub fn add(&mut self, alloc: Global, news: &[Ground], next: u32) -> Result<(), NoMemory>
         requires later { self.old.next ≤ next }
         requires labels { LabelsBelow self.old.facts self.old.next → LabelsBelow news.now next }
-        ensures grows { OnOk result (Grows self.old.facts news.now self.new.facts) }
-        ensures next { OnOk result (self.new.next ≡ next) }
+        ensures added { OnOk result (self.new ≡ record { facts = with_facts self.old.facts news.now; next = next }) }
         ensures refused { OnErr result (self.new ≡ self.old) }
     {
         self.store.add_all(alloc, news)?;

@@ -1,11 +1,11 @@
-use Rattle.std.proofs.Common.{◌≡◌, ◌∙◌, ◌+◌, ◌-◌, ◌<◌, ℕ, Some, List, map, length, slice_get, slice_index_or, sym, ap, subst, arith}
+use Rattle.std.proofs.Common.{◌≡◌, ◌∙◌, ◌+◌, ◌<◌, Some, List, map, length, slice_get, sym, ap, subst, arith}
 use Rattle.std.proofs.lemmas.Option.{slice_get_within}
 use Rattle.lists.proofs.Members.{some_injective}
 use Rattle.meaning.specs.declared.types.Ground.{Ground}
 use Rattle.meaning.specs.declared.types.Rule.{Rule}
+use Rattle.meaning.specs.Added.{with_facts}
 use Rattle.meaning.specs.Triggers.{IsTrigger, LabelsBelow, assigned, ground, bound, fired}
-use Rattle.homomorphism.specs.Growing.{Grows}
-use Rattle.rule_pass.proofs.Bounds.{made_below, grown_alike}
+use Rattle.rule_pass.proofs.Bounds.{made_below}
 use Rattle.rule_pass.proofs.OnePass.{numbered_at}
 use Rattle.rule_pass.proofs.firing.fire.Goals as goal
 
@@ -33,5 +33,5 @@ returns-clause-fired c rule got =
     let is : IsTrigger c.args.rules.now c.args.state.now c.args.trigger.now rule = subst (IsTrigger c.args.rules.now c.args.state.now c.args.trigger.now) same its in
     let news : c.as_slice-4.result.now ≡ map (ground (assigned c.args.trigger.now)) rule.head = c.as_slice-4.ensures.value ∙ c.in_ok-news.ensures ∙ ap (map (ground (assigned c.args.trigger.now))) (c.as_slice-2.ensures ∙ ap (λ (r : Rule). r.head) one) in
     let width : c.variables_width-width.result ≡ bound rule.head = c.variables_width-width.ensures ∙ ap bound (c.as_slice-3.ensures ∙ ap (λ (r : Rule). r.head) one) in
-    let next : (fired c.args.state.now c.args.trigger.now rule).next ≡ c.add.new.self.next = let a = c.saturating_sub-labels.ensures in let b = c.len.ensures in let d = is.width in let e = c.in_ok-add.ensures.next in omega arith in
-    grown_alike c.args.state.now c.add.new.self c.args.trigger.now rule (subst (λ (facts : List Ground). Grows c.args.state.now.facts facts c.add.new.self.facts) news c.in_ok-add.ensures.grows) next
+    let next : c.args.trigger.now.fresh + c.saturating_sub-labels.result ≡ (fired c.args.state.now c.args.trigger.now rule).next = let a = c.saturating_sub-labels.ensures in let b = c.len.ensures in let d = is.width in omega arith in
+    c.in_ok-add.ensures.added ∙ ap (λ facts. record { facts = with_facts c.args.state.now.facts facts; next = c.args.trigger.now.fresh + c.saturating_sub-labels.result }) news ∙ ap (λ n. record { facts = with_facts c.args.state.now.facts (map (ground (assigned c.args.trigger.now)) rule.head); next = n }) next

@@ -1,20 +1,27 @@
-use Rattle.std.proofs.Common.{◌+◌, ◌*◌, ◌≤◌, length, ap, subst, Ok, arith}
+use Rattle.std.proofs.Common.{ap, subst, Ok, arith}
 use Rattle.std.proofs.lemmas.List.{take_all}
 use Rattle.rule_pass.specs.Passing.{AreMet}
-use Rattle.rule_pass.proofs.OnePass.{leads_start, met_all}
+use Rattle.rule_pass.proofs.OnePass.{goes_on, met_all, met_quiet}
 use Rattle.rule_pass.proofs.pass.run_in_order.Goals as goal
 
+pub returns-in_err-run_rule-clause-run : goal.returns-in_err-run_rule-clause-run
+returns-in_err-run_rule-clause-run c = goes_on c.args.rules.now c.args.state.now c.loop-place.state c.run_rule.new.state c.args.log.now c.loop-place.log c.run_rule.new.log c.loop-place.invariant.run c.in_err-run_rule.ensures.run
+
 pub returns-in-Spent-clause-run : goal.returns-in-Spent-clause-run
-returns-in-Spent-clause-run c = c.in_ok-run_rule.ensures.run c.args.state.now (c.loop-place.invariant.run c.args.state.now (leads_start c.args.rules.now c.args.state.now c.args.log.now c.requires.empty))
+returns-in-Spent-clause-run c = goes_on c.args.rules.now c.args.state.now c.loop-place.state c.run_rule.new.state c.args.log.now c.loop-place.log c.run_rule.new.log c.loop-place.invariant.run c.in_ok-run_rule.ensures.run
 
 pub loop-place-preserved : goal.loop-place-preserved
 loop-place-preserved c = record {
-  run = λ start z. c.in_ok-run_rule.ensures.run start (c.loop-place.invariant.run start z);
+  run = goes_on c.args.rules.now c.args.state.now c.loop-place.state c.run_rule.new.state c.args.log.now c.loop-place.log c.run_rule.new.log c.loop-place.invariant.run c.in_ok-run_rule.ensures.run;
   met = c.in_ok-run_rule.ensures.ended (ap Ok c.in_default.is);
-  budget_kept = c.in_ok-run_rule.ensures.budget;
+  budget_kept = let a = c.in_ok-run_rule.ensures.budget in let b = c.loop-place.invariant.budget_kept in omega arith;
   labels_kept = let a = c.in_ok-run_rule.ensures.labels in let b = c.loop-place.invariant.labels_kept in omega arith;
 }
 
 pub returns-clause-met : goal.returns-clause-met
 returns-clause-met c = λ e. met_all c.args.rules.now c.args.order.now c.loop-place.state.facts c.requires.ordered
     (subst (AreMet c.args.rules.now c.loop-place.state.facts) (take_all c.loop-place.place c.args.order.now c.loop-place-test.false) c.loop-place.invariant.met)
+
+pub returns-clause-ended : goal.returns-clause-ended
+returns-clause-ended c = λ e. met_quiet c.args.rules.now c.loop-place.state (met_all c.args.rules.now c.args.order.now c.loop-place.state.facts c.requires.ordered
+    (subst (AreMet c.args.rules.now c.loop-place.state.facts) (take_all c.loop-place.place c.args.order.now c.loop-place-test.false) c.loop-place.invariant.met))

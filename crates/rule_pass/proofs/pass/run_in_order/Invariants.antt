@@ -1,6 +1,7 @@
-use Rattle.std.proofs.Common.{take, length, ◌≤◌, ◌+◌, ◌*◌}
+use Rattle.std.proofs.Common.{take, length, max, ◌≤◌, ◌+◌, ◌*◌}
 use Rattle.access_schema.specs.declared.limits.TheConstants.{MOST_VARIABLES}
-use Rattle.rule_pass.specs.Passing.{AreMet, Goes}
+use Rattle.rule_pass.specs.States.{Goes}
+use Rattle.rule_pass.specs.Passing.{AreMet}
 use Rattle.rule_pass.proofs.pass.run_in_order.Given as goal
 
 -- the rules so far are met
@@ -8,6 +9,6 @@ abbrev pub invariant-loop-place : goal.invariant-loop-place
 invariant-loop-place l = record {
   run : Goes l.rules l.fn.state l.fn.log l.state l.log;
   met : AreMet l.rules l.state.facts (take l.place l.order);
-  budget_kept : length l.log ≤ l.budget;
+  budget_kept : length l.log ≤ max (length l.fn.log) l.budget;
   labels_kept : l.state.next + length l.fn.log * MOST_VARIABLES ≤ l.fn.state.next + length l.log * MOST_VARIABLES;
 }

@@ -21,7 +21,7 @@ body_matches-requires c =
 pub loop-one-init : goal.loop-one-init
 loop-one-init c =
     let found : AreBodyMatches c.args.state.now.facts c.index-as_slice-number.result c.as_slice-one-items.result.now = rw c.as_slice-one-items.ensures (rw c.store.ensures at c.in_ok-found.ensures) in
-    passing_start c.args.rules.now c.args.order.now c.args.state.now c.args.log.now c.args.place c.args.budget c.index-as_slice-number.result c.as_slice-one-items.result.now c.requires.met found c.requires.spare
+    passing_start c.args.rules.now c.args.order.now c.args.state.now c.args.log.now c.args.place c.args.budget c.index-as_slice-number.result c.as_slice-one-items.result.now c.requires.met found
 
 pub is_met-requires-clause-numbered : goal.is_met-requires-clause-numbered
 is_met-requires-clause-numbered c =
@@ -37,8 +37,7 @@ returns-then-len-budget-clause-spent c = λ e.
     let among : Contains c.as_slice-one-items.result.now c.one-item.result = at_place c.as_slice-one-items.result.now c.loop-one.one-index c.one-item.result c.loop-one-test.true c.one-item.is in
     let unmet : IsUnmet c.loop-one.state.facts c.index-as_slice-number.result c.one-item.result.vals = rw c.as_slice-in-loop-one.ensures at (rw c.store-in-loop-one.ensures at (c.in_ok-is_met.ensures.unmet c.if-not-branch.true)) in
     let least : c.args.budget ≤ length c.loop-one.log = rw c.len.ensures at c.if-len-budget.true in
-    let most = c.loop-one.invariant.budget_kept in
-    (omega arith, (_, (c.index-as_slice-number.result, passing_first c.args.rules.now c.args.order.now c.args.state.now c.args.log.now c.args.place c.args.budget c.index-as_slice-number.result c.as_slice-one-items.result.now (take c.loop-one.one-index c.as_slice-one-items.result.now) c.loop-one.log c.loop-one.state c.one-item.result c.loop-one.state.next c.requires.orderly c.requires.ordered c.requires.place numbered c.loop-one.invariant among refl unmet)))
+    (least, (_, (c.index-as_slice-number.result, passing_first c.args.rules.now c.args.order.now c.args.state.now c.args.log.now c.args.place c.args.budget c.index-as_slice-number.result c.as_slice-one-items.result.now (take c.loop-one.one-index c.as_slice-one-items.result.now) c.loop-one.log c.loop-one.state c.one-item.result c.loop-one.state.next c.requires.orderly c.requires.ordered c.requires.place numbered c.loop-one.invariant among refl unmet)))
 
 pub step-requires-clause-active : goal.step-requires-clause-active
 step-requires-clause-active c =
@@ -57,7 +56,8 @@ step-requires-clause-labels c other got =
     let numbered : slice_get c.args.rules.now (slice_index_or c.args.order.now c.args.place 0) ≡ Some c.index-as_slice-number.result = numbered_at c.args.rules.now (slice_index_or c.args.order.now c.args.place 0) c.index-as_slice-number.result fits is in
     let among : Contains c.as_slice-one-items.result.now c.one-item.result = at_place c.as_slice-one-items.result.now c.loop-one.one-index c.one-item.result c.loop-one-test.true c.one-item.is in
     let unmet : IsUnmet c.loop-one.state.facts c.index-as_slice-number.result c.one-item.result.vals = rw c.as_slice-in-loop-one.ensures at (rw c.store-in-loop-one.ensures at (c.in_ok-is_met.ensures.unmet c.if-not-branch.true)) in
-    passing_room c.args.rules.now c.args.order.now c.args.state.now c.args.log.now c.args.place c.args.budget c.index-as_slice-number.result c.as_slice-one-items.result.now (take c.loop-one.one-index c.as_slice-one-items.result.now) c.loop-one.log c.loop-one.state c.one-item.result c.next.result c.requires.orderly c.requires.ordered c.requires.place numbered c.loop-one.invariant among c.next.ensures.next unmet c.in_ok-trigger.trigger other c.in_ok-trigger.ensures got c.requires.budget c.requires.labels
+    let spare : length c.loop-one.log < c.args.budget = let m = c.if-len-budget.false in let n = c.len.ensures in omega arith in
+    passing_room c.args.rules.now c.args.order.now c.args.state.now c.args.log.now c.args.place c.args.budget c.index-as_slice-number.result c.as_slice-one-items.result.now (take c.loop-one.one-index c.as_slice-one-items.result.now) c.loop-one.log c.loop-one.state c.one-item.result c.next.result c.requires.orderly c.requires.ordered c.requires.place numbered c.loop-one.invariant among c.next.ensures.next unmet c.in_ok-trigger.trigger other c.in_ok-trigger.ensures got spare c.requires.budget c.requires.labels
 
 pub loop-one-preserved : goal.loop-one-preserved
 loop-one-preserved c =
