@@ -1,5 +1,5 @@
 -- Membership and lists without doubles.
-use Rattle.std.proofs.Common.{◌≡◌, List, [], ◌∷◌, ◌++◌, sym, subst, ⊎_elim, arith, Contains}
+use Rattle.std.proofs.Common.{◌≡◌, ℕ, zero, suc, List, [], ◌∷◌, ◌++◌, sym, subst, ⊎_elim, arith, Contains, take}
 use Rattle.std.proofs.lemmas.List.Elements.{Contains-append_cases}
 use Rattle.lists.proofs.Members.{contains_here, contains_there, contains_cases}
 use Rattle.meaning.specs.Search.{AreDistinct}
@@ -17,3 +17,13 @@ distinct_append (x ∷ xs) ys (new, first) second apart =
 
 pub distinct_push : {X : Type 0} (xs : List X) (x : X) → AreDistinct xs → (Contains xs x → ⊥) → AreDistinct (xs ++ x ∷ [])
 distinct_push xs x first new = distinct_append xs (x ∷ []) first ((λ c. contains_none x c), tt) (λ y c d. ⊎_elim (λ e. new (subst (λ z. Contains xs z) (sym e) c)) (λ h. contains_none y h) (contains_cases x [] y d))
+
+in_take : {X : Type 0} (xs : List X) (n : ℕ) (x : X) → Contains (take n xs) x → Contains xs x
+in_take xs zero x c = absurd (omega arith)
+in_take [] (suc n) x c = absurd (omega arith)
+in_take (y ∷ xs) (suc n) x c = ⊎_elim (λ e. subst (λ z. Contains (y ∷ xs) z) e (contains_here y xs)) (λ h. contains_there y xs x (in_take xs n x h)) (contains_cases y (take n xs) x c)
+
+pub distinct_take : {X : Type 0} (xs : List X) (n : ℕ) → AreDistinct xs → AreDistinct (take n xs)
+distinct_take xs zero distinct = tt
+distinct_take [] (suc n) distinct = tt
+distinct_take (x ∷ xs) (suc n) (new, distinct) = ((λ c. new (in_take xs n x c)), distinct_take xs n distinct)

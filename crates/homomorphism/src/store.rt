@@ -105,6 +105,14 @@ impl Store {
         }
     }
 
+    /// Drops all facts behind the first `count`. Takes no memory.
+    #[tactic(auto, using(crate::proofs::Members::distinct_take))]
+    pub fn truncate(&mut self, count: usize)
+        ensures { self.new ≡ take count self.old }
+    {
+        self.facts.truncate(count);
+    }
+
     /// The facts, lent.
     pub(crate) fn facts(&self) -> &[Ground]
         ensures facts { result.now ≡ self.now }

@@ -5,4 +5,5 @@ pub mod Ranking
 pub mod Ordered
 pub mod Bounds
 pub mod OnePass
+pub mod Parts
 pub mod Examples

@@ -27,7 +27,7 @@ use Rattle.homomorphism.specs.Rules.{AreBodyMatches, IsMet, IsUnmet, IsUnmetMatc
 use Rattle.access_schema.specs.declared.limits.TheConstants.{MOST_VARIABLES}
 use Rattle.rule_pass.specs.Orderly.{AreOrderly}
 use Rattle.rule_pass.specs.Order.{IsRuleOrder}
-use Rattle.rule_pass.specs.States.{Goes}
+use Rattle.rule_pass.specs.States.{IsPass, Goes}
 use Rattle.rule_pass.specs.Passing.{AreMet}
 use Rattle.rule_pass.proofs.Ordered.{FeedsNot, stands_earlier, feeds_no_earlier}
 
@@ -64,28 +64,25 @@ fired_met facts trigger rule width = (
   },
 )
 
--- one run after another
-run_on : (rules : List Rule) (start middle end : State) (log more : List Trigger) → IsBaseRun rules start log middle → IsBaseRun rules middle more end → IsBaseRun rules start (log ++ more) end
-run_on rules start middle end [] more e run = subst (λ s. IsBaseRun rules s more end) e run
-run_on rules start middle end (trigger ∷ log) more (rule, is, before) run = (rule, is, run_on rules (fired start trigger rule) middle end log more before run)
+-- one pass after another
+pass_on : {L : Type 0} (logged : L → Trigger → ℕ → L) (rules : List Rule) (first middle end : State) (before log after : L) (more rest : List Trigger) → IsPass logged rules first before more middle log → IsPass logged rules middle log rest end after → IsPass logged rules first before (more ++ rest) end after
+pass_on logged rules first middle end before log after [] rest (e, e') pass = subst (λ s. IsPass logged rules s before rest end after) e (subst (λ l. IsPass logged rules middle l rest end after) e' pass)
+pass_on logged rules first middle end before log after (trigger ∷ more) rest (rule, is, one) pass = (rule, is, pass_on logged rules (fired first trigger rule) middle end (logged before trigger (length first.facts)) log after more rest one pass)
 
-pub goes_none : (rules : List Rule) (state : State) (log : List Trigger) → Goes rules state log state log
-goes_none rules state log = record { more = []; logged = sym (append-nil log); run = refl }
+pub goes_on : {L : Type 0} (logged : L → Trigger → ℕ → L) (rules : List Rule) (first middle end : State) (before log after : L) → Goes logged rules first before middle log → Goes logged rules middle log end after → Goes logged rules first before end after
+goes_on logged rules first middle end before log after (more, one) (rest, two) = (more ++ rest, pass_on logged rules first middle end before log after more rest one two)
 
-pub goes_on : (rules : List Rule) (first middle end : State) (before log after : List Trigger) → Goes rules first before middle log → Goes rules middle log end after → Goes rules first before end after
-goes_on rules first middle end before log after one two = record {
-  more = one.more ++ two.more;
-  logged = two.logged ∙ ap (λ l. l ++ two.more) one.logged ∙ append_assoc before one.more two.more;
-  run = run_on rules first middle end one.more two.more one.run two.run;
-}
+-- a pass that appends its triggers to a list is a base run
+pub pass_run : (rules : List Rule) (first now : State) (before log more : List Trigger) → IsPass (λ l t n. l ++ t ∷ []) rules first before more now log → IsBaseRun rules first more now × (log ≡ before ++ more)
+pass_run rules first now before log [] (e, e') = (e, e' ∙ sym (append-nil before))
+pass_run rules first now before log (trigger ∷ more) (rule, is, pass) =
+    let (run, e) = pass_run rules (fired first trigger rule) now (before ++ trigger ∷ []) log more pass in
+    ((rule, is, run), e ∙ append_assoc before (trigger ∷ []) more)
 
-goes_fired : (rules : List Rule) (first now : State) (before log : List Trigger) (trigger : Trigger) (rule : Rule) → Goes rules first before now log → IsFirstActive rules now trigger rule → Goes rules first before (fired now trigger rule) (log ++ trigger ∷ [])
-goes_fired rules first now before log trigger rule goes is =
-    goes_on rules first now (fired now trigger rule) before log (log ++ trigger ∷ []) goes (record { more = trigger ∷ []; logged = refl; run = (rule, is, refl) })
-
--- a log that was empty is the run
-pub goes_run : (rules : List Rule) (first now : State) (before log : List Trigger) → before ≡ [] → Goes rules first before now log → IsBaseRun rules first log now
-goes_run rules first now before log e goes = subst (λ l. IsBaseRun rules first l now) (sym (goes.logged ∙ ap (λ l. l ++ goes.more) e)) goes.run
+pub goes_run : (rules : List Rule) (first now : State) (before log : List Trigger) → before ≡ [] → Goes (λ l t n. l ++ t ∷ []) rules first before now log → IsBaseRun rules first log now
+goes_run rules first now before log e (more, pass) =
+    let (run, is) = pass_run rules first now before log more pass in
+    subst (λ l. IsBaseRun rules first l now) (sym (is ∙ ap (λ l. l ++ more) e)) run
 
 -- rules that are met have no active trigger
 met_inactive : (rules : List Rule) (now : State) (other : Trigger) (its : Rule) → MeetsRule Const (GroundsOf now.facts) its → IsActive rules now other its → ⊥
@@ -122,20 +119,20 @@ unmet_first rules order k rule now values fresh ordered l numbered before u next
     (λ j other stands e. before j other (stands_earlier rules order ordered k (slice_index_or order k 0) j l refl stands) e)
 
 -- what holds after some of the matches of the rule at place k of the order
-pub record Passing (rules : List Rule) (order : List ℕ) (first : State) (begun : List Trigger) (k budget : ℕ) (rule : Rule) (found done : List Assignment) (log : List Trigger) (now : State) : Type 0 where
-  pub goes : Goes rules first begun now log
+pub record Passing {L : Type 0} (logged : L → Trigger → ℕ → L) (size : L → ℕ) (rules : List Rule) (order : List ℕ) (first : State) (begun : L) (k budget : ℕ) (rule : Rule) (found done : List Assignment) (log : L) (now : State) : Type 0 where
+  pub goes : Goes logged rules first begun now log
   pub before : AreMet rules now.facts (take k order)
   pub width : (m : Assignment) → Contains found m → length m.vals ≡ bound rule.body
   pub each : (m : Assignment) → Contains found m → AreFacts Const (GroundsOf now.facts) (at m.vals) rule.body
   pub all : (a : ℕ → Val) → AreFacts Const (GroundsOf now.facts) a rule.body → Contains found (record { vals = values_of (bound rule.body) a })
   pub met : (m : Assignment) → Contains done m → IsMet now.facts rule m.vals
-  pub budget_kept : length log ≤ max (length begun) budget
-  pub labels_kept : now.next + length begun * MOST_VARIABLES ≤ first.next + length log * MOST_VARIABLES
+  pub budget_kept : size log ≤ max (size begun) budget
+  pub labels_kept : now.next + size begun * MOST_VARIABLES ≤ first.next + size log * MOST_VARIABLES
 
-pub passing_start : (rules : List Rule) (order : List ℕ) (first : State) (begun : List Trigger) (k budget : ℕ) (rule : Rule) (found : List Assignment) →
-    AreMet rules first.facts (take k order) → AreBodyMatches first.facts rule found → Passing rules order first begun k budget rule found [] begun first
-passing_start rules order first begun k budget rule found m b = record {
-  goes = goes_none rules first begun;
+pub passing_start : {L : Type 0} (logged : L → Trigger → ℕ → L) (size : L → ℕ) (rules : List Rule) (order : List ℕ) (first : State) (begun : L) (k budget : ℕ) (rule : Rule) (found : List Assignment) →
+    AreMet rules first.facts (take k order) → AreBodyMatches first.facts rule found → Passing logged size rules order first begun k budget rule found [] begun first
+passing_start logged size rules order first begun k budget rule found m b = record {
+  goes = ([], (refl, refl));
   before = m;
   width = b.width;
   each = b.each;
@@ -146,9 +143,9 @@ passing_start rules order first begun k budget rule found m b = record {
 }
 
 -- a match that is met is passed over
-pub passing_met : (rules : List Rule) (order : List ℕ) (first : State) (begun : List Trigger) (k budget : ℕ) (rule : Rule) (found done : List Assignment) (one : Assignment) (log : List Trigger) (now : State) →
-    Passing rules order first begun k budget rule found done log now → IsMet now.facts rule one.vals → Passing rules order first begun k budget rule found (done ++ one ∷ []) log now
-passing_met rules order first begun k budget rule found done one log now p m = record {
+pub passing_met : {L : Type 0} (logged : L → Trigger → ℕ → L) (size : L → ℕ) (rules : List Rule) (order : List ℕ) (first : State) (begun : L) (k budget : ℕ) (rule : Rule) (found done : List Assignment) (one : Assignment) (log : L) (now : State) →
+    Passing logged size rules order first begun k budget rule found done log now → IsMet now.facts rule one.vals → Passing logged size rules order first begun k budget rule found (done ++ one ∷ []) log now
+passing_met logged size rules order first begun k budget rule found done one log now p m = record {
   goes = p.goes;
   before = p.before;
   width = p.width;
@@ -159,35 +156,35 @@ passing_met rules order first begun k budget rule found done one log now p m = r
   labels_kept = p.labels_kept;
 }
 
-module _ (rules : List Rule) (order : List ℕ) (first : State) (begun : List Trigger) (k budget : ℕ) (rule : Rule) (found done : List Assignment) (log : List Trigger) (now : State) (one : Assignment) (fresh : ℕ)
+module _ {L : Type 0} (logged : L → Trigger → ℕ → L) (size : L → ℕ) (grows : (log : L) (trigger : Trigger) (facts : ℕ) → size (logged log trigger facts) ≡ size log + 1) (rules : List Rule) (order : List ℕ) (first : State) (begun : L) (k budget : ℕ) (rule : Rule) (found done : List Assignment) (log : L) (now : State) (one : Assignment) (fresh : ℕ)
     (orderly : AreOrderly rules) (ordered : IsRuleOrder rules order) (l : k < length order) (numbered : slice_get rules (slice_index_or order k 0) ≡ Some rule)
-    (p : Passing rules order first begun k budget rule found done log now) (among : Contains found one) (next : fresh ≡ now.next) (unmet : IsUnmet now.facts rule one.vals) where
+    (p : Passing logged size rules order first begun k budget rule found done log now) (among : Contains found one) (next : fresh ≡ now.next) (unmet : IsUnmet now.facts rule one.vals) where
   abbrev plain : Trigger
   plain = record { rule = slice_index_or order k 0; values = one.vals; fresh = fresh }
 
   pub passing_first : IsFirstActive rules now plain rule
   passing_first = unmet_first rules order k rule now one.vals fresh ordered l numbered p.before (record { width = p.width one among; body = p.each one among; unmet = unmet }) next
 
-  pub passing_room : (trigger : Trigger) (other : Rule) → trigger ≡ plain → slice_get rules trigger.rule ≡ Some other → length log < budget → budget ≤ 100000 → first.next ≤ 1048576 + length begun * MOST_VARIABLES → (fired now trigger other).next < 4294967296
+  pub passing_room : (trigger : Trigger) (other : Rule) → trigger ≡ plain → slice_get rules trigger.rule ≡ Some other → size log < budget → budget ≤ 100000 → first.next ≤ 1048576 + size begun * MOST_VARIABLES → (fired now trigger other).next < 4294967296
   passing_room trigger other is got spare few low =
       let small = orderly.variables other (contains_got rules trigger.rule other got) in
       let same : trigger.fresh ≡ now.next = ap (λ (t : Trigger). t.fresh) is ∙ next in
       let b = p.labels_kept in omega arith
 
-  pub passing_fired : (trigger : Trigger) (after : State) → trigger ≡ plain → length log < budget → after ≡ fired now trigger rule → Passing rules order first begun k budget rule found (done ++ one ∷ []) (log ++ trigger ∷ []) after
+  pub passing_fired : (trigger : Trigger) (after : State) → trigger ≡ plain → size log < budget → after ≡ fired now trigger rule → Passing logged size rules order first begun k budget rule found (done ++ one ∷ []) (logged log trigger (length now.facts)) after
   passing_fired trigger after is spare e =
-      subst (λ s. Passing rules order first begun k budget rule found (done ++ one ∷ []) (log ++ trigger ∷ []) s) (sym e)
-      (subst (λ t. Passing rules order first begun k budget rule found (done ++ one ∷ []) (log ++ t ∷ []) (fired now t rule)) (sym is) (record {
-        goes = goes_fired rules first now begun log plain rule p.goes passing_first;
+      subst (λ s. Passing logged size rules order first begun k budget rule found (done ++ one ∷ []) (logged log trigger (length now.facts)) s) (sym e)
+      (subst (λ t. Passing logged size rules order first begun k budget rule found (done ++ one ∷ []) (logged log t (length now.facts)) (fired now t rule)) (sym is) (record {
+        goes = goes_on logged rules first now (fired now plain rule) begun log (logged log plain (length now.facts)) p.goes (plain ∷ [], (rule, passing_first, (refl, refl)));
         before = λ j other c e. met_stays now.facts plain rule other (feeds_no_earlier rules order ordered k (slice_index_or order k 0) j rule other l refl (earlier j c) numbered e) (p.before j other c e);
         width = p.width;
         each = λ m c atom d. added_left now.facts (made plain rule) (ground (at m.vals) atom) (p.each m c atom d);
         all = λ a are. p.all a (pull now.facts plain rule rule a (feeds_no_earlier rules order ordered k (slice_index_or order k 0) (slice_index_or order k 0) rule rule l refl self numbered numbered) are);
         met = λ m c. ⊎_elim (λ h. is_met_stays now.facts (made plain rule) rule m.vals (p.met m h))
             (λ e. subst (λ (x : Assignment). IsMet (with_facts now.facts (made plain rule)) rule x.vals) e (fired_met now.facts plain rule (p.width one among))) (Contains-push_cases done one m c);
-        budget_kept = let n = length_push log plain in omega arith;
+        budget_kept = let n = grows log plain (length now.facts) in omega arith;
         labels_kept =
-            let n = length_push log plain in let b = p.labels_kept in let small = orderly.variables rule (contains_got rules (slice_index_or order k 0) rule numbered) in omega arith;
+            let n = grows log plain (length now.facts) in let b = p.labels_kept in let small = orderly.variables rule (contains_got rules (slice_index_or order k 0) rule numbered) in omega arith;
       }))
     where
       earlier : (j : ℕ) → Contains (take k order) j → Contains (take (k + 1) order) j
@@ -196,14 +193,10 @@ module _ (rules : List Rule) (order : List ℕ) (first : State) (begun : List Tr
       self : Contains (take (k + 1) order) (slice_index_or order k 0)
       self = subst (λ z. Contains z (slice_index_or order k 0)) (sym (take_more order k 0 l)) (Contains-push (take k order) (slice_index_or order k 0))
 
-      length_push : (xs : List Trigger) (x : Trigger) → length (xs ++ x ∷ []) ≡ length xs + 1
-      length_push [] x = refl
-      length_push (y ∷ xs) x = let e = length_push xs x in omega arith
-
 -- after all matches the rule is met
-pub passing_all : (rules : List Rule) (order : List ℕ) (first : State) (begun : List Trigger) (k budget : ℕ) (rule : Rule) (found : List Assignment) (log : List Trigger) (now : State) →
-    Passing rules order first begun k budget rule found found log now → MeetsRule Const (GroundsOf now.facts) rule
-passing_all rules order first begun k budget rule found log now p a body =
+pub passing_all : {L : Type 0} (logged : L → Trigger → ℕ → L) (size : L → ℕ) (rules : List Rule) (order : List ℕ) (first : State) (begun : L) (k budget : ℕ) (rule : Rule) (found : List Assignment) (log : L) (now : State) →
+    Passing logged size rules order first begun k budget rule found found log now → MeetsRule Const (GroundsOf now.facts) rule
+passing_all logged size rules order first begun k budget rule found log now p a body =
     let (b, ext) = p.met (record { vals = values_of (bound rule.body) a }) (p.all a body) in
     (b, record { agrees = λ x occurs. ext.agrees x occurs ∙ listed x (occurs_below rule.body x occurs); head = ext.head })
   where

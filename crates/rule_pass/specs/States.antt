@@ -1,9 +1,9 @@
 -- Active triggers, and the states that firings lead to (Fagin, Kolaitis, Miller and Popa 2005, the chase).
-use Rattle.std.specs.Prelude.{◌≡◌, List, ◌++◌}
+use Rattle.std.specs.Prelude.{◌≡◌, ℕ, List, [], ◌∷◌, length}
 use Rattle.meaning.specs.declared.types.Rule.{Rule}
 use Rattle.meaning.specs.declared.types.Trigger.{Trigger}
 use Rattle.meaning.specs.Triggers.{State, IsActive, fired}
-use Rattle.meaning.specs.Runs.{IsBaseRun, IsFirstActive}
+use Rattle.meaning.specs.Runs.{IsFirstActive}
 
 -- The trigger is active.
 abbrev pub IsActiveTrigger : List Rule → State → Trigger → Type 0
@@ -23,8 +23,14 @@ pub record Fires (rules : List Rule) (start : State) (trigger : Trigger) (now : 
   pub active : IsActive rules start trigger rule
   pub now_is : now ≡ fired start trigger rule
 
--- A log goes on by a base run from the first state to the second.
-pub record Goes (rules : List Rule) (first : State) (before : List Trigger) (now : State) (log : List Trigger) : Type 0 where
-  pub more : List Trigger
-  pub logged : log ≡ before ++ more
-  pub run : IsBaseRun rules first more now
+-- Firings of first active triggers lead from a state and a log to others; `logged` writes a trigger down at the end of
+-- a log, with how many facts there were before its firing.
+abbrev pub IsPass : {L : Type 0} → (L → Trigger → ℕ → L) → List Rule → State → L → List Trigger → State → L → Type 0
+IsPass logged rules first before [] now log = (now ≡ first) × (log ≡ before)
+IsPass logged rules first before (trigger ∷ more) now log =
+    (rule : Rule) × IsFirstActive rules first trigger rule
+    × IsPass logged rules (fired first trigger rule) (logged before trigger (length first.facts)) more now log
+
+-- Some firings lead from a state and a log to others.
+abbrev pub Goes : {L : Type 0} → (L → Trigger → ℕ → L) → List Rule → State → L → State → L → Type 0
+Goes logged rules first before now log = (more : List Trigger) × IsPass logged rules first before more now log

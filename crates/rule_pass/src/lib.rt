@@ -9,14 +9,16 @@ mod choose;
 mod firing;
 pub mod laws;
 mod levels;
+mod log;
 mod order;
 mod pass;
 mod state;
 
 pub use choose::active;
 pub use firing::fire;
+pub use log::Log;
 pub use order::rule_order;
-pub use pass::{HIGHEST_FIRST_LABEL, MOST_FIRINGS, Stopped, run_rules};
+pub use pass::{HIGHEST_FIRST_LABEL, MOST_FIRINGS, Stopped, run_in_order, run_rules};
 pub use state::State;
 
 #[cfg(test)]

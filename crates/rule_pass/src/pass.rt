@@ -13,6 +13,7 @@ ghost use Rattle.rule_pass.specs.Passing.{AreMet};
 ghost use Rattle.rule_pass.specs.declared.pass.Stopped.TheVariants.{Ended, Spent};
 
 use crate::firing::fire;
+use crate::log::Log;
 use crate::order::rule_order;
 use crate::state::State;
 use homomorphism::{body_matches, is_met};
@@ -63,24 +64,24 @@ pub fn run_rules(
 ///
 /// The firings go to the end of the log, each only while the log has fewer than `budget` firings. Ended comes exactly
 /// where nothing is active at the end. Where memory is refused, the state is that of the firings in the log, each whole.
-pub fn run_in_order(
+pub fn run_in_order<L: Log>(
     alloc: Global,
     state: &mut State,
     rules: &Rules,
     order: &[u32],
     budget: usize,
-    log: &mut Triggers,
+    log: &mut L,
 ) -> Result<Stopped, NoMemory>
     requires orderly { AreOrderly rules.now }
     requires ordered { IsRuleOrder rules.now order.now }
     requires budget { budget ≤ MOST_FIRINGS }
-    requires labels { state.old.next ≤ HIGHEST_FIRST_LABEL + length log.old * MOST_VARIABLES }
-    ensures run { Goes rules.now state.old log.old state.new log.new }
-    ensures budget { length log.new ≤ max (length log.old) budget }
-    ensures labels { state.new.next + length log.old * MOST_VARIABLES ≤ state.old.next + length log.new * MOST_VARIABLES }
+    requires labels { state.old.next ≤ HIGHEST_FIRST_LABEL + L.size log.old * MOST_VARIABLES }
+    ensures run { Goes L.logged rules.now state.old log.old state.new log.new }
+    ensures budget { L.size log.new ≤ max (L.size log.old) budget }
+    ensures labels { state.new.next + L.size log.old * MOST_VARIABLES ≤ state.old.next + L.size log.new * MOST_VARIABLES }
     ensures met { result ≡ Ok Ended → MeetsAll Const (GroundsOf state.new.facts) rules.now }
     ensures ended { result ≡ Ok Ended → IsQuiet rules.now state.new }
-    ensures spent { result ≡ Ok Spent → (budget ≤ length log.new) × SomeActive rules.now state.new }
+    ensures spent { result ≡ Ok Spent → (budget ≤ L.size log.new) × SomeActive rules.now state.new }
 {
     for place in 0..order.len() {
         if let Stopped::Spent = run_rule(alloc, state, rules, order, place, budget, log)? {
@@ -91,33 +92,33 @@ pub fn run_in_order(
 }
 
 /// Fires the matches of one rule that have no extension, until the budget is spent.
-fn run_rule(
+fn run_rule<L: Log>(
     alloc: Global,
     state: &mut State,
     rules: &Rules,
     order: &[u32],
     place: usize,
     budget: usize,
-    log: &mut Triggers,
+    log: &mut L,
 ) -> Result<Stopped, NoMemory>
     requires orderly { AreOrderly rules.now }
     requires ordered { IsRuleOrder rules.now order.now }
     requires place { place < length order.now }
     requires met { AreMet rules.now state.old.facts (take place order.now) }
     requires budget { budget ≤ MOST_FIRINGS }
-    requires labels { state.old.next ≤ HIGHEST_FIRST_LABEL + length log.old * MOST_VARIABLES }
-    ensures run { Goes rules.now state.old log.old state.new log.new }
-    ensures budget { length log.new ≤ max (length log.old) budget }
-    ensures labels { state.new.next + length log.old * MOST_VARIABLES ≤ state.old.next + length log.new * MOST_VARIABLES }
+    requires labels { state.old.next ≤ HIGHEST_FIRST_LABEL + L.size log.old * MOST_VARIABLES }
+    ensures run { Goes L.logged rules.now state.old log.old state.new log.new }
+    ensures budget { L.size log.new ≤ max (L.size log.old) budget }
+    ensures labels { state.new.next + L.size log.old * MOST_VARIABLES ≤ state.old.next + L.size log.new * MOST_VARIABLES }
     ensures ended { result ≡ Ok Ended → AreMet rules.now state.new.facts (take (place + 1) order.now) }
-    ensures spent { result ≡ Ok Spent → (budget ≤ length log.new) × SomeActive rules.now state.new }
+    ensures spent { result ≡ Ok Spent → (budget ≤ L.size log.new) × SomeActive rules.now state.new }
 {
     let number = order[place];
     let rule = &rules.as_slice()[number as usize];
     let found = body_matches(alloc, rule, state.store())?;
     for one in found.as_slice() {
         if !is_met(alloc, rule, state.store(), one.vals.as_slice())? {
-            if log.len() >= budget {
+            if log.firings() >= budget {
                 return Ok(Stopped::Spent);
             }
             let trigger = trigger_of(alloc, number, &one.vals, state.next())?;
@@ -139,27 +140,26 @@ fn trigger_of(alloc: Global, rule: u32, values: &Vals, fresh: u32) -> Result<Tri
 }
 
 /// Fires one trigger and writes it down; where memory is refused, nothing changes.
-fn step(
+fn step<L: Log>(
     alloc: Global,
     state: &mut State,
     rules: &Rules,
     trigger: &Trigger,
-    log: &mut Triggers,
+    log: &mut L,
 ) -> Result<(), NoMemory>
     requires numbered { AreNumbered rules.now }
     requires active { IsActiveTrigger rules.now state.old trigger.now }
     requires labels { (rule : Rule) → slice_get rules.now trigger.now.rule ≡ Some rule → (fired state.old trigger.now rule).next < 2 ^ 32 }
-    ensures logged { OnOk result (log.new ≡ log.old ++ trigger.now ∷ []) }
+    ensures logged { OnOk result (log.new ≡ L.logged log.old trigger.now (length state.old.facts)) }
     ensures fired { OnOk result ((rule : Rule) → slice_get rules.now trigger.now.rule ≡ Some rule → state.new ≡ fired state.old trigger.now rule) }
     ensures unlogged { OnErr result (log.new ≡ log.old) }
     ensures refused { OnErr result (state.new ≡ state.old) }
 {
-    let count = log.len();
-    log.push(trigger.copy(alloc)?)?;
+    log.write_down(alloc, trigger, state.store().len())?;
     match fire(alloc, state, rules, trigger) {
         Ok(()) => Ok(()),
         Err(fault) => {
-            log.truncate(count);
+            log.take_back();
             Err(fault)
         }
     }

@@ -1,5 +1,5 @@
 // Labelled facts and the next label.
-ghost use Rattle.std.specs.Prelude.{◌≡◌, ◌≤◌, [], IfOk, OnOk, OnErr};
+ghost use Rattle.std.specs.Prelude.{◌≡◌, ◌≤◌, [], take, IfOk, OnOk, OnErr};
 ghost use Rattle.meaning.specs.Added.{with_facts};
 ghost use Rattle.meaning.specs.Triggers.{LabelsBelow};
 
@@ -63,5 +63,23 @@ impl State {
         self.store.add_all(alloc, news)?;
         self.next = next;
         Ok(())
+    }
+
+    /// Sets a next label that is not lower. Takes no memory.
+    pub fn raise(&mut self, next: u32)
+        requires later { self.old.next ≤ next }
+        ensures { self.new ≡ record { facts = self.old.facts; next = next } }
+    {
+        self.next = next;
+    }
+
+    /// Drops all facts behind the first `count`, and sets the next label, which is above the labels of the others.
+    /// Takes no memory.
+    pub fn cut_back(&mut self, count: usize, next: u32)
+        requires labels { LabelsBelow (take count self.old.facts) next }
+        ensures { self.new ≡ record { facts = take count self.old.facts; next = next } }
+    {
+        self.store.truncate(count);
+        self.next = next;
     }
 }
