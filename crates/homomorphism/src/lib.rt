@@ -15,6 +15,7 @@ mod store;
 mod texts;
 
 pub use assignment::{Assignment, Assignments, Bindings};
+pub use bind::unify;
 pub use conditions::{is_covered, is_numbered};
 pub use find::{all_matches, first_match};
 pub use rules::{body_matches, first_unmet, is_met, variables_width};

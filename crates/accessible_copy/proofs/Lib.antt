@@ -1,0 +1,10 @@
+pub mod Lists
+pub mod Writing
+pub mod Opening
+pub mod Undoing
+pub mod Settled
+pub mod Showing
+pub mod Listed
+pub mod Heading
+pub mod Lasting
+pub mod Pushing

@@ -1,0 +1,184 @@
+-- Lists of active exposures, exposure by exposure.
+use Rattle.std.proofs.Common.{◌≡◌, ◌↔◌, ℕ, zero, suc, ◌+◌, ◌-◌, ◌<◌, ◌≤◌, List, [], ◌∷◌, ◌++◌, length, map, take, drop, slice_index_or, IsTrue, sym, ap, ◌∙◌, subst, inl, inr, ⊎_elim, arith}
+use Rattle.std.specs.Prelude.{Contains, Some, slice_index, slice_get, flat_map, Decides, Bool, true, false, if◌then◌else◌}
+use Rattle.std.proofs.lemmas.Bool.{cases_lt}
+use Rattle.std.proofs.lemmas.List.Elements.{Contains-append_left, Contains-append_right, Contains-append_cases, Contains-push, Contains-push_cases}
+use Rattle.lists.proofs.Members.{contains_here, contains_there, contains_cases, contains_map, contains_mapped, some_injective}
+use Rattle.meaning.specs.declared.types.SchemaParts.{SchemaParts}
+use Rattle.meaning.specs.declared.types.Method.{Method}
+use Rattle.meaning.specs.declared.types.Ground.{Ground}
+use Rattle.meaning.specs.declared.types.Val.{Val}
+use Rattle.meaning.specs.declared.types.Val.TheVariants.{Const}
+use Rattle.meaning.specs.declared.types.Firing.{Firing}
+use Rattle.meaning.specs.declared.types.Firing.TheVariants.{Base, Copy, Expose}
+use Rattle.meaning.specs.Added.{with_facts, with_fact, is_same_fact}
+use Rattle.meaning_laws.proofs.Added.{there_decides}
+use Rattle.std.specs.List.{list_any}
+use Rattle.meaning.specs.Triggers.{ground, assigned}
+use Rattle.meaning.specs.Search.{AreDistinct}
+use Rattle.meaning.specs.Runs.{Proof, Fires, part_of, IsKnownValue}
+use Rattle.std.proofs.lemmas.Option.{slice_get-get_or, slice_get_within}
+use Rattle.homomorphism.proofs.Binding.{apart}
+use Rattle.std.proofs.lemmas.List.{take_more}
+use Rattle.homomorphism.proofs.Members.{distinct_append, distinct_push, contains_none}
+use Rattle.accessible_copy.specs.declared.entry.Entry.{Entry}
+use Rattle.accessible_copy.specs.declared.entry.Exposed.{Exposed}
+use Rattle.accessible_copy.specs.Known.{known_values, facts_of}
+use Rattle.accessible_copy.specs.Proving.{Proving, IsWritten, IsProofOf}
+use Rattle.accessible_copy.specs.Listing.{CanFire, AreExposures, AreExposuresOf, IsInput, AreInputs, CanExpose}
+
+-- known values
+values_of : (facts : List Ground) (value : Val) → Contains (flat_map (λ (fact : Ground). fact.vals) facts) value → (fact : Ground) × Contains facts fact × Contains fact.vals value
+values_of [] value c = absurd (omega arith)
+values_of (fact ∷ facts) value c =
+    ⊎_elim (λ h. (fact, contains_here fact facts, h)) (λ h. let (other, among, has) = values_of facts value h in (other, contains_there fact facts other among, has))
+    (Contains-append_cases fact.vals (flat_map (λ (fact : Ground). fact.vals) facts) value c)
+
+of_values : (facts : List Ground) (value : Val) (fact : Ground) → Contains facts fact → Contains fact.vals value → Contains (flat_map (λ (fact : Ground). fact.vals) facts) value
+of_values [] value fact among has = absurd (omega arith)
+of_values (first ∷ facts) value fact among has =
+    ⊎_elim (λ same. Contains-append_left first.vals (flat_map (λ (fact : Ground). fact.vals) facts) value (subst (λ (f : Ground). Contains f.vals value) (sym same) has))
+    (λ h. Contains-append_right first.vals (flat_map (λ (fact : Ground). fact.vals) facts) value (of_values facts value fact h has)) (contains_cases first facts fact among)
+
+pub known_to : (constants : List (List ℕ)) (exposed : List Ground) (value : Val) → Contains (known_values constants exposed) value → IsKnownValue constants exposed value
+known_to constants exposed value c =
+    ⊎_elim (λ h. let (text, among, e) = contains_mapped Const constants value h in inl (text, among, sym e)) (λ h. inr (values_of exposed value h))
+    (Contains-append_cases (map Const constants) (flat_map (λ (fact : Ground). fact.vals) exposed) value c)
+
+pub known_from : (constants : List (List ℕ)) (exposed : List Ground) (value : Val) → IsKnownValue constants exposed value → Contains (known_values constants exposed) value
+known_from constants exposed value known =
+    ⊎_elim (λ (text, among, e). Contains-append_left (map Const constants) (flat_map (λ (fact : Ground). fact.vals) exposed) value (subst (λ v. Contains (map Const constants) v) (sym e) (contains_map Const constants text among)))
+    (λ (fact, among, has). Contains-append_right (map Const constants) (flat_map (λ (fact : Ground). fact.vals) exposed) value (of_values exposed value fact among has)) known
+
+pub inputs_to : (constants : List (List ℕ)) (exposed : List Ground) (inputs : List ℕ) (vals : List Val) → AreInputs (known_values constants exposed) inputs vals
+    → (p : ℕ) → Contains inputs p → (value : Val) × (slice_get vals p ≡ Some value) × IsKnownValue constants exposed value
+inputs_to constants exposed inputs vals are p among = let (value, at, c) = are p among in (value, at, known_to constants exposed value c)
+
+pub inputs_from : (constants : List (List ℕ)) (exposed : List Ground) (inputs : List ℕ) (vals : List Val)
+    → ((p : ℕ) → Contains inputs p → (value : Val) × (slice_get vals p ≡ Some value) × IsKnownValue constants exposed value) → AreInputs (known_values constants exposed) inputs vals
+inputs_from constants exposed inputs vals are p among = let (value, at, c) = are p among in (value, at, known_from constants exposed value c)
+
+-- what is left of the inputs
+pub inputs_none : (values vals : List Val) → AreInputs values [] vals
+inputs_none values vals p among = absurd (omega arith)
+
+pub inputs_first : (values vals : List Val) (p : ℕ) (inputs : List ℕ) → IsInput values vals p → AreInputs values (p ∷ inputs) vals ↔ AreInputs values inputs vals
+inputs_first values vals p inputs is =
+    ((λ are q among. are q (contains_there p inputs q among)), (λ are q among. ⊎_elim (λ same. subst (IsInput values vals) same is) (λ h. are q h) (contains_cases p inputs q among)))
+
+-- one method more
+number_is : (m n : ℕ) (f g : Ground) → Expose m f ≡ Expose n g → m ≡ n
+number_is m n f g e = cc
+
+fact_is : (m n : ℕ) (f g : Ground) → Expose m f ≡ Expose n g → f ≡ g
+fact_is m n f g e = cc
+
+module _ (schema : SchemaParts) (proof : Proving) (fact : Ground) where
+  pub of_none : AreExposuresOf schema proof fact 0 []
+  of_none = record { each = λ firing c. absurd (contains_none firing c); all = λ number l can. absurd (omega arith); once = tt }
+
+  pub of_more : (count : ℕ) (found : List Firing) → AreExposuresOf schema proof fact count found → CanFire schema proof count fact → AreExposuresOf schema proof fact (count + 1) (found ++ Expose count fact ∷ [])
+  of_more count found are can = record {
+    each = λ firing c. ⊎_elim (λ h. let (number, e, l, is) = are.each firing h in (number, e, omega arith, is)) (λ same. (count, sym same, omega arith, can)) (Contains-push_cases found (Expose count fact) firing c);
+    all = λ number l is. ⊎_elim (λ low. Contains-append_left found (Expose count fact ∷ []) (Expose number fact) (are.all number low is))
+        (λ high. let same : number ≡ count = omega arith in subst (λ n. Contains (found ++ Expose count fact ∷ []) (Expose n fact)) (sym same) (Contains-push found (Expose count fact))) (cases_lt number count);
+    once = distinct_push found (Expose count fact) are.once (λ c. let (number, e, l, is) = are.each (Expose count fact) c in let same = number_is count number fact fact e in omega arith);
+  }
+
+  pub of_less : (count : ℕ) (found : List Firing) → AreExposuresOf schema proof fact count found → (CanFire schema proof count fact → ⊥) → AreExposuresOf schema proof fact (count + 1) found
+  of_less count found are cannot = record {
+    each = λ firing c. let (number, e, l, is) = are.each firing c in (number, e, omega arith, is);
+    all = λ number l is. ⊎_elim (λ low. are.all number low is) (λ high. let same : number ≡ count = omega arith in absurd (cannot (subst (λ n. CanFire schema proof n fact) same is))) (cases_lt number count);
+    once = are.once;
+  }
+
+-- a method whose exposure is active
+pub can_fire : (schema : SchemaParts) (proof : Proving) (number : ℕ) (fact : Ground) (method : Method) → Contains proof.end.base fact → slice_get schema.methods number ≡ Some method → CanExpose proof fact method → CanFire schema proof number fact
+can_fire schema proof number fact method of_base named can = (method, record { of_base = of_base; new = can.new; named = named; of_relation = can.of_relation; inputs = can.inputs })
+
+pub can_expose : (schema : SchemaParts) (proof : Proving) (number : ℕ) (fact : Ground) (method : Method) → slice_get schema.methods number ≡ Some method → CanFire schema proof number fact → CanExpose proof fact method
+can_expose schema proof number fact method named (other, is) =
+    let same : other ≡ method = some_injective other method (sym is.named ∙ named) in
+    subst (CanExpose proof fact) same (record { of_relation = is.of_relation; new = is.new; inputs = is.inputs })
+
+-- one fact more
+distinct_last : (facts : List Ground) (fact : Ground) → AreDistinct (facts ++ fact ∷ []) → Contains facts fact → ⊥
+distinct_last [] fact are c = contains_none fact c
+distinct_last (first ∷ facts) fact (new, are) c = ⊎_elim (λ same. new (subst (λ f. Contains (facts ++ fact ∷ []) f) (sym same) (Contains-push facts fact))) (λ h. distinct_last facts fact are h) (contains_cases first facts fact c)
+
+module _ (schema : SchemaParts) (proof : Proving) where
+  pub from_none : AreExposures schema proof [] []
+  from_none = record { each = λ firing c. absurd (contains_none firing c); all = λ number fact c can. absurd (contains_none fact c); once = tt }
+
+  pub from_more : (facts : List Ground) (fact : Ground) (found more : List Firing) → AreDistinct (facts ++ fact ∷ []) → AreExposures schema proof facts found → AreExposuresOf schema proof fact (length schema.methods) more
+      → ((number : ℕ) → CanFire schema proof number fact → number < length schema.methods) → AreExposures schema proof (facts ++ fact ∷ []) (found ++ more)
+  from_more facts fact found more once are of below = record {
+    each = λ firing c. ⊎_elim (λ h. let (number, other, e, among, is) = are.each firing h in (number, other, e, Contains-append_left facts (fact ∷ []) other among, is))
+        (λ h. let (number, e, l, is) = of.each firing h in (number, fact, e, Contains-push facts fact, is)) (Contains-append_cases found more firing c);
+    all = λ number other c can. ⊎_elim (λ h. Contains-append_left found more (Expose number other) (are.all number other h can))
+        (λ same. subst (λ f. Contains (found ++ more) (Expose number f)) same (let can' = subst (CanFire schema proof number) (sym same) can in Contains-append_right found more (Expose number fact) (of.all number (below number can') can')))
+        (Contains-push_cases facts fact other c);
+    once = distinct_append found more are.once of.once (λ firing c d.
+        let (number, other, e, among, is) = are.each firing c in
+        let (number', e', l, is') = of.each firing d in
+        distinct_last facts fact once (subst (λ f. Contains facts f) (fact_is number number' other fact (sym e ∙ e')) among));
+  }
+
+-- base facts stand once
+pub with_once : (facts : List Ground) (news : List Ground) → AreDistinct facts → AreDistinct (with_facts facts news)
+with_once facts [] are = are
+with_once facts (fact ∷ news) are = with_once (with_fact facts fact) news (one facts fact are)
+  where
+    one : (facts : List Ground) (fact : Ground) → AreDistinct facts → AreDistinct (with_fact facts fact)
+    one facts fact are = by (list_any (is_same_fact fact) facts) (there_decides facts fact)
+      where
+        by : (t : Bool) → Decides t (Contains facts fact) → AreDistinct (if t then facts else facts ++ fact ∷ [])
+        by true d = are
+        by false d = distinct_push facts fact are (λ c. let e : false ≡ true = d.1 c in absurd (cc))
+
+pub written_once : (schema : SchemaParts) (constants : List (List ℕ)) (part : ℕ) (proof : Proof) (entries : List Entry) (end : Proof) → AreDistinct proof.base → IsWritten schema constants part proof entries end → AreDistinct end.base
+written_once schema constants part proof [] end once e = subst (λ (p : Proof). AreDistinct p.base) (sym e) once
+written_once schema constants part proof (entry ∷ entries) end once (order, sizes, (next, fires, more)) = written_once schema constants (part_of entry.firing) next entries end (by entry.firing fires) more
+  where
+    by : (firing : Firing) → Fires schema constants proof firing next → AreDistinct next.base
+    by (Base trigger) (rule, is, e) = subst (λ (p : Proof). AreDistinct p.base) (sym e) (with_once proof.base (map (ground (assigned trigger)) rule.head) once)
+    by (Copy trigger) (rule, is, quiet, e) = subst (λ (p : Proof). AreDistinct p.base) (sym e) once
+    by (Expose number fact) (method, is, quiet, e) = subst (λ (p : Proof). AreDistinct p.base) (sym e) once
+
+pub proof_once : (schema : SchemaParts) (proof : Proving) → IsProofOf schema proof → AreDistinct proof.end.base
+proof_once schema proof is = written_once schema proof.constants 0 proof.start proof.entries proof.end is.once is.written
+
+-- the loops
+pub exposed_rest : (exposed left : List Exposed) (one : Exposed) (fact : Ground) → 1 ≤ length left → one ≡ slice_index_or left 0 one → (one.fact ≡ fact → ⊥) →
+    (Contains (facts_of exposed) fact ↔ Contains (facts_of left) fact) → Contains (facts_of exposed) fact ↔ Contains (facts_of (take (length left - 1) (drop 1 left))) fact
+exposed_rest exposed left one fact l e not before = (
+  (λ c. ⊎_elim (λ same. absurd (not same)) (λ h. h) (contains_cases one.fact (facts_of (take (length left - 1) (drop 1 left))) fact (subst (λ z. Contains (facts_of z) fact) (apart left one l e) (before.0 c)))),
+  (λ c. before.1 (subst (λ z. Contains (facts_of z) fact) (sym (apart left one l e)) (contains_there one.fact (facts_of (take (length left - 1) (drop 1 left))) fact c))),
+)
+
+pub at_index : (xs : List ℕ) (n : ℕ) → n < length xs → Contains xs (slice_index xs n)
+at_index [] n l = absurd (omega arith)
+at_index (x ∷ xs) zero l = contains_here x xs
+at_index (x ∷ xs) (suc n) l = contains_there x xs (slice_index xs n) (at_index xs n (omega arith))
+
+pub inputs_more : (values vals : List Val) (inputs : List ℕ) (n : ℕ) → n < length inputs → AreInputs values (take n inputs) vals → IsInput values vals (slice_index inputs n) → AreInputs values (take (n + 1) inputs) vals
+inputs_more values vals inputs n l before is q among =
+    ⊎_elim (λ h. before q h) (λ same. subst (IsInput values vals) same is) (Contains-push_cases (take n inputs) (slice_index inputs n) q (subst (λ z. Contains z q) (take_more inputs n 0 l) among))
+
+pub can_is : (proof : Proving) (fact : Ground) (method : Method) → method.rel ≡ fact.rel → (Contains proof.end.exposed fact → ⊥) → (b : Bool) (values : List Val) (inputs : List ℕ) (vals : List Val)
+    → values ≡ known_values proof.constants proof.end.exposed → inputs ≡ method.inputs → vals ≡ fact.vals → (IsTrue b ↔ AreInputs values inputs vals) → IsTrue b ↔ CanExpose proof fact method
+can_is proof fact method rel new b values inputs vals v i a iff = (
+  (λ yes. record { of_relation = rel; new = new; inputs = inputs_to proof.constants proof.end.exposed method.inputs fact.vals (rw (← v, ← i, ← a) (iff.0 yes)) }),
+  (λ can. iff.1 (rw (v, i, a) (inputs_from proof.constants proof.end.exposed method.inputs fact.vals can.inputs))),
+)
+
+pub got_here : {X : Type 0} (xs : List X) (n : ℕ) (x : X) → n < length xs → x ≡ slice_index_or xs n x → slice_get xs n ≡ Some x
+got_here xs n x l e = slice_get-get_or xs n x l ∙ ap (λ z. Some z) (sym e)
+
+pub take_got : {X : Type 0} (xs : List X) (n : ℕ) (x : X) → slice_get xs n ≡ Some x → take (n + 1) xs ≡ take n xs ++ x ∷ []
+take_got [] n x e = absurd (cc)
+take_got (y ∷ xs) zero x e = ap (λ z. z ∷ []) (some_injective y x e)
+take_got (y ∷ xs) (suc n) x e = let s : suc n + 1 ≡ suc (n + 1) = omega arith in rw s (ap (λ z. y ∷ z) (take_got xs n x e))
+
+pub fire_within : (schema : SchemaParts) (proof : Proving) (number : ℕ) (fact : Ground) → CanFire schema proof number fact → number < length schema.methods
+fire_within schema proof number fact (method, is) = slice_get_within schema.methods number method is.named

@@ -1,0 +1,35 @@
+-- Fronts of lists.
+use Rattle.std.proofs.Common.{◌≡◌, ℕ, zero, suc, List, [], ◌∷◌, ◌++◌, length, map, take, refl, sym, ap, ◌∙◌, append_assoc, arith}
+use Rattle.std.specs.Prelude.{flat_map, None, slice_get, ◌≤◌}
+use Rattle.meaning.specs.declared.types.Val.{Val}
+use Rattle.meaning.specs.declared.types.Ground.{Ground}
+use Rattle.meaning.specs.declared.types.Val.TheVariants.{Const}
+use Rattle.accessible_copy.specs.declared.entry.Exposed.{Exposed}
+use Rattle.accessible_copy.specs.Known.{known_values, facts_of}
+
+pub take_front : {X : Type 0} (xs ys : List X) → take (length xs) (xs ++ ys) ≡ xs
+take_front [] ys = refl
+take_front (x ∷ xs) ys = ap (λ z. x ∷ z) (take_front xs ys)
+
+abbrev values_in : List Exposed → List Val
+values_in shown = flat_map (λ (fact : Ground). fact.vals) (facts_of shown)
+
+values_front : (shown : List Exposed) (count : ℕ) → (rest : List Val) × (values_in shown ≡ values_in (take count shown) ++ rest)
+values_front shown zero = (values_in shown, refl)
+values_front [] (suc count) = ([], refl)
+values_front (one ∷ shown) (suc count) =
+    let (rest, e) = values_front shown count in
+    (rest, ap (λ z. one.fact.vals ++ z) e ∙ sym (append_assoc one.fact.vals (values_in (take count shown)) rest))
+
+pub known_front : (constants : List (List ℕ)) (shown : List Exposed) (count width : ℕ) → width ≡ length (known_values constants (facts_of (take count shown)))
+    → take width (known_values constants (facts_of shown)) ≡ known_values constants (facts_of (take count shown))
+known_front constants shown count width wide =
+    let (rest, e) = values_front shown count in
+    let whole : known_values constants (facts_of shown) ≡ known_values constants (facts_of (take count shown)) ++ rest
+    = ap (λ z. map Const constants ++ z) e ∙ sym (append_assoc (map Const constants) (values_in (take count shown)) rest) in
+    rw wide (rw whole (take_front (known_values constants (facts_of (take count shown))) rest))
+
+pub none_beyond : {X : Type 0} (xs : List X) (n : ℕ) → slice_get xs n ≡ None → length xs ≤ n
+none_beyond [] n e = omega arith
+none_beyond (x ∷ xs) zero e = absurd (cc)
+none_beyond (x ∷ xs) (suc n) e = let l = none_beyond xs n e in omega arith

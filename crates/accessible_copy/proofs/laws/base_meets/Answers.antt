@@ -1,0 +1,5 @@
+use Rattle.accessible_copy.proofs.Lasting.{base_meets}
+use Rattle.accessible_copy.proofs.laws.base_meets.Goals as goal
+
+pub returns : goal.returns
+returns c = base_meets

@@ -1,0 +1,5 @@
+use Rattle.accessible_copy.proofs.Lasting.{exposure_stays}
+use Rattle.accessible_copy.proofs.laws.exposure_stays.Goals as goal
+
+pub returns : goal.returns
+returns c = exposure_stays

@@ -1,0 +1,41 @@
+use Rattle.std.proofs.Common.{◌≡◌, ◌≤◌, length, sym, subst, rules}
+use Rattle.std.specs.Prelude.{Some, None, slice_get}
+use Rattle.std.proofs.lemmas.List.{take_all}
+use Rattle.accessible_copy.specs.Proving.{Proving, IsProofOf}
+use Rattle.accessible_copy.specs.contracts.proof.Proof.{the_view}
+use Rattle.accessible_copy.proofs.Lists.{none_beyond}
+use Rattle.accessible_copy.proofs.Undoing.{undoes}
+use Rattle.accessible_copy.proofs.marks.undo.Goals as goal
+
+pub cut_back-requires : goal.cut_back-requires
+cut_back-requires c =
+    let (schema, of) = c.requires.run in
+    let got : slice_get c.proof.inside.history.entries c.args.mark.firings ≡ Some c.in-Some.entry.now = search rules in
+    let u = undoes schema (the_view c.proof.inside) c.args.mark.firings c.in-Some.entry.now (subst (IsProofOf schema) (sym c.proof.view_is) of) got in
+    record { labels = u.base }
+
+pub cut_back-requires-in-Some : goal.cut_back-requires-in-Some
+cut_back-requires-in-Some c =
+    let (schema, of) = c.requires.run in
+    let got : slice_get c.proof.inside.history.entries c.args.mark.firings ≡ Some c.in-Some.entry.now = search rules in
+    let u = undoes schema (the_view c.proof.inside) c.args.mark.firings c.in-Some.entry.now (subst (IsProofOf schema) (sym c.proof.view_is) of) got in
+    record { labels = u.copy }
+
+pub truncate-requires : goal.truncate-requires
+truncate-requires c =
+    let (schema, of) = c.requires.run in
+    let got : slice_get c.proof.inside.history.entries c.args.mark.firings ≡ Some c.in-Some.entry.now = search rules in
+    let u = undoes schema (the_view c.proof.inside) c.args.mark.firings c.in-Some.entry.now (subst (IsProofOf schema) (sym c.proof.view_is) of) got in
+    u.known
+
+pub returns-in-Some-clause-run : goal.returns-in-Some-clause-run
+returns-in-Some-clause-run c = λ schema of.
+    let got : slice_get c.proof.inside.history.entries c.args.mark.firings ≡ Some c.in-Some.entry.now = search rules in
+    let u = undoes schema (the_view c.proof.inside) c.args.mark.firings c.in-Some.entry.now (subst (IsProofOf schema) (sym c.proof.view_is) of) got in
+    rw (c.cut_back.ensures, c.cut_back-in-Some.ensures, c.truncate.ensures, c.truncate-in-Some.ensures) u.is
+
+pub returns-in_default-clause-log : goal.returns-in_default-clause-log
+returns-in_default-clause-log c =
+    let none : slice_get c.proof.inside.history.entries c.args.mark.firings ≡ None = search rules in
+    let beyond : length c.args.proof.now.entries ≤ c.args.mark.firings = subst (λ (p : Proving). length p.entries ≤ c.args.mark.firings) c.proof.view_is (none_beyond c.proof.inside.history.entries c.args.mark.firings none) in
+    sym (take_all c.args.mark.firings c.args.proof.now.entries beyond)

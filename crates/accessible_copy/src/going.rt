@@ -1,0 +1,32 @@
+// Whether something is active.
+ghost use Rattle.std.specs.Prelude.{◌≡◌, Ok, true, false};
+ghost use Rattle.access_schema.specs.Meaning.{meaning_of};
+ghost use Rattle.accessible_copy.specs.Proving.{IsProofOf};
+ghost use Rattle.accessible_copy.specs.Rounds.{IsOrdered, IsAllQuiet, GoesOn};
+
+use crate::listing::exposures;
+use crate::proof::Proof;
+use access_schema::Schema;
+use lists::NoMemory;
+use rule_pass::active;
+use std::alloc::Global;
+
+/// Whether a firing is active, of whatever kind.
+pub fn goes_on(alloc: Global, proof: &Proof, schema: &Schema) -> Result<bool, NoMemory>
+    requires run { IsProofOf (meaning_of schema.now) proof.now }
+    requires ordered { IsOrdered (meaning_of schema.now) proof.now }
+    ensures going { result ≡ Ok true → GoesOn (meaning_of schema.now) proof.now }
+    ensures quiet { result ≡ Ok false → IsAllQuiet (meaning_of schema.now) proof.now }
+{
+    if let Some(_) = active(alloc, &proof.base, &schema.rules)? {
+        return Ok(true);
+    }
+    let open = exposures(alloc, proof, schema)?;
+    if open.len() > 0 {
+        return Ok(true);
+    }
+    if let Some(_) = active(alloc, &proof.copy, &schema.rules)? {
+        return Ok(true);
+    }
+    Ok(false)
+}

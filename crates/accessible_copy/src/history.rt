@@ -1,0 +1,140 @@
+// The log of a proof, to which passes write their firings.
+ghost use Rattle.std.specs.Prelude.{◌≡◌, ◌+◌, ◌++◌, ◌∷◌, [], ℕ, IfOk, OnOk, OnErr, length, take, slice_get, option_copied};
+ghost use Rattle.std.proofs.lemmas.List.{length_push};
+ghost use Rattle.meaning.specs.declared.types.Trigger.{Trigger};
+ghost use Rattle.accessible_copy.specs.Written.{logged, firing_of, sizes_at};
+
+use crate::entry::{Entry, Sizes};
+use lists::{Copies, NoMemory};
+use meaning::types::{Firing, Trigger};
+use rule_pass::Log;
+use std::alloc::Global;
+use std::marker::Model;
+
+/// Entries, which kind the next trigger is, and the sizes that passes of this kind leave as they are.
+#[derive(Drop)]
+pub struct History {
+    entries: Vec<Entry>,
+    copies: bool,
+    held: Sizes,
+}
+
+impl Model for History {
+    ghost use Rattle.accessible_copy.specs.Written.{Written};
+
+    ghost Value = { Written };
+
+    ghost view = { λ h. record { entries = h.entries.items; copies = h.copies; held = h.held } };
+}
+
+impl History {
+    /// No entries. Takes no memory.
+    pub fn new(alloc: Global) -> History
+        ensures { result.entries ≡ [] }
+    {
+        History {
+            entries: Vec::new(alloc),
+            copies: false,
+            held: Sizes {
+                base: 0,
+                exposed: 0,
+                copy: 0,
+                known: 0,
+                next: 0,
+            },
+        }
+    }
+
+    /// Sets what the next triggers are. Takes no memory.
+    pub fn begin(&mut self, copies: bool, held: Sizes)
+        ensures { self.new ≡ record { entries = self.old.entries; copies = copies; held = held } }
+    {
+        self.copies = copies;
+        self.held = held;
+    }
+
+    /// The entry with this number. Takes no memory.
+    pub fn get(&self, number: usize) -> Option<&Entry>
+        ensures { option_copied result ≡ slice_get self.now.entries number }
+    {
+        self.entries.get(number)
+    }
+
+    /// One more entry. Where memory is refused, nothing changes.
+    pub fn push(&mut self, firing: Firing, before: Sizes) -> Result<(), NoMemory>
+        ensures pushed { OnOk result (self.new ≡ record self.old { entries = self.old.entries ++ record { firing = firing; before = before } ∷ [] }) }
+        ensures refused { OnErr result (self.new ≡ self.old) }
+    {
+        self.entries.push(Entry { firing, before })?;
+        Ok(())
+    }
+
+    /// Drops all entries behind the first `count`. Takes no memory.
+    pub fn truncate(&mut self, count: usize)
+        ensures { self.new ≡ record self.old { entries = take count self.old.entries } }
+    {
+        self.entries.truncate(count);
+    }
+}
+
+/// The trigger as a firing of this kind.
+fn firing_of(alloc: Global, copies: bool, trigger: &Trigger) -> Result<Firing, NoMemory>
+    ensures { IfOk result (λ firing. firing ≡ firing_of copies trigger.now) }
+{
+    let trigger = trigger.copy(alloc)?;
+    if copies {
+        Ok(Firing::Copy(trigger))
+    } else {
+        Ok(Firing::Base(trigger))
+    }
+}
+
+/// The sizes with these of this kind.
+fn sizes_at(copies: bool, now: Sizes, facts: usize, next: u32) -> Sizes
+    ensures { result ≡ sizes_at copies now facts next }
+{
+    if copies {
+        Sizes {
+            copy: facts,
+            next,
+            ..now
+        }
+    } else {
+        Sizes {
+            base: facts,
+            next,
+            ..now
+        }
+    }
+}
+
+impl Log for History {
+    ghost logged = { logged };
+
+    ghost size = { λ log. length log.entries };
+
+    ghost grows = { λ log trigger facts. length_push log.entries (record { firing = firing_of log.copies trigger; before = sizes_at log.copies log.held facts trigger.fresh }) };
+
+    fn firings(&self) -> usize {
+        self.entries.len()
+    }
+
+    fn write_down(
+        &mut self,
+        alloc: Global,
+        trigger: &Trigger,
+        facts: usize,
+    ) -> Result<(), NoMemory> {
+        let firing = firing_of(alloc, self.copies, trigger)?;
+        let before = sizes_at(self.copies, self.held, facts, trigger.fresh);
+        self.entries.push(Entry { firing, before })?;
+        Ok(())
+    }
+
+    fn take_back(&mut self) {
+        let count = self.entries.len();
+        if count > 0 {
+            self.entries.truncate(count - 1);
+        }
+    }
+}

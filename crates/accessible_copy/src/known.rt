@@ -1,0 +1,124 @@
+// The known values, and the exposed facts that they come from.
+ghost use Rattle.std.specs.Prelude.{◌≡◌, ◌++◌, ◌∷◌, [], IfOk, OnOk, OnErr, length, take, map, slice_get, option_copied};
+ghost use Rattle.meaning.specs.declared.types.Val.TheVariants.{Const};
+ghost use Rattle.accessible_copy.specs.Known.{known_values, facts_of};
+
+use crate::entry::Exposed;
+use lists::{Copies, NoMemory, Texts};
+use meaning::types::{Ground, Val};
+use std::alloc::Global;
+use std::marker::Model;
+
+/// Constants, exposed facts with their methods, and the values that these make known.
+#[derive(Drop)]
+pub struct Known {
+    constants: Texts,
+    list: Vec<Exposed>,
+    values: Vec<Val>,
+}
+
+impl Model for Known {
+    ghost use Rattle.std.specs.Prelude.{◌≡◌};
+    ghost use Rattle.accessible_copy.specs.Known.{Showing, known_values, facts_of};
+
+    ghost Value = { Showing };
+
+    ghost view = { λ k. record { constants = k.constants; exposed = k.list.items } };
+
+    ghost invariant = { λ k. k.values.items ≡ known_values k.constants (facts_of k.list.items) };
+}
+
+impl Known {
+    /// The constants alone.
+    pub fn start(alloc: Global, constants: &Texts) -> Result<Known, NoMemory>
+        ensures { IfOk result (λ known. known ≡ record { constants = constants.now; exposed = [] }) }
+    {
+        Ok(Known {
+            constants: constants.copy(alloc)?,
+            list: Vec::new(alloc),
+            values: constant_values(alloc, constants)?,
+        })
+    }
+
+    /// How many facts are exposed. Takes no memory.
+    pub fn len(&self) -> usize
+        ensures { result ≡ length self.now.exposed }
+    {
+        self.list.len()
+    }
+
+    /// How many values are known. Takes no memory.
+    pub fn width(&self) -> usize
+        ensures { result ≡ length (known_values self.now.constants (facts_of self.now.exposed)) }
+    {
+        self.values.len()
+    }
+
+    /// The exposed fact with this number. Takes no memory.
+    pub fn get(&self, number: usize) -> Option<&Exposed>
+        ensures { option_copied result ≡ slice_get self.now.exposed number }
+    {
+        self.list.get(number)
+    }
+
+    /// The known value with this number. Takes no memory.
+    pub fn value(&self, number: usize) -> Option<&Val>
+        ensures { option_copied result ≡ slice_get (known_values self.now.constants (facts_of self.now.exposed)) number }
+    {
+        self.values.get(number)
+    }
+
+    /// The exposed facts with their methods, lent. Takes no memory.
+    pub fn exposed(&self) -> &[Exposed]
+        ensures { result.now ≡ self.now.exposed }
+    {
+        self.list.as_slice()
+    }
+
+    /// The known values, lent. Takes no memory.
+    pub fn values(&self) -> &[Val]
+        ensures { result.now ≡ known_values self.now.constants (facts_of self.now.exposed) }
+    {
+        self.values.as_slice()
+    }
+
+    /// One more exposed fact. Where memory is refused, nothing changes.
+    pub fn push(&mut self, alloc: Global, method: u32, fact: &Ground) -> Result<(), NoMemory>
+        ensures pushed { OnOk result (self.new ≡ record self.old { exposed = self.old.exposed ++ record { method = method; fact = fact.now } ∷ [] }) }
+        ensures refused { OnErr result (self.new ≡ self.old) }
+    {
+        let count = self.list.len();
+        let mut more = fact.vals.copy(alloc)?.into_vec();
+        self.list.push(Exposed {
+            method,
+            fact: fact.copy(alloc)?,
+        })?;
+        match self.values.append(&mut more) {
+            Ok(()) => Ok(()),
+            Err(fault) => {
+                self.list.truncate(count);
+                Err(fault)
+            }
+        }
+    }
+
+    /// Drops all exposed facts behind the first `count`, which make `width` values known. Takes no memory.
+    pub fn truncate(&mut self, count: usize, width: usize)
+        requires { width ≡ length (known_values self.old.constants (facts_of (take count self.old.exposed))) }
+        ensures { self.new ≡ record self.old { exposed = take count self.old.exposed } }
+    {
+        self.list.truncate(count);
+        self.values.truncate(width);
+    }
+}
+
+/// Each text as a constant.
+fn constant_values(alloc: Global, constants: &Texts) -> Result<Vec<Val>, NoMemory>
+    ensures { IfOk result (λ values. values.items ≡ map Const constants.now) }
+{
+    let mut values = Vec::with_capacity(alloc, constants.len())?;
+    for text in constants.as_slice() {
+        values.push(Val::Const(text.copy(alloc)?))?;
+    }
+    Ok(values)
+}

@@ -1,0 +1,25 @@
+//! Proofs over access schemas: base facts, exposed facts and copy facts, with the log of the firings that made them.
+//!
+//! Crates above use this: every call leaves a proof that is the one of its log. Begin at `specs/Proving.antt`.
+#![tactic(auto)]
+
+mod entry;
+mod exposing;
+mod goals;
+mod going;
+mod history;
+mod known;
+pub mod laws;
+mod listing;
+mod marks;
+mod proof;
+mod settling;
+
+pub use entry::{Entry, Exposed, Mark, Sizes};
+pub use exposing::expose;
+pub use goals::{Match, goal};
+pub use going::goes_on;
+pub use listing::exposures;
+pub use marks::{mark, undo};
+pub use proof::Proof;
+pub use settling::{Round, settle};

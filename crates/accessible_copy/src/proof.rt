@@ -1,0 +1,171 @@
+// A proof, and what it lends.
+ghost use Rattle.std.specs.Prelude.{◌≡◌, ◌≤◌, [], IfOk, IfSome, IfNone, slice_get, option_copied, map, None, Some, ◌∷◌};
+ghost use Rattle.meaning.specs.declared.types.Val.TheVariants.{Label};
+ghost use Rattle.meaning.specs.Matching.{value_of};
+ghost use Rattle.meaning.specs.declared.types.Val.TheVariants.{Const};
+ghost use Rattle.meaning.specs.Triggers.{ground, bound};
+ghost use Rattle.meaning.specs.Runs.{opening};
+ghost use Rattle.access_schema.specs.Meaning.{meaning_of};
+ghost use Rattle.rule_pass.specs.declared.pass.TheConstants.{HIGHEST_FIRST_LABEL};
+ghost use Rattle.accessible_copy.specs.Known.{known_values};
+ghost use Rattle.accessible_copy.specs.Proving.{IsProofOf, log_of, sizes_of};
+
+use crate::entry::{Entry, Sizes};
+use crate::history::History;
+use crate::known::Known;
+use access_schema::Schema;
+use lists::{Copies, NoMemory, Seq, Texts};
+use meaning::types::{Atom, Firing, Ground, Query, Term, Val, Vals};
+use rule_pass::State;
+use std::alloc::Global;
+use std::marker::Model;
+
+/// Base facts, exposed facts and copy facts, the next label, the known values, and the log of the firings.
+#[derive(Drop)]
+pub struct Proof {
+    pub(crate) opening: State,
+    pub(crate) base: State,
+    pub(crate) copy: State,
+    pub(crate) known: Known,
+    pub(crate) history: History,
+}
+
+impl Model for Proof {
+    ghost use Rattle.std.specs.Prelude.{◌≡◌, []};
+    ghost use Rattle.accessible_copy.specs.Known.{facts_of};
+    ghost use Rattle.accessible_copy.specs.Proving.{Proving};
+
+    ghost Value = { Proving };
+
+    ghost view = { λ p. record {
+      constants = p.known.constants;
+      start = record { base = p.opening.facts; exposed = []; copy = []; next = p.opening.next };
+      exposed = p.known.exposed;
+      entries = p.history.entries;
+      end = record { base = p.base.facts; exposed = facts_of p.known.exposed; copy = p.copy.facts; next = p.base.next };
+    } };
+
+    ghost invariant = { λ p. p.copy.next ≡ p.base.next };
+}
+
+impl Proof {
+    /// The proof of the empty log, whose base facts are the query's atoms, with variable k as label k.
+    pub fn start(
+        alloc: Global,
+        schema: &Schema,
+        query: &Query,
+        known: &Texts,
+    ) -> Result<Proof, NoMemory>
+        requires counted { bound query.now.atoms ≤ query.now.variables }
+        requires few { query.now.variables ≤ HIGHEST_FIRST_LABEL }
+        ensures run { IfOk result (λ proof. IsProofOf (meaning_of schema.now) proof) }
+        ensures start { IfOk result (λ proof. proof.start ≡ opening query.now) }
+        ensures constants { IfOk result (λ proof. proof.constants ≡ known.now) }
+        ensures empty { IfOk result (λ proof. proof.entries ≡ []) }
+    {
+        let facts = Seq::from_vec(frozen_atoms(alloc, query.atoms.as_slice())?);
+        Ok(Proof {
+            opening: State::start(alloc, &facts, query.variables)?,
+            base: State::start(alloc, &facts, query.variables)?,
+            copy: State::start(alloc, &Seq::new(alloc), query.variables)?,
+            known: Known::start(alloc, known)?,
+            history: History::new(alloc),
+        })
+    }
+
+    /// The base fact with this number. Takes no memory.
+    pub fn base(&self, number: usize) -> Option<&Ground>
+        ensures { option_copied result ≡ slice_get self.now.end.base number }
+    {
+        self.base.store().get(number)
+    }
+
+    /// The copy fact with this number. Takes no memory.
+    pub fn copy(&self, number: usize) -> Option<&Ground>
+        ensures { option_copied result ≡ slice_get self.now.end.copy number }
+    {
+        self.copy.store().get(number)
+    }
+
+    /// The exposed fact with this number, and the number of its method. Takes no memory.
+    pub fn exposed(&self, number: usize) -> Option<(&Ground, u32)>
+        ensures some { IfSome result (λ pair. slice_get self.now.exposed number ≡ Some (record { method = pair.1; fact = pair.0.now })) }
+        ensures none { IfNone result (slice_get self.now.exposed number ≡ None) }
+    {
+        match self.known.get(number) {
+            Some(exposed) => Some((&exposed.fact, exposed.method)),
+            None => None,
+        }
+    }
+
+    /// The known value with this number. Takes no memory.
+    pub fn known(&self, number: usize) -> Option<&Val>
+        ensures { option_copied result ≡ slice_get (known_values self.now.constants self.now.end.exposed) number }
+    {
+        self.known.value(number)
+    }
+
+    /// The firing with this number. Takes no memory.
+    pub fn log(&self, number: usize) -> Option<&Firing>
+        ensures { option_copied result ≡ slice_get (log_of self.now) number }
+    {
+        match self.history.get(number) {
+            Some(entry) => Some(&entry.firing),
+            None => None,
+        }
+    }
+
+    /// The sizes of the state. Takes no memory.
+    pub(crate) fn sizes(&self) -> Sizes
+        ensures { result ≡ sizes_of self.now.constants self.now.end }
+    {
+        Sizes {
+            base: self.base.store().len(),
+            exposed: self.known.len(),
+            copy: self.copy.store().len(),
+            known: self.known.width(),
+            next: self.base.next(),
+        }
+    }
+
+    /// The next label. Takes no memory.
+    pub fn next(&self) -> u32
+        ensures { result ≡ self.now.end.next }
+    {
+        self.base.next()
+    }
+}
+
+/// The atoms as facts, with variable k as label k.
+fn frozen_atoms(alloc: Global, atoms: &[Atom]) -> Result<Vec<Ground>, NoMemory>
+    ensures { IfOk result (λ facts. facts.items ≡ map (ground Label) atoms.now) }
+{
+    let mut facts = Vec::with_capacity(alloc, atoms.len())?;
+    for atom in atoms {
+        facts.push(Ground {
+            rel: atom.rel,
+            vals: frozen_terms(alloc, atom.terms.as_slice())?,
+        })?;
+    }
+    Ok(facts)
+}
+
+/// The terms as values, with variable k as label k.
+fn frozen_terms(alloc: Global, terms: &[Term]) -> Result<Vals, NoMemory>
+    ensures { IfOk result (λ vals. vals ≡ map (value_of Const Label) terms.now) }
+{
+    let mut vals = Vec::with_capacity(alloc, terms.len())?;
+    for term in terms {
+        vals.push(frozen_term(alloc, term)?)?;
+    }
+    Ok(Seq::from_vec(vals))
+}
+
+fn frozen_term(alloc: Global, term: &Term) -> Result<Val, NoMemory>
+    ensures { IfOk result (λ val. val ≡ value_of Const Label term.now) }
+{
+    match term {
+        Term::Var(variable) => Ok(Val::Label(*variable)),
+        Term::Const(text) => Ok(Val::Const(text.copy(alloc)?)),
+    }
+}
