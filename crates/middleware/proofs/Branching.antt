@@ -3,7 +3,7 @@ use Rattle.std.proofs.Common.{◌≡◌, inl, inr, ⊎_elim, ℕ, zero, suc, ◌
 use Rattle.std.specs.Prelude.{Contains, IsSomeAnd, slice_get}
 use Rattle.std.specs.List.{AllZip}
 use Rattle.std.specs.Cmp.Lexicographic.{pointwise}
-use Rattle.std.proofs.lemmas.List.{take_more, append-nil, map-append, take-append-drop, take-map, take_all}
+use Rattle.std.proofs.lemmas.List.{take_more, drop_more, append-nil, map-append, take-append-drop, take-map, take_all}
 use Rattle.std.proofs.lemmas.Option.{slice_get_read}
 use Rattle.lists.proofs.Members.{contains_here, contains_there, contains_map, contains_mapped, contains_got, got_below, some_injective}
 use Rattle.meaning.specs.declared.types.Fact.{Fact}
@@ -28,14 +28,16 @@ use Rattle.source_trait.specs.declared.lanes.Kind.{Kind}
 use Rattle.middleware.specs.Held.{SameFacts, HoldsRelation}
 use Rattle.middleware.specs.Asked.{HasConstant, IsStepRequest}
 use Rattle.middleware.specs.Joining.{input_row_of, input_value_or}
-use Rattle.middleware.specs.Rounds.{requests_of, IsWanted, CanAskAll, RoundCause}
+use Rattle.middleware.specs.Rounds.{requests_of, IsWanted, CanAskAll, RoundCause, next_rows}
 use Rattle.middleware.specs.Branches.{HasAdded, IsInput, columns_after, IsReady, AreReady, IsReadyOut, IsReadyBranch, out_value, output_of, IsAskable, HoldSteps, TellsSame, AsksLane, RoseAt, RoundGoes, RoundStops, ArePartial, Means, Reached, BranchCause, BranchStops, stop_of, BranchGoes}
+use Rattle.middleware.specs.Live.{AreAlike, is_live, is_shown}
 use Rattle.middleware.specs.declared.round.RoundFault.{RoundFault}
 use Rattle.middleware.specs.declared.round.RoundFault.TheVariants as round
 use Rattle.middleware.specs.declared.branch.BranchFault.TheVariants as branch
 use Rattle.middleware.proofs.Answering.{rose_from}
 use Rattle.middleware.proofs.Steps.{in_append, append_first, append_second, steps_length, requests_append, requests_one, next_partial, is_round, len_requests}
 use Rattle.middleware.proofs.Existing.{first_partial, steps_exist, steps_rest}
+use Rattle.middleware.proofs.Alike.{all_alike, alike_through, outputs_alike, round_wanted, round_alike}
 use Rattle.middleware.proofs.Laning.{AsksLane-refl, AsksLane-trans}
 
 -- ---- what a lawful branch makes ready
@@ -128,6 +130,17 @@ of_step schema step method columns named are rows list wanted n request c =
       constants = subst (λ (v : List (List ℕ)). AllZip (λ p value. HasConstant (slice_get step.places p) value) method.inputs v) e (constants_zip step.places row columns method.inputs are);
     })
 
+-- ---- the steps from one on
+
+left_at : (steps : List Step) (i : ℕ) (step : Step) → i < length steps → step ≡ get_or steps i step → drop i steps ≡ step ∷ drop (i + 1) steps
+left_at steps i step less at = drop_more steps i step less ∙ ap (λ (s : Step). s ∷ drop (i + 1) steps) (sym at)
+
+drop_all : (steps : List Step) (i : ℕ) → length steps ≤ i → drop i steps ≡ []
+drop_all [] zero over = refl
+drop_all [] (suc i) over = refl
+drop_all (s ∷ steps) zero over = absurd (omega arith)
+drop_all (s ∷ steps) (suc i) over = drop_all steps i (omega arith)
+
 -- ---- sources between two moments
 
 module _ {S : Type 0} (seen : S → Seen) where
@@ -188,14 +201,16 @@ module _ {S : Type 0} (seen : S → Seen) where
     parts = meaning_of schema
 
     module _ (well : IsWellFormed parts) where
-      pub reached_none : (rows : RowList) → rows ≡ [] ∷ [] → (count : ℕ) (kinds : List (Kind S)) → Reached seen schema [] rows count count kinds kinds
-      reached_none rows e count kinds = record {
+      pub reached_none : (live : ℕ → Bool) (rows : RowList) → rows ≡ [] ∷ [] → (count : ℕ) (kinds : List (Kind S)) → Reached seen schema live [] rows count count kinds kinds
+      reached_none live rows e count kinds = record {
         list = [];
         asks = AsksLane-refl seen schema kinds;
         count = omega arith;
         of_steps = λ request c. absurd (none request c);
         means = λ instance holds. record {
-          partial = subst (λ (r : RowList). ArePartial parts instance [] r) (sym e) (first_partial parts well instance);
+          partial = rows;
+          partial_are = subst (λ (r : RowList). ArePartial parts instance [] r) (sym e) (first_partial parts well instance);
+          alike = all_alike live rows;
           are = refl;
         };
       }
@@ -203,9 +218,10 @@ module _ {S : Type 0} (seen : S → Seen) where
           none : (request : Request) → Contains [] request → ⊥
           none request c = omega arith
 
-      goes_on : (before : List Step) (step : Step) (rows next : RowList) (start count after : ℕ) (old mid new : List (Kind S)) → IsReady parts before step → Reached seen schema before rows start count old mid
-          → RoundGoes seen schema step rows next count after mid new → Reached seen schema (before ++ step ∷ []) next start after old new
-      goes_on before step rows next start count after old mid new ready r goes = record {
+      goes_on : (before : List Step) (step : Step) (steps : List Step) (outs : List Out) (rows kept next : RowList) (start count after : ℕ) (old mid new : List (Kind S)) → IsReady parts before step
+          → Reached seen schema (is_live (step ∷ steps) outs) before rows start count old mid → AreAlike (is_live (step ∷ steps) outs) rows kept
+          → RoundGoes seen schema step kept next count after mid new → Reached seen schema (is_live steps outs) (before ++ step ∷ []) next start after old new
+      goes_on before step steps outs rows kept next start count after old mid new ready r near goes = record {
         list = r.list ++ requests_of goes.method.rel goes.method.inputs goes.list;
         asks = AsksLane-trans seen schema r.list (requests_of goes.method.rel goes.method.inputs goes.list) old mid new r.asks goes.asks;
         count = let a = r.count in let b = goes.count in omega (arith, a, b, length-append r.list (requests_of goes.method.rel goes.method.inputs goes.list), len_requests goes.method.rel goes.method.inputs goes.list);
@@ -214,7 +230,7 @@ module _ {S : Type 0} (seen : S → Seen) where
           | inr second ↦ (
             step,
             append_second before (step ∷ []) step (contains_here step []),
-            of_step parts step goes.method (columns_after 0 before) goes.named inputs rows goes.list goes.wanted (length goes.list) request
+            of_step parts step goes.method (columns_after 0 before) goes.named inputs kept goes.list goes.wanted (length goes.list) request
                 (subst (λ (l : RowList). Contains (requests_of goes.method.rel goes.method.inputs l) request) (sym (all goes.list)) second),
           )
         ];
@@ -222,10 +238,14 @@ module _ {S : Type 0} (seen : S → Seen) where
             let m = r.means instance (λ s method line c. holds s method line (append_first before (step ∷ []) s c)) in
             let here : HoldSteps seen schema (step ∷ []) mid instance = λ s method line c named line_is.
             relation_later schema r.list old mid r.asks line.kind method.rel instance (holds s method line (append_second before (step ∷ []) s c) named line_is) in
+            let alike = alike_through (is_live (step ∷ steps) outs) m.partial rows kept m.alike near in
+            let wanted = round_wanted step steps outs goes.method.inputs m.partial kept goes.list alike goes.wanted in
             record {
-              partial = next_partial parts well instance before step goes.method goes.named inputs rows next m.partial (goes.rows_are instance here);
+              partial = next_rows step.places goes.method instance m.partial;
+              partial_are = next_partial parts well instance before step goes.method goes.named inputs m.partial (next_rows step.places goes.method instance m.partial) m.partial_are (λ row. ((λ c. c), (λ c. c)));
+              alike = round_alike step steps outs goes.method instance m.partial kept next alike (goes.rows_are instance here);
               are = requests_append parts instance [] before (step ∷ []) r.list (requests_of goes.method.rel goes.method.inputs goes.list) m.are
-                  (requests_one parts instance before step (requests_of goes.method.rel goes.method.inputs goes.list) (is_round parts well instance before step goes.method goes.named inputs rows goes.list m.partial goes.wanted));
+                  (requests_one parts instance before step (requests_of goes.method.rel goes.method.inputs goes.list) (is_round parts well instance before step goes.method goes.named inputs m.partial goes.list m.partial_are wanted));
             };
       }
         where
@@ -237,29 +257,37 @@ module _ {S : Type 0} (seen : S → Seen) where
           all (x ∷ xs) = ap (λ (l : RowList). x ∷ l) (all xs)
 
       -- the rounds of one step more
-      pub one_more : (steps : List Step) → AreReady parts steps → (i : ℕ) (step : Step) → i < length steps → step ≡ get_or steps i step → (rows next : RowList) (start count after : ℕ) (old mid new : List (Kind S))
-          → Reached seen schema (take i steps) rows start count old mid → RoundGoes seen schema step rows next count after mid new → Reached seen schema (take (i + 1) steps) next start after old new
-      one_more steps ready i step less at rows next start count after old mid new r goes =
+      pub one_more : (steps : List Step) → AreReady parts steps → (outs : List Out) (i : ℕ) (step : Step) → i < length steps → step ≡ get_or steps i step → (rows kept next : RowList) (start count after : ℕ) (old mid new : List (Kind S))
+          → Reached seen schema (is_live (drop i steps) outs) (take i steps) rows start count old mid → AreAlike (is_live (drop i steps) outs) rows kept
+          → RoundGoes seen schema step kept next count after mid new → Reached seen schema (is_live (drop (i + 1) steps) outs) (take (i + 1) steps) next start after old new
+      one_more steps ready outs i step less at rows kept next start count after old mid new r near goes =
           let got : slice_get steps i ≡ Some step = slice_get_read steps (length steps) i step refl less at in
           let more : take (i + 1) steps ≡ take i steps ++ step ∷ [] = take_more steps i step less ∙ ap (λ (s : Step). take i steps ++ s ∷ []) (sym at) in
-          subst (λ (s : List Step). Reached seen schema s next start after old new) (sym more) (goes_on (take i steps) step rows next start count after old mid new (ready i step got) r goes)
+          let left = left_at steps i step less at in
+          subst (λ (s : List Step). Reached seen schema (is_live (drop (i + 1) steps) outs) s next start after old new) (sym more)
+          (goes_on (take i steps) step (drop (i + 1) steps) outs rows kept next start count after old mid new (ready i step got)
+          (subst (λ (s : List Step). Reached seen schema (is_live s outs) (take i steps) rows start count old mid) left r)
+          (subst (λ (s : List Step). AreAlike (is_live s outs) rows kept) left near) goes)
 
-      pub all_reached : (steps : List Step) (i : ℕ) → length steps ≤ i → (rows : RowList) (start after : ℕ) (old new : List (Kind S)) → Reached seen schema (take i steps) rows start after old new → Reached seen schema steps rows start after old new
-      all_reached steps i over rows start after old new r = subst (λ (s : List Step). Reached seen schema s rows start after old new) (take_all i steps over) r
+      pub all_reached : (steps : List Step) (outs : List Out) (i : ℕ) → length steps ≤ i → (rows : RowList) (start after : ℕ) (old new : List (Kind S))
+          → Reached seen schema (is_live (drop i steps) outs) (take i steps) rows start after old new → Reached seen schema (is_shown outs) steps rows start after old new
+      all_reached steps outs i over rows start after old new r =
+          subst (λ (s : List Step). Reached seen schema (is_shown outs) s rows start after old new) (take_all i steps over)
+          (subst (λ (s : List Step). Reached seen schema (is_live s outs) (take i steps) rows start after old new) (drop_all steps i over) r)
 
       -- the next round stopped
-      pub steps_stop : (steps : List Step) → AreReady parts steps → (n number : ℕ) → number ≡ n → (step : Step) → n < length steps → step ≡ get_or steps n step → (rows : RowList) (start count most : ℕ) → count ≤ most → (fault : RoundFault) (old mid new : List (Kind S))
-          → Reached seen schema (take n steps) rows start count old mid → RoundStops seen schema step rows (most - count) fault mid new → BranchStops seen schema steps start most (stop_of number count fault) old new
-      steps_stop steps ready n number ne step less at rows start count most fits fault old mid new r stops = record {
+      pub steps_stop : (steps : List Step) → AreReady parts steps → (n number : ℕ) → number ≡ n → (step : Step) → n < length steps → step ≡ get_or steps n step → (outs : List Out) (rows kept : RowList) (start count most : ℕ) → count ≤ most → (fault : RoundFault) (old mid new : List (Kind S))
+          → Reached seen schema (is_live (drop n steps) outs) (take n steps) rows start count old mid → AreAlike (is_live (drop n steps) outs) rows kept → RoundStops seen schema step kept (most - count) fault mid new → BranchStops seen schema steps start most (stop_of number count fault) old new
+      steps_stop steps ready n number ne step less at outs rows kept start count most fits fault old mid new r near stops = record {
         list = r.list ++ part;
         asks = AsksLane-trans seen schema r.list part old mid new r.asks stops.asks;
         of_steps = λ request c. elim (in_append r.list part request c) [
           | inl first ↦ let (s, among, is) = r.of_steps request first in (s, in_take n steps s among, is)
-          | inr second ↦ (step, contains_got steps n step got, of_step parts step stops.method (columns_after 0 (take n steps)) stops.named inputs rows stops.list stops.wanted stops.count request second)
+          | inr second ↦ (step, contains_got steps n step got, of_step parts step stops.method (columns_after 0 (take n steps)) stops.named inputs kept stops.list stops.wanted stops.count request second)
         ];
         part = λ instance holds.
             let m = means instance holds in
-            let (later, are) = steps_rest parts well instance steps ready n step got rows m.partial r.list now m.are (round_at instance holds) in
+            let (later, are) = steps_rest parts well instance steps ready n step got m.partial m.partial_are r.list now m.are (round_at instance holds) in
             (requests_of stops.method.rel stops.method.inputs (drop stops.count stops.list) ++ later, subst (λ (l : List Request). AreStepsRequests parts instance [] steps l) (whole later) are);
         cause = subst (λ k. BranchCause seen schema steps start most (r.list ++ part) old new (stop_of k count fault)) (sym ne) (cause_of fault stops.cause);
       }
@@ -276,11 +304,16 @@ module _ {S : Type 0} (seen : S → Seen) where
           inputs : (p : ℕ) → Contains stops.method.inputs p → IsInput (columns_after 0 (take n steps)) (slice_get step.places p)
           inputs = inputs_for parts well (take n steps) step stops.method stops.named (ready n step got)
 
-          means : (instance : List Fact) → HoldSteps seen schema steps old instance → Means parts instance (take n steps) rows r.list
+          means : (instance : List Fact) → HoldSteps seen schema steps old instance → Means parts instance (is_live (drop n steps) outs) (take n steps) rows r.list
           means instance holds = r.means instance (λ s method line c. holds s method line (in_take n steps s c))
 
           round_at : (instance : List Fact) → HoldSteps seen schema steps old instance → IsRound parts instance (take n steps) step now
-          round_at instance holds = is_round parts well instance (take n steps) step stops.method stops.named inputs rows stops.list (means instance holds).partial stops.wanted
+          round_at instance holds =
+              let m = means instance holds in
+              let left = left_at steps n step less at in
+              let alike = alike_through (is_live (drop n steps) outs) m.partial rows kept m.alike near in
+              let wanted = round_wanted step (drop (n + 1) steps) outs stops.method.inputs m.partial kept stops.list (subst (λ (s : List Step). AreAlike (is_live s outs) m.partial kept) left alike) stops.wanted in
+              is_round parts well instance (take n steps) step stops.method stops.named inputs m.partial stops.list m.partial_are wanted
 
           whole : (later : List Request) → (r.list ++ now) ++ later ≡ (r.list ++ part) ++ (requests_of stops.method.rel stops.method.inputs (drop stops.count stops.list) ++ later)
           whole later =
@@ -349,9 +382,9 @@ module _ {S : Type 0} (seen : S → Seen) where
           none request c = omega arith
 
       -- no memory for its output
-      pub branch_full : (steps lent : List Step) → lent ≡ steps → (partial : RowList) (start after most : ℕ) (old new : List (Kind S)) → Reached seen schema lent partial start after old new → BranchStops seen schema steps start most branch.NoMemory old new
-      branch_full steps lent e partial start after most old new reached =
-          let r = subst (λ (s : List Step). Reached seen schema s partial start after old new) e reached in
+      pub branch_full : (live : ℕ → Bool) (steps lent : List Step) → lent ≡ steps → (partial : RowList) (start after most : ℕ) (old new : List (Kind S)) → Reached seen schema live lent partial start after old new → BranchStops seen schema steps start most branch.NoMemory old new
+      branch_full live steps lent e partial start after most old new reached =
+          let r = subst (λ (s : List Step). Reached seen schema live s partial start after old new) e reached in
           record {
             list = r.list;
             asks = r.asks;
@@ -361,28 +394,28 @@ module _ {S : Type 0} (seen : S → Seen) where
           }
 
       pub branch_goes : (branch : Branch) → IsReadyBranch parts branch → (steps : List Step) → steps ≡ branch.steps → (outs : List Out) → outs ≡ branch.output → (partial lent rows next : RowList) → lent ≡ partial
-          → (count after : ℕ) (old new : List (Kind S)) → Reached seen schema steps partial count after old new → HasAdded rows (map (output_of outs) lent) next → BranchGoes seen schema branch rows next count after old new
+          → (count after : ℕ) (old new : List (Kind S)) → Reached seen schema (is_shown outs) steps partial count after old new → HasAdded rows (map (output_of outs) lent) next → BranchGoes seen schema branch rows next count after old new
       branch_goes branch ready steps se outs oe partial lent rows next le count after old new reached is =
-          let r = subst (λ (s : List Step). Reached seen schema s partial count after old new) se reached in
+          let r = subst (λ (o : List Out). Reached seen schema (is_shown o) branch.steps partial count after old new) oe (subst (λ (s : List Step). Reached seen schema (is_shown outs) s partial count after old new) se reached) in
           record {
             list = r.list;
             asks = r.asks;
             count = r.count;
             of_steps = r.of_steps;
-            means = λ instance holds. let m = r.means instance holds in record {
+            means = λ instance holds. let m = r.means instance holds in let same = outputs_alike branch.output m.partial partial m.alike in record {
               exactly = λ row. (
                 (λ c. elim ((added row).0 c) [
                   | inl first ↦ inl first
                   | inr second ↦
-                      let (last, among, e) = contains_mapped (output_of branch.output) partial row second in
-                      let leads = (m.partial last).0 among in
+                      let (last, among, e) = contains_mapped (output_of branch.output) m.partial row ((same row).0 second) in
+                      let leads = (m.partial_are last).0 among in
                       let long = steps_length parts instance branch.steps [] last leads in
                       inr (last, leads, subst (λ (v : List (List ℕ)). AllZip (IsOut last) branch.output v) e (outputs_zip last branch.output (λ out o. rw long (ready.output out o))))
                 ]),
                 (λ h. (added row).1 (⊎_elim
                     (λ c. inl c)
-                    (λ (last, leads, zip). inr
-                    (subst (λ (v : List (List ℕ)). Contains (map (output_of branch.output) partial) v) (sym (zip_outputs last branch.output row zip)) (contains_map (output_of branch.output) partial last ((m.partial last).1 leads))))
+                    (λ (last, leads, zip). inr ((same row).1
+                    (subst (λ (v : List (List ℕ)). Contains (map (output_of branch.output) m.partial) v) (sym (zip_outputs last branch.output row zip)) (contains_map (output_of branch.output) m.partial last ((m.partial_are last).1 leads)))))
                     h)),
               );
               are = m.are;

@@ -24,14 +24,14 @@ use Rattle.middleware.specs.Rounds.{requests_of, IsWanted, next_rows}
 use Rattle.middleware.specs.Branches.{IsReady, AreReady, ArePartial}
 use Rattle.middleware.proofs.Steps.{next_partial, is_round, requests_append, requests_one}
 
-none : {X : Type 0} (x : X) → Contains [] x → ⊥
+pub none : {X : Type 0} (x : X) → Contains [] x → ⊥
 none x c = omega arith
 
 all_from : {X : Type 0} (P : X → Type 0) (xs : List X) → ((x : X) → Contains xs x → P x) → AllByRecursion P xs
 all_from P [] each = tt
 all_from P (x ∷ xs) each = (each x (contains_here x xs), all_from P xs (λ y c. each y (contains_there x xs y c)))
 
-below : {X : Type 0} (P : X → Type 0) (xs : List X) (x : X) → AllByRecursion P xs → Contains xs x → P x
+pub below : {X : Type 0} (P : X → Type 0) (xs : List X) (x : X) → AllByRecursion P xs → Contains xs x → P x
 below P [] x all c = absurd (none x c)
 below P (y ∷ xs) x all c = elim (contains_cases y xs x c) [
   | inl here ↦ subst P here all.0

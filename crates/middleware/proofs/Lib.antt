@@ -4,6 +4,7 @@ pub mod Answering
 pub mod Steps
 pub mod Distinct
 pub mod Existing
+pub mod Alike
 pub mod Laning
 pub mod Finding
 pub mod Branching
@@ -13,3 +14,4 @@ pub mod Accessing
 pub mod Lacking
 pub mod Finished
 pub mod Whole
+pub mod Parting

@@ -1,5 +1,5 @@
 -- Rows in order: the place that a binary search finds.
-use Rattle.std.proofs.Common.{◌≡◌, ◌<◌, ◌+◌, ℕ, suc, List, length, map, get_or, Some, false, inl, inr, sym, ◌∙◌, ap, arith}
+use Rattle.std.proofs.Common.{◌≡◌, ◌<◌, ◌+◌, ℕ, suc, List, length, get_or, Some, false, inl, inr, sym, ◌∙◌, ap, arith}
 use Rattle.std.specs.Prelude.{Contains, slice_get, Err}
 use Rattle.std.specs.List.{HoldsAt}
 use Rattle.std.specs.List.Sorted.{IsStrictlySortedBy, IsSortedBy, IsBinarySearchResult}
@@ -10,7 +10,6 @@ use Rattle.std.proofs.lemmas.Cmp.{tied_itself}
 use Rattle.std.proofs.lemmas.List.Sorted.{searchable_from_sorted}
 use Rattle.std.proofs.lemmas.Option.{slice_get-get_or}
 use Rattle.std.proofs.lemmas.Bool.{cases_lt}
-use Rattle.lists.proofs.Members.{map_got}
 use Rattle.lists.proofs.Orders.{adjacent, rows_equal, rows_total}
 use Rattle.row_text.specs.RowText.{row_cmp}
 
@@ -40,8 +39,8 @@ found_there xs x i s search (k, less, e) =
     above_apart : Greater ≡ Equal → ⊥
     above_apart h = cc
 
--- the answer at the place of a request
-pub answered : {Y : Type 0} (answer : List (List ℕ) → Y) (requests : List (List (List ℕ))) (answers : List Y) (values : List (List ℕ)) (n : ℕ) → answers ≡ map answer requests → n < length requests → HoldsAt (λ y. row_cmp y values ≡ Equal) requests n → slice_get answers n ≡ Some (answer values)
-answered answer requests answers values n is less holds =
-    let same : get_or requests n values ≡ values = rows_equal _ _ (holds values) in
-    rw is (map_got answer requests n values (slice_get-get_or requests n values less ∙ ap (λ v. Some v) same))
+-- the row at the place that is found
+pub found_here : (xs : List (List (List ℕ))) (x : List (List ℕ)) (n : ℕ) → n < length xs → HoldsAt (λ y. row_cmp y x ≡ Equal) xs n → slice_get xs n ≡ Some x
+found_here xs x n less holds =
+    let same : get_or xs n x ≡ x = rows_equal _ _ (holds x) in
+    slice_get-get_or xs n x less ∙ ap (λ v. Some v) same

@@ -45,7 +45,7 @@ some_at : (o : Option (List ℕ)) (v : List ℕ) → o ≡ Some v → is_at o v 
 some_at o v e = rw e (nat_list_eq_equiv.refl v)
 
 -- what the loop computes is the relation
-joins_joined : (places : List Place) (values row next : List (List ℕ)) → joined places values row ≡ Some next → Joins places values row next
+pub joins_joined : (places : List Place) (values row next : List (List ℕ)) → joined places values row ≡ Some next → Joins places values row next
 joins_joined [] [] row next e = cc
 joins_joined [] (value ∷ values) row next e = absurd (cc)
 joins_joined (place ∷ places) [] row next e = absurd (cc)
@@ -86,14 +86,14 @@ pub flat_in : {X Y : Type 0} (f : X → List Y) (xs : List X) (x : X) (y : Y) �
 flat_in f [] x y c d = absurd (omega arith)
 flat_in f (z ∷ xs) x y c d = ⊎_elim (λ e. append_first (f z) (flat_map f xs) y (subst (λ w. Contains (f w) y) (sym e) d)) (λ h. append_second (f z) (flat_map f xs) y (flat_in f xs x y h d)) (contains_cases z xs x c)
 
-in_listed : {X : Type 0} (o : Option X) (x : X) → Contains (listed o) x → o ≡ Some x
+pub in_listed : {X : Type 0} (o : Option X) (x : X) → Contains (listed o) x → o ≡ Some x
 in_listed None x c = absurd (omega arith)
 in_listed (Some y) x c = ⊎_elim (λ e. ap (λ z. Some z) e) (λ h. absurd (no_member x h)) (contains_cases y [] x c)
   where
     no_member : {X : Type 0} (x : X) → Contains [] x → ⊥
     no_member x c = omega arith
 
-listed_in : {X : Type 0} (o : Option X) (x : X) → o ≡ Some x → Contains (listed o) x
+pub listed_in : {X : Type 0} (o : Option X) (x : X) → o ≡ Some x → Contains (listed o) x
 listed_in o x e = rw e (contains_here x [])
 
 -- the rows that a partial row grows to
@@ -158,7 +158,7 @@ rows_through places method facts instance rows through row c =
     flat_in (λ r. grown places (pick instance method.rel method.inputs (input_row_of places method.inputs r)) r) rows last row among (joins_grown places (pick instance method.rel method.inputs (input_row_of places method.inputs last)) last row values there j)
 
 -- the fact has the input value at each input place
-joins_input : (start : List (List ℕ)) (places : List Place) (values row next : List (List ℕ)) (p : ℕ) → Joins places values row next → ((k : ℕ) → k < length start → slice_get row k ≡ slice_get start k) → length start ≤ length row
+pub joins_input : (start : List (List ℕ)) (places : List Place) (values row next : List (List ℕ)) (p : ℕ) → Joins places values row next → ((k : ℕ) → k < length start → slice_get row k ≡ slice_get start k) → length start ≤ length row
     → IsInput (length start) (slice_get places p) → slice_get values p ≡ Some (input_value_or start (slice_get places p))
 joins_input start [] values row next p j old long i = absurd i
 joins_input start (place ∷ places) [] row next p j old long i = absurd j

@@ -21,7 +21,7 @@ grown_new places [] new fit = refl
 grown_new places (values ∷ answer) new fit = rw (joined_new places values [] new fit.0) (ap (λ (l : RowList). values ∷ l) (grown_new places answer new fit.1))
 
 -- the one list that is the answer to the one request
-answer_is : (f : List (List ℕ) → RowList) (requests : RowList) (answer : RowList) (values : List (List ℕ)) → answer ∷ [] ≡ map f requests → Contains requests values → answer ≡ f values
+pub answer_is : (f : List (List ℕ) → RowList) (requests : RowList) (answer : RowList) (values : List (List ℕ)) → answer ∷ [] ≡ map f requests → Contains requests values → answer ≡ f values
 answer_is f [] answer values is among = absurd (cc)
 answer_is f (request ∷ []) answer values is among = here (contains_cases request [] values among)
   where

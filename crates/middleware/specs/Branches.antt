@@ -1,5 +1,5 @@
 -- How far the rounds of a branch, and of a plan, have come.
-use Rattle.std.specs.Prelude.{◌≡◌, ◌↔◌, ◌⊎◌, ℕ, ◌-◌, ◌+◌, ◌^◌, ◌<◌, ◌≤◌, min, List, [], ◌∷◌, ◌++◌, length, map, take, Contains, slice_get, Option, Some, None}
+use Rattle.std.specs.Prelude.{◌≡◌, ◌↔◌, ◌⊎◌, ℕ, ◌-◌, ◌+◌, ◌^◌, ◌<◌, ◌≤◌, min, List, [], ◌∷◌, ◌++◌, length, map, take, Contains, slice_get, Option, Some, None, Bool}
 use Rattle.meaning.specs.declared.types.Fact.{Fact}
 use Rattle.meaning.specs.declared.types.Method.{Method}
 use Rattle.meaning.specs.declared.types.SchemaParts.{SchemaParts}
@@ -28,6 +28,7 @@ use Rattle.middleware.specs.Asked.{AskedJust, IsStepRequest}
 use Rattle.middleware.specs.Causes.{CallStops, CapStops}
 use Rattle.middleware.specs.Joining.{text_or}
 use Rattle.middleware.specs.Rounds.{requests_of, IsWanted, CanAskAll, next_rows, RoundCause}
+use Rattle.middleware.specs.Live.{AreAlike}
 use Rattle.middleware.specs.declared.round.RoundFault.{RoundFault}
 use Rattle.middleware.specs.declared.branch.BranchFault.{BranchFault}
 use Rattle.middleware.specs.declared.branch.BranchFault.TheVariants as branch
@@ -151,18 +152,20 @@ ArePartial schema facts steps rows = (row : List (List ℕ)) → Contains rows r
 abbrev pub AreOfSteps : SchemaParts → List Step → List Request → Type 0
 AreOfSteps schema steps requests = (request : Request) → Contains requests request → (step : Step) × Contains steps step × IsStepRequest schema step request
 
--- on an instance: the partial rows of the steps, and their requests
-pub record Means (schema : SchemaParts) (facts : List Fact) (steps : List Step) (rows : RowList) (requests : List Request) : Type 0 where
-  pub partial : ArePartial schema facts steps rows
+-- on an instance: the partial rows of the steps, to which the rows are alike, and their requests
+pub record Means (schema : SchemaParts) (facts : List Fact) (live : ℕ → Bool) (steps : List Step) (rows : RowList) (requests : List Request) : Type 0 where
+  pub partial : RowList
+  pub partial_are : ArePartial schema facts steps partial
+  pub alike : AreAlike live partial rows
   pub are : AreStepsRequests schema facts [] steps requests
 
--- the rounds of these steps are done: the partial rows, and the requests
-pub record Reached {S : Type 0} (seen : S → Seen) (schema : Schema) (steps : List Step) (rows : RowList) (before after : ℕ) (old new : List (Kind S)) : Type 0 where
+-- the rounds of these steps are done: rows alike the partial ones, and the requests
+pub record Reached {S : Type 0} (seen : S → Seen) (schema : Schema) (live : ℕ → Bool) (steps : List Step) (rows : RowList) (before after : ℕ) (old new : List (Kind S)) : Type 0 where
   pub list : List Request
   pub asks : AsksLane seen schema list old new
   pub count : after ≡ before + length list
   pub of_steps : AreOfSteps (meaning_of schema) steps list
-  pub means : (instance : List Fact) → HoldSteps seen schema steps old instance → Means (meaning_of schema) instance steps rows list
+  pub means : (instance : List Fact) → HoldSteps seen schema steps old instance → Means (meaning_of schema) instance live steps rows list
 
 -- on an instance: of the round of the nth step, for which there was room, the first requests were asked
 pub record BrokenAt (schema : SchemaParts) (facts : List Fact) (steps : List Step) (n before most : ℕ) (asked : List Request) : Type 0 where

@@ -6,6 +6,8 @@ pub mod Causes
 pub mod Joining
 pub mod WholeAnswer
 pub mod Rounds
+pub mod Live
+pub mod Parts
 pub mod Branches
 pub mod Sources
 pub mod Running

@@ -1,8 +1,10 @@
 // The rounds of one branch.
-ghost use Rattle.std.specs.Prelude.{◌≡◌, ◌≤◌, IfOk, IfErr, OnOk, [], ◌∷◌, map};
+ghost use Rattle.std.specs.Prelude.{◌≡◌, ◌≤◌, IfOk, IfErr, OnOk, [], ◌∷◌, length, drop, map};
 ghost use Rattle.access_schema.specs.Meaning.{meaning_of};
 ghost use Rattle.middleware.specs.Branches.{AreReady, IsReadyBranch, AreAskable, Reached, BranchStops, BranchGoes, stop_of, out_value, output_of, HasAdded};
+ghost use Rattle.middleware.specs.Live.{is_shown};
 
+use crate::live::live_rows;
 use crate::partial_rows::text_at;
 use crate::round::{Progress, RoundFault, next_round};
 use access_schema::Schema;
@@ -41,9 +43,17 @@ pub fn next_branch<S: Source + Send + Drop>(
         Ok(first) => Progress { rows: first, made },
         Err(_) => return Err(BranchFault::NoMemory),
     };
-    match run_steps(alloc, schema, lane, branch.steps.as_slice(), first, cap) {
+    let outs = branch.output.as_slice();
+    match run_steps(
+        alloc,
+        schema,
+        lane,
+        branch.steps.as_slice(),
+        outs,
+        first,
+        cap,
+    ) {
         Ok(reached) => {
-            let outs = branch.output.as_slice();
             match add_outputs(alloc, outs, &reached.rows, rows) {
                 Ok(rows) => Ok(Progress {
                     rows,
@@ -63,12 +73,13 @@ fn no_columns(alloc: Global) -> Result<PackedRows, AllocError>
     PackedRows::new(alloc).with_texts(&[])
 }
 
-// Asks the rounds of the steps in order.
+// Asks the rounds of the steps in order. Of the partial rows before each, the values that are named no more are dropped.
 fn run_steps<S: Source + Send + Drop>(
     alloc: Global,
     schema: &Schema,
     lane: &mut Lane<S>,
     steps: &[Step],
+    outs: &[Out],
     first: Progress,
     cap: u32,
 ) -> Result<Progress, BranchFault>
@@ -76,7 +87,7 @@ fn run_steps<S: Source + Send + Drop>(
     requires askable { AreAskable S.seen schema.now lane.old.kinds.items steps.now }
     requires empty { first.rows ≡ [] ∷ [] }
     requires cap { first.made ≤ cap }
-    ensures reached { IfOk result (λ p. Reached S.seen schema.now steps.now p.rows first.made p.made lane.old.kinds.items lane.new.kinds.items) }
+    ensures reached { IfOk result (λ p. Reached S.seen schema.now (is_shown outs.now) steps.now p.rows first.made p.made lane.old.kinds.items lane.new.kinds.items) }
     ensures within { IfOk result (λ p. p.made ≤ cap) }
     ensures stops { IfErr result (λ fault. BranchStops S.seen schema.now steps.now first.made cap fault lane.old.kinds.items lane.new.kinds.items) }
     ensures stopped { lane.new.stopped ≡ lane.old.stopped }
@@ -84,14 +95,26 @@ fn run_steps<S: Source + Send + Drop>(
     let mut progress = first;
     let mut number: usize = 0;
     for step in steps {
-        let made = progress.made;
-        progress = match next_round(alloc, schema, lane, step, progress, cap) {
+        let Progress { rows, made } = progress;
+        let live = Progress {
+            rows: live_rows(alloc, after(steps, number), outs, rows),
+            made,
+        };
+        progress = match next_round(alloc, schema, lane, step, live, cap) {
             Ok(progress) => progress,
             Err(fault) => return Err(stop_at(number, made, fault)),
         };
         number += 1;
     }
     Ok(progress)
+}
+
+// The steps from a number on.
+fn after(steps: &[Step], number: usize) -> &[Step]
+    requires { number ≤ length steps.now }
+    ensures { result.now ≡ drop number steps.now }
+{
+    &steps[number..]
 }
 
 fn stop_at(step: usize, made: u32, fault: RoundFault) -> BranchFault

@@ -1,14 +1,15 @@
 // A round's answers joined with the partial rows.
-ghost use Rattle.std.specs.Prelude.{◌≡◌, ◌++◌, List, ℕ, Contains, IfOk, OnOk, Some, None, if◌then◌else◌, map, flat_map, option_copied, slice_get};
+ghost use Rattle.std.specs.Prelude.{◌≡◌, ◌++◌, List, ℕ, Contains, IfOk, IfSome, IsNone, OnOk, Some, None, if◌then◌else◌, map, flat_map, option_copied, slice_get};
 ghost use Rattle.std.specs.List.Sorted.{IsStrictlySortedBy};
 ghost use Rattle.source_trait.specs.Asking.{RowList};
 ghost use Rattle.row_text.specs.RowText.{row_cmp};
 ghost use Rattle.middleware.specs.Joining.{joined, grown, is_at, input_row_of, input_value_or, text_or};
 
+use crate::parts::{known_places, parts_by_key};
 use crate::whole_answer::{grows_to_answer, only_answer};
 use lists::{Row, Text};
 use meaning::types::Place;
-use row_text::{LentRow, PackedRows};
+use row_text::{LentRow, PackedRows, ascending_distinct};
 use std::alloc::{AllocError, Global};
 use std::cmp::Ordering;
 
@@ -32,8 +33,48 @@ pub fn join(
     if grows_to_answer(places, answers.as_slice(), rows) {
         return Ok(only_answer(alloc, answers));
     }
+    if rows.len() > 1
+        && let [only] = answers.as_slice()
+    {
+        let joined = join_only(alloc, places, only, rows)?;
+        return Ok(joined);
+    }
     let next = join_each(alloc, places, inputs, requests, answers.as_slice(), rows)?;
     Ok(next)
+}
+
+// Each partial row joined with the only answer: with those of its rows alone that have its values at the known places.
+fn join_only(
+    alloc: Global,
+    places: &[Place],
+    answer: &PackedRows,
+    rows: &PackedRows,
+) -> Result<PackedRows, AllocError>
+    ensures { IfOk result (λ next. next ≡ flat_map (grown places.now answer.now) rows.now) }
+{
+    let known = known_places(alloc, places, rows)?;
+    let positions = known.as_slice();
+    let list = keys_of(alloc, places, positions, rows)?;
+    let keys = list.as_slice();
+    let parts = parts_by_key(alloc, positions, keys, answer)?;
+    let next = join_each(alloc, places, positions, keys, parts.as_slice(), rows)?;
+    Ok(next)
+}
+
+// The distinct input rows of the partial rows, ascending.
+fn keys_of(
+    alloc: Global,
+    places: &[Place],
+    positions: &[u32],
+    rows: &PackedRows,
+) -> Result<Vec<Row>, AllocError>
+    ensures ascends { IfOk result (λ keys. IsStrictlySortedBy row_cmp keys.items) }
+    ensures there { IfOk result (λ keys. (row : List (List ℕ)) → Contains rows.now row → Contains keys.items (input_row_of places.now positions.now row)) }
+{
+    let list = input_rows(alloc, places, positions, rows)?;
+    let distinct = ascending_distinct(alloc, &list)?;
+    let keys = distinct.rows(alloc)?;
+    Ok(keys)
 }
 
 // Each partial row joined with the answer to its request.
@@ -87,6 +128,24 @@ fn answer_to<'a>(
     Ok(answer_for(requests, answers, values.as_slice()))
 }
 
+/// The input row of each partial row.
+pub fn input_rows(
+    alloc: Global,
+    places: &[Place],
+    inputs: &[u32],
+    rows: &PackedRows,
+) -> Result<PackedRows, AllocError>
+    ensures { IfOk result (λ list. list ≡ map (input_row_of places.now inputs.now) rows.now) }
+{
+    let mut texts = Vec::new(alloc);
+    let mut list = PackedRows::new(alloc);
+    for number in 0..rows.len() {
+        input_texts(places, inputs, &rows.at(number), &mut texts)?;
+        list = list.with_texts(texts.as_slice())?;
+    }
+    Ok(list)
+}
+
 /// The texts that the partial row has at the input positions, in place of those that were there.
 pub fn input_texts<'a>(
     places: &'a [Place],
@@ -133,14 +192,9 @@ fn answer_for<'a>(
     requires ascends { IsStrictlySortedBy row_cmp requests.now }
     ensures { (answer : List (List ℕ) → RowList) → answers.now ≡ map answer requests.now → Contains requests.now (map (λ s. s.now) values.now) → option_copied result ≡ Some (answer (map (λ s. s.now) values.now)) }
 {
-    let found = requests.binary_search_by(
-        |request: &Row| -> Ordering
-            ensures { result ≡ row_cmp request.now (map (λ s. s.now) values.entry.now) }
-        { compare(request.as_slice(), values) },
-    );
-    match found {
-        Ok(number) => answer_at(answers, number),
-        Err(_) => None,
+    match place_of(requests, values) {
+        Some(number) => answer_at(answers, number),
+        None => None,
     }
 }
 
@@ -148,6 +202,23 @@ fn answer_at(answers: &[PackedRows], number: usize) -> Option<&PackedRows>
     ensures { option_copied result ≡ slice_get answers.now number }
 {
     answers.get(number)
+}
+
+/// The place among ascending rows of the one with these values, if it is there.
+pub fn place_of(rows: &[Row], values: &[&str]) -> Option<usize>
+    requires ascends { IsStrictlySortedBy row_cmp rows.now }
+    ensures there { IfSome result (λ number. slice_get rows.now number ≡ Some (map (λ s. s.now) values.now)) }
+    ensures absent { IsNone result → Contains rows.now (map (λ s. s.now) values.now) → ⊥ }
+{
+    let found = rows.binary_search_by(
+        |row: &Row| -> Ordering
+            ensures { result ≡ row_cmp row.now (map (λ s. s.now) values.entry.now) }
+        { compare(row.as_slice(), values) },
+    );
+    match found {
+        Ok(number) => Some(number),
+        Err(_) => None,
+    }
 }
 
 // Compares a row with the row of these texts, column by column.

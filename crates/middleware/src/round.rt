@@ -1,16 +1,15 @@
 // One round: the requests of a step, their answers, and the next partial rows.
-ghost use Rattle.std.specs.Prelude.{◌≡◌, ◌≤◌, ◌<◌, ◌-◌, ◌↔◌, List, ℕ, Contains, IfOk, IfErr, map, length};
+ghost use Rattle.std.specs.Prelude.{◌≡◌, ◌≤◌, ◌<◌, ◌-◌, ◌↔◌, List, ℕ, Contains, IfOk, IfErr, length};
 ghost use Rattle.meaning.specs.declared.types.Method.{Method};
 ghost use Rattle.meaning.specs.Plans.{IsMethod};
 ghost use Rattle.access_schema.specs.Meaning.{meaning_of};
 ghost use Rattle.source_trait.specs.Lanes.{AtKind, StepsOn};
-ghost use Rattle.middleware.specs.Joining.{input_row_of};
 ghost use Rattle.middleware.specs.Rounds.{IsWanted, CanAskAll, RoundAnswers, RoundRefused};
 ghost use Rattle.middleware.specs.Branches.{IsAskable, RoundGoes, RoundStops};
 
 use crate::ask::ask_all;
 use crate::lookup::{find_line, find_method};
-use crate::partial_rows::{input_texts, join};
+use crate::partial_rows::{input_rows, join};
 use access_schema::{Method, Schema};
 use lists::{Row, Text};
 use meaning::types::{Place, Step};
@@ -167,22 +166,4 @@ fn wanted_rows(
         rows: distinct,
         requests,
     })
-}
-
-// The input row of each partial row.
-fn input_rows(
-    alloc: Global,
-    places: &[Place],
-    inputs: &[u32],
-    rows: &PackedRows,
-) -> Result<PackedRows, AllocError>
-    ensures { IfOk result (λ list. list ≡ map (input_row_of places.now inputs.now) rows.now) }
-{
-    let mut texts = Vec::new(alloc);
-    let mut list = PackedRows::new(alloc);
-    for number in 0..rows.len() {
-        input_texts(places, inputs, &rows.at(number), &mut texts)?;
-        list = list.with_texts(texts.as_slice())?;
-    }
-    Ok(list)
 }

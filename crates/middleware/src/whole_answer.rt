@@ -60,7 +60,8 @@ fn are_new(places: &[Place]) -> bool
     true
 }
 
-fn have_arity(rows: &PackedRows, arity: usize) -> bool
+/// Whether each of the rows has so many values.
+pub fn have_arity(rows: &PackedRows, arity: usize) -> bool
     ensures { IsTrue result → HaveArity arity rows.now }
 {
     for number in 0..rows.len() {

@@ -2,6 +2,7 @@ use Rattle.std.proofs.Common.{List, refl, subst}
 use Rattle.std.specs.Prelude.{Contains}
 use Rattle.meaning.specs.declared.types.Step.{Step}
 use Rattle.access_schema.proofs.Keeping.{well_formed}
+use Rattle.middleware.specs.Live.{is_shown}
 use Rattle.middleware.proofs.Branching.{branch_none, branch_full, branch_goes}
 use Rattle.middleware.proofs.branch.next_branch.Goals as goal
 
@@ -21,5 +22,5 @@ returns-in-Ok-add_outputs-clause-goes g c =
 
 pub returns-in-Ok-run_steps-clause-stops : goal.returns-in-Ok-run_steps-clause-stops
 returns-in-Ok-run_steps-clause-stops g c =
-    branch_full g.S.Source.seen c.args.schema.now (well_formed c.args.schema.now) c.args.branch.now.steps c.as_slice.result.now c.as_slice.ensures c.in-Ok-run_steps.reached.rows c.args.progress.made c.in-Ok-run_steps.reached.made c.args.cap
+    branch_full g.S.Source.seen c.args.schema.now (well_formed c.args.schema.now) (is_shown c.as_slice-outs.result.now) c.args.branch.now.steps c.as_slice.result.now c.as_slice.ensures c.in-Ok-run_steps.reached.rows c.args.progress.made c.in-Ok-run_steps.reached.made c.args.cap
     c.args.lane.now.kinds.items c.run_steps.new.lane.kinds.items c.in-Ok-run_steps.ensures.reached

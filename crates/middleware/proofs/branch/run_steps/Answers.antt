@@ -1,13 +1,20 @@
-use Rattle.std.proofs.Common.{◌≡◌, Some, refl, ◌+◌, ◌∙◌, ap, sym, arith, ℕ}
+use Rattle.std.proofs.Common.{◌≡◌, Some, refl, ◌+◌, ◌∙◌, List, ap, drop, subst, sym, arith, ℕ}
 use Rattle.std.specs.Prelude.{Contains, slice_get}
 use Rattle.std.proofs.lemmas.Option.{slice_get_read}
+use Rattle.meaning.specs.declared.types.Step.{Step}
+use Rattle.meaning.specs.declared.types.Out.{Out}
+use Rattle.source_trait.specs.Asking.{RowList}
 use Rattle.access_schema.proofs.Keeping.{well_formed}
+use Rattle.middleware.specs.Live.{AreAlike, is_live}
 use Rattle.middleware.proofs.Branching.{reached_none, one_more, all_reached, steps_stop, askable_later}
 use Rattle.middleware.proofs.branch.run_steps.Goals as goal
 
+near_rows : (steps rest : List Step) (outs : List Out) (number i : ℕ) (rows kept : RowList) → rest ≡ drop number steps → number ≡ i → AreAlike (is_live rest outs) rows kept → AreAlike (is_live (drop i steps) outs) rows kept
+near_rows steps rest outs number i rows kept is same near = subst (λ (s : List Step). AreAlike (is_live s outs) rows kept) (is ∙ ap (λ (n : ℕ). drop n steps) same) near
+
 pub loop-step-init : goal.loop-step-init
 loop-step-init g c = record {
-  reached = reached_none g.S.Source.seen c.args.schema.now (well_formed c.args.schema.now) c.args.first.rows c.requires.empty c.args.first.made c.args.lane.now.kinds.items;
+  reached = reached_none g.S.Source.seen c.args.schema.now (well_formed c.args.schema.now) (is_live c.args.steps.now c.args.outs.now) c.args.first.rows c.requires.empty c.args.first.made c.args.lane.now.kinds.items;
   number = refl;
   within = c.requires.cap;
   stopped = refl;
@@ -26,9 +33,9 @@ next_round-requires-clause-askable g c κs within = λ method named.
 
 pub loop-step-preserved : goal.loop-step-preserved
 loop-step-preserved g c = record {
-  reached = one_more g.S.Source.seen c.args.schema.now (well_formed c.args.schema.now) c.args.steps.now c.requires.ready c.loop-step.step-index c.step-item.result (omega arith) c.step-item.is
-      c.loop-step.progress.rows c.in-Ok.progress.rows c.args.first.made c.loop-step.progress.made c.in-Ok.progress.made c.args.lane.now.kinds.items c.loop-step.lane.kinds.items c.next_round.new.lane.kinds.items
-      c.loop-step.invariant.reached c.in-Ok.ensures.goes;
+  reached = one_more g.S.Source.seen c.args.schema.now (well_formed c.args.schema.now) c.args.steps.now c.requires.ready c.args.outs.now c.loop-step.step-index c.step-item.result (omega arith) c.step-item.is
+      c.loop-step.progress.rows c.live_rows.result c.in-Ok.progress.rows c.args.first.made c.loop-step.progress.made c.in-Ok.progress.made c.args.lane.now.kinds.items c.loop-step.lane.kinds.items c.next_round.new.lane.kinds.items
+      c.loop-step.invariant.reached (near_rows c.args.steps.now c.after.result.now c.args.outs.now c.loop-step.number c.loop-step.step-index c.loop-step.progress.rows c.live_rows.result c.after.ensures c.loop-step.invariant.number c.live_rows.ensures) c.in-Ok.ensures.goes;
   number = ap (λ (n : ℕ). n + 1) c.loop-step.invariant.number;
   within = c.in-Ok.ensures.within;
   stopped = c.next_round.ensures.stopped ∙ c.loop-step.invariant.stopped;
@@ -37,10 +44,10 @@ loop-step-preserved g c = record {
 pub returns-in-Err-clause-stops : goal.returns-in-Err-clause-stops
 returns-in-Err-clause-stops g c =
     rw c.stop_at.ensures (steps_stop g.S.Source.seen c.args.schema.now (well_formed c.args.schema.now) c.args.steps.now c.requires.ready c.loop-step.step-index c.loop-step.number c.loop-step.invariant.number c.step-item.result (omega arith) c.step-item.is
-    c.loop-step.progress.rows c.args.first.made c.loop-step.progress.made c.args.cap c.loop-step.invariant.within c.in-Err.fault c.args.lane.now.kinds.items c.loop-step.lane.kinds.items c.next_round.new.lane.kinds.items
-    c.loop-step.invariant.reached c.in-Err.ensures.stops)
+    c.args.outs.now c.loop-step.progress.rows c.live_rows.result c.args.first.made c.loop-step.progress.made c.args.cap c.loop-step.invariant.within c.in-Err.fault c.args.lane.now.kinds.items c.loop-step.lane.kinds.items c.next_round.new.lane.kinds.items
+    c.loop-step.invariant.reached (near_rows c.args.steps.now c.after.result.now c.args.outs.now c.loop-step.number c.loop-step.step-index c.loop-step.progress.rows c.live_rows.result c.after.ensures c.loop-step.invariant.number c.live_rows.ensures) c.in-Err.ensures.stops)
 
 pub returns-clause-reached : goal.returns-clause-reached
 returns-clause-reached g c =
-    all_reached g.S.Source.seen c.args.schema.now (well_formed c.args.schema.now) c.args.steps.now c.loop-step.step-index (omega arith) c.loop-step.progress.rows c.args.first.made c.loop-step.progress.made c.args.lane.now.kinds.items c.loop-step.lane.kinds.items
+    all_reached g.S.Source.seen c.args.schema.now (well_formed c.args.schema.now) c.args.steps.now c.args.outs.now c.loop-step.step-index (omega arith) c.loop-step.progress.rows c.args.first.made c.loop-step.progress.made c.args.lane.now.kinds.items c.loop-step.lane.kinds.items
     c.loop-step.invariant.reached

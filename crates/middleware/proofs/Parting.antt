@@ -1,0 +1,150 @@
+-- An answer parted by the values at its known places.
+use Rattle.std.proofs.Common.{◌≡◌, inl, inr, ◌<◌, ◌+◌, ◌∙◌, ℕ, zero, suc, List, [], ◌∷◌, ◌++◌, length, map, take, get_or, Option, None, Some, Bool, true, false, cond, Vec, Global, refl, sym, ap, subst, arith}
+use Rattle.std.specs.Prelude.{Contains, slice_get, slice_set, slice_index_or, flat_map}
+use Rattle.std.specs.List.Sorted.{IsStrictlySortedBy}
+use Rattle.std.specs.declared.cmp.Ordering.TheVariants.{Less, Equal}
+use Rattle.std.proofs.lemmas.Cmp.{tied_itself}
+use Rattle.std.proofs.lemmas.List.{append-nil, take_more}
+use Rattle.std.proofs.lemmas.List.Elements.{filter-append}
+use Rattle.lists.proofs.Members.{contains_here, contains_there, contains_cases, contains_got, map_same}
+use Rattle.lists.proofs.Orders.{rows_equiv, rows_same_equal, rows_total}
+use Rattle.meaning.specs.declared.types.Place.{Place}
+use Rattle.source_trait.specs.Asking.{RowList}
+use Rattle.row_text.specs.RowText.{row_cmp, row_eq}
+use Rattle.middleware.specs.Joining.{joined, listed, grown, text_or, input_value_or, input_row_of}
+use Rattle.middleware.specs.Branches.{IsInput}
+use Rattle.middleware.specs.Parts.{key_of, part_of}
+use Rattle.middleware.proofs.Existing.{none, below}
+use Rattle.middleware.proofs.Steps.{joins_joined, joins_input}
+use Rattle.middleware.proofs.Whole.{answer_is}
+
+module _ (places : List Place) (columns : ℕ) where
+  abbrev AreKnown : List ℕ → Type 0
+  AreKnown known = (p : ℕ) → Contains known p → IsInput columns (slice_get places p)
+
+  pub known_more : (old new pushed : Vec ℕ Global) (x : ℕ) → new ≡ pushed → pushed.items ≡ old.items ++ x ∷ [] → IsInput columns (slice_get places x) → AreKnown old.items → AreKnown new.items
+  known_more old new pushed x same is here each p c = push old.items each (subst (λ (l : List ℕ). Contains l p) is (subst (λ (v : Vec ℕ Global). Contains v.items p) same c))
+    where
+      push : (old : List ℕ) → AreKnown old → Contains (old ++ x ∷ []) p → IsInput columns (slice_get places p)
+      push [] each c = elim (contains_cases x [] p c) [
+        | inl e ↦ subst (λ q. IsInput columns (slice_get places q)) e here
+        | inr d ↦ absurd (none p d)
+      ]
+      push (y ∷ old) each c = elim (contains_cases y (old ++ x ∷ []) p c) [
+        | inl e ↦ each p (subst (λ z. Contains (y ∷ old) z) e (contains_here y old))
+        | inr d ↦ push old (λ q among. each q (contains_there y old q among)) d
+      ]
+
+  pub kept_known : (old new : Vec ℕ Global) → new ≡ old → AreKnown old.items → AreKnown new.items
+  kept_known old new same each = subst (λ (v : Vec ℕ Global). AreKnown v.items) (sym same) each
+
+pub set_twice : {X : Type 0} (xs : List X) (i : ℕ) (a b : X) → slice_set (slice_set xs i a) i b ≡ slice_set xs i b
+set_twice [] i a b = refl
+set_twice (x ∷ xs) zero a b = refl
+set_twice (x ∷ xs) (suc i) a b = ap (λ (l : List _). x ∷ l) (set_twice xs i a b)
+
+-- ---- the parts after one row more
+
+module _ (positions : List ℕ) (taken : RowList) (row : List (List ℕ)) where
+  abbrev more : List (List ℕ) → RowList
+  more key = part_of positions (taken ++ row ∷ []) key
+
+  abbrev had : List (List ℕ) → RowList
+  had key = part_of positions taken key
+
+  part_pushed : (key : List (List ℕ)) (b : Bool) → row_eq (key_of positions row) key ≡ b → more key ≡ had key ++ cond b (row ∷ []) []
+  part_pushed key b e = filter-append (λ r. row_eq (key_of positions r) key) taken (row ∷ []) ∙ ap (λ (c : Bool). had key ++ cond c (row ∷ []) []) e
+
+  part_other : (key : List (List ℕ)) → (key_of positions row ≡ key → ⊥) → more key ≡ had key
+  part_other key other = go (row_eq (key_of positions row) key) refl
+    where
+      go : (b : Bool) → row_eq (key_of positions row) key ≡ b → more key ≡ had key
+      go true e = absurd (other (rows_same_equal (key_of positions row) key e))
+      go false e = part_pushed key false e ∙ append-nil (had key)
+
+  part_here : (key : List (List ℕ)) → key_of positions row ≡ key → more key ≡ had key ++ row ∷ []
+  part_here key e = part_pushed key true (subst (λ k. row_eq (key_of positions row) k ≡ true) e (rows_equiv.refl (key_of positions row)))
+
+  pub parts_same : (keys : RowList) → (Contains keys (key_of positions row) → ⊥) → map had keys ≡ map more keys
+  parts_same keys absent = map_same had more keys (λ key among. sym (part_other key (λ e. absent (subst (λ k. Contains keys k) (sym e) among))))
+
+  apart : (key : List (List ℕ)) → row_cmp key key ≡ Less → ⊥
+  apart key less = let tied : row_cmp key key ≡ Equal = tied_itself rows_total key in clash (sym less ∙ tied)
+    where
+      clash : Less ≡ Equal → ⊥
+      clash h = cc
+
+  pub parts_more : (keys : RowList) (n : ℕ) → IsStrictlySortedBy row_cmp keys → slice_get keys n ≡ Some (key_of positions row)
+      → slice_set (map had keys) n (slice_index_or (map had keys) n [] ++ row ∷ []) ≡ map more keys
+  unfolding IsStrictlySortedBy
+  parts_more [] n ascends at = absurd (cc)
+  parts_more (key ∷ keys) zero ascends at =
+      let same : key_of positions row ≡ key = cc in
+      let absent : Contains keys (key_of positions row) → ⊥ = λ c. apart key (below (λ z. row_cmp key z ≡ Less) keys key ascends.0 (subst (λ k. Contains keys k) same c)) in
+      ap (λ (l : RowList). l ∷ map had keys) (sym (part_here key same)) ∙ ap (λ (l : List RowList). more key ∷ l) (parts_same keys absent)
+  parts_more (key ∷ keys) (suc n) ascends at =
+      let among : Contains keys (key_of positions row) = contains_got keys n (key_of positions row) at in
+      let other : key_of positions row ≡ key → ⊥ = λ e. apart key (below (λ z. row_cmp key z ≡ Less) keys key ascends.0 (subst (λ k. Contains keys k) e among)) in
+      ap (λ (l : RowList). l ∷ slice_set (map had keys) n (slice_index_or (map had keys) n [] ++ row ∷ [])) (sym (part_other key other))
+      ∙ ap (λ (l : List RowList). more key ∷ l) (parts_more keys n ascends.1 at)
+
+module _ (positions : List ℕ) (answer keys : RowList) (i : ℕ) (row values : List (List ℕ)) (less : i < length answer) (at : row ≡ get_or answer i []) (key : values ≡ key_of positions row)
+    (old new : List RowList) (so_far : old ≡ map (part_of positions (take i answer)) keys) where
+  taken : take (i + 1) answer ≡ take i answer ++ row ∷ []
+  taken = take_more answer i [] less ∙ ap (λ (r : List (List ℕ)). take i answer ++ r ∷ []) (sym at)
+
+  -- the row has a key
+  pub parts_with : (place : ℕ) → IsStrictlySortedBy row_cmp keys → slice_get keys place ≡ Some values → new ≡ slice_set old place (slice_index_or old place [] ++ row ∷ []) → new ≡ map (part_of positions (take (i + 1) answer)) keys
+  parts_with place ascends found is =
+      is ∙ ap (λ (l : List RowList). slice_set l place (slice_index_or l place [] ++ row ∷ [])) so_far
+      ∙ parts_more positions (take i answer) row keys place ascends (subst (λ (v : List (List ℕ)). slice_get keys place ≡ Some v) key found)
+      ∙ ap (λ (l : RowList). map (part_of positions l) keys) (sym taken)
+
+  -- the row has none
+  pub parts_without : (Contains keys values → ⊥) → new ≡ old → new ≡ map (part_of positions (take (i + 1) answer)) keys
+  parts_without absent is =
+      is ∙ so_far ∙ parts_same positions (take i answer) row keys (subst (λ (v : List (List ℕ)). Contains keys v → ⊥) key absent)
+      ∙ ap (λ (l : RowList). map (part_of positions l) keys) (sym taken)
+
+-- ---- the rows that a partial row grows to
+
+module _ (places : List Place) (known : List ℕ) (row : List (List ℕ)) (are : (p : ℕ) → Contains known p → IsInput (length row) (slice_get places p)) where
+  key_same : (values next : List (List ℕ)) → joined places values row ≡ Some next → key_of known values ≡ input_row_of places known row
+  key_same values next is = map_same (λ p. text_or (slice_get values p)) (λ p. input_value_or row (slice_get places p)) known
+      (λ p c. ap text_or (joins_input row places values row next p (joins_joined places values row next is) (λ k l. refl) (omega arith) (are p c)))
+
+  listed_part : (values : List (List ℕ)) (b : Bool) → row_eq (key_of known values) (input_row_of places known row) ≡ b → (rest all : RowList) → grown places rest row ≡ grown places all row
+      → grown places (cond b (values ∷ rest) rest) row ≡ grown places (values ∷ all) row
+  listed_part values true e rest all same = ap (λ (l : RowList). listed (joined places values row) ++ l) same
+  listed_part values false e rest all same = go (joined places values row) refl
+    where
+      go : (o : Option (List (List ℕ))) → joined places values row ≡ o → grown places rest row ≡ listed (joined places values row) ++ grown places all row
+      go None is = rw is same
+      go (Some next) is = absurd (clash (sym e ∙ subst (λ k. row_eq (key_of known values) k ≡ true) (key_same values next is) (rows_equiv.refl (key_of known values))))
+        where
+          clash : false ≡ true → ⊥
+          clash h = cc
+
+  -- by its part of the answer alone
+  pub grown_part : (answer : RowList) → grown places (part_of known answer (input_row_of places known row)) row ≡ grown places answer row
+  grown_part [] = refl
+  grown_part (values ∷ answer) = listed_part values (row_eq (key_of known values) (input_row_of places known row)) refl (part_of known answer (input_row_of places known row)) answer (grown_part answer)
+
+flat_same : {X Y : Type 0} (f g : X → List Y) (xs : List X) → ((x : X) → Contains xs x → f x ≡ g x) → flat_map f xs ≡ flat_map g xs
+flat_same f g [] same = refl
+flat_same f g (x ∷ xs) same =
+    let here = same x (contains_here x xs) in
+    ap (λ (l : List _). l ++ flat_map f xs) here ∙ ap (λ (l : List _). g x ++ l) (flat_same f g xs (λ y c. same y (contains_there x xs y c)))
+
+pub grown_parts : (places : List Place) (known : List ℕ) (rows answer : RowList) → ((row : List (List ℕ)) (p : ℕ) → Contains rows row → Contains known p → IsInput (length row) (slice_get places p))
+    → flat_map (λ row. grown places (part_of known answer (input_row_of places known row)) row) rows ≡ flat_map (grown places answer) rows
+grown_parts places known rows answer are =
+    flat_same (λ row. grown places (part_of known answer (input_row_of places known row)) row) (grown places answer) rows (λ row c. grown_part places known row (λ p d. are row p c d) answer)
+
+-- the one answer is that to each row's request
+pub only_grown : (places : List Place) (inputs : List ℕ) (requests rows : RowList) (answers : List RowList) (only : RowList) (f : List (List ℕ) → RowList)
+    → answers ≡ only ∷ [] → answers ≡ map f requests → ((row : List (List ℕ)) → Contains rows row → Contains requests (input_row_of places inputs row))
+    → flat_map (grown places only) rows ≡ flat_map (λ row. grown places (f (input_row_of places inputs row)) row) rows
+only_grown places inputs requests rows answers only f one is asked =
+    flat_same (grown places only) (λ row. grown places (f (input_row_of places inputs row)) row) rows
+    (λ row c. ap (λ (l : RowList). grown places l row) (answer_is f requests only (input_row_of places inputs row) (sym one ∙ is) (asked row c)))

@@ -1,0 +1,159 @@
+// Columns that no later place names: their values are dropped, so that rows that differ in them alone become doubles.
+ghost use Rattle.std.specs.Prelude.{◌≡◌, ◌∷◌, IfOk, OnOk, List, ℕ, map};
+ghost use Rattle.middleware.specs.Live.{AreAlike, KeepsLive, is_live, is_named, is_shown, masked};
+
+use meaning::types::{Out, Place, Step};
+use row_text::{LentRow, PackedRows};
+use std::alloc::{AllocError, Global};
+
+/// The partial rows with the empty text at each column that no place of the steps and of the output names.
+///
+/// Where there is no memory for that, they stay as they are.
+pub fn live_rows(alloc: Global, steps: &[Step], outs: &[Out], rows: PackedRows) -> PackedRows
+    ensures { AreAlike (is_live steps.now outs.now) rows result }
+{
+    if rows.len() < 2 || all_live(steps, outs, width_of(&rows)) {
+        return rows;
+    }
+    match without_dead(alloc, steps, outs, &rows) {
+        Ok(kept) => kept,
+        Err(_) => rows,
+    }
+}
+
+fn without_dead(
+    alloc: Global,
+    steps: &[Step],
+    outs: &[Out],
+    rows: &PackedRows,
+) -> Result<PackedRows, AllocError>
+    ensures { IfOk result (λ kept. AreAlike (is_live steps.now outs.now) rows.now kept) }
+{
+    let mask = live_columns(alloc, steps, outs, width_of(rows))?;
+    let kept = masked_rows(alloc, mask.as_slice(), rows)?;
+    Ok(kept)
+}
+
+// How many values the first row has.
+fn width_of(rows: &PackedRows) -> usize {
+    if rows.len() == 0 { 0 } else { rows.at(0).len() }
+}
+
+// Whether each of the first columns is live.
+fn all_live(steps: &[Step], outs: &[Out], width: usize) -> bool {
+    for column in 0..width {
+        if !is_live_column(steps, outs, column) {
+            return false;
+        }
+    }
+    true
+}
+
+// Which of the first columns are live.
+fn live_columns(
+    alloc: Global,
+    steps: &[Step],
+    outs: &[Out],
+    width: usize,
+) -> Result<Vec<bool>, AllocError>
+    ensures { IfOk result (λ mask. KeepsLive (is_live steps.now outs.now) mask.items) }
+{
+    let mut mask = Vec::new(alloc);
+    for column in 0..width {
+        mask.push(is_live_column(steps, outs, column))?;
+    }
+    Ok(mask)
+}
+
+fn is_live_column(steps: &[Step], outs: &[Out], column: usize) -> bool
+    ensures { result ≡ is_live steps.now outs.now column }
+{
+    let mut left = steps;
+    while let [step, rest @ ..] = left {
+        if is_named_column(step.places.as_slice(), column) {
+            return true;
+        }
+        left = rest;
+    }
+    is_shown_column(outs, column)
+}
+
+fn is_named_column(places: &[Place], column: usize) -> bool
+    ensures { result ≡ is_named places.now column }
+{
+    let mut left = places;
+    while let [place, rest @ ..] = left {
+        match place {
+            Place::Col(named) => {
+                if *named as usize == column {
+                    return true;
+                }
+            }
+            Place::Const(_) => {}
+            Place::New => {}
+        }
+        left = rest;
+    }
+    false
+}
+
+fn is_shown_column(outs: &[Out], column: usize) -> bool
+    ensures { result ≡ is_shown outs.now column }
+{
+    let mut left = outs;
+    while let [out, rest @ ..] = left {
+        match out {
+            Out::Col(named) => {
+                if *named as usize == column {
+                    return true;
+                }
+            }
+            Out::Const(_) => {}
+        }
+        left = rest;
+    }
+    false
+}
+
+fn masked_rows(alloc: Global, mask: &[bool], rows: &PackedRows) -> Result<PackedRows, AllocError>
+    ensures { IfOk result (λ kept. kept ≡ map (masked mask.now) rows.now) }
+{
+    let mut values = Vec::new(alloc);
+    let mut texts = Vec::new(alloc);
+    let mut kept = PackedRows::new(alloc);
+    for number in 0..rows.len() {
+        values.clear();
+        rows.at(number).add_to(&mut values)?;
+        masked_texts(mask, values.as_slice(), &mut texts)?;
+        kept = kept.with_texts(texts.as_slice())?;
+    }
+    Ok(kept)
+}
+
+// The texts that the mask keeps, and empty ones for the others, in place of the texts that were there.
+fn masked_texts<'a>(
+    mask: &[bool],
+    values: &[&'a str],
+    texts: &mut Vec<&'a str>,
+) -> Result<(), AllocError>
+    ensures { OnOk result (map (λ s. s.now) texts.new.items ≡ masked mask.now (map (λ s. s.now) values.now)) }
+{
+    texts.clear();
+    let mut left = mask;
+    for value in values {
+        let (text, rest) = masked_text(left, value);
+        texts.push(text)?;
+        left = rest;
+    }
+    Ok(())
+}
+
+// The value, or the empty text where the first of the mask drops it, and the rest of the mask.
+fn masked_text<'m, 'a>(mask: &'m [bool], value: &'a str) -> (&'a str, &'m [bool])
+    ensures { (row : List (List ℕ)) → result.0.now ∷ masked result.1.now row ≡ masked mask.now (value.now ∷ row) }
+{
+    match mask {
+        [keep, rest @ ..] => { if *keep { (value, rest) } else { ("", rest) } }
+        [] => (value, mask),
+    }
+}
