@@ -1,5 +1,5 @@
 // Small rules, whose firings are counted by hand; each call that takes memory answers with ample memory.
-ghost use Rattle.std.specs.Prelude.{◌≡◌, ◌<◌, ◌≤◌, ℕ, true, Contains, length, IfOk};
+ghost use Rattle.std.specs.Prelude.{◌≡◌, ◌+◌, ◌*◌, ◌<◌, ◌≤◌, ℕ, true, Contains, length, IfOk};
 ghost use Rattle.meaning.specs.declared.types.Atom.{Atom};
 ghost use Rattle.meaning.specs.declared.types.Val.TheVariants.{Label};
 ghost use Rattle.meaning.specs.Triggers.{IsNumbered, LabelsBelow, bound};
@@ -8,7 +8,8 @@ ghost use Rattle.rule_pass.specs.Orderly.{AreOrderly};
 ghost use Rattle.rule_pass.specs.Levels.{AreBelow};
 
 use crate::{
-    HIGHEST_FIRST_LABEL, MOST_FIRINGS, State, Stopped, active, fire, rule_order, run_rules,
+    HIGHEST_FIRST_LABEL, MOST_FIRINGS, State, Stopped, active, fire, rule_order, run_in_order,
+    run_rules,
 };
 use access_schema::{MOST_RULES, MOST_VARIABLES};
 use homomorphism::{is_numbered, variables_width};
@@ -210,6 +211,7 @@ fn pass(
     requires orderly { AreOrderly rules.now }
     requires labels { next ≤ HIGHEST_FIRST_LABEL }
     requires budget { budget ≤ MOST_FIRINGS }
+    ensures { IfOk result (λ end. end.state.next ≤ HIGHEST_FIRST_LABEL + length end.log * MOST_VARIABLES) }
 {
     let mut state = start(alloc, &facts_of(alloc, facts)?, next)?;
     let mut log = Seq::new(alloc);
@@ -219,6 +221,31 @@ fn pass(
         log,
         stopped,
     })
+}
+
+/// A pass from these facts up to `first` firings, and a second one over its state and its log up to `budget` firings.
+fn two_passes(
+    alloc: Global,
+    rules: &Rules,
+    facts: &[(u32, &[&str])],
+    first: u32,
+    budget: u32,
+) -> Result<End, Fail>
+    requires orderly { AreOrderly rules.now }
+    requires first { first ≤ MOST_FIRINGS }
+    requires budget { budget ≤ MOST_FIRINGS }
+{
+    let order = rule_order(alloc, rules)?;
+    let mut end = pass(alloc, rules, facts, 1, first)?;
+    end.stopped = run_in_order(
+        alloc,
+        &mut end.state,
+        rules,
+        order.as_slice(),
+        budget as usize,
+        &mut end.log,
+    )?;
+    Ok(end)
 }
 
 fn has(alloc: Global, end: &End, rel: u32, texts: &[&str]) -> Result<bool, AllocError> {
@@ -338,6 +365,41 @@ fn a_trigger_whose_head_is_met_is_not_fired(rt: HostRuntime) -> Result<(), Fail>
     assert!(rt; end.log.is_empty());
     assert_eq!(rt; end.state.store().len(), 2);
     assert_eq!(rt; end.state.next(), 1);
+    Ok(())
+}
+
+/// The rules of a chain from r over s to t.
+fn chain(alloc: Global) -> Result<Rules, Fail>
+    ensures { IfOk result (λ rules. AreOrderly rules) }
+{
+    Ok(rules_of(
+        alloc,
+        &[[(R, &["x"]), (S, &["x"])], [(S, &["x"]), (T, &["x"])]],
+    )?)
+}
+
+#[test]
+fn a_second_pass_goes_on_behind_the_firings_of_the_first(rt: HostRuntime) -> Result<(), Fail> {
+    let alloc = rt.alloc();
+    let rules = chain(alloc)?;
+    let end = two_passes(alloc, &rules, &[(R, &["#0"])], 1, 10)?;
+    assert!(rt; matches!(end.stopped, Stopped::Ended));
+    assert_eq!(rt; end.log.len(), 2);
+    assert!(rt; fired(alloc, &end, 0, 0, &["#0"], 1)?);
+    assert!(rt; fired(alloc, &end, 1, 1, &["#0"], 1)?);
+    assert_eq!(rt; end.state.store().len(), 3);
+    assert!(rt; has(alloc, &end, T, &["#0"])?);
+    Ok(())
+}
+
+#[test]
+fn the_budget_is_for_the_firings_of_both_passes(rt: HostRuntime) -> Result<(), Fail> {
+    let alloc = rt.alloc();
+    let rules = chain(alloc)?;
+    let end = two_passes(alloc, &rules, &[(R, &["#0"])], 1, 1)?;
+    assert!(rt; matches!(end.stopped, Stopped::Spent));
+    assert_eq!(rt; end.log.len(), 1);
+    assert_eq!(rt; end.state.store().len(), 2);
     Ok(())
 }
 
