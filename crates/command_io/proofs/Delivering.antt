@@ -1,5 +1,5 @@
 -- What printing the text of rows makes of a delivery.
-use Rattle.std.proofs.Common.{◌≡◌, ◌⊎◌, ℕ, List, Option, Result, Ok, Err, refl, inl, inr}
+use Rattle.std.proofs.Common.{◌≡◌, ◌⊎◌, ℕ, List, Option, Result, Ok, Err, inl, inr}
 use Rattle.std.specs.Prelude.{Contains, OnOk, OnErr, IfErr}
 use Rattle.meaning.specs.declared.types.Plan.{Plan}
 use Rattle.access_schema.specs.declared.schema.Schema.{Schema}
@@ -11,7 +11,7 @@ use Rattle.command_io.specs.declared.stop.Stop.{Stop}
 use Rattle.command_io.specs.declared.stop.Stop.TheVariants as stop
 use Rattle.command_io.specs.Moments.{ResultStop}
 use Rattle.command_io.specs.Moments.ResultStop.{no_memory, sink_failed}
-use Rattle.command_io.specs.Writing.{TookAll, TookPrefix}
+use Rattle.command_io.specs.Writing.{TookAll, TookPart}
 use Rattle.command_io.specs.Executing.{Executes, Delivers}
 use Rattle.command_io.specs.Executing.Delivers.{done, cut}
 
@@ -28,9 +28,9 @@ result_stops rose (Err end) cause = result_stop rose end cause
 pub printed : {S : Type 0} (seen : S → Seen) (schema : Schema) (plan : Plan) (cap : ℕ) (names : List (List ℕ)) (old new : List (Lane S))
     (out_old out_new : Option (List ℕ)) (rose : Type 0) (run : Run) (text : List ℕ) (result : Result (Unit {0}) Stop) →
     Executes seen schema plan cap old new (Ok run) → IsRowText names (Contains run.rows) text →
-    OnOk result (TookAll out_old out_new text) → OnErr result (TookPrefix out_old out_new text) →
+    OnOk result (TookAll out_old out_new text) → OnErr result (TookPart out_old out_new text) →
     IfErr result (λ end. (end ≡ stop.Memory) ⊎ ((end ≡ stop.ResultWrite) × rose)) →
     Delivers seen schema plan cap names old new out_old out_new rose result
-printed seen schema plan cap names old new out_old out_new rose run text (Ok done_it) executes is whole prefix cause = done run text executes is whole
-printed seen schema plan cap names old new out_old out_new rose run text (Err end) executes is whole prefix cause =
-    cut run text end executes is prefix (result_stop rose end cause)
+printed seen schema plan cap names old new out_old out_new rose run text (Ok done_it) executes is whole part cause = done run text executes is whole
+printed seen schema plan cap names old new out_old out_new rose run text (Err end) executes is whole part cause =
+    cut run text end executes is part (result_stop rose end cause)

@@ -1,5 +1,5 @@
 -- A count that rose in a part of a call rose in the whole of it; so a cause and a line stay what they are.
-use Rattle.std.proofs.Common.{◌≡◌, ◌⊎◌, ◌≤◌, ◌+◌, ◌-◌, ◌^◌, min, ℕ, List, Option, None, Some, Result, Ok, Err, refl, inl, inr, arith}
+use Rattle.std.proofs.Common.{◌≡◌, ◌⊎◌, ◌≤◌, ℕ, List, Option, None, Some, Result, Ok, Err, inl, inr, arith}
 use Rattle.std.specs.Prelude.{IfErr}
 use Rattle.source_trait.specs.Causes.{Rose}
 use Rattle.source_trait.specs.declared.files.FileFault.{FileFault}
@@ -17,7 +17,7 @@ use Rattle.command_io.specs.Moments.{ResultStop, DecisionStop}
 use Rattle.command_io.specs.Moments.ResultStop.{no_memory as result_memory, sink_failed as result_failed}
 use Rattle.command_io.specs.Moments.DecisionStop.{no_memory as decision_memory, sink_failed as decision_failed}
 use Rattle.command_io.specs.FaultLines.{Names}
-use Rattle.command_io.specs.Telling.{Tells, StopsFor}
+use Rattle.command_io.specs.Telling.{Tells}
 
 pub rose_between : (a b c d : ℕ) → a ≤ b → c ≤ d → Rose b c → Rose a d
 rose_between a b c d first second rose = omega (arith, first, second, rose)
@@ -58,19 +58,19 @@ pub schema_later : (told : Option Contents) (name : List ℕ) (rose more : Type 
     SchemaStop told name rose end → SchemaStop told name more end
 schema_later told name rose more end then schema_memory = schema_memory
 schema_later told name rose more end then (no_schema_file its cause) = no_schema_file its (file_later told name _ rose more _ its then cause)
-schema_later told name rose more end then (no_schema fault cause) = no_schema fault cause
+schema_later told name rose more end then (no_schema fault other cause) = no_schema fault other cause
 
 pub query_later : (told : Option Contents) (name : List ℕ) (schema : Schema) (rose more : Type 0) (end : Stop) → (rose → more) →
     QueryStop told name schema rose end → QueryStop told name schema more end
 query_later told name schema rose more end then query_memory = query_memory
 query_later told name schema rose more end then (no_query_file its cause) = no_query_file its (file_later told name _ rose more _ its then cause)
-query_later told name schema rose more end then (no_statement fault cause) = no_statement fault cause
+query_later told name schema rose more end then (no_statement fault other cause) = no_statement fault other cause
 
 pub plan_later : (told : Option Contents) (name : List ℕ) (rose more : Type 0) (end : Stop) → (rose → more) →
     PlanStop told name rose end → PlanStop told name more end
 plan_later told name rose more end then plan_memory = plan_memory
 plan_later told name rose more end then (no_plan_file its cause) = no_plan_file its (file_later told name _ rose more _ its then cause)
-plan_later told name rose more end then (no_plan fault cause) = no_plan fault cause
+plan_later told name rose more end then (no_plan fault other cause) = no_plan fault other cause
 
 pub tells_later : (old new : Option (List ℕ)) (rose more : Type 0) (names : Names) (given result : Stop) → (rose → more) →
     Tells old new rose names given result → Tells old new more names given result

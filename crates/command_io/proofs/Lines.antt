@@ -1,8 +1,9 @@
 -- What is taken of a text whole is a first part of it, and how the line of want of memory tells a stop.
-use Rattle.std.proofs.Common.{◌≡◌, ◌⊎◌, ◌≤◌, ℕ, List, [], ◌∷◌, ◌++◌, length, take, Option, option_map, refl, ap, ◌∙◌, inl, inr, arith}
+use Rattle.std.proofs.Common.{◌≡◌, ℕ, List, [], ◌∷◌, ◌++◌, length, take, Option, option_map, refl, ap, ◌∙◌, inl, inr, arith}
 use Rattle.command_io.specs.declared.stop.Stop.{Stop}
 use Rattle.command_io.specs.declared.stop.Stop.TheVariants as stop
-use Rattle.command_io.specs.Writing.{TookAll, TookPrefix}
+use Rattle.std.specs.Prelude.{OnErr, Result, Ok, Err}
+use Rattle.command_io.specs.Writing.{TookAll, TookPrefix, TookPart}
 use Rattle.command_io.specs.FaultLines.{Names, memory_line, fault_line}
 use Rattle.command_io.specs.Telling.{TookLine, Said, Tells}
 
@@ -16,16 +17,24 @@ all_prefix old new text all = (length text, omega arith, all ∙ whole old)
     whole : (o : Option (List ℕ)) → option_map (λ bytes. bytes ++ text) o ≡ option_map (λ bytes. bytes ++ take (length text) text) o
     whole o = ap (λ (t : List ℕ). option_map (λ bytes. bytes ++ t) o) (taken_all text)
 
+pub part_prefix : (old new : Option (List ℕ)) (text : List ℕ) → TookPart old new text → TookPrefix old new text
+part_prefix old new text (n, few, took) = (n, omega (arith, few), took)
+
+-- what is taken of a text that is refused is a first part of it
+pub on_part : (old new : Option (List ℕ)) (text : List ℕ) {X E : Type 0} (result : Result X E) → OnErr result (TookPart old new text) → OnErr result (TookPrefix old new text)
+on_part old new text (Ok x) part = tt
+on_part old new text (Err e) part = part_prefix old new text part
+
 pub line_prefix : (old new : Option (List ℕ)) (rose : Type 0) (text : List ℕ) → TookLine old new rose text → TookPrefix old new text
 line_prefix old new rose text (inl all) = all_prefix old new text all
-line_prefix old new rose text (inr part) = part.1
+line_prefix old new rose text (inr part) = part_prefix old new text part.1
 
 pub memory_tells : (old new : Option (List ℕ)) (rose : Type 0) (names : Names) (given result : Stop) →
     Said old new rose memory_line stop.Memory result → Tells old new rose names given result
-memory_tells old new rose names given result (inl told) = inr (told.0, (stop.Memory, line_prefix old new rose memory_line told.1))
-memory_tells old new rose names given result (inr begun) = inr (begun.0, (stop.Memory, begun.1))
+memory_tells old new rose names given result (inl told) = inr (told.0, inr (line_prefix old new rose memory_line told.1))
+memory_tells old new rose names given result (inr begun) = inr (begun.0, inr (part_prefix old new memory_line begun.1))
 
 pub said_tells : (old new : Option (List ℕ)) (rose : Type 0) (names : Names) (given result : Stop) →
     Said old new rose (fault_line names given) given result → Tells old new rose names given result
 said_tells old new rose names given result (inl told) = inl told
-said_tells old new rose names given result (inr begun) = inr (begun.0, (given, begun.1))
+said_tells old new rose names given result (inr begun) = inr (begun.0, inl (part_prefix old new (fault_line names given) begun.1))

@@ -1,6 +1,5 @@
 -- What the execution of a plan did to the lanes, with its answer; and how its rows are written.
 use Rattle.std.specs.Prelude.{◌≡◌, ◌↔◌, ◌≤◌, ◌<◌, ◌^◌, ℕ, List, Contains, Option, IfOk, IfErr, IsOk, Result, Ok, Err, length}
-use Rattle.std.specs.List.Sorted.{IsStrictlySortedBy}
 use Rattle.meaning.specs.declared.types.Fact.{Fact}
 use Rattle.meaning.specs.declared.types.Branch.{Branch}
 use Rattle.meaning.specs.declared.types.Plan.{Plan}
@@ -12,7 +11,7 @@ use Rattle.access_schema.specs.Meaning.{meaning_of}
 use Rattle.source_trait.specs.Asking.{Seen}
 use Rattle.source_trait.specs.Lanes.{LanesStay}
 use Rattle.source_trait.specs.declared.lanes.Lane.{Lane}
-use Rattle.row_text.specs.RowText.{IsRowText, row_cmp}
+use Rattle.row_text.specs.RowText.{IsRowText}
 use Rattle.middleware.specs.declared.fault.Run.{Run}
 use Rattle.middleware.specs.declared.fault.RunFault.{RunFault}
 use Rattle.middleware.specs.declared.fault.RunFault.TheVariants as fault
@@ -24,7 +23,7 @@ use Rattle.middleware.specs.Causes.{FindsSources, IsPastAttaching, StopsFor}
 use Rattle.command_io.specs.declared.stop.Stop.{Stop}
 use Rattle.command_io.specs.declared.stop.Stop.TheVariants as stop
 use Rattle.command_io.specs.Moments.{ResultStop}
-use Rattle.command_io.specs.Writing.{TookAll, TookPrefix}
+use Rattle.command_io.specs.Writing.{TookAll, TookPart}
 
 -- A plan is short enough for its branches and steps to be numbered.
 pub record IsShort (plan : Plan) : Type 0 where
@@ -75,4 +74,4 @@ pub data Delivers {S : Type 0} (seen : S → Seen) (schema : Schema) (plan : Pla
   no_text : (run : Run) → Executes seen schema plan cap old new (Ok run) → out_new ≡ out_old →
       Delivers seen schema plan cap names old new out_old out_new rose (Err stop.Memory)
   cut : (run : Run) (text : List ℕ) (end : Stop) → Executes seen schema plan cap old new (Ok run) → IsRowText names (Contains run.rows) text →
-      TookPrefix out_old out_new text → ResultStop rose end → Delivers seen schema plan cap names old new out_old out_new rose (Err end)
+      TookPart out_old out_new text → ResultStop rose end → Delivers seen schema plan cap names old new out_old out_new rose (Err end)

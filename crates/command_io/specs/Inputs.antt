@@ -1,14 +1,17 @@
 -- The text files that a command reads, and why one is not read.
-use Rattle.std.specs.Prelude.{◌≡◌, ◌&&◌, ◌<◌, ℕ, Bool, true, false, List, [], ◌∷◌, drop, Option, None, Some, IfSome, IsSomeAnd, MatchOption, length, nat_eq, if◌then◌else◌}
+use Rattle.std.specs.Prelude.{◌≡◌, ◌≢◌, ◌&&◌, ◌<◌, ◌≤◌, ℕ, Bool, false, List, ◌∷◌, drop, Option, None, Some, IfSome, IsSomeAnd, MatchOption, length, nat_eq, if◌then◌else◌}
 use Rattle.meaning.specs.declared.types.Statement.{Statement}
 use Rattle.meaning.specs.declared.types.Plan.{Plan}
 use Rattle.access_schema.specs.declared.schema.Schema.{Schema}
 use Rattle.tgd_reader.specs.SchemaText.{IsSchemaText, IsReadFault}
 use Rattle.tgd_reader.specs.declared.fault.ReadFault.{ReadFault}
+use Rattle.tgd_reader.specs.declared.fault.ReadFault.TheVariants as schema_fault
 use Rattle.sql_select.specs.Statements.{IsStatementText, IsSqlFault}
 use Rattle.sql_select.specs.declared.fault.SqlFault.{SqlFault}
+use Rattle.sql_select.specs.declared.fault.SqlFault.TheVariants as query_fault
 use Rattle.plan_form.specs.Grammar.{IsPlanText, IsPlanReadFault}
 use Rattle.plan_form.specs.declared.fault.PlanReadFault.{PlanReadFault}
+use Rattle.plan_form.specs.declared.fault.PlanReadFault.TheVariants as plan_fault
 use Rattle.source_trait.specs.Outside.{bytes_of}
 use Rattle.source_trait.specs.declared.files.FileFault.{FileFault}
 use Rattle.source_trait.specs.declared.files.FileFault.TheVariants as file
@@ -31,27 +34,24 @@ has_mark _ = false
 abbrev pub without_mark : List ℕ → List ℕ
 without_mark bytes = if has_mark bytes then drop 3 bytes else bytes
 
--- A fact holds of the file's text, where it is told.
-abbrev pub OfText : Option Contents → List ℕ → (List ℕ → Type 0) → Type 0
-OfText told name P = IfSome told (λ files. IsSomeAnd (bytes_of files name) (λ bytes. P (without_mark bytes)))
-
--- A text has the fact, and it is the file's text where that is told.
-pub record IsText (told : Option Contents) (name : List ℕ) (P : List ℕ → Type 0) : Type 0 where
+-- The text of bytes within the limit has the fact, and they are the file's bytes where those are told.
+pub record IsText (told : Option Contents) (name : List ℕ) (limit : ℕ) (P : List ℕ → Type 0) : Type 0 where
   pub bytes : List ℕ
+  pub within : length bytes ≤ limit
   pub holds : P (without_mark bytes)
   pub of_file : IfSome told (λ files. bytes_of files name ≡ Some bytes)
 
 -- The schema file's text is that of the schema.
 abbrev pub SchemaIsRead : Option Contents → List ℕ → Schema → Type 0
-SchemaIsRead told name schema = IsText told name (λ text. IsSchemaText text schema)
+SchemaIsRead told name schema = IsText told name SCHEMA_LIMIT (λ text. IsSchemaText text schema)
 
 -- The query file's text is that of the statement over the schema.
 abbrev pub QueryIsRead : Option Contents → List ℕ → Schema → Statement → Type 0
-QueryIsRead told name schema statement = IsText told name (λ text. IsStatementText schema text statement)
+QueryIsRead told name schema statement = IsText told name QUERY_LIMIT (λ text. IsStatementText schema text statement)
 
 -- The plan file's text is that of the plan.
 abbrev pub PlanIsRead : Option Contents → List ℕ → Plan → Type 0
-PlanIsRead told name plan = IsText told name (λ text. IsPlanText text plan)
+PlanIsRead told name plan = IsText told name PLAN_LIMIT (λ text. IsPlanText text plan)
 
 -- Why a file is not read: a told file is missing or longer than the limit, or the count of faults rose.
 abbrev pub FileCause : FileFault → Option Contents → List ℕ → ℕ → Type 0 → Type 0
@@ -65,20 +65,21 @@ pub data FileStop (told : Option Contents) (name : List ℕ) (limit : ℕ) (rose
   no_memory : FileStop told name limit rose which stop.Memory
   not_read : (fault : FileFault) → FileCause fault told name limit rose → FileStop told name limit rose which (stop.File which fault)
 
--- Why no schema is read from the file of this name.
+-- Why no schema is read from the file of this name: memory was wanted, the file is not read, or its text has this fault, which
+-- is never want of memory.
 pub data SchemaStop (told : Option Contents) (name : List ℕ) (rose : Type 0) : Stop → Type 0 where
   no_memory : SchemaStop told name rose stop.Memory
   no_file : (end : Stop) → FileStop told name SCHEMA_LIMIT rose input.Schema end → SchemaStop told name rose end
-  no_schema : (fault : ReadFault) → OfText told name (λ text. IsReadFault text fault) → SchemaStop told name rose (stop.Schema fault)
+  no_schema : (fault : ReadFault) → fault ≢ schema_fault.NoMemory → IsText told name SCHEMA_LIMIT (λ text. IsReadFault text fault) → SchemaStop told name rose (stop.Schema fault)
 
--- Why no statement over the schema is read from the file of this name.
+-- Why no statement over the schema is read from the file of this name, likewise.
 pub data QueryStop (told : Option Contents) (name : List ℕ) (schema : Schema) (rose : Type 0) : Stop → Type 0 where
   no_memory : QueryStop told name schema rose stop.Memory
   no_file : (end : Stop) → FileStop told name QUERY_LIMIT rose input.Query end → QueryStop told name schema rose end
-  no_statement : (fault : SqlFault) → OfText told name (λ text. IsSqlFault schema text fault) → QueryStop told name schema rose (stop.Query fault)
+  no_statement : (fault : SqlFault) → fault ≢ query_fault.NoMemory → IsText told name QUERY_LIMIT (λ text. IsSqlFault schema text fault) → QueryStop told name schema rose (stop.Query fault)
 
--- Why no plan is read from the file of this name.
+-- Why no plan is read from the file of this name, likewise.
 pub data PlanStop (told : Option Contents) (name : List ℕ) (rose : Type 0) : Stop → Type 0 where
   no_memory : PlanStop told name rose stop.Memory
   no_file : (end : Stop) → FileStop told name PLAN_LIMIT rose input.Plan end → PlanStop told name rose end
-  no_plan : (fault : PlanReadFault) → OfText told name (λ text. IsPlanReadFault text fault) → PlanStop told name rose (stop.Plan fault)
+  no_plan : (fault : PlanReadFault) → fault ≢ plan_fault.NoMemory → IsText told name PLAN_LIMIT (λ text. IsPlanReadFault text fault) → PlanStop told name rose (stop.Plan fault)

@@ -23,6 +23,12 @@ pub record Stays (before after : Moment) : Type 0 where
   pub out_faults : before.out_faults ≤ after.out_faults
   pub err_faults : before.err_faults ≤ after.err_faults
 
+-- A count of faults at a moment in between.
+pub record Between (before after : ℕ) : Type 0 where
+  pub faults : ℕ
+  pub begun : before ≤ faults
+  pub ended : faults ≤ after
+
 -- Why a result is not written whole: memory was wanted, or the sink failed.
 pub data ResultStop (rose : Type 0) : Stop → Type 0 where
   no_memory : ResultStop rose stop.Memory

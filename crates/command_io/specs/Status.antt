@@ -1,5 +1,5 @@
 -- How a command ends: the exit status, and the status of each stop.
-use Rattle.std.specs.Prelude.{ℕ, Result, Ok, Err}
+use Rattle.std.specs.Prelude.{ℕ}
 use Rattle.source_trait.specs.declared.files.FileFault.{FileFault}
 use Rattle.source_trait.specs.declared.files.FileFault.TheVariants as file
 use Rattle.source_trait.specs.declared.source.AttachFault.{AttachFault}

@@ -55,8 +55,10 @@ pub fn schema_of<F: Files>(alloc: Global, files: &mut F, name: &Text) -> Result<
     };
     match read_schema(alloc, without_mark(bytes.as_slice())) {
         Ok(schema) => Ok(schema),
-        Err(ReadFault::NoMemory) => Err(Stop::Memory),
-        Err(fault) => Err(Stop::Schema(fault)),
+        Err(fault) => match fault {
+            ReadFault::NoMemory => Err(Stop::Memory),
+            other => Err(Stop::Schema(other)),
+        },
     }
 }
 
@@ -79,8 +81,10 @@ pub fn statement_of<F: Files>(
     };
     match read_select(alloc, without_mark(bytes.as_slice()), schema) {
         Ok(statement) => Ok(statement),
-        Err(SqlFault::NoMemory) => Err(Stop::Memory),
-        Err(fault) => Err(Stop::Query(fault)),
+        Err(fault) => match fault {
+            SqlFault::NoMemory => Err(Stop::Memory),
+            other => Err(Stop::Query(other)),
+        },
     }
 }
 
@@ -98,8 +102,10 @@ pub fn plan_of_file<F: Files>(alloc: Global, files: &mut F, name: &Text) -> Resu
     };
     match read_plan(alloc, without_mark(bytes.as_slice())) {
         Ok(plan) => Ok(plan),
-        Err(PlanReadFault::NoMemory) => Err(Stop::Memory),
-        Err(fault) => Err(Stop::Plan(fault)),
+        Err(fault) => match fault {
+            PlanReadFault::NoMemory => Err(Stop::Memory),
+            other => Err(Stop::Plan(other)),
+        },
     }
 }
 

@@ -1,7 +1,7 @@
 // What is said on standard error.
 ghost use Rattle.std.specs.Prelude.{◌≡◌, ◌≤◌, ◌⊎◌, OnOk, OnErr, IfErr};
 ghost use Rattle.source_trait.specs.Causes.{Rose};
-ghost use Rattle.command_io.specs.Writing.{TookAll, TookPrefix};
+ghost use Rattle.command_io.specs.Writing.{TookAll, TookPart};
 ghost use Rattle.command_io.specs.Telling.{Said, Tells};
 ghost use Rattle.command_io.specs.declared.stop.Stop.{Stop};
 
@@ -15,7 +15,7 @@ use std::alloc::Global;
 /// Writes the whole text, or stops: with `failed` where the sink failed.
 pub fn print<K: Sink>(sink: &mut K, text: &[u8], failed: Stop) -> Result<(), Stop>
     ensures whole { OnOk result (TookAll (K.taken sink.old) (K.taken sink.new) text.now) }
-    ensures prefix { OnErr result (TookPrefix (K.taken sink.old) (K.taken sink.new) text.now) }
+    ensures part { OnErr result (TookPart (K.taken sink.old) (K.taken sink.new) text.now) }
     ensures cause { IfErr result (λ stop. (stop ≡ Stop.Memory) ⊎ ((stop ≡ failed) × Rose (K.faults sink.old) (K.faults sink.new))) }
     ensures later { K.faults sink.old ≤ K.faults sink.new }
 {

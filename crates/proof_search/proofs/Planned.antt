@@ -39,6 +39,7 @@ module _ (schema : Schema) (statement : Statement) (select : Select) (query : Qu
   pub plan_is : IsPlanFor schema statement (plan_of select branch)
   plan_is = record {
     lawful = λ other c. subst (λ (b : Branch). (length b.output ≡ length select.items) × IsLawfulBranch (meaning_of schema) (known_of schema statement) b) (only_is branch other c) (wide, its.lawful);
+    wide = λ chosen c. ap (λ (s : Select). length s.items) (only_is select chosen (subst (λ list. Contains list chosen) one c));
     equivalent = record {
       sound = λ facts row model (other, c, rows).
           (select, among, (answers facts model.fits row).0 ((its.rows facts row).0 (subst (λ b. IsBranchRow (meaning_of schema) b facts row) (sym (only_is branch other c)) rows)));

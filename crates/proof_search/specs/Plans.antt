@@ -2,6 +2,7 @@
 use Rattle.std.specs.Prelude.{◌≡◌, List, Contains, length}
 use Rattle.meaning.specs.declared.types.Branch.{Branch}
 use Rattle.meaning.specs.declared.types.Plan.{Plan}
+use Rattle.meaning.specs.declared.types.Select.{Select}
 use Rattle.meaning.specs.declared.types.Statement.{Statement}
 use Rattle.meaning.specs.Values.{Value}
 use Rattle.meaning.specs.Plans.{IsLawful}
@@ -15,10 +16,11 @@ use Rattle.sql_select.specs.Known.{literals_in}
 abbrev pub known_of : Schema → Statement → List Value
 known_of schema statement = once_after schema.constants (literals_in statement.selects)
 
--- The plan calls each method with known constants or received values alone, and has the statement's answers on every
--- instance that meets the rules.
+-- The plan calls each method with known constants or received values alone, is as wide as each select of the statement, and has
+-- the statement's answers on every instance that meets the rules.
 pub record IsPlanFor (schema : Schema) (statement : Statement) (plan : Plan) : Type 0 where
   pub lawful : IsLawful plan (meaning_of schema) (known_of schema statement)
+  pub wide : (select : Select) → Contains statement.selects select → plan.width ≡ length select.items
   pub equivalent : IsEquivalent plan statement (meaning_of schema)
 
 -- The plan is one access: it has one branch, of one step.

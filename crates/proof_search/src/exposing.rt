@@ -6,7 +6,7 @@ ghost use Rattle.proof_search.specs.Exposing.{IsConstantAt, CanExpose};
 use lists::Text;
 use meaning::types::{Ground, Method, Val};
 
-/// The first method that asks for the fact with known constants alone. Takes no memory.
+/// A method that asks for the fact with known constants alone; none comes exactly where no method does. Takes no memory.
 pub fn exposing_method<'a>(
     methods: &'a [Method],
     fact: &Ground,

@@ -1,9 +1,6 @@
 -- The ways of a delivery, by where it stopped.
-use Rattle.std.proofs.Common.{◌≡◌, ℕ, List, Option, Result, Ok, Err, refl, sym, subst}
-use Rattle.command_io.specs.declared.stop.Stop.{Stop}
-use Rattle.command_io.specs.declared.stop.Stop.TheVariants as stop
-use Rattle.command_io.specs.Executing.{Delivers, stop_of_run}
-use Rattle.command_io.specs.Executing.Delivers.{done, no_rows, no_text, cut}
+use Rattle.std.proofs.Common.{refl}
+use Rattle.command_io.specs.Executing.Delivers.{no_rows, no_text}
 use Rattle.command_io.proofs.Delivering.{printed}
 use Rattle.command_io.proofs.delivery.deliver.Goals as goal
 
@@ -16,4 +13,4 @@ returns-in-Err-csv_text-clause-delivers g c = no_text c.in-Ok.executed c.in-Ok.e
 pub returns-clause-delivers : goal.returns-clause-delivers
 returns-clause-delivers g c =
     printed _ _ _ _ _ _ _ _ _ _ c.in-Ok.executed c.in-Ok-csv_text.text c.print.result c.in-Ok.ensures c.in-Ok-csv_text.ensures
-    (rw c.as_slice.ensures at c.print.ensures.whole) (rw c.as_slice.ensures at c.print.ensures.prefix) c.print.ensures.cause
+    (rw c.as_slice.ensures at c.print.ensures.whole) (rw c.as_slice.ensures at c.print.ensures.part) c.print.ensures.cause

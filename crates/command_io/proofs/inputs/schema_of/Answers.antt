@@ -2,20 +2,21 @@
 use Rattle.std.proofs.Common.{ℕ, List}
 use Rattle.tgd_reader.specs.SchemaText.{IsReadFault}
 use Rattle.command_io.specs.Inputs.SchemaStop.{no_memory, no_file, no_schema}
-use Rattle.command_io.proofs.FileTexts.{of_text}
+use Rattle.command_io.specs.declared.inputs.TheConstants.{SCHEMA_LIMIT}
+use Rattle.command_io.proofs.FileTexts.{is_text}
 use Rattle.command_io.proofs.inputs.schema_of.Goals as goal
 
 pub returns-in-Err-clause-cause : goal.returns-in-Err-clause-cause
 returns-in-Err-clause-cause g c = no_file c.in-Err.stop c.in-Err.ensures.cause
 
-pub returns-in-Err-NoMemory-clause-cause : goal.returns-in-Err-NoMemory-clause-cause
-returns-in-Err-NoMemory-clause-cause g c = no_memory
+pub returns-in-NoMemory-clause-cause : goal.returns-in-NoMemory-clause-cause
+returns-in-NoMemory-clause-cause g c = no_memory
 
 pub returns : goal.returns
 returns g c = record {
   read = tt;
-  cause = no_schema c.in-Err-read_schema.fault (of_text (g.F.Files.contents c.args.files.now) c.args.name.now c.in-Ok.bytes c.without_mark.result.now
-      (λ (text : List ℕ). IsReadFault text c.in-Err-read_schema.fault) c.in-Ok.ensures.bytes (rw c.as_slice.ensures at c.without_mark.ensures) c.in-Err-read_schema.ensures.fault);
+  cause = no_schema c.in-Err-read_schema.fault c.in_default.not-NoMemory (is_text (g.F.Files.contents c.args.files.now) c.args.name.now c.in-Ok.bytes c.without_mark.result.now SCHEMA_LIMIT
+      (λ (text : List ℕ). IsReadFault text c.in-Err-read_schema.fault) c.in-Ok.ensures.size c.in-Ok.ensures.bytes (rw c.as_slice.ensures at c.without_mark.ensures) c.in-Err-read_schema.ensures.fault);
   later = c.read_file.ensures.later;
   same = c.read_file.ensures.same;
 }

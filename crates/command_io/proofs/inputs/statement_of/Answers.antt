@@ -2,21 +2,22 @@
 use Rattle.std.proofs.Common.{ℕ, List}
 use Rattle.sql_select.specs.Statements.{IsSqlFault}
 use Rattle.command_io.specs.Inputs.QueryStop.{no_memory, no_file, no_statement}
-use Rattle.command_io.proofs.FileTexts.{of_text}
+use Rattle.command_io.specs.declared.inputs.TheConstants.{QUERY_LIMIT}
+use Rattle.command_io.proofs.FileTexts.{is_text}
 use Rattle.command_io.proofs.inputs.statement_of.Goals as goal
 
 pub returns-in-Err-clause-cause : goal.returns-in-Err-clause-cause
 returns-in-Err-clause-cause g c = no_file c.in-Err.stop c.in-Err.ensures.cause
 
-pub returns-in-Err-NoMemory-clause-cause : goal.returns-in-Err-NoMemory-clause-cause
-returns-in-Err-NoMemory-clause-cause g c = no_memory
+pub returns-in-NoMemory-clause-cause : goal.returns-in-NoMemory-clause-cause
+returns-in-NoMemory-clause-cause g c = no_memory
 
 pub returns : goal.returns
 returns g c = record {
   read = tt;
   fits = tt;
-  cause = no_statement c.in-Err-read_select.fault (of_text (g.F.Files.contents c.args.files.now) c.args.name.now c.in-Ok.bytes c.without_mark.result.now
-      (λ (text : List ℕ). IsSqlFault c.args.schema.now text c.in-Err-read_select.fault) c.in-Ok.ensures.bytes (rw c.as_slice.ensures at c.without_mark.ensures) c.in-Err-read_select.ensures.fault);
+  cause = no_statement c.in-Err-read_select.fault c.in_default.not-NoMemory (is_text (g.F.Files.contents c.args.files.now) c.args.name.now c.in-Ok.bytes c.without_mark.result.now QUERY_LIMIT
+      (λ (text : List ℕ). IsSqlFault c.args.schema.now text c.in-Err-read_select.fault) c.in-Ok.ensures.size c.in-Ok.ensures.bytes (rw c.as_slice.ensures at c.without_mark.ensures) c.in-Err-read_select.ensures.fault);
   later = c.read_file.ensures.later;
   same = c.read_file.ensures.same;
 }
