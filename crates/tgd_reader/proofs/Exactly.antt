@@ -65,22 +65,6 @@ built_once parts a b p q =
 declared_once : (text : List ℕ) (x y : Declared) → HasParts text x → HasParts text y → x ≡ y
 declared_once text x y p q = text_only text (Ok x) p tt y q
 
-and-first : (x y : Bool) → (x && y) ≡ true → x ≡ true
-and-first true y e = refl
-and-first false y e = absurd cc
-
--- a character begins where some text is
-no_text : (cs bytes : List ℕ) → scalars cs ≡ true → encode_utf8_all cs ≡ bytes → 0 < length bytes → StartsWithNoChar bytes → ⊥
-no_text [] bytes are spell some none = let e = ap length spell in omega (arith, e, some)
-no_text (c ∷ cs) bytes are spell some none = none c (encode_utf8_all cs) (and-first (scalar c) (scalars cs) are) (sym spell)
-
-text_not_bad : (bytes : List ℕ) (offset : ℕ) → IsUtf8 bytes → IsFirstBad bytes offset → ⊥
-text_not_bad bytes offset utf8 bad =
-    let cut = IsCharBoundary-from_take bytes offset utf8 (let w = bad.within in omega arith) bad.before in
-    let rest : IsUtf8 (drop offset bytes) = IsUtf8-drop bytes offset utf8 cut in
-    let long = length-drop offset bytes in
-    no_text rest.0 (drop offset bytes) rest.1.0 rest.1.1 (let w = bad.within in omega (arith, long, w)) bad.none
-
 text_not_faulty : (text : List ℕ) (line : ℕ) (x : Declared) → HasParts text x → HasFaultyLine text (faulty.Line line) → ⊥
 text_not_faulty text line x has fault =
     let r : Result Declared PartsFault = Err (faulty.Line line) in
@@ -91,7 +75,7 @@ read_only bytes (Ok found) ok err schema is =
     let same : ok.1.declared ≡ is.1.declared = declared_once bytes ok.1.declared is.1.declared ok.1.parts is.1.parts in
     built_once is.1.declared.parts found schema (subst (λ (d : Declared). Builds d.parts found) same ok.1.builds) is.1.builds
 read_only bytes (Err faults.NoMemory) ok err schema is = tt
-read_only bytes (Err (faults.NotUtf8 offset)) ok err schema is = text_not_bad bytes offset is.0 err
+read_only bytes (Err (faults.NotUtf8 offset)) ok err schema is = utf8_clash bytes offset err is.0
 read_only bytes (Err (faults.Line line)) ok err schema is = text_not_faulty bytes line is.1.declared is.1.parts err.1
 read_only bytes (Err (faults.Schema line fault)) ok err schema is =
     let same : err.1.declared ≡ is.1.declared = declared_once bytes err.1.declared is.1.declared err.1.parts is.1.parts in
