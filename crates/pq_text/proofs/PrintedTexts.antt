@@ -1,13 +1,14 @@
 -- What is printed of a text is a text: what is added is ASCII, and stands between its characters.
 use Rattle.std.proofs.Common.{◌≡◌, ℕ, ◌<◌, ◌≤◌, ◌^◌, Bool, true, false, cond, List, [], ◌∷◌, ◌++◌, refl, sym, ap, subst, arith}
-use Rattle.std.specs.Prelude.{nat_eq, nat_le}
+use Rattle.std.specs.Prelude.{◌&&◌, nat_eq, nat_le, nat_lt}
 use Rattle.std.specs.List.{AllByRecursion}
 use Rattle.std.specs.Fmt.{decimal}
 use Rattle.std.specs.Str.{IsUtf8}
-use Rattle.std.proofs.lemmas.Bool.{leb-true, leb-false, ne_eqb}
+use Rattle.std.proofs.lemmas.Bool.{leb-true, leb-false, ltb-true, ne_eqb}
 use Rattle.std.proofs.lemmas.Fmt.{IsAscii-decimal}
 use Rattle.std.proofs.lemmas.Str.{IsUtf8-nil, IsUtf8-append, IsUtf8-encode, IsUtf8-from_ascii, encode_ascii}
 use Rattle.std.proofs.Math.Utf8.{scalar, scalars, encode, encodes}
+use Rattle.pq_text.specs.Pieces.{behind_blank}
 use Rattle.pq_text.specs.Printing.{is_bare, doubled, between, printed_name, printed_value}
 use Rattle.pq_text.proofs.Standing.{and-both, encode_high, cons_utf8}
 
@@ -60,8 +61,28 @@ value_utf8 value u = between_utf8 39 value (omega arith) u
 pub number_utf8 : (n : ℕ) → n < 2 ^ 64 → IsUtf8 (decimal n)
 number_utf8 n fits = IsUtf8-from_ascii (decimal n) (IsAscii-decimal n fits)
 
+-- ---- ASCII
+
+abbrev pub are_ascii : List ℕ → Bool
+are_ascii [] = true
+are_ascii (b ∷ bs) = nat_lt b 128 && are_ascii bs
+
+pub ascii_utf8 : (bs : List ℕ) → are_ascii bs ≡ true → IsUtf8 bs
+ascii_utf8 [] e = IsUtf8-nil
+ascii_utf8 (b ∷ bs) e = let g = and-both (nat_lt b 128) (are_ascii bs) e in cons_utf8 b bs (ltb-true b 128 g.0) (ascii_utf8 bs g.1)
+
+pub blank_utf8 : (spaced : Bool) → IsUtf8 (behind_blank spaced [])
+blank_utf8 true = cons_utf8 32 [] (omega arith) IsUtf8-nil
+blank_utf8 false = IsUtf8-nil
+
 -- ---- behind what stands there
 
 -- A text behind a text is a text.
 pub appended_utf8 : (old new piece : List ℕ) → new ≡ old ++ piece → IsUtf8 piece → IsUtf8 old → IsUtf8 new
 appended_utf8 old new piece is p u = subst IsUtf8 (sym is) (IsUtf8-append old piece u p)
+
+pub ascii_then : (old new piece : List ℕ) → new ≡ old ++ piece → are_ascii piece ≡ true → IsUtf8 old → IsUtf8 new
+ascii_then old new piece is low u = appended_utf8 old new piece is (ascii_utf8 piece low) u
+
+pub number_then : (old new : List ℕ) (n : ℕ) → new ≡ old ++ decimal n → n < 2 ^ 64 → IsUtf8 old → IsUtf8 new
+number_then old new n is fits u = appended_utf8 old new (decimal n) is (number_utf8 n fits) u
