@@ -8,3 +8,4 @@ pub mod Following
 pub mod TextLaws
 pub mod Sizes
 pub mod PrintLaws
+pub mod Faultless

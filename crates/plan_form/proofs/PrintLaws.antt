@@ -3,6 +3,7 @@ use Rattle.std.proofs.Common.{◌≡◌, ℕ, ◌+◌, ◌^◌, ◌<◌, Bool, t
 use Rattle.std.specs.Prelude.{codes, flat_map}
 use Rattle.std.specs.List.{AllByRecursion, AllZip}
 use Rattle.std.specs.Fmt.{decimal}
+use Rattle.std.specs.Str.{IsUtf8}
 use Rattle.std.specs.Cmp.Lexicographic.{nat_list_eq_equiv}
 use Rattle.std.proofs.lemmas.List.{append-nil}
 use Rattle.pq_text.specs.declared.token.Style.TheVariants.{Lines}
@@ -23,7 +24,7 @@ use Rattle.meaning.specs.declared.types.Branch.{Branch}
 use Rattle.meaning.specs.declared.types.Plan.{Plan}
 use Rattle.plan_form.specs.Fitting.{IsWritablePlace, IsWritableOut, IsWritableStep, IsWritableBranch, IsWritable}
 use Rattle.plan_form.specs.Printing.{place_text, out_text, step_text, branch_text, plan_text}
-use Rattle.plan_form.specs.Grammar.{place_form, out_form, opening_form, access_form, output_form, branch_forms, plan_forms, IsOfForm, behind_tokens, written, IsPlanText}
+use Rattle.plan_form.specs.Grammar.{place_form, out_form, opening_form, access_form, output_form, branch_forms, plan_forms, IsOfForm, behind_tokens, written, SaysPlan, IsPlanText}
 use Rattle.plan_form.proofs.ReadLines.{is_some}
 
 -- ---- the pieces of a plan
@@ -278,8 +279,12 @@ plan_is_text plan w =
     ∙ ap (λ (r : List ℕ). codes "plan " ++ (decimal plan.width ++ 10 ∷ r)) (branches_text plan.branches (lone_pieces (codes "end") ∷ []) w.branches)
     ∙ ap (λ (r : List ℕ). codes "plan " ++ r) (plan_join (decimal plan.width) (flat_map branch_text plan.branches) (codes "end\n"))
 
-pub printed_again : (plan : Plan) → IsWritable plan → IsPlanText (plan_text plan) plan
+pub printed_again : (plan : Plan) → IsWritable plan → SaysPlan (plan_text plan) plan
 printed_again plan w =
     let are = plan_are plan w in
     let cut = printed_lines (plan_lines plan) (all_printed (plan_lines plan) (plan_forms plan) are) in
-    subst (λ (text : List ℕ). IsPlanText text plan) (plan_is_text plan w) (numbered 1 (plan_lines plan), cut, (w, all_fit 1 (plan_lines plan) (plan_forms plan) are))
+    subst (λ (text : List ℕ). SaysPlan text plan) (plan_is_text plan w) (numbered 1 (plan_lines plan), cut, (w, all_fit 1 (plan_lines plan) (plan_forms plan) are))
+
+-- What is printed of a plan is the plan's text, where it is UTF-8.
+pub printed_read : (plan : Plan) (bytes : List ℕ) → bytes ≡ plan_text plan → IsUtf8 bytes → IsWritable plan → IsPlanText bytes plan
+printed_read plan bytes is utf8 w = (utf8, subst (λ (text : List ℕ). SaysPlan text plan) (sym is) (printed_again plan w))

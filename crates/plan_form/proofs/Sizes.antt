@@ -24,7 +24,7 @@ use Rattle.meaning.specs.declared.types.Step.{Step}
 use Rattle.meaning.specs.declared.types.Branch.{Branch}
 use Rattle.meaning.specs.declared.types.Plan.{Plan}
 use Rattle.plan_form.specs.Fitting.{PlanFits}
-use Rattle.plan_form.specs.Grammar.{place_form, out_form, access_form, output_form, branch_forms, plan_forms, IsOfForm, behind_tokens, written, IsPlanText, step_places, branch_places, places_of}
+use Rattle.plan_form.specs.Grammar.{place_form, out_form, access_form, output_form, branch_forms, plan_forms, IsOfForm, behind_tokens, written, SaysPlan, step_places, branch_places, places_of}
 use Rattle.plan_form.proofs.ReadLines.{some_place, some_out}
 
 -- ---- a token has a byte or more
@@ -204,14 +204,14 @@ each_few n (branch ∷ branches) le =
     let all = slots-append (branch_forms branch) (flat_map branch_forms branches) in
     (omega (arith, here, all, le), each_few n branches (omega (arith, all, le)))
 
-all_slots : (text : List ℕ) (plan : Plan) → IsPlanText text plan → slots_in (flat_map branch_forms plan.branches) ≤ length text
+all_slots : (text : List ℕ) (plan : Plan) → SaysPlan text plan → slots_in (flat_map branch_forms plan.branches) ≤ length text
 all_slots text plan is =
     let tokens = whole_tokens text is.0 is.1 in
     let forms = fit_tokens is.0 (plan_forms plan) is.2.1 in
     let all = slots-append (flat_map branch_forms plan.branches) ((Key (codes "end") ∷ []) ∷ []) in
     omega (arith, tokens, forms, all)
 
-pub few_places : (text : List ℕ) (plan : Plan) → IsPlanText text plan → places_of plan ≤ length text
+pub few_places : (text : List ℕ) (plan : Plan) → SaysPlan text plan → places_of plan ≤ length text
 few_places text plan is =
     let all = all_slots text plan is in
     let few = branches_few plan.branches in
@@ -221,7 +221,7 @@ each_within : (m n : ℕ) (branches : List Branch) → m ≤ n → AllByRecursio
 each_within m n [] le all = tt
 each_within m n (branch ∷ branches) le all = let here = all.0 in (omega (arith, here, le), each_within m n branches le all.1)
 
-pub text_fits : (text : List ℕ) (plan : Plan) → length text ≤ 1048576 → IsPlanText text plan → PlanFits plan
+pub text_fits : (text : List ℕ) (plan : Plan) → length text ≤ 1048576 → SaysPlan text plan → PlanFits plan
 text_fits text plan short is =
     let all = all_slots text plan is in
     let few = branches_few plan.branches in

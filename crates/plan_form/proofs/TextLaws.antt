@@ -7,12 +7,13 @@ use Rattle.pq_text.specs.declared.lexeme.TextLines.{TextLines}
 use Rattle.pq_text.specs.Lexemes.{◌>>=◌}
 use Rattle.pq_text.specs.Lines.{AreLines, number_at}
 use Rattle.pq_text.proofs.Lexing.{lines_one}
+use Rattle.pq_text.proofs.FirstBad.{utf8_clash}
 use Rattle.meaning.specs.declared.types.Plan.{Plan}
 use Rattle.plan_form.specs.declared.fault.PlanReadFault.{PlanReadFault}
 use Rattle.plan_form.specs.declared.fault.PlanReadFault.TheVariants as faults
 use Rattle.plan_form.specs.declared.progress.Progress.{Progress}
 use Rattle.plan_form.specs.declared.progress.Progress.TheVariants.{Opening, Between, Inside, Ended}
-use Rattle.plan_form.specs.Grammar.{ArePlanLines, behind_tokens, written, IsPlanText, BeginPlan, HasMisfit, Stops, IsFirstMisfit, OkOrNoMemory}
+use Rattle.plan_form.specs.Grammar.{ArePlanLines, behind_tokens, written, SaysPlan, IsPlanText, BeginPlan, HasMisfit, Stops, IsFirstMisfit, IsPlanReadFault, OkOrNoMemory}
 use Rattle.plan_form.specs.Reading.{next_at, next_progress, progress_from, plan_of, ProgressGives, HasLineFault}
 use Rattle.plan_form.proofs.Following.{AreRead, read_from, read-append, lines_found, plan_again, read_begin, begin_read, ended_are}
 
@@ -142,7 +143,7 @@ ended_is (Between width branches) plan e = absurd cc
 ended_is (Inside width branches steps) plan e = absurd cc
 ended_is (Ended other) plan e = cc
 
-pub text_read : (text : List ℕ) (told : TextLines) (last : Progress) (plan : Plan) → AreLines text told → told.broken ≡ None → progress_from Opening told.whole ≡ good last → plan_of last ≡ Some plan → IsPlanText text plan
+pub text_read : (text : List ℕ) (told : TextLines) (last : Progress) (plan : Plan) → AreLines text told → told.broken ≡ None → progress_from Opening told.whole ≡ good last → plan_of last ≡ Some plan → SaysPlan text plan
 text_read text told last plan lines whole e ends =
     let P : Option ℕ → TextLines = λ b. record { whole = told.whole; broken = b } in
     let read = e ∙ ap good (ended_is last plan ends) in
@@ -177,7 +178,7 @@ fault_is text told (faults.Line number) lines e = text_misfit text told number l
 plans_same : (a b : Plan) → Some (Ended a) ≡ Some (Ended b) → a ≡ b
 plans_same a b e = cc
 
-pub plan_one : (text : List ℕ) (a b : Plan) → IsPlanText text a → IsPlanText text b → a ≡ b
+pub plan_one : (text : List ℕ) (a b : Plan) → SaysPlan text a → SaysPlan text b → a ≡ b
 plan_one text a b p q =
     let P : List Line → TextLines = λ ls. record { whole = ls; broken = None } in
     let same = ap (λ (t : TextLines). t.whole) (lines_one text (P p.0) (P q.0) p.1 q.1) in
@@ -201,10 +202,20 @@ first_never text number plan told other same whole are (inl m) = misfit_never to
 first_never text number plan told other same whole are (inr s) =
     stops_never text told told.broken number plan (ap (λ (t : TextLines). t.broken) same ∙ whole) s.1 (subst (λ (t : TextLines). ArePlanLines (written t.whole) plan) (sym same) are)
 
-pub text_only : (text : List ℕ) (r : Result Plan PlanReadFault) → IfOk r (λ plan. IsPlanText text plan) → IfErr r (λ fault. HasLineFault text fault) → (plan : Plan) → IsPlanText text plan → OkOrNoMemory plan r
-text_only text (Ok found) read fault plan is = plan_one text found plan read is
-text_only text (Err faults.NoMemory) read fault plan is = tt
-text_only text (Err (faults.NotUtf8 offset)) read fault plan is = absurd fault
-text_only text (Err (faults.Line number)) read fault plan is =
+-- the text of a plan has no first line that does not fit
+misfit_clash : (text : List ℕ) (number : ℕ) (plan : Plan) → IsFirstMisfit text number → SaysPlan text plan → ⊥
+misfit_clash text number plan fault is =
     let other : TextLines = record { whole = is.0; broken = None } in
     first_never text number plan fault.0 other (lines_one text fault.0 other fault.1 is.1) refl is.2 fault.2
+
+pub text_only : (text : List ℕ) (r : Result Plan PlanReadFault) → IfOk r (λ plan. IsPlanText text plan) → IfErr r (λ fault. HasLineFault text fault) → (plan : Plan) → IsPlanText text plan → OkOrNoMemory plan r
+text_only text (Ok found) read fault plan is = plan_one text found plan read.1 is.1
+text_only text (Err faults.NoMemory) read fault plan is = tt
+text_only text (Err (faults.NotUtf8 offset)) read fault plan is = absurd fault
+text_only text (Err (faults.Line number)) read fault plan is = misfit_clash text number plan fault is.1
+
+-- The text of a plan has no fault.
+pub no_fault : (bytes : List ℕ) (plan : Plan) (fault : PlanReadFault) → IsPlanText bytes plan → IsPlanReadFault bytes fault → fault ≡ faults.NoMemory
+no_fault bytes plan faults.NoMemory is has = refl
+no_fault bytes plan (faults.NotUtf8 offset) is has = absurd (utf8_clash bytes offset has is.0)
+no_fault bytes plan (faults.Line number) is has = absurd (misfit_clash bytes number plan has.1 is.1)

@@ -82,9 +82,13 @@ abbrev pub written : List Line → List (List Lexeme)
 written [] = []
 written (line ∷ lines) = behind_tokens line.tokens (written lines)
 
--- The text is the plan's: its lines that have tokens are the plan's lines.
+-- The text says the plan: its lines that have tokens are the plan's lines.
+abbrev pub SaysPlan : List ℕ → Plan → Type 0
+SaysPlan text plan = (lines : List Line) × AreLines text (record { whole = lines; broken = None }) × ArePlanLines (written lines) plan
+
+-- The bytes are UTF-8, and the text that they are says the plan.
 abbrev pub IsPlanText : List ℕ → Plan → Type 0
-IsPlanText text plan = (lines : List Line) × AreLines text (record { whole = lines; broken = None }) × ArePlanLines (written lines) plan
+IsPlanText bytes plan = IsUtf8 bytes × SaysPlan bytes plan
 
 -- ---- the first line that does not fit
 

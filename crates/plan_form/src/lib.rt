@@ -18,7 +18,7 @@ mod read;
 pub use fault::{PlanFault, PlanFaultKind, PlanReadFault};
 pub use illegal::illegal_text;
 pub use judge::lawful;
-pub use laws::printed_plans_are_read;
+pub use laws::{lawful_plans_have_no_fault, plan_texts_have_no_fault, printed_plans_are_read};
 pub use print::plan_text;
 pub use read::read_plan;
 

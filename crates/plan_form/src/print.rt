@@ -1,6 +1,10 @@
 // The text of a plan.
 ghost use Rattle.std.specs.Prelude.{◌≡◌, ◌++◌, OnOk, IfOk, codes, flat_map};
+ghost use Rattle.std.specs.Str.{IsUtf8};
 ghost use Rattle.pq_text.specs.Listed.{listed};
+ghost use Rattle.pq_text.specs.Utf8.{KeepsUtf8};
+ghost use Rattle.plan_form.specs.Fitting.{IsWritable};
+ghost use Rattle.plan_form.specs.Grammar.{IsPlanText};
 ghost use Rattle.plan_form.specs.Printing.{place_text, out_text, column_text, step_text, branch_text, plan_text};
 
 use lists::Bytes;
@@ -10,19 +14,32 @@ use std::alloc::{AllocError, Global};
 
 /// The text of a plan: its width, its branches with their access lines and output lines, and the line `end`.
 pub fn plan_text(alloc: Global, plan: &Plan) -> Result<Bytes, AllocError>
-    ensures { IfOk result (λ text. text ≡ plan_text plan.now) }
+    ensures text { IfOk result (λ text. text ≡ plan_text plan.now) }
+
+    // The text is UTF-8, and so it is read as the plan again.
+    ensures utf8 { IfOk result (λ text. IsUtf8 text) }
+    ensures read { IsWritable plan.now → IfOk result (λ text. IsPlanText text plan.now) }
 {
     let mut out = Vec::new(alloc);
-    out.extend_from_slice(b"plan ")?;
-    print_number(&mut out, plan.width as u64)?;
-    out.extend_from_slice(b"\n")?;
-    push_branches(&mut out, plan.branches.as_slice())?;
-    out.extend_from_slice(b"end\n")?;
+    push_plan(&mut out, plan)?;
     Ok(Bytes::from_vec(out))
 }
 
+fn push_plan(out: &mut Vec<u8>, plan: &Plan) -> Result<(), AllocError>
+    ensures text { OnOk result (out.new.items ≡ out.old.items ++ plan_text plan.now) }
+    ensures utf8 { OnOk result (KeepsUtf8 out.old.items out.new.items) }
+{
+    out.extend_from_slice(b"plan ")?;
+    print_number(out, plan.width as u64)?;
+    out.extend_from_slice(b"\n")?;
+    push_branches(out, plan.branches.as_slice())?;
+    out.extend_from_slice(b"end\n")?;
+    Ok(())
+}
+
 fn push_branches(out: &mut Vec<u8>, branches: &[Branch]) -> Result<(), AllocError>
-    ensures { OnOk result (out.new.items ≡ out.old.items ++ flat_map branch_text branches.now) }
+    ensures text { OnOk result (out.new.items ≡ out.old.items ++ flat_map branch_text branches.now) }
+    ensures utf8 { OnOk result (KeepsUtf8 out.old.items out.new.items) }
 {
     for branch in branches {
         push_branch(out, branch)?;
@@ -31,7 +48,8 @@ fn push_branches(out: &mut Vec<u8>, branches: &[Branch]) -> Result<(), AllocErro
 }
 
 fn push_branch(out: &mut Vec<u8>, branch: &Branch) -> Result<(), AllocError>
-    ensures { OnOk result (out.new.items ≡ out.old.items ++ branch_text branch.now) }
+    ensures text { OnOk result (out.new.items ≡ out.old.items ++ branch_text branch.now) }
+    ensures utf8 { OnOk result (KeepsUtf8 out.old.items out.new.items) }
 {
     out.extend_from_slice(b"branch\n")?;
     push_steps(out, branch.steps.as_slice())?;
@@ -42,7 +60,8 @@ fn push_branch(out: &mut Vec<u8>, branch: &Branch) -> Result<(), AllocError>
 }
 
 fn push_steps(out: &mut Vec<u8>, steps: &[Step]) -> Result<(), AllocError>
-    ensures { OnOk result (out.new.items ≡ out.old.items ++ flat_map step_text steps.now) }
+    ensures text { OnOk result (out.new.items ≡ out.old.items ++ flat_map step_text steps.now) }
+    ensures utf8 { OnOk result (KeepsUtf8 out.old.items out.new.items) }
 {
     for step in steps {
         push_step(out, step)?;
@@ -51,7 +70,8 @@ fn push_steps(out: &mut Vec<u8>, steps: &[Step]) -> Result<(), AllocError>
 }
 
 fn push_step(out: &mut Vec<u8>, step: &Step) -> Result<(), AllocError>
-    ensures { OnOk result (out.new.items ≡ out.old.items ++ step_text step.now) }
+    ensures text { OnOk result (out.new.items ≡ out.old.items ++ step_text step.now) }
+    ensures utf8 { OnOk result (KeepsUtf8 out.old.items out.new.items) }
 {
     out.extend_from_slice(b"access ")?;
     print_name(out, &step.method)?;
@@ -62,7 +82,8 @@ fn push_step(out: &mut Vec<u8>, step: &Step) -> Result<(), AllocError>
 }
 
 fn push_places(out: &mut Vec<u8>, places: &[Place]) -> Result<(), AllocError>
-    ensures { OnOk result (out.new.items ≡ out.old.items ++ listed place_text places.now) }
+    ensures text { OnOk result (out.new.items ≡ out.old.items ++ listed place_text places.now) }
+    ensures utf8 { OnOk result (KeepsUtf8 out.old.items out.new.items) }
 {
     let [first, rest @ ..] = places else {
         return Ok(());
@@ -73,7 +94,8 @@ fn push_places(out: &mut Vec<u8>, places: &[Place]) -> Result<(), AllocError>
 
 // Appends a comma, a blank and a place, for each.
 fn push_further_places(out: &mut Vec<u8>, places: &[Place]) -> Result<(), AllocError>
-    ensures { OnOk result (out.new.items ≡ out.old.items ++ flat_map (λ y. codes ", " ++ place_text y) places.now) }
+    ensures text { OnOk result (out.new.items ≡ out.old.items ++ flat_map (λ y. codes ", " ++ place_text y) places.now) }
+    ensures utf8 { OnOk result (KeepsUtf8 out.old.items out.new.items) }
 {
     for place in places {
         out.extend_from_slice(b", ")?;
@@ -83,7 +105,8 @@ fn push_further_places(out: &mut Vec<u8>, places: &[Place]) -> Result<(), AllocE
 }
 
 fn push_place(out: &mut Vec<u8>, place: &Place) -> Result<(), AllocError>
-    ensures { OnOk result (out.new.items ≡ out.old.items ++ place_text place.now) }
+    ensures text { OnOk result (out.new.items ≡ out.old.items ++ place_text place.now) }
+    ensures utf8 { OnOk result (KeepsUtf8 out.old.items out.new.items) }
 {
     match place {
         Place::Const(text) => print_value(out, text),
@@ -96,7 +119,8 @@ fn push_place(out: &mut Vec<u8>, place: &Place) -> Result<(), AllocError>
 }
 
 fn push_outs(out: &mut Vec<u8>, outs: &[Out]) -> Result<(), AllocError>
-    ensures { OnOk result (out.new.items ≡ out.old.items ++ listed out_text outs.now) }
+    ensures text { OnOk result (out.new.items ≡ out.old.items ++ listed out_text outs.now) }
+    ensures utf8 { OnOk result (KeepsUtf8 out.old.items out.new.items) }
 {
     let [first, rest @ ..] = outs else {
         return Ok(());
@@ -107,7 +131,8 @@ fn push_outs(out: &mut Vec<u8>, outs: &[Out]) -> Result<(), AllocError>
 
 // Appends a comma, a blank and an output place, for each.
 fn push_further_outs(out: &mut Vec<u8>, outs: &[Out]) -> Result<(), AllocError>
-    ensures { OnOk result (out.new.items ≡ out.old.items ++ flat_map (λ y. codes ", " ++ out_text y) outs.now) }
+    ensures text { OnOk result (out.new.items ≡ out.old.items ++ flat_map (λ y. codes ", " ++ out_text y) outs.now) }
+    ensures utf8 { OnOk result (KeepsUtf8 out.old.items out.new.items) }
 {
     for member in outs {
         out.extend_from_slice(b", ")?;
@@ -117,7 +142,8 @@ fn push_further_outs(out: &mut Vec<u8>, outs: &[Out]) -> Result<(), AllocError>
 }
 
 fn push_out(out: &mut Vec<u8>, member: &Out) -> Result<(), AllocError>
-    ensures { OnOk result (out.new.items ≡ out.old.items ++ out_text member.now) }
+    ensures text { OnOk result (out.new.items ≡ out.old.items ++ out_text member.now) }
+    ensures utf8 { OnOk result (KeepsUtf8 out.old.items out.new.items) }
 {
     match member {
         Out::Const(text) => print_value(out, text),
@@ -126,7 +152,8 @@ fn push_out(out: &mut Vec<u8>, member: &Out) -> Result<(), AllocError>
 }
 
 fn push_column(out: &mut Vec<u8>, column: u32) -> Result<(), AllocError>
-    ensures { OnOk result (out.new.items ≡ out.old.items ++ column_text column) }
+    ensures text { OnOk result (out.new.items ≡ out.old.items ++ column_text column) }
+    ensures utf8 { OnOk result (KeepsUtf8 out.old.items out.new.items) }
 {
     out.extend_from_slice(b"$")?;
     print_number(out, column as u64)

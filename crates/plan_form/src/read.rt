@@ -1,6 +1,5 @@
 // Plans from text.
-ghost use Rattle.std.specs.Prelude.{◌≡◌, ◌≤◌, ◌^◌, length, IfOk, IfErr, IsOk};
-ghost use Rattle.std.specs.Str.{IsUtf8};
+ghost use Rattle.std.specs.Prelude.{◌≡◌, ◌≤◌, ◌^◌, length, IfOk, IfErr};
 ghost use Rattle.meaning.specs.declared.types.Plan.{Plan};
 ghost use Rattle.plan_form.specs.declared.progress.Progress.TheVariants.{Opening};
 ghost use Rattle.plan_form.specs.declared.fault.PlanReadFault.TheVariants.{NoMemory, Line as LineFault};
@@ -20,12 +19,11 @@ use std::alloc::Global;
 pub fn read_plan(alloc: Global, bytes: &[u8]) -> Result<Plan, PlanReadFault>
     requires { length bytes.now ≤ 2 ^ 20 }
 
-    // What is read is the plan that the grammar relates to the bytes, and the bytes are a text.
+    // What is read is the plan that the grammar relates to the bytes, which are a text.
     ensures read { IfOk result (λ plan. IsPlanText bytes.now plan) }
-    ensures utf8 { IsOk result → IsUtf8 bytes.now }
 
     // The text of a plan is read as that plan, unless memory runs out.
-    ensures only { IsUtf8 bytes.now → (plan : Plan) → IsPlanText bytes.now plan → OkOrNoMemory plan result }
+    ensures only { (plan : Plan) → IsPlanText bytes.now plan → OkOrNoMemory plan result }
     ensures fits { IfOk result (λ plan. PlanFits plan) }
     ensures places { IfOk result (λ plan. places_of plan ≤ length bytes.now) }
     ensures fault { IfErr result (λ fault. IsPlanReadFault bytes.now fault) }

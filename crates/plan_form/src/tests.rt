@@ -62,6 +62,10 @@ fn texts_are_printed_in_one_form(rt: HostRuntime) -> Result<(), Fail> {
             "plan 1\nbranch\naccess \"A \"\"b\"\"\"(new)\noutput ''\nbranch\noutput '#'\nend\n",
             "plan 1\nbranch\naccess \"A \"\"b\"\"\"(new)\noutput ''\nbranch\noutput '#'\nend\n",
         ),
+        (
+            "plan 1\nbranch\naccess \"Gehälter\"('Käthe, ''Ä''')\noutput '日本'\nend",
+            "plan 1\nbranch\naccess \"Gehälter\"('Käthe, ''Ä''')\noutput '日本'\nend\n",
+        ),
     ];
     for (text, printed) in table {
         if text.len() < 1000 {
@@ -119,10 +123,19 @@ fn the_first_line_that_does_not_fit_is_told(rt: HostRuntime) {
 
 #[test]
 fn bytes_that_are_no_text_are_told_first(rt: HostRuntime) {
-    assert_eq!(rt;
-        read_plan(rt.alloc(), b"plan 0\n\xff").err(),
-        Some(PlanReadFault::NotUtf8 { offset: 7 })
-    );
+    let table: [(&[u8], u32); 3] = [
+        (b"plan 0\n\xff", 7),
+        (b"plan 1\nend # \xff\n", 13),
+        (b"plan 1\nbranch\noutput '\xc3'\nend\n", 22),
+    ];
+    for (bytes, offset) in table {
+        if bytes.len() < 1000 {
+            assert_eq!(rt;
+                read_plan(rt.alloc(), bytes).err(),
+                Some(PlanReadFault::NotUtf8 { offset })
+            );
+        }
+    }
 }
 
 #[test]

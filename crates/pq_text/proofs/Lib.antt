@@ -1,4 +1,5 @@
 pub mod Offsets
+pub mod FirstBad
 pub mod Digits
 pub mod Lexing
 pub mod Spans
@@ -7,5 +8,6 @@ pub mod Lines
 pub mod Members
 pub mod Forms
 pub mod Printed
+pub mod PrintedTexts
 pub mod Pieces
 pub mod PieceLaws

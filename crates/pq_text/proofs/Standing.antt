@@ -15,7 +15,7 @@ use Rattle.pq_text.specs.Standing.{lowered, single, inside, stands_for}
 
 -- ---- characters
 
-and-both : (x y : Bool) → (x && y) ≡ true → (x ≡ true) × (y ≡ true)
+pub and-both : (x y : Bool) → (x && y) ≡ true → (x ≡ true) × (y ≡ true)
 and-both true y e = (refl, e)
 and-both false y e = absurd cc
 
@@ -31,7 +31,7 @@ high_case c k false e high lt =
     absurd (omega (arith, same))
 
 -- the bytes of a character that is not ASCII are not ASCII
-encode_high : (c : ℕ) → 128 ≤ c → AllByRecursion (λ b. 128 ≤ b) (encode c)
+pub encode_high : (c : ℕ) → 128 ≤ c → AllByRecursion (λ b. 128 ≤ b) (encode c)
 encode_high c high = high_from_index (encode c) (λ k lt. high_case c k (nat_le 128 (get_or (encode c) k 0)) refl high lt)
 
 encode_some : (c : ℕ) → 1 ≤ length (encode c)
@@ -40,7 +40,7 @@ encode_some c = let b = len_utf8_bounds c in let some = b.0 in omega (arith, len
 one_utf8 : (c : ℕ) → c < 128 → IsUtf8 (c ∷ [])
 one_utf8 c low = subst IsUtf8 (encode_ascii c low) (IsUtf8-encode c (low_scalar c (omega arith)))
 
-cons_utf8 : (c : ℕ) (bs : List ℕ) → c < 128 → IsUtf8 bs → IsUtf8 (c ∷ bs)
+pub cons_utf8 : (c : ℕ) (bs : List ℕ) → c < 128 → IsUtf8 bs → IsUtf8 (c ∷ bs)
 cons_utf8 c bs low u = IsUtf8-append (c ∷ []) bs (one_utf8 c low) u
 
 -- ---- doubled quotes made single

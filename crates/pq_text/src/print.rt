@@ -1,6 +1,7 @@
 // Names and values as text.
 ghost use Rattle.std.specs.Prelude.{◌≡◌, ◌++◌, OnOk};
 ghost use Rattle.pq_text.specs.Tokens.{is_digit};
+ghost use Rattle.pq_text.specs.Utf8.{KeepsUtf8};
 ghost use Rattle.pq_text.specs.Printing.{is_small, all_small, is_bare, doubled, between, printed_name, printed_value};
 
 use lists::Text;
@@ -65,6 +66,13 @@ fn push_between(out: &mut Vec<u8>, quote: u8, bytes: &[u8]) -> Result<(), AllocE
 
 /// Writes a name: bare where it has the form of a word without capitals, and in double quotes otherwise.
 pub fn print_name(out: &mut Vec<u8>, name: &Text) -> Result<(), AllocError>
+    ensures written { OnOk result (out.new.items ≡ out.old.items ++ printed_name name.now) }
+    ensures utf8 { OnOk result (KeepsUtf8 out.old.items out.new.items) }
+{
+    push_name(out, name.as_str())
+}
+
+fn push_name(out: &mut Vec<u8>, name: &str) -> Result<(), AllocError>
     ensures { OnOk result (out.new.items ≡ out.old.items ++ printed_name name.now) }
 {
     let bytes = name.as_bytes();
@@ -78,7 +86,9 @@ pub fn print_name(out: &mut Vec<u8>, name: &Text) -> Result<(), AllocError>
 
 /// Writes a value in single quotes.
 pub fn print_value(out: &mut Vec<u8>, value: &Text) -> Result<(), AllocError>
-    ensures { OnOk result (out.new.items ≡ out.old.items ++ printed_value value.now) }
+    ensures written { OnOk result (out.new.items ≡ out.old.items ++ printed_value value.now) }
+    ensures utf8 { OnOk result (KeepsUtf8 out.old.items out.new.items) }
 {
-    push_between(out, b'\'', value.as_bytes())
+    let text = value.as_str();
+    push_between(out, b'\'', text.as_bytes())
 }

@@ -9,7 +9,6 @@ pub mod ColumnFaults
 pub mod Stand
 pub mod Resolved
 pub mod Meanings
-pub mod Utf8
 pub mod Unique
 pub mod Fitting
 pub mod Answering

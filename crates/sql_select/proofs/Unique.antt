@@ -29,7 +29,7 @@ use Rattle.sql_select.proofs.Complete.{one_reading}
 use Rattle.sql_select.proofs.Leading.{one_rest}
 use Rattle.sql_select.proofs.Faults.{no_misfit, pieces_long}
 use Rattle.sql_select.proofs.Meanings.{one_select, no_name_fault, one_name_fault}
-use Rattle.sql_select.proofs.Utf8.{utf8_clash, one_bad}
+use Rattle.pq_text.proofs.FirstBad.{utf8_clash, one_bad}
 
 module _ (bytes : List ℕ) where
   one_tokens : (ts us : List Token) → AreTokens bytes ts → AreTokens bytes us → ts ≡ us

@@ -1,6 +1,7 @@
 -- The text of a schema declares the schema again.
-use Rattle.std.proofs.Common.{◌≡◌, ◌≢◌, ◌⊎◌, ℕ, zero, suc, ◌+◌, ◌<◌, ◌≤◌, ◌^◌, max, Bool, true, false, not, ◌||◌, List, [], ◌∷◌, ◌++◌, length, take, drop, slice_get, Option, None, Some, refl, sym, ap, subst, ◌∙◌, arith, ⊎_elim, nat_le, nat_lt}
+use Rattle.std.proofs.Common.{◌≡◌, ℕ, zero, suc, ◌+◌, ◌<◌, ◌≤◌, max, Bool, true, false, not, ◌||◌, List, [], ◌∷◌, ◌++◌, length, take, drop, slice_get, Option, None, Some, refl, sym, ap, subst, ◌∙◌, arith, ⊎_elim, nat_le, nat_lt}
 use Rattle.std.specs.Prelude.{Contains, map, filter, filter_map, flat_map, slice_index_or, ◌==◌}
+use Rattle.std.specs.Str.{IsUtf8}
 use Rattle.std.specs.List.{AllByRecursion, list_any, range_with_len}
 use Rattle.std.proofs.lemmas.Bool.Decides.{nat_tests}
 use Rattle.std.proofs.lemmas.List.{length-map, map-append}
@@ -8,7 +9,7 @@ use Rattle.std.proofs.lemmas.List.Elements.{Contains-append_left, Contains-appen
 use Rattle.meaning.specs.declared.types.Relation.{Relation}
 use Rattle.meaning.specs.declared.types.Method.{Method}
 use Rattle.meaning.specs.declared.types.Atom.{Atom}
-use Rattle.lists.proofs.Members.{contains_got, contains_map, got_below}
+use Rattle.lists.proofs.Members.{contains_got, got_below}
 use Rattle.access_schema.specs.declared.part.NamedAtom.{NamedAtom}
 use Rattle.access_schema.specs.declared.part.Part.{Part}
 use Rattle.access_schema.specs.declared.part.Part.TheVariants.{Relation as RelationPart, Method as MethodPart, Rule as RulePart, ForeignKey as KeyPart, Constant as ConstantPart, Source as SourcePart}
@@ -16,7 +17,7 @@ use Rattle.access_schema.specs.declared.schema.Schema.{Schema}
 use Rattle.access_schema.specs.declared.fault.SchemaFault.{SchemaFault}
 use Rattle.access_schema.specs.declared.fault.SchemaFault.TheVariants.{DuplicateName, UnknownRelation, WrongArity, UnknownColumn, OverLimit, Recursive}
 use Rattle.access_schema.specs.declared.limits.TheConstants.{MOST_RELATIONS, MOST_METHODS, MOST_RULES, MOST_COLUMNS, MOST_BODY_ATOMS, MOST_HEAD_ATOMS, MOST_VARIABLES, MOST_COST, MOST_CONSTANTS}
-use Rattle.access_schema.specs.Content.{columns_of, relation_of, relations_of, method_of, methods_of, rule_of, rules_of, sources_of, constants_of, variable_of, variables_of, part_constants, Builds}
+use Rattle.access_schema.specs.Content.{columns_of, relation_of, relations_of, method_of, methods_of, rule_of, rules_of, sources_of, constants_of, variable_of, variables_of, part_constants}
 use Rattle.meaning.specs.declared.types.Rule.{Rule}
 use Rattle.meaning.specs.Triggers.{terms_bound}
 use Rattle.access_schema.proofs.Built.{counted, relation_agrees, method_agrees}
@@ -25,10 +26,10 @@ use Rattle.access_schema.proofs.BuiltSchema.{is_schema}
 use Rattle.access_schema.proofs.Ordered.{ordered_from}
 use Rattle.access_schema.specs.Invariant.{AtomFits, terms_of}
 use Rattle.access_schema.specs.Lists.{is_among, once_after, each_once}
-use Rattle.access_schema.specs.Faults.{is_relation, is_method, is_rule, is_outside, has_many_constants, constant_count, passed_limit, repeats_name, IsFaultOf, HasFault, AreFaultless, IsNamed, AreNamed, is_unknown, uses_unknown, is_misfit, has_wrong_arity, lacks, has_unknown_column}
+use Rattle.access_schema.specs.Faults.{is_relation, is_method, is_rule, is_outside, has_many_constants, passed_limit, IsFaultOf, AreFaultless, IsNamed, AreNamed, is_unknown, uses_unknown, is_misfit, has_wrong_arity, lacks, has_unknown_column}
 use Rattle.access_schema.proofs.Texts.{contains_among, once_differ, once_from, length_le}
 use Rattle.access_schema.specs.declared.part.NamedTerm.{NamedTerm}
-use Rattle.tgd_reader.specs.SchemaText.{DeclaresSchema}
+use Rattle.tgd_reader.specs.SchemaText.{DeclaresSchema, IsSchemaText}
 use Rattle.tgd_reader.specs.Printed.{name_at, columns_at, columns_in, named_term, named_atom, variable_name, without_line, parts_of, placed_from, printed_parts, text_of_schema, AreSameButLines}
 use Rattle.tgd_reader.proofs.PrintedParts.{parts_again}
 use Rattle.tgd_reader.proofs.Plain.{schema_plain}
@@ -242,3 +243,9 @@ declares_again s =
       sources = ap (λ (r : List Relation). sources_of r parts) rs ∙ ss;
     } in
     (again, declares, same)
+
+-- The text of a schema, where it is UTF-8, is read as the same schema but for the lines of its rules.
+pub read_again : (s : Schema) (bytes : List ℕ) → bytes ≡ text_of_schema s → IsUtf8 bytes → (again : Schema) × IsSchemaText bytes again × AreSameButLines again s
+read_again s bytes is utf8 =
+    let (again, declares, same) = declares_again s in
+    (again, (utf8, subst (λ (text : List ℕ). DeclaresSchema text again) (sym is) declares), same)

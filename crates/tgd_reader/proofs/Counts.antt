@@ -1,11 +1,9 @@
 -- A text has at most one line more than bytes, and at most as many parts as lines.
-use Rattle.std.proofs.Common.{◌≡◌, ℕ, ◌+◌, ◌<◌, ◌≤◌, ◌^◌, Bool, true, false, cond, List, [], ◌∷◌, ◌++◌, length, drop, Option, None, Some, refl, sym, ap, subst, ◌∙◌, arith}
+use Rattle.std.proofs.Common.{◌≡◌, ℕ, ◌+◌, ◌<◌, ◌≤◌, Bool, true, false, cond, List, [], ◌∷◌, length, drop, Option, None, Some, refl, ap, subst, arith}
 use Rattle.std.specs.Prelude.{◌||◌, nat_eq, IfSome}
-use Rattle.std.proofs.lemmas.List.{length-append}
 use Rattle.pq_text.specs.declared.token.Style.{Style}
 use Rattle.pq_text.specs.declared.token.Style.TheVariants.{Lines, Sql}
-use Rattle.pq_text.specs.declared.token.TokenKind.{TokenKind}
-use Rattle.pq_text.specs.declared.token.TokenKind.TheVariants.{Word, Quoted, Text, Number, Symbol, Eol}
+use Rattle.pq_text.specs.declared.token.TokenKind.TheVariants.{Word, Quoted, Number, Symbol}
 use Rattle.pq_text.specs.declared.token.Token.{Token}
 use Rattle.pq_text.specs.declared.token.Stop.{Stop}
 use Rattle.pq_text.specs.declared.token.Stop.TheVariants.{End, BadByte, OpenQuote}
@@ -15,7 +13,7 @@ use Rattle.pq_text.specs.declared.lexeme.Lexeme.{Lexeme}
 use Rattle.pq_text.specs.declared.lexeme.Line.{Line}
 use Rattle.pq_text.specs.declared.lexeme.TextLines.{TextLines}
 use Rattle.pq_text.specs.Tokens.{is_letter, is_digit, is_word_byte, is_blank, in_comment, gap_from, run_from, end_from, first, is_double, is_single, symbol_end, text_found, quoted_found, feed_found, token_at, Lexes, stop_place}
-use Rattle.pq_text.specs.Lines.{kind_is_eol, number_at, into_first, cut, Tells, AreLines}
+use Rattle.pq_text.specs.Lines.{kind_is_eol, number_at, into_first, cut, Tells}
 use Rattle.pq_text.specs.Standing.{lexeme_for}
 use Rattle.access_schema.specs.declared.part.Part.{Part}
 use Rattle.tgd_reader.specs.declared.parts.Declared.{Declared}

@@ -1,21 +1,16 @@
 -- Bytes are the text of one schema at most, and then no fault is theirs.
-use Rattle.std.proofs.Common.{◌≡◌, ℕ, ◌<◌, Bool, true, false, List, [], ◌∷◌, length, take, drop, arith, slice_get, Option, None, Some, Result, Ok, Err, refl, sym, ap, subst, ◌∙◌}
-use Rattle.std.specs.Prelude.{IfOk, IfErr, ◌&&◌, encode_utf8_all}
-use Rattle.std.specs.Str.{IsUtf8, StartsWithNoChar}
-use Rattle.std.proofs.Math.Utf8.{scalar, scalars}
+use Rattle.std.proofs.Common.{◌≡◌, ℕ, List, Result, Ok, Err, refl, sym, ap, subst, ◌∙◌}
+use Rattle.std.specs.Prelude.{IfOk, IfErr}
 use Rattle.std.proofs.Props.{props}
-use Rattle.std.proofs.lemmas.Str.{IsCharBoundary-from_take, IsUtf8-drop}
-use Rattle.std.proofs.lemmas.List.{length-drop}
 use Rattle.meaning.specs.declared.types.Relation.{Relation}
 use Rattle.meaning.specs.declared.types.Method.{Method}
 use Rattle.meaning.specs.declared.types.Rule.{Rule}
-use Rattle.pq_text.specs.Utf8.{IsFirstBad}
-use Rattle.access_schema.specs.declared.fault.SchemaFault.{SchemaFault}
+use Rattle.pq_text.proofs.FirstBad.{utf8_clash}
 use Rattle.access_schema.specs.declared.part.Part.{Part}
 use Rattle.access_schema.specs.declared.schema.SourceLine.{SourceLine}
 use Rattle.access_schema.specs.declared.schema.Schema.{Schema}
 use Rattle.access_schema.specs.Content.{Builds}
-use Rattle.access_schema.specs.Faults.{AreFaultless, HasFault}
+use Rattle.access_schema.specs.Faults.{HasFault}
 use Rattle.access_schema.specs.Invariant.{IsSchema}
 use Rattle.tgd_reader.specs.declared.parts.Declared.{Declared}
 use Rattle.tgd_reader.specs.declared.fault.PartsFault.{PartsFault}
@@ -23,7 +18,7 @@ use Rattle.tgd_reader.specs.declared.fault.PartsFault.TheVariants as faulty
 use Rattle.tgd_reader.specs.declared.fault.ReadFault.{ReadFault}
 use Rattle.tgd_reader.specs.declared.fault.ReadFault.TheVariants as faults
 use Rattle.tgd_reader.specs.Grammar.{HasParts, HasFaultyLine}
-use Rattle.tgd_reader.specs.SchemaText.{DeclaresSchema, IsSchemaText, IsReadFault, IsReadAs}
+use Rattle.tgd_reader.specs.SchemaText.{IsSchemaText, IsReadFault, IsReadAs}
 use Rattle.tgd_reader.proofs.PartLaws.{text_only}
 
 -- ---- a schema is its fields
@@ -65,22 +60,6 @@ built_once parts a b p q =
 declared_once : (text : List ℕ) (x y : Declared) → HasParts text x → HasParts text y → x ≡ y
 declared_once text x y p q = text_only text (Ok x) p tt y q
 
-and-first : (x y : Bool) → (x && y) ≡ true → x ≡ true
-and-first true y e = refl
-and-first false y e = absurd cc
-
--- a character begins where some text is
-no_text : (cs bytes : List ℕ) → scalars cs ≡ true → encode_utf8_all cs ≡ bytes → 0 < length bytes → StartsWithNoChar bytes → ⊥
-no_text [] bytes are spell some none = let e = ap length spell in omega (arith, e, some)
-no_text (c ∷ cs) bytes are spell some none = none c (encode_utf8_all cs) (and-first (scalar c) (scalars cs) are) (sym spell)
-
-text_not_bad : (bytes : List ℕ) (offset : ℕ) → IsUtf8 bytes → IsFirstBad bytes offset → ⊥
-text_not_bad bytes offset utf8 bad =
-    let cut = IsCharBoundary-from_take bytes offset utf8 (let w = bad.within in omega arith) bad.before in
-    let rest : IsUtf8 (drop offset bytes) = IsUtf8-drop bytes offset utf8 cut in
-    let long = length-drop offset bytes in
-    no_text rest.0 (drop offset bytes) rest.1.0 rest.1.1 (let w = bad.within in omega (arith, long, w)) bad.none
-
 text_not_faulty : (text : List ℕ) (line : ℕ) (x : Declared) → HasParts text x → HasFaultyLine text (faulty.Line line) → ⊥
 text_not_faulty text line x has fault =
     let r : Result Declared PartsFault = Err (faulty.Line line) in
@@ -91,8 +70,18 @@ read_only bytes (Ok found) ok err schema is =
     let same : ok.1.declared ≡ is.1.declared = declared_once bytes ok.1.declared is.1.declared ok.1.parts is.1.parts in
     built_once is.1.declared.parts found schema (subst (λ (d : Declared). Builds d.parts found) same ok.1.builds) is.1.builds
 read_only bytes (Err faults.NoMemory) ok err schema is = tt
-read_only bytes (Err (faults.NotUtf8 offset)) ok err schema is = text_not_bad bytes offset is.0 err
+read_only bytes (Err (faults.NotUtf8 offset)) ok err schema is = utf8_clash bytes offset err is.0
 read_only bytes (Err (faults.Line line)) ok err schema is = text_not_faulty bytes line is.1.declared is.1.parts err.1
 read_only bytes (Err (faults.Schema line fault)) ok err schema is =
     let same : err.1.declared ≡ is.1.declared = declared_once bytes err.1.declared is.1.declared err.1.parts is.1.parts in
     is.1.faultless err.1.first.index fault (subst (λ (d : Declared). HasFault d.parts err.1.first.index fault) same err.1.first.first.has)
+
+nothing_told : (schema : Schema) (fault : ReadFault) → IsReadAs schema (Err fault) → fault ≡ faults.NoMemory
+nothing_told schema faults.NoMemory is = refl
+nothing_told schema (faults.NotUtf8 offset) is = absurd is
+nothing_told schema (faults.Line line) is = absurd is
+nothing_told schema (faults.Schema line fault) is = absurd is
+
+-- The text of a schema has no fault.
+pub no_fault : (bytes : List ℕ) (schema : Schema) (fault : ReadFault) → IsSchemaText bytes schema → IsReadFault bytes fault → fault ≡ faults.NoMemory
+no_fault bytes schema fault is has = nothing_told schema fault (read_only bytes (Err fault) tt has schema is)

@@ -1,34 +1,28 @@
 -- No declaration of a schema, on any line, has a fault.
-use Rattle.std.proofs.Common.{◌≡◌, ◌≢◌, ◌⊎◌, ℕ, zero, suc, ◌+◌, ◌<◌, ◌≤◌, ◌^◌, max, Bool, true, false, not, ◌||◌, cond, List, [], ◌∷◌, ◌++◌, length, take, drop, slice_get, get_or, Option, None, Some, refl, sym, ap, subst, ◌∙◌, append_assoc, arith, inl, inr, ⊎_elim, nat_le, nat_lt}
-use Rattle.std.specs.Prelude.{Contains, map, filter, filter_map, flat_map, option_map, slice_index_or, ◌==◌, if◌then◌else◌}
-use Rattle.std.specs.List.{AllByRecursion, cons_option, list_any, range_with_len}
-use Rattle.std.proofs.lemmas.Bool.{cases_Bool}
-use Rattle.std.proofs.lemmas.Bool.Decides.{nat_tests}
-use Rattle.std.proofs.lemmas.List.{append-nil, length-append, length-map, map-append}
-use Rattle.std.proofs.lemmas.List.Elements.{filter_map-append, Contains-append_left, Contains-append_right}
+use Rattle.std.proofs.Common.{◌≡◌, ℕ, zero, suc, ◌+◌, ◌<◌, ◌≤◌, Bool, true, false, List, [], ◌∷◌, ◌++◌, length, slice_get, Option, Some, refl, sym, ap, subst, ◌∙◌, append_assoc, arith}
+use Rattle.std.specs.Prelude.{Contains, map, filter_map, slice_index_or}
+use Rattle.std.specs.List.{cons_option, list_any}
+use Rattle.std.proofs.lemmas.List.{length-append}
+use Rattle.std.proofs.lemmas.List.Elements.{filter_map-append, Contains-append_left}
 use Rattle.meaning.specs.declared.types.Relation.{Relation}
-use Rattle.meaning.specs.declared.types.Method.{Method}
 use Rattle.meaning.specs.declared.types.Rule.{Rule}
 use Rattle.meaning.specs.declared.types.Atom.{Atom}
-use Rattle.lists.proofs.Members.{contains_here, contains_there, contains_cases, contains_got, contains_map, contains_mapped, got_below, got_mapped}
-use Rattle.access_schema.specs.declared.part.NamedAtom.{NamedAtom}
+use Rattle.lists.proofs.Members.{contains_here, contains_there, contains_got, contains_map, contains_mapped, got_below, got_mapped}
 use Rattle.access_schema.specs.declared.part.Part.{Part}
-use Rattle.access_schema.specs.declared.part.Part.TheVariants.{Relation as RelationPart, Method as MethodPart, Rule as RulePart, ForeignKey as KeyPart, Constant as ConstantPart, Source as SourcePart}
-use Rattle.access_schema.specs.declared.schema.SourceLine.{SourceLine}
 use Rattle.access_schema.specs.declared.schema.Schema.{Schema}
-use Rattle.access_schema.specs.Names.{relation_names, method_names, AllDiffer}
-use Rattle.access_schema.specs.Lists.{is_among, repeats, each_once}
+use Rattle.access_schema.specs.Names.{AllDiffer}
+use Rattle.access_schema.specs.Lists.{is_among, repeats}
 use Rattle.meaning.specs.RuleOrder.{Feeds}
-use Rattle.access_schema.specs.Feeding.{IsChain, AreRecursive}
-use Rattle.access_schema.specs.Content.{number_of, columns_of, relation_of, relations_of, method_of, methods_of, rule_of, rules_of, source_of, sources_of, part_constants}
-use Rattle.access_schema.specs.Faults.{is_relation_named, is_method_named, is_source_of, is_unknown, is_misfit, lacks}
-use Rattle.access_schema.proofs.Texts.{text_is, any_found, contains_among, among_contains, got_contained}
-use Rattle.access_schema.proofs.Prefixes.{given_by, given_from, given_mapped}
+use Rattle.access_schema.specs.Feeding.{AreRecursive}
+use Rattle.access_schema.specs.Content.{columns_of, rule_of, rules_of}
+use Rattle.access_schema.specs.Faults.{is_unknown}
+use Rattle.access_schema.proofs.Texts.{among_contains, got_contained}
+use Rattle.access_schema.proofs.Prefixes.{given_by, given_from}
 use Rattle.access_schema.proofs.Circles.{chain_along}
-use Rattle.tgd_reader.specs.Printed.{name_in, columns_in, name_at, columns_at, named_term, named_atom, without_line}
+use Rattle.tgd_reader.specs.Printed.{name_in, name_at, without_line}
 use Rattle.tgd_reader.proofs.Rebuilt.{known_at, columns_again}
-use Rattle.tgd_reader.proofs.Places.{RisingFrom, rising_above, rising_of, got_read}
-use Rattle.tgd_reader.proofs.Reprinted.{IsOf, all_member, differ_split}
+use Rattle.tgd_reader.proofs.Places.{RisingFrom, rising_above, got_read}
+use Rattle.tgd_reader.proofs.Reprinted.{differ_split}
 
 -- ---- lists
 

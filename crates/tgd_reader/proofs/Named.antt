@@ -1,10 +1,10 @@
 -- Names that were read are not empty.
-use Rattle.std.proofs.Common.{◌≡◌, ◌≢◌, ℕ, List, [], ◌∷◌, ◌++◌, ⊎_elim, refl, sym, subst, ◌∙◌, arith}
+use Rattle.std.proofs.Common.{◌≢◌, ℕ, List, [], ◌∷◌, ◌++◌, ⊎_elim, subst, ◌∙◌, arith}
 use Rattle.std.specs.Prelude.{Contains, codes, Bool, nat_eq}
 use Rattle.pq_text.specs.declared.lexeme.Lexeme.{Lexeme}
 use Rattle.pq_text.specs.declared.lexeme.Line.{Line}
 use Rattle.pq_text.specs.Lexemes.{comma}
-use Rattle.pq_text.specs.Forms.{Slot, Key, Mark, Name, Value, Quote, Digits, Takes, further_form, list_form, name_form}
+use Rattle.pq_text.specs.Forms.{Slot, Key, Mark, Name, Quote, Digits, Takes, further_form, list_form, name_form}
 use Rattle.pq_text.proofs.Forms.{Takes-split, name_some}
 use Rattle.lists.proofs.Members.{contains_cases}
 use Rattle.access_schema.specs.declared.part.Part.{Part}
@@ -12,7 +12,7 @@ use Rattle.access_schema.specs.declared.part.Part.TheVariants.{Relation, Method,
 use Rattle.access_schema.specs.Faults.{IsNamed, AreNamed}
 use Rattle.tgd_reader.specs.declared.parts.Declared.{Declared}
 use Rattle.tgd_reader.specs.Reading.{cost_of}
-use Rattle.tgd_reader.specs.Grammar.{listing_form, Declares, IsDeclaration, HasPart, AreParts, HasParts}
+use Rattle.tgd_reader.specs.Grammar.{listing_form, IsDeclaration, HasPart, AreParts, HasParts}
 
 -- the tokens behind the first
 behind : (ls : List Lexeme) (s : Slot) (ss : List Slot) (rest : List Lexeme) → Takes ls (s ∷ ss) rest → (mid : List Lexeme) × Takes mid ss rest

@@ -1,8 +1,7 @@
 -- The inputs of a method are the places of their names.
-use Rattle.std.proofs.Common.{◌≡◌, ◌≢◌, ℕ, zero, suc, ◌+◌, ◌<◌, ◌≤◌, Bool, true, false, List, [], ◌∷◌, length, slice_get, get_or, Option, None, Some, refl, sym, ap, subst, ◌∙◌, arith, inl, inr, ⊎_elim}
+use Rattle.std.proofs.Common.{◌≡◌, ℕ, zero, suc, ◌+◌, ◌<◌, ◌≤◌, Bool, true, false, List, [], ◌∷◌, length, slice_get, get_or, Some, refl, sym, ap, subst, ◌∙◌, arith, ⊎_elim}
 use Rattle.std.specs.Prelude.{Contains, map, slice_index_or}
-use Rattle.std.proofs.lemmas.Bool.{cases_Bool, cases_lt}
-use Rattle.lists.proofs.Members.{contains_here, contains_there, contains_cases, contains_got, contains_map, contains_mapped, got_below, some_injective}
+use Rattle.lists.proofs.Members.{contains_here, contains_there, contains_cases, contains_map, contains_mapped, got_below, some_injective}
 use Rattle.access_schema.specs.Names.{AllDiffer}
 use Rattle.access_schema.specs.Lists.{is_among}
 use Rattle.access_schema.specs.Content.{places_from}

@@ -1,6 +1,6 @@
 -- Parts that are printed are read as themselves, each on its line.
-use Rattle.std.proofs.Common.{◌≡◌, ℕ, ◌+◌, ◌-◌, ◌*◌, ◌/◌, ◌%◌, ◌<◌, ◌≤◌, ◌^◌, Bool, true, false, List, [], ◌∷◌, ◌++◌, refl, sym, ap, subst, ◌∙◌, append_assoc, arith}
-use Rattle.std.specs.Prelude.{codes, map, min, nat_eq, None}
+use Rattle.std.proofs.Common.{◌≡◌, ℕ, ◌+◌, ◌-◌, ◌*◌, ◌%◌, ◌<◌, ◌≤◌, ◌^◌, Bool, true, false, List, [], ◌∷◌, ◌++◌, refl, ap, subst, append_assoc, arith}
+use Rattle.std.specs.Prelude.{codes, map, nat_eq}
 use Rattle.std.specs.Fmt.{decimal}
 use Rattle.std.specs.List.{AllByRecursion}
 use Rattle.std.proofs.lemmas.Bool.{eq-eqb}
@@ -10,7 +10,7 @@ use Rattle.pq_text.specs.declared.token.Style.TheVariants.{Lines}
 use Rattle.pq_text.specs.declared.lexeme.Lexeme.{Lexeme}
 use Rattle.pq_text.specs.Numbers.{value_from, value_of}
 use Rattle.pq_text.specs.Forms.{Slot, Key, Mark, Name, Value, Quote, Digits, Takes, list_form, name_form, IsSome}
-use Rattle.pq_text.specs.Pieces.{Piece, text_of, piece_lexeme, AreLexed, AreInLine, IsPrintedLine, ArePrintedLines, word_piece, mark_piece, name_piece, value_piece, number_piece, list_pieces, lines_text, numbered}
+use Rattle.pq_text.specs.Pieces.{Piece, text_of, piece_lexeme, AreLexed, AreInLine, ArePrintedLines, word_piece, mark_piece, name_piece, value_piece, number_piece, list_pieces, lines_text, numbered}
 use Rattle.pq_text.proofs.Pieces.{printed_lines}
 use Rattle.pq_text.proofs.PieceLaws.{name_is_lexed, value_is_lexed, word_is_lexed, open_is_lexed, close_is_lexed, arrow_is_lexed, number_is_lexed, AreLexed-append, AreInLine-append, Reads, Reads-append, name_reads, value_reads, quote_reads, name_in_line, IsPrinted, list_lexed, list_reads, list_in_line}
 use Rattle.access_schema.specs.declared.part.NamedTerm.{NamedTerm}

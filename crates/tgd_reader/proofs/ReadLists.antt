@@ -1,12 +1,12 @@
 -- Relations with columns, terms and atoms are read exactly where they have their form.
-use Rattle.std.proofs.Common.{◌≡◌, ℕ, ◌<◌, ◌≤◌, suc, Bool, true, false, cond, List, [], ◌∷◌, ◌++◌, length, Option, None, Some, refl, sym, ap, subst, ◌∙◌, arith, lit≤}
-use Rattle.std.specs.Prelude.{codes, ◌&&◌, ◌==◌, not}
+use Rattle.std.proofs.Common.{◌≡◌, ℕ, ◌≤◌, Bool, true, false, cond, List, [], ◌∷◌, ◌++◌, length, Option, None, Some, refl, subst, arith, lit≤}
+use Rattle.std.specs.Prelude.{codes}
 use Rattle.std.specs.List.{AllByRecursion}
 use Rattle.pq_text.specs.declared.lexeme.Lexeme.{Lexeme}
 use Rattle.pq_text.specs.declared.token.TokenKind.{TokenKind}
 use Rattle.pq_text.specs.declared.token.TokenKind.TheVariants.{Word, Quoted, Text, Number, Symbol, Eol}
-use Rattle.pq_text.specs.Lexemes.{◌>>=◌, comma, kind_names, kind_is_value, is_name, is_value, symbol_at, name_at, value_at, name_next, names_at, members}
-use Rattle.pq_text.specs.Forms.{Slot, Key, Mark, Name, Value, Takes, list_form, name_form, IsSome}
+use Rattle.pq_text.specs.Lexemes.{◌>>=◌, comma, kind_names, kind_is_value, is_name, is_value, symbol_at, name_at, names_at}
+use Rattle.pq_text.specs.Forms.{Mark, Name, Takes, list_form, name_form, IsSome}
 use Rattle.pq_text.proofs.Forms.{bind_some, some_is, Takes-append, Takes-split, symbol_found, symbol_again, name_found, name_again, Any, all_any, Finds, Rereads, list_found, list_again, names_found, names_again, other_symbol}
 use Rattle.access_schema.specs.declared.part.NamedTerm.{NamedTerm}
 use Rattle.access_schema.specs.declared.part.NamedTerm.TheVariants.{Var, Const}

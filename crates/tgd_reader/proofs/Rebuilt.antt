@@ -1,16 +1,15 @@
 -- The declarations of a schema have its relations, methods, constants and sources, and its rules on other lines.
-use Rattle.std.proofs.Common.{◌≡◌, ◌≢◌, ◌⊎◌, ℕ, zero, suc, ◌+◌, ◌-◌, ◌<◌, ◌≤◌, ◌^◌, max, Bool, true, false, cond, List, [], ◌∷◌, ◌++◌, length, take, drop, slice_get, get_or, Option, None, Some, refl, sym, ap, subst, ◌∙◌, append_assoc, arith, inl, inr, ⊎_elim}
-use Rattle.std.specs.Prelude.{Contains, map, filter_map, flat_map, option_map, slice_index_or, nat_eq, ◌||◌, if◌then◌else◌}
-use Rattle.std.specs.List.{AllByRecursion, list_any, cons_option, range_with_len, position_or_len}
+use Rattle.std.proofs.Common.{◌≡◌, ℕ, zero, suc, ◌+◌, ◌-◌, ◌<◌, ◌≤◌, ◌^◌, max, true, false, List, [], ◌∷◌, ◌++◌, slice_get, Some, refl, sym, ap, subst, ◌∙◌, arith, ⊎_elim}
+use Rattle.std.specs.Prelude.{Contains, map, filter_map, nat_eq}
+use Rattle.std.specs.List.{range_with_len}
 use Rattle.std.specs.Fmt.{decimal}
 use Rattle.std.specs.Cmp.Lexicographic.{pointwise}
 use Rattle.std.proofs.lemmas.Bool.{cases_Bool, cases_lt}
 use Rattle.std.proofs.lemmas.Fmt.{decimal_injective}
-use Rattle.std.proofs.lemmas.List.{append-nil, length-append, map-append}
+use Rattle.std.proofs.lemmas.List.{map-append}
 use Rattle.std.proofs.lemmas.List.Concat.{flat_map-append}
-use Rattle.std.proofs.lemmas.List.Elements.{filter_map-append, Contains-append_cases, Contains-append_left, Contains-append_right}
+use Rattle.std.proofs.lemmas.List.Elements.{Contains-append_left, Contains-append_right}
 use Rattle.meaning.specs.declared.types.Relation.{Relation}
-use Rattle.meaning.specs.declared.types.Method.{Method}
 use Rattle.meaning.specs.declared.types.Rule.{Rule}
 use Rattle.meaning.specs.declared.types.Atom.{Atom}
 use Rattle.meaning.specs.declared.types.Term.{Term}
@@ -18,22 +17,15 @@ use Rattle.meaning.specs.declared.types.Term.TheVariants.{Var, Const}
 use Rattle.meaning.specs.Triggers.{terms_bound}
 use Rattle.lists.proofs.Members.{contains_here, contains_there, contains_cases, contains_got, got_below, map_got, some_injective}
 use Rattle.access_schema.specs.declared.part.NamedTerm.{NamedTerm}
-use Rattle.access_schema.specs.declared.part.NamedTerm.TheVariants.{Var as NamedVar, Const as NamedConst}
-use Rattle.access_schema.specs.declared.part.NamedAtom.{NamedAtom}
-use Rattle.access_schema.specs.declared.part.Part.{Part}
-use Rattle.access_schema.specs.declared.part.Part.TheVariants.{Relation as RelationPart, Method as MethodPart, Rule as RulePart, ForeignKey as KeyPart, Constant as ConstantPart, Source as SourcePart}
-use Rattle.access_schema.specs.declared.schema.SourceLine.{SourceLine}
-use Rattle.access_schema.specs.declared.schema.Schema.{Schema}
-use Rattle.access_schema.specs.Names.{relation_names, AllDiffer}
-use Rattle.access_schema.specs.Lists.{is_among, place_of, once_after, each_once}
+use Rattle.access_schema.specs.Names.{relation_names}
+use Rattle.access_schema.specs.Lists.{is_among, place_of, once_after}
 use Rattle.access_schema.specs.Invariant.{terms_of, AtomFits, AreRelations, IsRule}
-use Rattle.access_schema.specs.Content.{is_named, is_declared, number_of, columns_of, relation_of, relations_of, places_from, method_of, methods_of, rule_of, rules_of, source_of, sources_of, variable_of, constant_of, named_terms, variables_of, term_of, atom_of, numbered_rule, declared_constants, rule_constants, constants_of}
+use Rattle.access_schema.specs.Content.{is_named, is_declared, number_of, columns_of, variable_of, named_terms, variables_of, term_of, atom_of, numbered_rule}
 use Rattle.access_schema.specs.Faults.{is_unknown}
-use Rattle.access_schema.proofs.Texts.{text_is, text_same, any_at, contains_among, among_contains, not_among, got_contained}
+use Rattle.access_schema.proofs.Texts.{text_is, text_same, any_at, contains_among, among_contains}
 use Rattle.access_schema.proofs.Built.{at_number}
-use Rattle.access_schema.proofs.Collected.{once_on}
 use Rattle.access_schema.proofs.Ordered.{OrderedFrom, ordered_from}
-use Rattle.tgd_reader.specs.Printed.{name_in, columns_in, name_at, columns_at, variable_name, named_term, named_atom, relation_part, method_part, rule_part, source_part, parts_of}
+use Rattle.tgd_reader.specs.Printed.{name_in, name_at, variable_name, named_term, named_atom}
 
 -- ---- numbers of relations
 

@@ -1,25 +1,20 @@
 -- What the declarations of a schema declare, on any lines.
-use Rattle.std.proofs.Common.{◌≡◌, ◌≢◌, ℕ, zero, suc, ◌+◌, ◌<◌, ◌≤◌, Bool, true, false, List, [], ◌∷◌, ◌++◌, length, slice_get, get_or, Option, None, Some, refl, sym, ap, subst, ◌∙◌, arith, ⊎_elim}
-use Rattle.std.specs.Prelude.{Contains, map, filter_map, flat_map, option_map, IsTrue}
-use Rattle.std.specs.List.{AllByRecursion, cons_option}
-use Rattle.std.proofs.lemmas.Bool.{cases_Bool}
+use Rattle.std.proofs.Common.{◌≡◌, ℕ, List, [], ◌∷◌, ◌++◌, slice_get, get_or, Option, None, Some, refl, sym, ap, subst, ◌∙◌, arith}
+use Rattle.std.specs.Prelude.{Contains, map, filter_map, flat_map, option_map}
+use Rattle.std.specs.List.{cons_option}
 use Rattle.std.proofs.lemmas.List.{append-nil, map-id}
-use Rattle.std.proofs.lemmas.List.Concat.{flat_map-append}
-use Rattle.std.proofs.lemmas.List.Elements.{filter_map-append, Contains-append_cases}
+use Rattle.std.proofs.lemmas.List.Elements.{filter_map-append}
 use Rattle.meaning.specs.declared.types.Relation.{Relation}
 use Rattle.meaning.specs.declared.types.Method.{Method}
 use Rattle.meaning.specs.declared.types.Rule.{Rule}
-use Rattle.meaning.specs.declared.types.Atom.{Atom}
-use Rattle.meaning.specs.declared.types.Term.{Term}
-use Rattle.meaning.specs.declared.types.Term.TheVariants.{Var, Const}
-use Rattle.lists.proofs.Members.{contains_here, contains_there, contains_cases, contains_got, got_below}
+use Rattle.lists.proofs.Members.{contains_here, contains_there, contains_got, got_below}
 use Rattle.access_schema.specs.declared.part.Part.{Part}
 use Rattle.access_schema.specs.declared.part.Part.TheVariants.{Relation as RelationPart, Method as MethodPart, Rule as RulePart, ForeignKey as KeyPart, Constant as ConstantPart, Source as SourcePart}
 use Rattle.access_schema.specs.declared.schema.SourceLine.{SourceLine}
 use Rattle.access_schema.specs.declared.schema.Schema.{Schema}
 use Rattle.access_schema.specs.Content.{number_of, columns_of, relation_of, relations_of, places_from, method_of, methods_of, rule_of, rules_of, source_of, sources_of, declared_constants}
 use Rattle.access_schema.proofs.Prefixes.{given_mapped}
-use Rattle.tgd_reader.specs.Printed.{name_in, columns_in, name_at, columns_at, named_atom, relation_part, method_part, rule_part, source_part, parts_of, on_line, line_behind, placed_from, without_line}
+use Rattle.tgd_reader.specs.Printed.{name_in, columns_in, name_at, columns_at, relation_part, method_part, rule_part, source_part, parts_of, on_line, line_behind, placed_from, without_line}
 use Rattle.tgd_reader.proofs.Rebuilt.{number_again, columns_again, rule_again}
 use Rattle.tgd_reader.proofs.Places.{rising_of, places_again}
 

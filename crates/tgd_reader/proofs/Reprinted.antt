@@ -1,19 +1,18 @@
 -- The declarations of a schema, on any lines, have no fault, and build the schema again.
-use Rattle.std.proofs.Common.{◌≡◌, ◌≢◌, ◌⊎◌, ℕ, zero, suc, ◌+◌, ◌<◌, ◌≤◌, Bool, true, false, List, [], ◌∷◌, ◌++◌, length, take, drop, slice_get, get_or, Option, None, Some, refl, sym, ap, subst, ◌∙◌, append_assoc, arith, inl, inr, ⊎_elim}
-use Rattle.std.specs.Prelude.{Contains, map, filter_map, flat_map, option_map, not, ◌||◌}
-use Rattle.std.specs.List.{AllByRecursion, cons_option, list_any}
-use Rattle.std.specs.Cmp.Lexicographic.{pointwise}
+use Rattle.std.proofs.Common.{◌≡◌, ℕ, true, false, List, [], ◌∷◌, ◌++◌, length, slice_get, Some, refl, sym, ap, subst, ◌∙◌, append_assoc, arith, ⊎_elim}
+use Rattle.std.specs.Prelude.{Contains, map, filter_map, flat_map}
+use Rattle.std.specs.List.{AllByRecursion}
 use Rattle.std.proofs.lemmas.Bool.{cases_Bool}
 use Rattle.std.proofs.lemmas.List.{append-nil, map-append}
 use Rattle.std.proofs.lemmas.List.Concat.{flat_map-append}
-use Rattle.std.proofs.lemmas.List.Elements.{filter_map-append, Contains-append_cases, Contains-append_left, Contains-append_right}
+use Rattle.std.proofs.lemmas.List.Elements.{Contains-append_cases}
 use Rattle.meaning.specs.declared.types.Relation.{Relation}
 use Rattle.meaning.specs.declared.types.Method.{Method}
 use Rattle.meaning.specs.declared.types.Rule.{Rule}
 use Rattle.meaning.specs.declared.types.Atom.{Atom}
 use Rattle.meaning.specs.declared.types.Term.{Term}
 use Rattle.meaning.specs.declared.types.Term.TheVariants.{Var, Const}
-use Rattle.lists.proofs.Members.{contains_here, contains_there, contains_cases, contains_got, got_below, got_before}
+use Rattle.lists.proofs.Members.{contains_here, contains_there, contains_cases, got_before}
 use Rattle.access_schema.specs.declared.part.NamedTerm.{NamedTerm}
 use Rattle.access_schema.specs.declared.part.NamedAtom.{NamedAtom}
 use Rattle.access_schema.specs.declared.part.Part.{Part}
@@ -24,7 +23,7 @@ use Rattle.access_schema.specs.Names.{AllDiffer}
 use Rattle.access_schema.specs.Lists.{is_among, once_after, each_once}
 use Rattle.access_schema.specs.Invariant.{terms_of}
 use Rattle.access_schema.specs.Content.{constant_of, named_terms, declared_constants, rule_constants, part_constants, constants_of}
-use Rattle.access_schema.proofs.Texts.{among_contains, contains_among, not_among, got_contained}
+use Rattle.access_schema.proofs.Texts.{among_contains, contains_among, got_contained}
 use Rattle.access_schema.proofs.Collected.{once_on}
 use Rattle.tgd_reader.specs.Printed.{name_at, columns_at, named_term, named_atom, relation_part, method_part, rule_part, source_part, parts_of, on_line, line_behind, placed_from}
 use Rattle.tgd_reader.proofs.Plain.{all_appended, all_mapped}

@@ -1,25 +1,21 @@
 -- The text of a schema declares the schema again, but for the lines of its rules.
-use Rattle.std.proofs.Common.{◌≡◌, ◌≢◌, ◌⊎◌, ℕ, zero, suc, ◌+◌, ◌<◌, ◌≤◌, ◌^◌, max, Bool, true, false, not, ◌||◌, List, [], ◌∷◌, ◌++◌, length, take, drop, slice_get, Option, None, Some, refl, sym, ap, subst, ◌∙◌, arith, inl, inr, ⊎_elim, nat_le, nat_lt}
-use Rattle.std.specs.Prelude.{Contains, map, filter, filter_map, flat_map, option_map, slice_index_or, ◌==◌}
-use Rattle.std.specs.List.{AllByRecursion, list_any}
-use Rattle.std.proofs.lemmas.Bool.Decides.{nat_tests}
-use Rattle.std.proofs.lemmas.List.{length-map, map-append}
-use Rattle.std.proofs.lemmas.List.Elements.{Contains-append_left, Contains-append_right}
+use Rattle.std.proofs.Common.{◌≡◌, ℕ, Bool, true, false, ◌||◌, List, [], ◌∷◌, ◌++◌, Option, Some, refl, sym, ap, subst, ◌∙◌, arith}
+use Rattle.std.specs.Prelude.{Contains, map, filter_map, option_map, slice_index_or}
+use Rattle.std.specs.List.{list_any}
 use Rattle.meaning.specs.declared.types.Relation.{Relation}
 use Rattle.meaning.specs.declared.types.Method.{Method}
-use Rattle.meaning.specs.declared.types.Atom.{Atom}
-use Rattle.lists.proofs.Members.{contains_got, contains_map, got_below, map_got}
+use Rattle.lists.proofs.Members.{contains_got, got_below}
 use Rattle.access_schema.specs.declared.part.Part.{Part}
 use Rattle.access_schema.specs.declared.part.Part.TheVariants.{Relation as RelationPart, Method as MethodPart, Rule as RulePart, ForeignKey as KeyPart, Constant as ConstantPart, Source as SourcePart}
 use Rattle.access_schema.specs.declared.schema.SourceLine.{SourceLine}
 use Rattle.access_schema.specs.declared.schema.Schema.{Schema}
-use Rattle.access_schema.specs.Content.{number_of, relation_of, relations_of, method_of, methods_of, rule_of, rules_of, source_of, sources_of}
+use Rattle.access_schema.specs.Content.{number_of, relation_of, relations_of, method_of, methods_of, source_of, sources_of}
 use Rattle.access_schema.specs.Faults.{is_relation_named, is_method_named, is_source_of, repeats_name}
 use Rattle.access_schema.specs.Lists.{repeats}
 use Rattle.access_schema.specs.Names.{relation_names, method_names, AllDiffer}
 use Rattle.access_schema.proofs.Texts.{text_is, any_found}
 use Rattle.access_schema.proofs.Prefixes.{given_from, given_mapped}
-use Rattle.tgd_reader.specs.Printed.{name_at, columns_at, columns_in}
+use Rattle.tgd_reader.specs.Printed.{columns_at, columns_in}
 use Rattle.tgd_reader.proofs.Places.{rising_of}
 use Rattle.tgd_reader.proofs.Reprinted.{IsOf}
 use Rattle.tgd_reader.proofs.Faultless.{fails, repeats_none, names_differ, fresh_key}

@@ -1,5 +1,5 @@
 -- The grammar of schema texts: the form of each declaration, and the parts of a text.
-use Rattle.std.specs.Prelude.{◌≡◌, ◌⊎◌, ◌++◌, ℕ, codes, nat_eq, Bool, true, Option, None, Some, Result, Ok, Err, List, [], ◌∷◌}
+use Rattle.std.specs.Prelude.{◌≡◌, ◌⊎◌, ◌++◌, ℕ, codes, nat_eq, None, Some, Result, Ok, Err, List, [], ◌∷◌}
 use Rattle.std.specs.List.{AllByRecursion}
 use Rattle.pq_text.specs.declared.lexeme.Lexeme.{Lexeme}
 use Rattle.pq_text.specs.declared.lexeme.Line.{Line}

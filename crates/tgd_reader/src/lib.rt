@@ -15,7 +15,7 @@ mod read;
 
 pub use declaration::read_declaration;
 pub use fault::{PartsFault, ReadFault};
-pub use laws::printed_schemas_are_read;
+pub use laws::{printed_schemas_are_read, schema_texts_have_no_fault};
 pub use listed::Listing;
 pub use parts::{Declared, read_parts};
 pub use print::schema_text;

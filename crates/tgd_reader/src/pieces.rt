@@ -1,6 +1,7 @@
 // Words, names, values and lists of them, as they are printed one behind another.
 ghost use Rattle.std.specs.Prelude.{◌≡◌, ◌++◌, ◌∷◌, List, ℕ, false, true, map, codes, OnOk, [], length, ◌<◌, slice_get, Some};
 ghost use Rattle.std.specs.List.{AllByRecursion};
+ghost use Rattle.pq_text.specs.Utf8.{KeepsUtf8};
 ghost use Rattle.pq_text.specs.Pieces.{word_piece, mark_piece, name_piece, value_piece, number_piece, list_pieces, further_pieces, behind_blank};
 ghost use Rattle.tgd_reader.specs.Printed.{variable_name, named_term, named_atom, name_pieces, term_pieces, atom_pieces, listing_pieces};
 ghost use Rattle.tgd_reader.specs.Printing.{Writes, IsPlaced};
@@ -10,7 +11,8 @@ use pq_text::{print_name, print_number, print_value};
 
 // A blank where one is wanted.
 fn blank(out: &mut Vec<u8>, spaced: bool) -> Result<(), NoMemory>
-    ensures { OnOk result (out.new.items ≡ out.old.items ++ behind_blank spaced []) }
+    ensures written { OnOk result (out.new.items ≡ out.old.items ++ behind_blank spaced []) }
+    ensures utf8 { OnOk result (KeepsUtf8 out.old.items out.new.items) }
 {
     if spaced {
         out.push(b' ')?;
@@ -18,31 +20,35 @@ fn blank(out: &mut Vec<u8>, spaced: bool) -> Result<(), NoMemory>
     Ok(())
 }
 
-pub fn word(out: &mut Vec<u8>, spaced: bool, text: &[u8]) -> Result<(), NoMemory>
-    ensures { OnOk result (Writes out.old.items out.new.items (word_piece spaced text.now ∷ [])) }
+pub fn word(out: &mut Vec<u8>, spaced: bool, text: &str) -> Result<(), NoMemory>
+    ensures written { OnOk result (Writes out.old.items out.new.items (word_piece spaced text.now ∷ [])) }
+    ensures utf8 { OnOk result (KeepsUtf8 out.old.items out.new.items) }
 {
     blank(out, spaced)?;
-    out.extend_from_slice(text)?;
+    out.extend_from_slice(text.as_bytes())?;
     Ok(())
 }
 
-pub fn mark(out: &mut Vec<u8>, spaced: bool, text: &[u8]) -> Result<(), NoMemory>
-    ensures { OnOk result (Writes out.old.items out.new.items (mark_piece spaced text.now ∷ [])) }
+pub fn mark(out: &mut Vec<u8>, spaced: bool, text: &str) -> Result<(), NoMemory>
+    ensures written { OnOk result (Writes out.old.items out.new.items (mark_piece spaced text.now ∷ [])) }
+    ensures utf8 { OnOk result (KeepsUtf8 out.old.items out.new.items) }
 {
     blank(out, spaced)?;
-    out.extend_from_slice(text)?;
+    out.extend_from_slice(text.as_bytes())?;
     Ok(())
 }
 
 pub fn name(out: &mut Vec<u8>, spaced: bool, text: &Text) -> Result<(), NoMemory>
-    ensures { OnOk result (Writes out.old.items out.new.items (name_piece spaced text.now ∷ [])) }
+    ensures written { OnOk result (Writes out.old.items out.new.items (name_piece spaced text.now ∷ [])) }
+    ensures utf8 { OnOk result (KeepsUtf8 out.old.items out.new.items) }
 {
     blank(out, spaced)?;
     print_name(out, text)
 }
 
 pub fn value(out: &mut Vec<u8>, spaced: bool, text: &Text) -> Result<(), NoMemory>
-    ensures { OnOk result (Writes out.old.items out.new.items (value_piece spaced text.now ∷ [])) }
+    ensures written { OnOk result (Writes out.old.items out.new.items (value_piece spaced text.now ∷ [])) }
+    ensures utf8 { OnOk result (KeepsUtf8 out.old.items out.new.items) }
 {
     blank(out, spaced)?;
     print_value(out, text)
@@ -50,14 +56,16 @@ pub fn value(out: &mut Vec<u8>, spaced: bool, text: &Text) -> Result<(), NoMemor
 
 /// Writes a number behind a blank.
 pub fn number(out: &mut Vec<u8>, number: u32) -> Result<(), NoMemory>
-    ensures { OnOk result (Writes out.old.items out.new.items (number_piece true number ∷ [])) }
+    ensures written { OnOk result (Writes out.old.items out.new.items (number_piece true number ∷ [])) }
+    ensures utf8 { OnOk result (KeepsUtf8 out.old.items out.new.items) }
 {
     out.push(b' ')?;
     print_number(out, number as u64)
 }
 
 pub fn end_line(out: &mut Vec<u8>) -> Result<(), NoMemory>
-    ensures { OnOk result (out.new.items ≡ out.old.items ++ 10 ∷ []) }
+    ensures written { OnOk result (out.new.items ≡ out.old.items ++ 10 ∷ []) }
+    ensures utf8 { OnOk result (KeepsUtf8 out.old.items out.new.items) }
 {
     out.push(b'\n')?;
     Ok(())
@@ -65,16 +73,18 @@ pub fn end_line(out: &mut Vec<u8>) -> Result<(), NoMemory>
 
 /// Writes a name and, in brackets, names with commas between them.
 pub fn listing(out: &mut Vec<u8>, relation: &Text, columns: &[Text]) -> Result<(), NoMemory>
-    ensures { OnOk result (Writes out.old.items out.new.items (listing_pieces relation.now columns.now)) }
+    ensures written { OnOk result (Writes out.old.items out.new.items (listing_pieces relation.now columns.now)) }
+    ensures utf8 { OnOk result (KeepsUtf8 out.old.items out.new.items) }
 {
     name(out, true, relation)?;
-    mark(out, false, b"(")?;
+    mark(out, false, "(")?;
     names(out, columns)?;
-    mark(out, false, b")")
+    mark(out, false, ")")
 }
 
 fn names(out: &mut Vec<u8>, list: &[Text]) -> Result<(), NoMemory>
-    ensures { OnOk result (Writes out.old.items out.new.items (list_pieces name_pieces false list.now)) }
+    ensures written { OnOk result (Writes out.old.items out.new.items (list_pieces name_pieces false list.now)) }
+    ensures utf8 { OnOk result (KeepsUtf8 out.old.items out.new.items) }
 {
     match list {
         [] => Ok(()),
@@ -86,11 +96,12 @@ fn names(out: &mut Vec<u8>, list: &[Text]) -> Result<(), NoMemory>
 }
 
 fn further_names(out: &mut Vec<u8>, list: &[Text]) -> Result<(), NoMemory>
-    ensures { OnOk result (Writes out.old.items out.new.items (further_pieces name_pieces list.now)) }
+    ensures written { OnOk result (Writes out.old.items out.new.items (further_pieces name_pieces list.now)) }
+    ensures utf8 { OnOk result (KeepsUtf8 out.old.items out.new.items) }
 {
     let mut left = list;
     while let [first, after @ ..] = left {
-        mark(out, false, b",")?;
+        mark(out, false, ",")?;
         name(out, true, first)?;
         left = after;
     }
@@ -99,7 +110,8 @@ fn further_names(out: &mut Vec<u8>, list: &[Text]) -> Result<(), NoMemory>
 
 // The variable with number k as xk.
 fn variable(out: &mut Vec<u8>, spaced: bool, number: u32) -> Result<(), NoMemory>
-    ensures { OnOk result (Writes out.old.items out.new.items (name_piece spaced (variable_name number) ∷ [])) }
+    ensures written { OnOk result (Writes out.old.items out.new.items (name_piece spaced (variable_name number) ∷ [])) }
+    ensures utf8 { OnOk result (KeepsUtf8 out.old.items out.new.items) }
 {
     blank(out, spaced)?;
     out.push(b'x')?;
@@ -107,7 +119,8 @@ fn variable(out: &mut Vec<u8>, spaced: bool, number: u32) -> Result<(), NoMemory
 }
 
 fn term(out: &mut Vec<u8>, spaced: bool, term: &Term) -> Result<(), NoMemory>
-    ensures { OnOk result (Writes out.old.items out.new.items (term_pieces spaced (named_term term.now))) }
+    ensures written { OnOk result (Writes out.old.items out.new.items (term_pieces spaced (named_term term.now))) }
+    ensures utf8 { OnOk result (KeepsUtf8 out.old.items out.new.items) }
 {
     match term {
         Term::Var(number) => variable(out, spaced, *number),
@@ -116,7 +129,8 @@ fn term(out: &mut Vec<u8>, spaced: bool, term: &Term) -> Result<(), NoMemory>
 }
 
 fn terms(out: &mut Vec<u8>, list: &[Term]) -> Result<(), NoMemory>
-    ensures { OnOk result (Writes out.old.items out.new.items (list_pieces term_pieces false (map named_term list.now))) }
+    ensures written { OnOk result (Writes out.old.items out.new.items (list_pieces term_pieces false (map named_term list.now))) }
+    ensures utf8 { OnOk result (KeepsUtf8 out.old.items out.new.items) }
 {
     match list {
         [] => Ok(()),
@@ -128,11 +142,12 @@ fn terms(out: &mut Vec<u8>, list: &[Term]) -> Result<(), NoMemory>
 }
 
 fn further_terms(out: &mut Vec<u8>, list: &[Term]) -> Result<(), NoMemory>
-    ensures { OnOk result (Writes out.old.items out.new.items (further_pieces term_pieces (map named_term list.now))) }
+    ensures written { OnOk result (Writes out.old.items out.new.items (further_pieces term_pieces (map named_term list.now))) }
+    ensures utf8 { OnOk result (KeepsUtf8 out.old.items out.new.items) }
 {
     let mut left = list;
     while let [first, after @ ..] = left {
-        mark(out, false, b",")?;
+        mark(out, false, ",")?;
         term(out, true, first)?;
         left = after;
     }
@@ -146,18 +161,20 @@ fn atom(
     atom: &Atom,
 ) -> Result<(), NoMemory>
     requires { IsPlaced relations.now atom.now }
-    ensures { OnOk result (Writes out.old.items out.new.items (atom_pieces spaced (named_atom relations.now atom.now))) }
+    ensures written { OnOk result (Writes out.old.items out.new.items (atom_pieces spaced (named_atom relations.now atom.now))) }
+    ensures utf8 { OnOk result (KeepsUtf8 out.old.items out.new.items) }
 {
     name(out, spaced, &relation_at(relations, atom.rel).name)?;
-    mark(out, false, b"(")?;
+    mark(out, false, "(")?;
     terms(out, atom.terms.as_slice())?;
-    mark(out, false, b")")
+    mark(out, false, ")")
 }
 
 /// Writes atoms with commas between them, the first behind a blank.
 pub fn atoms(out: &mut Vec<u8>, relations: &[Relation], list: &[Atom]) -> Result<(), NoMemory>
     requires { AllByRecursion (IsPlaced relations.now) list.now }
-    ensures { OnOk result (Writes out.old.items out.new.items (list_pieces atom_pieces true (map (named_atom relations.now) list.now))) }
+    ensures written { OnOk result (Writes out.old.items out.new.items (list_pieces atom_pieces true (map (named_atom relations.now) list.now))) }
+    ensures utf8 { OnOk result (KeepsUtf8 out.old.items out.new.items) }
 {
     match list {
         [] => Ok(()),
@@ -170,11 +187,12 @@ pub fn atoms(out: &mut Vec<u8>, relations: &[Relation], list: &[Atom]) -> Result
 
 fn further_atoms(out: &mut Vec<u8>, relations: &[Relation], list: &[Atom]) -> Result<(), NoMemory>
     requires { AllByRecursion (IsPlaced relations.now) list.now }
-    ensures { OnOk result (Writes out.old.items out.new.items (further_pieces atom_pieces (map (named_atom relations.now) list.now))) }
+    ensures written { OnOk result (Writes out.old.items out.new.items (further_pieces atom_pieces (map (named_atom relations.now) list.now))) }
+    ensures utf8 { OnOk result (KeepsUtf8 out.old.items out.new.items) }
 {
     let mut left = list;
     while let [first, after @ ..] = left {
-        mark(out, false, b",")?;
+        mark(out, false, ",")?;
         atom(out, true, relations, first)?;
         left = after;
     }

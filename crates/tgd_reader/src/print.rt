@@ -1,8 +1,12 @@
 // The text of a schema.
 ghost use Rattle.std.specs.Prelude.{◌≡◌, ◌<◌, ◌∷◌, [], map, length, IfOk, OnOk, All, slice_index_or};
 ghost use Rattle.std.specs.List.{AllByRecursion};
+ghost use Rattle.std.specs.Str.{IsUtf8};
+ghost use Rattle.pq_text.specs.Utf8.{KeepsUtf8};
 ghost use Rattle.access_schema.specs.declared.part.Part.TheVariants.{Constant as ConstantPart};
-ghost use Rattle.tgd_reader.specs.Printed.{relation_part, method_part, rule_part, source_part, text_of_schema};
+ghost use Rattle.access_schema.specs.declared.schema.Schema.{Schema};
+ghost use Rattle.tgd_reader.specs.SchemaText.{IsSchemaText};
+ghost use Rattle.tgd_reader.specs.Printed.{relation_part, method_part, rule_part, source_part, text_of_schema, AreSameButLines};
 ghost use Rattle.tgd_reader.specs.Printing.{WritesLines, IsMethodPlaced, IsRulePlaced, IsSourcePlaced};
 
 use crate::pieces::{atoms, end_line, listing, mark, name, number, relation_at, value, word};
@@ -15,7 +19,19 @@ use std::alloc::Global;
 /// Foreign keys are printed as the rules that they became, and all constants are printed, those of rules too. The text
 /// is read as the same schema again, but for the lines of its rules; it may be longer than the text that was read.
 pub fn schema_text(alloc: Global, schema: &Schema) -> Result<Bytes, NoMemory>
-    ensures { IfOk result (λ bytes. bytes ≡ text_of_schema schema.now) }
+    ensures text { IfOk result (λ bytes. bytes ≡ text_of_schema schema.now) }
+
+    // The text is UTF-8, and so it is read as the same schema again, but for the lines of its rules.
+    ensures utf8 { IfOk result (λ bytes. IsUtf8 bytes) }
+    ensures read { IfOk result (λ bytes. (again : Schema) × IsSchemaText bytes again × AreSameButLines again schema.now) }
+{
+    let bytes = schema_bytes(alloc, schema)?;
+    Ok(Seq::from_vec(bytes))
+}
+
+fn schema_bytes(alloc: Global, schema: &Schema) -> Result<Vec<u8>, NoMemory>
+    ensures written { IfOk result (λ bytes. bytes.items ≡ text_of_schema schema.now) }
+    ensures utf8 { IfOk result (λ bytes. IsUtf8 bytes.items) }
 {
     let relations = schema.relations.as_slice();
     let mut out = Vec::new(alloc);
@@ -24,11 +40,12 @@ pub fn schema_text(alloc: Global, schema: &Schema) -> Result<Bytes, NoMemory>
     print_rules(&mut out, relations, schema.rules.as_slice())?;
     print_constants(&mut out, schema.constants.as_slice())?;
     print_sources(&mut out, relations, schema.sources.as_slice())?;
-    Ok(Seq::from_vec(out))
+    Ok(out)
 }
 
 fn print_relations(out: &mut Vec<u8>, relations: &[Relation]) -> Result<(), NoMemory>
-    ensures { OnOk result (WritesLines out.old.items out.new.items (map relation_part relations.now)) }
+    ensures written { OnOk result (WritesLines out.old.items out.new.items (map relation_part relations.now)) }
+    ensures utf8 { OnOk result (KeepsUtf8 out.old.items out.new.items) }
 {
     let mut left = relations;
     while let [relation, after @ ..] = left {
@@ -39,9 +56,10 @@ fn print_relations(out: &mut Vec<u8>, relations: &[Relation]) -> Result<(), NoMe
 }
 
 fn print_relation(out: &mut Vec<u8>, relation: &Relation) -> Result<(), NoMemory>
-    ensures { OnOk result (WritesLines out.old.items out.new.items (relation_part relation.now ∷ [])) }
+    ensures written { OnOk result (WritesLines out.old.items out.new.items (relation_part relation.now ∷ [])) }
+    ensures utf8 { OnOk result (KeepsUtf8 out.old.items out.new.items) }
 {
-    word(out, false, b"relation")?;
+    word(out, false, "relation")?;
     listing(out, &relation.name, relation.columns.as_slice())?;
     end_line(out)
 }
@@ -53,7 +71,8 @@ fn print_methods(
     methods: &[Method],
 ) -> Result<(), NoMemory>
     requires { AllByRecursion (IsMethodPlaced relations.now) methods.now }
-    ensures { OnOk result (WritesLines out.old.items out.new.items (map (method_part relations.now) methods.now)) }
+    ensures written { OnOk result (WritesLines out.old.items out.new.items (map (method_part relations.now) methods.now)) }
+    ensures utf8 { OnOk result (KeepsUtf8 out.old.items out.new.items) }
 {
     let mut left = methods;
     while let [method, after @ ..] = left {
@@ -70,15 +89,16 @@ fn print_method(
     method: &Method,
 ) -> Result<(), NoMemory>
     requires { IsMethodPlaced relations.now method.now }
-    ensures { OnOk result (WritesLines out.old.items out.new.items (method_part relations.now method.now ∷ [])) }
+    ensures written { OnOk result (WritesLines out.old.items out.new.items (method_part relations.now method.now ∷ [])) }
+    ensures utf8 { OnOk result (KeepsUtf8 out.old.items out.new.items) }
 {
     let relation = relation_at(relations, method.rel);
     let inputs = names_at(alloc, relation.columns.as_slice(), method.inputs.as_slice())?;
-    word(out, false, b"method")?;
+    word(out, false, "method")?;
     name(out, true, &method.name)?;
-    word(out, true, b"on")?;
+    word(out, true, "on")?;
     listing(out, &relation.name, inputs.as_slice())?;
-    word(out, true, b"cost")?;
+    word(out, true, "cost")?;
     number(out, method.cost)?;
     end_line(out)
 }
@@ -97,7 +117,8 @@ fn names_at(alloc: Global, columns: &[Text], places: &[u32]) -> Result<Texts, No
 
 fn print_rules(out: &mut Vec<u8>, relations: &[Relation], rules: &[Rule]) -> Result<(), NoMemory>
     requires { AllByRecursion (IsRulePlaced relations.now) rules.now }
-    ensures { OnOk result (WritesLines out.old.items out.new.items (map (rule_part relations.now) rules.now)) }
+    ensures written { OnOk result (WritesLines out.old.items out.new.items (map (rule_part relations.now) rules.now)) }
+    ensures utf8 { OnOk result (KeepsUtf8 out.old.items out.new.items) }
 {
     let mut left = rules;
     while let [rule, after @ ..] = left {
@@ -109,17 +130,19 @@ fn print_rules(out: &mut Vec<u8>, relations: &[Relation], rules: &[Rule]) -> Res
 
 fn print_rule(out: &mut Vec<u8>, relations: &[Relation], rule: &Rule) -> Result<(), NoMemory>
     requires { IsRulePlaced relations.now rule.now }
-    ensures { OnOk result (WritesLines out.old.items out.new.items (rule_part relations.now rule.now ∷ [])) }
+    ensures written { OnOk result (WritesLines out.old.items out.new.items (rule_part relations.now rule.now ∷ [])) }
+    ensures utf8 { OnOk result (KeepsUtf8 out.old.items out.new.items) }
 {
-    word(out, false, b"rule")?;
+    word(out, false, "rule")?;
     atoms(out, relations, rule.body.as_slice())?;
-    mark(out, true, b"->")?;
+    mark(out, true, "->")?;
     atoms(out, relations, rule.head.as_slice())?;
     end_line(out)
 }
 
 fn print_constants(out: &mut Vec<u8>, constants: &[Text]) -> Result<(), NoMemory>
-    ensures { OnOk result (WritesLines out.old.items out.new.items (map ConstantPart constants.now)) }
+    ensures written { OnOk result (WritesLines out.old.items out.new.items (map ConstantPart constants.now)) }
+    ensures utf8 { OnOk result (KeepsUtf8 out.old.items out.new.items) }
 {
     let mut left = constants;
     while let [text, after @ ..] = left {
@@ -130,9 +153,10 @@ fn print_constants(out: &mut Vec<u8>, constants: &[Text]) -> Result<(), NoMemory
 }
 
 fn print_constant(out: &mut Vec<u8>, text: &Text) -> Result<(), NoMemory>
-    ensures { OnOk result (WritesLines out.old.items out.new.items (ConstantPart text.now ∷ [])) }
+    ensures written { OnOk result (WritesLines out.old.items out.new.items (ConstantPart text.now ∷ [])) }
+    ensures utf8 { OnOk result (KeepsUtf8 out.old.items out.new.items) }
 {
-    word(out, false, b"constant")?;
+    word(out, false, "constant")?;
     value(out, true, text)?;
     end_line(out)
 }
@@ -143,7 +167,8 @@ fn print_sources(
     sources: &[SourceLine],
 ) -> Result<(), NoMemory>
     requires { AllByRecursion (IsSourcePlaced relations.now) sources.now }
-    ensures { OnOk result (WritesLines out.old.items out.new.items (map (source_part relations.now) sources.now)) }
+    ensures written { OnOk result (WritesLines out.old.items out.new.items (map (source_part relations.now) sources.now)) }
+    ensures utf8 { OnOk result (KeepsUtf8 out.old.items out.new.items) }
 {
     let mut left = sources;
     while let [source, after @ ..] = left {
@@ -159,9 +184,10 @@ fn print_source(
     source: &SourceLine,
 ) -> Result<(), NoMemory>
     requires { IsSourcePlaced relations.now source.now }
-    ensures { OnOk result (WritesLines out.old.items out.new.items (source_part relations.now source.now ∷ [])) }
+    ensures written { OnOk result (WritesLines out.old.items out.new.items (source_part relations.now source.now ∷ [])) }
+    ensures utf8 { OnOk result (KeepsUtf8 out.old.items out.new.items) }
 {
-    word(out, false, b"source")?;
+    word(out, false, "source")?;
     name(out, true, &relation_at(relations, source.rel).name)?;
     name(out, true, &source.kind)?;
     value(out, true, &source.locator)?;

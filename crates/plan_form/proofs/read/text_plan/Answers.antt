@@ -17,7 +17,7 @@ returns-in-Some-clause-fault c =
 pub returns-in-Some-finished-clause-read : goal.returns-in-Some-finished-clause-read
 returns-in-Some-finished-clause-read c =
     let e = rw c.as_slice.ensures at c.in_ok-done.ensures in
-    text_read c.args.text.now c.in_ok-told.told c.in_ok-done.done c.in-Some-finished.plan c.in_ok-told.ensures.lines c.in-None.is e (sym c.in-Some-finished.ensures)
+    (c.utf8.text, text_read c.args.text.now c.in_ok-told.told c.in_ok-done.done c.in-Some-finished.plan c.in_ok-told.ensures.lines c.in-None.is e (sym c.in-Some-finished.ensures))
 
 pub returns-clause-fault : goal.returns-clause-fault
 returns-clause-fault c =

@@ -1,6 +1,5 @@
-use Rattle.std.proofs.Common.{◌≡◌, ◌∙◌, ap, sym, arith, length, refl, []}
+use Rattle.std.proofs.Common.{arith, length}
 use Rattle.std.proofs.lemmas.Result.{err_from_is_err_and}
-use Rattle.pq_text.specs.Lexemes.{Gives, members}
 use Rattle.tgd_reader.specs.Reading.{term_at}
 use Rattle.pq_text.proofs.Members.{goes_on, is_last, fails, runs_out}
 use Rattle.tgd_reader.proofs.listed.terms.Goals as goal

@@ -8,13 +8,13 @@ use Rattle.tgd_reader.specs.Printing.{Writes}
 use Rattle.tgd_reader.proofs.Writing.{split_first, writes_then}
 use Rattle.tgd_reader.proofs.pieces.atoms.Goals as goal
 
-pub returns-in_ok-atom-in-len1-up : goal.returns-in_ok-atom-in-len1-up
-returns-in_ok-atom-in-len1-up c =
+pub returns-in_ok-atom-in-len1-up-clause-written : goal.returns-in_ok-atom-in-len1-up-clause-written
+returns-in_ok-atom-in-len1-up-clause-written c =
     let first = c.first-item.result in
     let list = c.args.list.now in
     let relations = c.args.relations.now in
     let split = split_first list first (let some = c.in-len1-up.len_at_least in omega arith) c.first-item.is in
     on_ok_weaker c.further_atoms.result
     (λ more. subst (λ (xs : List Atom). Writes c.args.out.now.items c.further_atoms.new.out.items (list_pieces atom_pieces true (map (named_atom relations) xs))) (sym split)
-    (writes_then c.args.out.now.items c.atom.new.out.items c.further_atoms.new.out.items (atom_pieces true (named_atom relations first)) (further_pieces atom_pieces (map (named_atom relations) (take (length list - 1) (drop 1 list)))) c.in_ok-atom-in-len1-up.ensures more))
-    c.further_atoms.ensures
+    (writes_then c.args.out.now.items c.atom.new.out.items c.further_atoms.new.out.items (atom_pieces true (named_atom relations first)) (further_pieces atom_pieces (map (named_atom relations) (take (length list - 1) (drop 1 list)))) c.in_ok-atom-in-len1-up.ensures.written more))
+    c.further_atoms.ensures.written

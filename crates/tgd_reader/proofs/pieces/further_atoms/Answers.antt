@@ -19,6 +19,7 @@ loop-left-preserved c =
     let here = subst (λ (xs : List Atom). out ++ text_of (further_pieces atom_pieces (map (named_atom relations) xs)) ≡ total) split c.loop-left.invariant.written in
     let placed = subst (λ (xs : List Atom). AllByRecursion (IsPlaced relations) xs) split c.loop-left.invariant.placed in
     record {
-      written = further_written atom_pieces (named_atom relations first) (map (named_atom relations) (take (length left - 1) (drop 1 left))) out c.mark.new.out.items c.atom.new.out.items total c.in_ok-mark.ensures c.in_ok-atom.ensures here;
+      written = further_written atom_pieces (named_atom relations first) (map (named_atom relations) (take (length left - 1) (drop 1 left))) out c.mark.new.out.items c.atom.new.out.items total c.in_ok-mark.ensures.written c.in_ok-atom.ensures.written here;
       placed = placed.1;
+      utf8 = λ utf8. c.in_ok-atom.ensures.utf8 (c.in_ok-mark.ensures.utf8 (c.loop-left.invariant.utf8 utf8));
     }

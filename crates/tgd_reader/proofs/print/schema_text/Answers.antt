@@ -1,18 +1,8 @@
-use Rattle.std.proofs.Common.{◌∙◌}
-use Rattle.tgd_reader.proofs.Writing.{methods_placed, rules_placed, sources_placed, schema_written}
+use Rattle.std.proofs.Common.{sym, subst, ◌∙◌}
+use Rattle.std.specs.Str.{IsUtf8}
+use Rattle.tgd_reader.proofs.Again.{read_again}
 use Rattle.tgd_reader.proofs.print.schema_text.Goals as goal
 
-pub print_methods-requires : goal.print_methods-requires
-print_methods-requires c = rw (c.as_slice-relations.ensures, c.as_slice.ensures) (methods_placed c.args.schema.now)
-
-pub print_rules-requires : goal.print_rules-requires
-print_rules-requires c = rw (c.as_slice-relations.ensures, c.as_slice-2.ensures) (rules_placed c.args.schema.now)
-
-pub print_sources-requires : goal.print_sources-requires
-print_sources-requires c = rw (c.as_slice-relations.ensures, c.as_slice-4.ensures) (sources_placed c.args.schema.now)
-
-pub returns : goal.returns
-returns c = c.from_vec.ensures ∙ schema_written c.args.schema.now c.as_slice-relations.result.now c.as_slice.result.now c.as_slice-2.result.now c.as_slice-3.result.now c.as_slice-4.result.now
-    c.new-out.result.items c.print_relations.new.out.items c.print_methods.new.out.items c.print_rules.new.out.items c.print_constants.new.out.items c.print_sources.new.out.items
-    c.as_slice-relations.ensures c.as_slice.ensures c.as_slice-2.ensures c.as_slice-3.ensures c.as_slice-4.ensures c.new-out.ensures.items
-    c.in_ok-print_relations.ensures c.in_ok-print_methods.ensures c.in_ok-print_rules.ensures c.in_ok-print_constants.ensures c.in_ok-print_sources.ensures
+pub returns-clause-read : goal.returns-clause-read
+returns-clause-read c =
+    read_again c.args.schema.now c.from_vec.result (c.from_vec.ensures ∙ c.in_ok-bytes.ensures.written) (subst IsUtf8 (sym c.from_vec.ensures) c.in_ok-bytes.ensures.utf8)

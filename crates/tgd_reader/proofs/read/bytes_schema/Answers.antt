@@ -1,4 +1,4 @@
-use Rattle.std.proofs.Common.{◌≤◌, ◌<◌, ◌^◌, length, ap, arith}
+use Rattle.std.proofs.Common.{length, ap, arith}
 use Rattle.tgd_reader.proofs.Counts.{declared_few}
 use Rattle.tgd_reader.proofs.Named.{declared_named}
 use Rattle.tgd_reader.proofs.read.bytes_schema.Goals as goal
