@@ -12,9 +12,9 @@ use Rattle.meaning.specs.Triggers.{fired}
 use Rattle.meaning.specs.Runs.{Proof, base_state, copy_state, last_part, IsOrderedRun, NoExposure, IsBaseQuiet, IsActiveExposure}
 use Rattle.meaning_laws.proofs.Running.{run_push}
 use Rattle.rule_pass.specs.States.{SomeActive}
-use Rattle.accessible_copy.specs.Proving.{Proving, IsProofOf, log_of}
+use Rattle.accessible_copy.specs.Proving.{Proving, IsProofOf, log_of, IsOrdered}
 use Rattle.accessible_copy.specs.Listing.{CanFire, AreExposures}
-use Rattle.accessible_copy.specs.Rounds.{IsOrdered, GoesOn}
+use Rattle.accessible_copy.specs.Rounds.{GoesOn}
 use Rattle.accessible_copy.proofs.Lasting.{active_first}
 use Rattle.accessible_copy.proofs.Settled.{part_low}
 

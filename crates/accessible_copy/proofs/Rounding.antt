@@ -20,11 +20,11 @@ use Rattle.accessible_copy.specs.declared.settling.Round.{Round}
 use Rattle.accessible_copy.specs.declared.settling.Round.TheVariants.{Quiet, Done, Spent}
 use Rattle.accessible_copy.specs.Known.{facts_of}
 use Rattle.accessible_copy.specs.Written.{firing_of}
-use Rattle.accessible_copy.specs.Proving.{Proving, IsProofOf, log_of, exposed_in, sizes_of}
+use Rattle.accessible_copy.specs.Proving.{Proving, IsProofOf, log_of, exposed_in, sizes_of, IsOrdered}
 use Rattle.accessible_copy.specs.Settling.{Settles, CanFollow, kind_state}
 use Rattle.accessible_copy.specs.Exposing.{with_exposure}
 use Rattle.accessible_copy.specs.Listing.{CanFire, AreExposures}
-use Rattle.accessible_copy.specs.Rounds.{IsOrdered, GoesOn, IsOneRound, exposure_of, MadeExposures, SomeExposure, MayExpose, IsDone}
+use Rattle.accessible_copy.specs.Rounds.{GoesOn, IsOneRound, exposure_of, MadeExposures, SomeExposure, MayExpose, IsDone}
 use Rattle.accessible_copy.proofs.Writing.{written_exposed, firings_on}
 use Rattle.accessible_copy.proofs.Listed.{number_is, fact_is}
 use Rattle.accessible_copy.proofs.Lasting.{exposure_stays}

@@ -12,10 +12,6 @@ use Rattle.accessible_copy.specs.Settling.{Settles}
 use Rattle.accessible_copy.specs.Exposing.{with_exposure}
 use Rattle.accessible_copy.specs.Listing.{CanFire}
 
--- The log is an ordered run from the start to the end.
-abbrev pub IsOrdered : SchemaParts → Proving → Type 0
-IsOrdered schema proof = IsOrderedRun schema proof.constants 0 proof.start (log_of proof) proof.end
-
 -- Nothing is active.
 pub record IsAllQuiet (schema : SchemaParts) (proof : Proving) : Type 0 where
   pub base : IsBaseQuiet schema proof.end

@@ -7,9 +7,9 @@ ghost use Rattle.meaning.specs.Runs.{last_part, IsBaseQuiet, NoExposure};
 ghost use Rattle.access_schema.specs.Meaning.{meaning_of};
 ghost use Rattle.rule_pass.specs.declared.pass.TheConstants.{MOST_FIRINGS};
 ghost use Rattle.accessible_copy.specs.declared.settling.Round.TheVariants.{Quiet, Done, Spent};
-ghost use Rattle.accessible_copy.specs.Proving.{IsProofOf, log_of};
+ghost use Rattle.accessible_copy.specs.Proving.{IsProofOf, log_of, IsOrdered};
 ghost use Rattle.accessible_copy.specs.Settling.{Settles, kind_state};
-ghost use Rattle.accessible_copy.specs.Rounds.{IsOrdered, IsAllQuiet, GoesOn, SomeExposure, MayExpose, IsOneRound, MadeExposures, IsRound, IsDone};
+ghost use Rattle.accessible_copy.specs.Rounds.{IsAllQuiet, GoesOn, SomeExposure, MayExpose, IsOneRound, MadeExposures, IsRound, IsDone};
 ghost use Rattle.accessible_copy.specs.Listing.{CanFire, AreExposures};
 
 use crate::exposing::expose;
