@@ -8,3 +8,4 @@ pub mod Listed
 pub mod Heading
 pub mod Lasting
 pub mod Pushing
+pub mod Rounding

@@ -67,10 +67,10 @@ inputs_first values vals p inputs is =
     ((λ are q among. are q (contains_there p inputs q among)), (λ are q among. ⊎_elim (λ same. subst (IsInput values vals) same is) (λ h. are q h) (contains_cases p inputs q among)))
 
 -- one method more
-number_is : (m n : ℕ) (f g : Ground) → Expose m f ≡ Expose n g → m ≡ n
+pub number_is : (m n : ℕ) (f g : Ground) → Expose m f ≡ Expose n g → m ≡ n
 number_is m n f g e = cc
 
-fact_is : (m n : ℕ) (f g : Ground) → Expose m f ≡ Expose n g → f ≡ g
+pub fact_is : (m n : ℕ) (f g : Ground) → Expose m f ≡ Expose n g → f ≡ g
 fact_is m n f g e = cc
 
 module _ (schema : SchemaParts) (proof : Proving) (fact : Ground) where

@@ -8,9 +8,10 @@ use Rattle.meaning.specs.declared.types.Atom.{Atom}
 use Rattle.meaning.specs.declared.types.Val.TheVariants.{Const, Label}
 use Rattle.meaning.specs.declared.types.Ground.{Ground}
 use Rattle.meaning.specs.declared.types.Query.{Query}
+use Rattle.meaning.specs.declared.types.SchemaParts.{SchemaParts}
 use Rattle.meaning.specs.Matching.{value_of}
 use Rattle.meaning.specs.Triggers.{LabelsBelow, ground, bound}
-use Rattle.meaning.specs.Runs.{Proof, opening}
+use Rattle.meaning.specs.Runs.{Proof, IsOrderedRun, opening}
 use Rattle.meaning_laws.proofs.Carrying.{occurs_below}
 use Rattle.access_schema.specs.declared.schema.Schema.{Schema}
 use Rattle.access_schema.specs.Meaning.{meaning_of}
@@ -20,7 +21,7 @@ use Rattle.rule_pass.proofs.Bounds.{below_added}
 use Rattle.meaning.specs.Search.{AreDistinct}
 use Rattle.accessible_copy.specs.declared.entry.Entry.{Entry}
 use Rattle.accessible_copy.proofs.Listed.{with_once}
-use Rattle.accessible_copy.specs.Proving.{Proving, IsWritten, IsProofOf, exposed_in}
+use Rattle.accessible_copy.specs.Proving.{Proving, firings_of, IsWritten, IsProofOf, exposed_in}
 
 var_is : (term : Term) (k : ℕ) → value_of Const Label term ≡ Label k → term ≡ Var k
 var_is (Var x) k e = let same : x ≡ k = cc in ap Var same
@@ -46,3 +47,7 @@ opening_proof schema query proof counted few start end entries exposed = record 
   written = subst (λ (es : List Entry). IsWritten (meaning_of schema) proof.constants 0 proof.start es proof.end) (sym entries) (end ∙ sym start);
   exposed = exposed ∙ sym (ap exposed_in entries);
 }
+
+-- the empty log is ordered
+pub opening_ordered : (schema : SchemaParts) (constants : List (List ℕ)) (query : Query) (start end : Proof) (entries : List Entry) → start ≡ opening query → end ≡ opening query → entries ≡ [] → IsOrderedRun schema constants 0 start (firings_of entries) end
+opening_ordered schema constants query start end entries s e none = subst (λ (es : List Entry). IsOrderedRun schema constants 0 start (firings_of es) end) (sym none) (e ∙ sym s)

@@ -5,15 +5,16 @@ use Rattle.std.proofs.lemmas.Bool.{cases_lt}
 use Rattle.lists.proofs.Members.{contains_here}
 use Rattle.meaning.specs.declared.types.SchemaParts.{SchemaParts}
 use Rattle.meaning.specs.declared.types.Ground.{Ground}
+use Rattle.meaning.specs.declared.types.Method.{Method}
 use Rattle.meaning.specs.declared.types.Firing.{Firing}
 use Rattle.meaning.specs.declared.types.Firing.TheVariants.{Base, Copy, Expose}
 use Rattle.meaning.specs.Triggers.{fired}
-use Rattle.meaning.specs.Runs.{Proof, base_state, copy_state, last_part, IsOrderedRun, NoExposure, IsBaseQuiet}
+use Rattle.meaning.specs.Runs.{Proof, base_state, copy_state, last_part, IsOrderedRun, NoExposure, IsBaseQuiet, IsActiveExposure}
 use Rattle.meaning_laws.proofs.Running.{run_push}
 use Rattle.rule_pass.specs.States.{SomeActive}
-use Rattle.accessible_copy.specs.Proving.{Proving, IsProofOf, log_of}
+use Rattle.accessible_copy.specs.Proving.{Proving, IsProofOf, log_of, IsOrdered}
 use Rattle.accessible_copy.specs.Listing.{CanFire, AreExposures}
-use Rattle.accessible_copy.specs.Rounds.{IsOrdered, GoesOn}
+use Rattle.accessible_copy.specs.Rounds.{GoesOn}
 use Rattle.accessible_copy.proofs.Lasting.{active_first}
 use Rattle.accessible_copy.proofs.Settled.{part_low}
 
@@ -34,13 +35,14 @@ module _ (schema : SchemaParts) (proof : Proving) (is : IsProofOf schema proof) 
       let next : Proof = record proof.end { base = (fired (base_state proof.end) trigger rule).facts; next = (fired (base_state proof.end) trigger rule).next } in
       (Base trigger, next, run_push schema proof.constants 0 proof.start (log_of proof) proof.end (Base trigger) next ordered (omega arith) (λ e. absurd (omega arith)) (rule, first, refl))
 
+  -- an exposure that is active comes before the first copy firing
+  pub expose_low : (number : ℕ) (fact : Ground) (method : Method) → IsActiveExposure schema proof.constants proof.end number fact method → last_part 0 (log_of proof) ≤ 1
+  expose_low number fact method active = ⊎_elim (λ high. absurd (run_bare schema proof.constants 0 proof.start (log_of proof) proof.end ordered (λ l. absurd (omega arith)) (omega arith) number fact method active)) (λ not. omega arith) (cases_lt 1 (last_part 0 (log_of proof)))
+
   pub goes_expose : IsBaseQuiet schema proof.end → (number : ℕ) (fact : Ground) → CanFire schema proof number fact → GoesOn schema proof
   goes_expose quiet number fact (method, active) =
       let next : Proof = record proof.end { exposed = proof.end.exposed ++ fact ∷ []; copy = proof.end.copy ++ fact ∷ [] } in
-      (Expose number fact, next, run_push schema proof.constants 0 proof.start (log_of proof) proof.end (Expose number fact) next ordered low (λ e. absurd (omega arith)) (method, active, quiet, refl))
-    where
-      low : last_part 0 (log_of proof) ≤ 1
-      low = ⊎_elim (λ high. absurd (run_bare schema proof.constants 0 proof.start (log_of proof) proof.end ordered (λ l. absurd (omega arith)) (omega arith) number fact method active)) (λ not. omega arith) (cases_lt 1 (last_part 0 (log_of proof)))
+      (Expose number fact, next, run_push schema proof.constants 0 proof.start (log_of proof) proof.end (Expose number fact) next ordered (expose_low number fact method active) (λ e. absurd (omega arith)) (method, active, quiet, refl))
 
   pub goes_copy : IsBaseQuiet schema proof.end → NoExposure schema proof.constants proof.end → SomeActive schema.rules (copy_state proof.end) → GoesOn schema proof
   goes_copy quiet bare (trigger, (rule, first)) =

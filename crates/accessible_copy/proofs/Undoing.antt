@@ -1,19 +1,22 @@
 -- Why cutting the lists back to the sizes of an entry gives the proof of the entries before it.
-use Rattle.std.proofs.Common.{◌≡◌, ℕ, List, ◌++◌, length, take, sym, ap, ◌∙◌, subst, arith}
+use Rattle.std.proofs.Common.{◌≡◌, ℕ, List, ◌++◌, length, take, drop, sym, ap, ◌∙◌, subst, arith}
 use Rattle.std.specs.Prelude.{Some, slice_get}
-use Rattle.std.proofs.lemmas.List.{length-map}
+use Rattle.std.proofs.lemmas.List.{length-map, take-append-drop}
 use Rattle.meaning.specs.declared.types.SchemaParts.{SchemaParts}
 use Rattle.meaning.specs.declared.types.Ground.{Ground}
+use Rattle.meaning.specs.declared.types.Firing.{Firing}
 use Rattle.meaning.specs.Triggers.{LabelsBelow}
-use Rattle.meaning.specs.Runs.{Proof}
+use Rattle.meaning.specs.Runs.{Proof, IsOrderedRun}
+use Rattle.meaning_laws.proofs.Kept.{ordered_is_run}
+use Rattle.meaning_laws.proofs.Running.{run_split, run_once}
 use Rattle.rule_pass.proofs.Parts.{begins_take}
 use Rattle.accessible_copy.specs.declared.entry.Sizes.{Sizes}
 use Rattle.accessible_copy.specs.declared.entry.Entry.{Entry}
 use Rattle.accessible_copy.specs.declared.entry.Exposed.{Exposed}
 use Rattle.accessible_copy.specs.Known.{known_values, facts_of}
-use Rattle.accessible_copy.specs.Proving.{Proving, exposed_in, IsWritten, IsProofOf}
+use Rattle.accessible_copy.specs.Proving.{Proving, firings_of, log_of, exposed_in, IsWritten, IsProofOf, IsOrdered}
 use Rattle.accessible_copy.proofs.Lists.{take_front}
-use Rattle.accessible_copy.proofs.Writing.{exposed_front, written_cut, IsCut, written_exposed, AllBelow, written_below}
+use Rattle.accessible_copy.proofs.Writing.{exposed_front, firings_on, written_run, written_cut, IsCut, written_exposed, AllBelow, written_below}
 
 -- the lists cut back
 abbrev pub cut_to : Proving → ℕ → Sizes → Proving
@@ -68,3 +71,13 @@ undoes schema proof count entry is got =
             exposed = exposed;
           };
         }
+
+-- the front of an ordered run is one
+pub cut_ordered : (schema : SchemaParts) (proof : Proving) (count : ℕ) (before : Sizes) → IsProofOf schema (cut_to proof count before) → IsOrdered schema proof → IsOrdered schema (cut_to proof count before)
+cut_ordered schema proof count before is ordered =
+    let front : List Firing = firings_of (take count proof.entries) in
+    let logs : front ++ firings_of (drop count proof.entries) ≡ log_of proof = sym (firings_on (take count proof.entries) (drop count proof.entries)) ∙ ap firings_of (take-append-drop count proof.entries) in
+    let (middle, first, rest) = run_split schema proof.constants 0 proof.start front (firings_of (drop count proof.entries)) proof.end (subst (λ l. IsOrderedRun schema proof.constants 0 proof.start l proof.end) (sym logs) ordered) in
+    let same : middle ≡ (cut_to proof count before).end = run_once schema proof.constants 0 0 proof.start front middle (cut_to proof count before).end
+    (ordered_is_run schema proof.constants 0 proof.start front middle first) (written_run schema proof.constants 0 proof.start (take count proof.entries) (cut_to proof count before).end is.written) in
+    subst (λ p. IsOrderedRun schema proof.constants 0 proof.start front p) same first

@@ -6,7 +6,7 @@ use Rattle.meaning.specs.declared.types.Firing.TheVariants.{Base, Copy, Expose}
 use Rattle.meaning.specs.Values.{Value}
 use Rattle.meaning.specs.Triggers.{LabelsBelow, AreNumbered}
 use Rattle.meaning.specs.Search.{AreDistinct}
-use Rattle.meaning.specs.Runs.{Proof, Fires, part_of}
+use Rattle.meaning.specs.Runs.{Proof, Fires, part_of, IsOrderedRun}
 use Rattle.rule_pass.specs.declared.pass.TheConstants.{HIGHEST_FIRST_LABEL}
 use Rattle.accessible_copy.specs.declared.entry.Sizes.{Sizes}
 use Rattle.accessible_copy.specs.declared.entry.Entry.{Entry}
@@ -68,3 +68,7 @@ pub record IsProofOf (schema : SchemaParts) (proof : Proving) : Type 0 where
   pub numbered : AreNumbered schema.rules
   pub written : IsWritten schema proof.constants 0 proof.start proof.entries proof.end
   pub exposed : proof.exposed ≡ exposed_in proof.entries
+
+-- The log is an ordered run from the start to the end.
+abbrev pub IsOrdered : SchemaParts → Proving → Type 0
+IsOrdered schema proof = IsOrderedRun schema proof.constants 0 proof.start (log_of proof) proof.end

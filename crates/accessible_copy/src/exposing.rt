@@ -1,9 +1,9 @@
 // One more exposure.
 ghost use Rattle.std.specs.Prelude.{◌≡◌, ◌≤◌, OnOk, OnErr};
 ghost use Rattle.meaning.specs.declared.types.Method.{Method};
-ghost use Rattle.meaning.specs.Runs.{last_part, IsActiveExposure, IsBaseQuiet, IsOrderedRun};
+ghost use Rattle.meaning.specs.Runs.{last_part, IsActiveExposure, IsBaseQuiet};
 ghost use Rattle.access_schema.specs.Meaning.{meaning_of};
-ghost use Rattle.accessible_copy.specs.Proving.{IsProofOf, log_of};
+ghost use Rattle.accessible_copy.specs.Proving.{IsProofOf, IsOrdered, log_of};
 ghost use Rattle.accessible_copy.specs.Exposing.{with_exposure};
 
 use crate::proof::Proof;
@@ -27,8 +27,7 @@ pub fn expose(
     requires part { last_part 0 (log_of proof.old) ≤ 1 }
     ensures run { IsProofOf (meaning_of schema.now) proof.new }
     ensures exposed { OnOk result (proof.new ≡ with_exposure proof.old method fact.now) }
-    ensures ordered { IsOrderedRun (meaning_of schema.now) proof.old.constants 0 proof.old.start (log_of proof.old) proof.old.end →
-        IsOrderedRun (meaning_of schema.now) proof.old.constants 0 proof.old.start (log_of proof.new) proof.new.end }
+    ensures ordered { IsOrdered (meaning_of schema.now) proof.old → IsOrdered (meaning_of schema.now) proof.new }
     ensures refused { OnErr result (proof.new ≡ proof.old) }
 {
     add_exposure(alloc, proof, schema, method, fact)?;

@@ -1,8 +1,8 @@
 // Whether something is active.
 ghost use Rattle.std.specs.Prelude.{◌≡◌, Ok, true, false};
 ghost use Rattle.access_schema.specs.Meaning.{meaning_of};
-ghost use Rattle.accessible_copy.specs.Proving.{IsProofOf};
-ghost use Rattle.accessible_copy.specs.Rounds.{IsOrdered, IsAllQuiet, GoesOn};
+ghost use Rattle.accessible_copy.specs.Proving.{IsProofOf, IsOrdered};
+ghost use Rattle.accessible_copy.specs.Rounds.{IsAllQuiet, GoesOn};
 
 use crate::listing::exposures;
 use crate::proof::Proof;

@@ -13,6 +13,7 @@ pub mod laws;
 mod listing;
 mod marks;
 mod proof;
+mod rounds;
 mod settling;
 
 pub use entry::{Entry, Exposed, Mark, Sizes};
@@ -22,4 +23,5 @@ pub use going::goes_on;
 pub use listing::exposures;
 pub use marks::{mark, undo};
 pub use proof::Proof;
+pub use rounds::round;
 pub use settling::{Round, settle};

@@ -68,7 +68,7 @@ fn can_expose(proof: &Proof, method: &Method, fact: &Ground) -> bool
 }
 
 /// Whether the fact is exposed.
-fn is_exposed(exposed: &[Exposed], fact: &Ground) -> bool
+pub(crate) fn is_exposed(exposed: &[Exposed], fact: &Ground) -> bool
     ensures { IsTrue result ↔ Contains (facts_of exposed.now) fact.now }
 {
     let mut left = exposed;

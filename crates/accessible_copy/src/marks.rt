@@ -1,7 +1,7 @@
 // Going back to an earlier proof.
 ghost use Rattle.std.specs.Prelude.{◌≡◌, ◌≤◌, length, take};
 ghost use Rattle.meaning.specs.declared.types.SchemaParts.{SchemaParts};
-ghost use Rattle.accessible_copy.specs.Proving.{IsProofOf};
+ghost use Rattle.accessible_copy.specs.Proving.{IsProofOf, IsOrdered};
 
 use crate::entry::Mark;
 use crate::proof::Proof;
@@ -21,6 +21,7 @@ pub fn undo(proof: &mut Proof, mark: Mark)
     requires run { (schema : SchemaParts) × IsProofOf schema proof.old }
     requires mark { mark.firings ≤ length proof.old.entries }
     ensures run { (schema : SchemaParts) → IsProofOf schema proof.old → IsProofOf schema proof.new }
+    ensures ordered { (schema : SchemaParts) → IsProofOf schema proof.old → IsOrdered schema proof.old → IsOrdered schema proof.new }
     ensures log { proof.new.entries ≡ take mark.firings proof.old.entries }
     ensures start { proof.new.start ≡ proof.old.start }
     ensures constants { proof.new.constants ≡ proof.old.constants }

@@ -8,7 +8,7 @@ ghost use Rattle.meaning.specs.Runs.{opening};
 ghost use Rattle.access_schema.specs.Meaning.{meaning_of};
 ghost use Rattle.rule_pass.specs.declared.pass.TheConstants.{HIGHEST_FIRST_LABEL};
 ghost use Rattle.accessible_copy.specs.Known.{known_values};
-ghost use Rattle.accessible_copy.specs.Proving.{IsProofOf, log_of, sizes_of};
+ghost use Rattle.accessible_copy.specs.Proving.{IsProofOf, IsOrdered, log_of, sizes_of};
 
 use crate::entry::{Entry, Sizes};
 use crate::history::History;
@@ -59,6 +59,7 @@ impl Proof {
         requires counted { bound query.now.atoms ≤ query.now.variables }
         requires few { query.now.variables ≤ HIGHEST_FIRST_LABEL }
         ensures run { IfOk result (λ proof. IsProofOf (meaning_of schema.now) proof) }
+        ensures ordered { IfOk result (λ proof. IsOrdered (meaning_of schema.now) proof) }
         ensures start { IfOk result (λ proof. proof.start ≡ opening query.now) }
         ensures constants { IfOk result (λ proof. proof.constants ≡ known.now) }
         ensures empty { IfOk result (λ proof. proof.entries ≡ []) }

@@ -1,10 +1,10 @@
 use Rattle.std.proofs.Common.{◌≡◌, ◌≤◌, length, sym, subst, rules}
 use Rattle.std.specs.Prelude.{Some, None, slice_get}
 use Rattle.std.proofs.lemmas.List.{take_all}
-use Rattle.accessible_copy.specs.Proving.{Proving, IsProofOf}
+use Rattle.accessible_copy.specs.Proving.{Proving, IsProofOf, IsOrdered}
 use Rattle.accessible_copy.specs.contracts.proof.Proof.{the_view}
 use Rattle.accessible_copy.proofs.Lists.{none_beyond}
-use Rattle.accessible_copy.proofs.Undoing.{undoes}
+use Rattle.accessible_copy.proofs.Undoing.{undoes, cut_ordered}
 use Rattle.accessible_copy.proofs.marks.undo.Goals as goal
 
 pub cut_back-requires : goal.cut_back-requires
@@ -33,6 +33,14 @@ returns-in-Some-clause-run c = λ schema of.
     let got : slice_get c.proof.inside.history.entries c.args.mark.firings ≡ Some c.in-Some.entry.now = search rules in
     let u = undoes schema (the_view c.proof.inside) c.args.mark.firings c.in-Some.entry.now (subst (IsProofOf schema) (sym c.proof.view_is) of) got in
     rw (c.cut_back.ensures, c.cut_back-in-Some.ensures, c.truncate.ensures, c.truncate-in-Some.ensures) u.is
+
+pub returns-in-Some-clause-ordered : goal.returns-in-Some-clause-ordered
+returns-in-Some-clause-ordered c = λ schema of ordered.
+    let view = the_view c.proof.inside in
+    let got : slice_get c.proof.inside.history.entries c.args.mark.firings ≡ Some c.in-Some.entry.now = search rules in
+    let u = undoes schema view c.args.mark.firings c.in-Some.entry.now (subst (IsProofOf schema) (sym c.proof.view_is) of) got in
+    rw (c.cut_back.ensures, c.cut_back-in-Some.ensures, c.truncate.ensures, c.truncate-in-Some.ensures)
+    (cut_ordered schema view c.args.mark.firings (c.in-Some.entry.now).before u.is (subst (IsOrdered schema) (sym c.proof.view_is) ordered))
 
 pub returns-in_default-clause-log : goal.returns-in_default-clause-log
 returns-in_default-clause-log c =

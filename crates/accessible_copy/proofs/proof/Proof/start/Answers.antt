@@ -2,7 +2,8 @@ use Rattle.std.proofs.Common.{rules, ◌≡◌, List, map, sym, subst}
 use Rattle.meaning.specs.declared.types.Val.TheVariants.{Label}
 use Rattle.meaning.specs.declared.types.Ground.{Ground}
 use Rattle.meaning.specs.Triggers.{ground, LabelsBelow}
-use Rattle.accessible_copy.proofs.Opening.{frozen_below, opening_proof}
+use Rattle.access_schema.specs.Meaning.{meaning_of}
+use Rattle.accessible_copy.proofs.Opening.{frozen_below, opening_proof, opening_ordered}
 use Rattle.accessible_copy.proofs.proof.Proof.start.Goals as goal
 
 pub start-requires : goal.start-requires
@@ -17,3 +18,6 @@ start-requires-2 c =
 
 pub returns-clause-run : goal.returns-clause-run
 returns-clause-run c = opening_proof c.args.schema.now c.args.query.now _ c.requires.counted c.requires.few (search rules) (search rules) (search rules) (search rules)
+
+pub returns-clause-ordered : goal.returns-clause-ordered
+returns-clause-ordered c = opening_ordered (meaning_of c.args.schema.now) _ c.args.query.now _ _ _ (search rules) (search rules) (search rules)
