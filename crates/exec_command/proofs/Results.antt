@@ -45,9 +45,11 @@ short plan few = record {
 module _ {S : Type 0} (seen : S → Seen) (schema : Schema) (plan : Plan) (may : MayRun schema plan) (old new : List (Lane S)) where
   -- the text of the rows is the result
   result_of : (run : Run) (text : List ℕ) → Executes seen schema plan CALLS old new (Ok run) →
-      IsRowText (column_names plan.width) (Contains run.rows) text → IsResult seen schema plan new text
-  result_of run text executes of_rows = λ instance holds.
-      IsRowText-alike (column_names plan.width) (Contains run.rows) (IsRow (meaning_of schema) plan instance) text (executes.rows instance holds) of_rows
+      IsRowText (column_names plan.width) (Contains run.rows) text → IsResult seen schema plan run new text
+  result_of run text executes of_rows = record {
+    given = of_rows;
+    rows = λ instance holds. IsRowText-alike (column_names plan.width) (Contains run.rows) (IsRow (meaning_of schema) plan instance) text (executes.rows instance holds) of_rows;
+  }
 
   module _ (names : Names) (before after : Moment) where
     pub delivered : after.err ≡ before.err →

@@ -1,5 +1,5 @@
 -- How the command `exec` ends, and what is so of each way.
-use Rattle.std.specs.Prelude.{◌≡◌, ℕ, List, [], Result, Ok, Err}
+use Rattle.std.specs.Prelude.{◌≡◌, ℕ, List, [], Contains, Result, Ok, Err}
 use Rattle.meaning.specs.declared.types.Fact.{Fact}
 use Rattle.meaning.specs.declared.types.Plan.{Plan}
 use Rattle.meaning.specs.Plans.{IsLawful}
@@ -20,7 +20,7 @@ use Rattle.command_io.specs.declared.stop.Stop.TheVariants as stop
 use Rattle.command_io.specs.declared.delivery.TheConstants.{CALLS}
 use Rattle.command_io.specs.Inputs.{SchemaIsRead, PlanIsRead, SchemaStop, PlanStop}
 use Rattle.command_io.specs.Moments.{Moment, ResultStop}
-use Rattle.command_io.specs.Writing.{TookAll, TookPrefix}
+use Rattle.command_io.specs.Writing.{TookAll, TookPart}
 use Rattle.command_io.specs.FaultLines.{Names}
 use Rattle.command_io.specs.Telling.{StopsFor}
 use Rattle.command_io.specs.Executing.{Executes, stop_of_run}
@@ -40,10 +40,11 @@ pub data IdleStop (schema : Schema) (plan : Plan) : Stop → Type 0 where
   no_memory : IdleStop schema plan stop.Memory
   illegal : (fault : PlanFault) → MayNotRun schema plan fault → IdleStop schema plan (stop.Illegal fault)
 
--- The text is that of the plan's rows on whatever instance the sources hold.
-abbrev pub IsResult : {S : Type 0} → (S → Seen) → Schema → Plan → List (Lane S) → List ℕ → Type 0
-IsResult seen schema plan lanes text = (instance : List Fact) → Holds seen schema plan lanes instance →
-    IsRowText (column_names plan.width) (IsRow (meaning_of schema) plan instance) text
+-- The text is that of the rows that the execution gave, which are the plan's on whatever instance the sources hold.
+pub record IsResult {S : Type 0} (seen : S → Seen) (schema : Schema) (plan : Plan) (run : Run) (lanes : List (Lane S)) (text : List ℕ) : Type 0 where
+  pub given : IsRowText (column_names plan.width) (Contains run.rows) text
+  pub rows : (instance : List Fact) → Holds seen schema plan lanes instance →
+      IsRowText (column_names plan.width) (IsRow (meaning_of schema) plan instance) text
 
 -- What became of a plan: it was not executed; or it is lawful and was, and standard output took the text of its rows,
 -- whole or not.
@@ -63,12 +64,12 @@ pub data PlanEnds {S : Type 0} (seen : S → Seen) (schema : Schema) (plan : Pla
       after.out ≡ before.out → PlanEnds seen schema plan names before after old new (Err end)
   -- it was executed, and the text was not written whole
   cut : (run : Run) (text : List ℕ) (end : Stop) → MayRun schema plan → Executes seen schema plan CALLS old new (Ok run) →
-      IsResult seen schema plan new text → TookPrefix before.out after.out text →
+      IsResult seen schema plan run new text → TookPart before.out after.out text →
       StopsFor (ResultStop (Rose before.out_faults after.out_faults)) names before.err after.err (Rose before.err_faults after.err_faults) end →
       PlanEnds seen schema plan names before after old new (Err end)
   -- it was executed, the text was written whole, and nothing was written on standard error
   done : (run : Run) (text : List ℕ) → MayRun schema plan → Executes seen schema plan CALLS old new (Ok run) →
-      IsResult seen schema plan new text → TookAll before.out after.out text → after.err ≡ before.err →
+      IsResult seen schema plan run new text → TookAll before.out after.out text → after.err ≡ before.err →
       PlanEnds seen schema plan names before after old new (Ok tt)
 
 -- How `exec` ends: a text was refused, and nothing but the line was written; or both were read.

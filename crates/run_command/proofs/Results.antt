@@ -22,43 +22,51 @@ use Rattle.middleware.specs.Held.{Holds}
 use Rattle.command_io.specs.declared.stop.Stop.{Stop}
 use Rattle.command_io.specs.declared.delivery.TheConstants.{CALLS}
 use Rattle.command_io.specs.FaultLines.{Names}
-use Rattle.command_io.specs.Moments.{Moment}
+use Rattle.command_io.specs.Moments.{Moment, Between}
 use Rattle.command_io.specs.Writing.{TookAll}
 use Rattle.command_io.specs.Telling.{Tells}
 use Rattle.command_io.specs.Executing.{Executes, Delivers}
 use Rattle.command_io.specs.Executing.Delivers.{done as delivered_all, no_rows, no_text as no_text_made, cut as delivered_part}
-use Rattle.proof_search.specs.Plans.{IsPlanFor}
-use Rattle.run_command.specs.Ends.{IsResult, PlanEnds, result_names}
+use Rattle.sql_select.specs.Statements.{StatementFits}
+use Rattle.proof_search.specs.Plans.{IsPlanFor, IsOneAccess}
+use Rattle.proof_search.specs.Whole.{IsAskedWhole}
+use Rattle.run_command.proofs.Fits.{plan_fits}
+use Rattle.run_command.specs.Ends.{IsPlanned, IsResult, PlanEnds, result_names}
 use Rattle.run_command.specs.Ends.PlanEnds.{unplanned, untold, stopped, no_text, cut, done}
 
-module _ {S : Type 0} (seen : S → Seen) (schema : Schema) (statement : Statement) (plan : Plan) (is : IsPlanFor schema statement plan)
+-- a plan that was made is one that is looked for
+pub planned : (schema : Schema) (statement : Statement) (plan : Plan) → StatementFits schema statement → IsAskedWhole (meaning_of schema) statement →
+    IsOneAccess plan → IsPlanFor schema statement plan → IsPlanned schema statement plan
+planned schema statement plan fits asked one is = record { asked = asked; one = one; is = is; fits = plan_fits schema statement plan fits is one }
+
+module _ {S : Type 0} (seen : S → Seen) (schema : Schema) (statement : Statement) (plan : Plan) (is : IsPlanned schema statement plan)
     (columns : List (List ℕ)) (named : result_names statement.selects ≡ columns) (old new : List (Lane S)) where
   -- the text of the rows is the result
   pub result_of : (run : Run) (text : List ℕ) → Executes seen schema plan CALLS old new (Ok run) → IsRowText columns (Contains run.rows) text →
-      IsResult seen schema statement plan new text
-  result_of run text executes of_rows = record { rows = rows; answers = answers }
+      IsResult seen schema statement plan run new text
+  result_of run text executes of_rows = record { given = rw named of_rows; rows = rows; answers = answers }
     where
       rows : (instance : List Fact) → Holds seen schema plan new instance → IsRowText (result_names statement.selects) (IsRow (meaning_of schema) plan instance) text
       rows instance holds = rw named (IsRowText-alike columns (Contains run.rows) (IsRow (meaning_of schema) plan instance) text (executes.rows instance holds) of_rows)
 
       answers : (instance : List Fact) → Holds seen schema plan new instance → IsModel (meaning_of schema) instance → IsRowText (result_names statement.selects) (Answers statement instance) text
       answers instance holds model = IsRowText-alike (result_names statement.selects) (IsRow (meaning_of schema) plan instance) (Answers statement instance) text
-          (λ row. (is.equivalent.sound instance row model, is.equivalent.complete instance row model)) (rows instance holds)
+          (λ row. (is.is.equivalent.sound instance row model, is.is.equivalent.complete instance row model)) (rows instance holds)
 
-  module _ (names : Names) (before after : Moment) (middle : Option (List ℕ)) where
+  module _ (names : Names) (before after : Moment) where
     pub delivered : TookAll before.err after.err (plan_text plan) →
         Delivers seen schema plan CALLS columns old new before.out after.out (Rose before.out_faults after.out_faults) (Ok tt) →
         PlanEnds seen schema statement names before after old new (Ok tt)
     delivered told (delivered_all run text executes of_rows took) = done plan run text is told executes (result_of run text executes of_rows) took
 
-    pub not_delivered : (given end : Stop) → TookAll before.err middle (plan_text plan) →
+    pub not_delivered : (middle : Option (List ℕ)) (count : Between before.err_faults after.err_faults) (given end : Stop) → TookAll before.err middle (plan_text plan) →
         Delivers seen schema plan CALLS columns old new before.out after.out (Rose before.out_faults after.out_faults) (Err given) →
-        Tells middle after.err (Rose before.err_faults after.err_faults) names given end →
+        Tells middle after.err (Rose count.faults after.err_faults) names given end →
         PlanEnds seen schema statement names before after old new (Err end)
-    not_delivered given end told (no_rows why executes same) tells = stopped plan middle why end is told executes (record { given = given; cause = refl; tells = tells }) same
-    not_delivered given end told (no_text_made run executes same) tells = no_text plan middle run end is told executes (record { given = given; cause = refl; tells = tells }) same
-    not_delivered given end told (delivered_part run text its executes of_rows took why) tells =
-        cut plan middle run text end is told executes (result_of run text executes of_rows) took (record { given = given; cause = why; tells = tells })
+    not_delivered middle count given end told (no_rows why executes same) tells = stopped plan middle count why end is told executes (record { given = given; cause = refl; tells = tells }) same
+    not_delivered middle count given end told (no_text_made run executes same) tells = no_text plan middle count run end is told executes (record { given = given; cause = refl; tells = tells }) same
+    not_delivered middle count given end told (delivered_part run text its executes of_rows took why) tells =
+        cut plan middle count run text end is told executes (result_of run text executes of_rows) took (record { given = given; cause = why; tells = tells })
 
 -- the lanes stay in their order however the delivery ended
 pub lanes_stay : {S : Type 0} (seen : S → Seen) (schema : Schema) (plan : Plan) (columns : List (List ℕ)) (old new : List (Lane S))
@@ -77,10 +85,10 @@ pub with_files : {S : Type 0} (seen : S → Seen) (schema : Schema) (statement :
     (record { files = None; file_faults = 0; out = after.out; out_faults = after.out_faults; err = after.err; err_faults = after.err_faults }) old new result →
     PlanEnds seen schema statement names before after old new result
 with_files seen schema statement names before after old new result (unplanned end why out lanes) = unplanned end why out lanes
-with_files seen schema statement names before after old new result (untold plan middle end is told why out lanes) = untold plan middle end is told why out lanes
-with_files seen schema statement names before after old new result (stopped plan middle fault end is told executes why out) = stopped plan middle fault end is told executes why out
-with_files seen schema statement names before after old new result (no_text plan middle run end is told executes why out) = no_text plan middle run end is told executes why out
-with_files seen schema statement names before after old new result (cut plan middle run text end is told executes of_rows took why) = cut plan middle run text end is told executes of_rows took why
+with_files seen schema statement names before after old new result (untold plan middle count end is told why out lanes) = untold plan middle count end is told why out lanes
+with_files seen schema statement names before after old new result (stopped plan middle count fault end is told executes why out) = stopped plan middle count fault end is told executes why out
+with_files seen schema statement names before after old new result (no_text plan middle count run end is told executes why out) = no_text plan middle count run end is told executes why out
+with_files seen schema statement names before after old new result (cut plan middle count run text end is told executes of_rows took why) = cut plan middle count run text end is told executes of_rows took why
 with_files seen schema statement names before after old new result (done plan run text is told executes of_rows took) = done plan run text is told executes of_rows took
 
 -- the names of the result are the select's

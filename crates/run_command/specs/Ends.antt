@@ -1,5 +1,5 @@
 -- How the command `run` ends, and what is so of each way.
-use Rattle.std.specs.Prelude.{◌≡◌, ℕ, List, [], ◌∷◌, Option, Result, Ok, Err}
+use Rattle.std.specs.Prelude.{◌≡◌, ℕ, List, [], ◌∷◌, Contains, Option, Result, Ok, Err}
 use Rattle.meaning.specs.declared.types.Fact.{Fact}
 use Rattle.meaning.specs.declared.types.Select.{Select}
 use Rattle.meaning.specs.declared.types.Statement.{Statement}
@@ -9,6 +9,7 @@ use Rattle.meaning.specs.Answers.{Answers}
 use Rattle.meaning.specs.Claims.{IsModel}
 use Rattle.access_schema.specs.declared.schema.Schema.{Schema}
 use Rattle.access_schema.specs.Meaning.{meaning_of}
+use Rattle.plan_form.specs.Fitting.{PlanFits}
 use Rattle.plan_form.specs.Printing.{plan_text}
 use Rattle.source_trait.specs.Asking.{Seen}
 use Rattle.source_trait.specs.Causes.{Rose}
@@ -21,27 +22,36 @@ use Rattle.command_io.specs.declared.stop.Stop.{Stop}
 use Rattle.command_io.specs.declared.stop.Stop.TheVariants as stop
 use Rattle.command_io.specs.declared.delivery.TheConstants.{CALLS}
 use Rattle.command_io.specs.Inputs.{SchemaIsRead, QueryIsRead, SchemaStop, QueryStop}
-use Rattle.command_io.specs.Moments.{Moment, ResultStop, DecisionStop}
-use Rattle.command_io.specs.Writing.{TookAll, TookPrefix}
+use Rattle.command_io.specs.Moments.{Moment, Between, ResultStop, DecisionStop}
+use Rattle.command_io.specs.Writing.{TookAll, TookPart}
 use Rattle.command_io.specs.FaultLines.{Names}
 use Rattle.command_io.specs.Telling.{StopsFor}
 use Rattle.command_io.specs.Executing.{Executes, stop_of_run}
-use Rattle.proof_search.specs.Plans.{IsPlanFor}
-use Rattle.proof_search.specs.Whole.{HasNoWholePlan}
+use Rattle.proof_search.specs.Plans.{IsPlanFor, IsOneAccess}
+use Rattle.proof_search.specs.Whole.{IsAskedWhole, HasNoWholePlan}
 
 -- Why there is no plan: memory was wanted, or in this stage no plan of the statement is looked for.
 pub data UnplannedStop (schema : Schema) (statement : Statement) : Stop → Type 0 where
   no_memory : UnplannedStop schema statement stop.Memory
   no_plan_yet : HasNoWholePlan (meaning_of schema) statement → UnplannedStop schema statement stop.NoPlanYet
 
+-- The plan is one that is looked for in this stage, the one access that asks for what the statement selects whole; and it can be
+-- written, so that its text reads as it.
+pub record IsPlanned (schema : Schema) (statement : Statement) (plan : Plan) : Type 0 where
+  pub asked : IsAskedWhole (meaning_of schema) statement
+  pub one : IsOneAccess plan
+  pub is : IsPlanFor schema statement plan
+  pub fits : PlanFits plan
+
 -- The names of the result's columns.
 abbrev pub result_names : List Select → List (List ℕ)
 result_names [] = []
 result_names (select ∷ selects) = select.names
 
--- The text is that of the plan's rows on whatever instance the sources hold, and so of the statement's answers where the
--- instance meets the rules.
-pub record IsResult {S : Type 0} (seen : S → Seen) (schema : Schema) (statement : Statement) (plan : Plan) (lanes : List (Lane S)) (text : List ℕ) : Type 0 where
+-- The text is that of the rows that the execution gave. They are the plan's on whatever instance the sources hold, and so the
+-- statement's answers where the instance meets the rules.
+pub record IsResult {S : Type 0} (seen : S → Seen) (schema : Schema) (statement : Statement) (plan : Plan) (run : Run) (lanes : List (Lane S)) (text : List ℕ) : Type 0 where
+  pub given : IsRowText (result_names statement.selects) (Contains run.rows) text
   pub rows : (instance : List Fact) → Holds seen schema plan lanes instance →
       IsRowText (result_names statement.selects) (IsRow (meaning_of schema) plan instance) text
   pub answers : (instance : List Fact) → Holds seen schema plan lanes instance → IsModel (meaning_of schema) instance →
@@ -55,26 +65,30 @@ pub data PlanEnds {S : Type 0} (seen : S → Seen) (schema : Schema) (statement 
   unplanned : (end : Stop) →
       StopsFor (UnplannedStop schema statement) names before.err after.err (Rose before.err_faults after.err_faults) end →
       after.out ≡ before.out → new ≡ old → PlanEnds seen schema statement names before after old new (Err end)
-  -- the plan was not written whole, and nothing else was touched
-  untold : (plan : Plan) (middle : Option (List ℕ)) (end : Stop) → IsPlanFor schema statement plan → TookPrefix before.err middle (plan_text plan) →
-      StopsFor (DecisionStop (Rose before.err_faults after.err_faults)) names middle after.err (Rose before.err_faults after.err_faults) end →
+  -- the plan was not written whole, and nothing else was touched; the line of that may be missing only where its writing failed too
+  untold : (plan : Plan) (middle : Option (List ℕ)) (count : Between before.err_faults after.err_faults) (end : Stop) →
+      IsPlanned schema statement plan → TookPart before.err middle (plan_text plan) →
+      StopsFor (DecisionStop (Rose before.err_faults count.faults)) names middle after.err (Rose count.faults after.err_faults) end →
       after.out ≡ before.out → new ≡ old → PlanEnds seen schema statement names before after old new (Err end)
   -- the plan was written whole, and its execution stopped
-  stopped : (plan : Plan) (middle : Option (List ℕ)) (why : RunFault) (end : Stop) → IsPlanFor schema statement plan → TookAll before.err middle (plan_text plan) →
-      Executes seen schema plan CALLS old new (Err why) → StopsFor (λ given. given ≡ stop_of_run why) names middle after.err (Rose before.err_faults after.err_faults) end →
+  stopped : (plan : Plan) (middle : Option (List ℕ)) (count : Between before.err_faults after.err_faults) (why : RunFault) (end : Stop) →
+      IsPlanned schema statement plan → TookAll before.err middle (plan_text plan) → Executes seen schema plan CALLS old new (Err why) →
+      StopsFor (λ given. given ≡ stop_of_run why) names middle after.err (Rose count.faults after.err_faults) end →
       after.out ≡ before.out → PlanEnds seen schema statement names before after old new (Err end)
   -- it was executed, and there was no memory for the text of the result
-  no_text : (plan : Plan) (middle : Option (List ℕ)) (run : Run) (end : Stop) → IsPlanFor schema statement plan → TookAll before.err middle (plan_text plan) →
-      Executes seen schema plan CALLS old new (Ok run) → StopsFor (λ given. given ≡ stop.Memory) names middle after.err (Rose before.err_faults after.err_faults) end →
+  no_text : (plan : Plan) (middle : Option (List ℕ)) (count : Between before.err_faults after.err_faults) (run : Run) (end : Stop) →
+      IsPlanned schema statement plan → TookAll before.err middle (plan_text plan) → Executes seen schema plan CALLS old new (Ok run) →
+      StopsFor (λ given. given ≡ stop.Memory) names middle after.err (Rose count.faults after.err_faults) end →
       after.out ≡ before.out → PlanEnds seen schema statement names before after old new (Err end)
   -- it was executed, and the result was not written whole
-  cut : (plan : Plan) (middle : Option (List ℕ)) (run : Run) (text : List ℕ) (end : Stop) → IsPlanFor schema statement plan → TookAll before.err middle (plan_text plan) →
-      Executes seen schema plan CALLS old new (Ok run) → IsResult seen schema statement plan new text → TookPrefix before.out after.out text →
-      StopsFor (ResultStop (Rose before.out_faults after.out_faults)) names middle after.err (Rose before.err_faults after.err_faults) end →
+  cut : (plan : Plan) (middle : Option (List ℕ)) (count : Between before.err_faults after.err_faults) (run : Run) (text : List ℕ) (end : Stop) →
+      IsPlanned schema statement plan → TookAll before.err middle (plan_text plan) → Executes seen schema plan CALLS old new (Ok run) →
+      IsResult seen schema statement plan run new text → TookPart before.out after.out text →
+      StopsFor (ResultStop (Rose before.out_faults after.out_faults)) names middle after.err (Rose count.faults after.err_faults) end →
       PlanEnds seen schema statement names before after old new (Err end)
   -- it was executed, and the result was written whole
-  done : (plan : Plan) (run : Run) (text : List ℕ) → IsPlanFor schema statement plan → TookAll before.err after.err (plan_text plan) →
-      Executes seen schema plan CALLS old new (Ok run) → IsResult seen schema statement plan new text → TookAll before.out after.out text →
+  done : (plan : Plan) (run : Run) (text : List ℕ) → IsPlanned schema statement plan → TookAll before.err after.err (plan_text plan) →
+      Executes seen schema plan CALLS old new (Ok run) → IsResult seen schema statement plan run new text → TookAll before.out after.out text →
       PlanEnds seen schema statement names before after old new (Ok tt)
 
 -- How `run` ends: a text was refused, and nothing but the line was written; or both were read, and the statement was planned.

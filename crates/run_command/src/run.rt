@@ -5,7 +5,7 @@ ghost use Rattle.source_trait.specs.Lanes.{LanesStay};
 ghost use Rattle.sql_select.specs.Statements.{StatementFits};
 ghost use Rattle.plan_form.specs.Printing.{plan_text as text_of_plan};
 ghost use Rattle.command_io.specs.Moments.{Moment, Stays, DecisionStop};
-ghost use Rattle.command_io.specs.Writing.{TookAll, TookPrefix};
+ghost use Rattle.command_io.specs.Writing.{TookAll, TookPart};
 ghost use Rattle.run_command.specs.Ends.{PlanEnds, RunEnds};
 
 use access_schema::Schema;
@@ -94,7 +94,7 @@ fn answer<S: Source + Send + Drop, O: Sink, E: Sink>(
 // Writes the text of the plan.
 fn write_plan<E: Sink>(alloc: Global, plan: &Plan, err: &mut E) -> Result<(), Stop>
     ensures whole { OnOk result (TookAll (E.taken err.old) (E.taken err.new) (text_of_plan plan.now)) }
-    ensures prefix { OnErr result (TookPrefix (E.taken err.old) (E.taken err.new) (text_of_plan plan.now)) }
+    ensures part { OnErr result (TookPart (E.taken err.old) (E.taken err.new) (text_of_plan plan.now)) }
     ensures cause { IfErr result (DecisionStop (Rose (E.faults err.old) (E.faults err.new))) }
     ensures later { E.faults err.old ≤ E.faults err.new }
 {

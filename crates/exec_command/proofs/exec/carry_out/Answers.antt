@@ -22,7 +22,7 @@ pub returns-in-Err-column_names-clause-ends : goal.returns-in-Err-column_names-c
 returns-in-Err-column_names-clause-ends g c = idle c.tell-in-Err-column_names.result (record {
   given = stop.Memory;
   cause = no_memory;
-  tells = rw c.as_slice-relations.ensures at c.tell-in-Err-column_names.ensures.tells;
+  tells = c.tell-in-Err-column_names.ensures.tells;
 }) refl refl
 
 pub returns-in-Err-column_names-clause-lanes : goal.returns-in-Err-column_names-clause-lanes

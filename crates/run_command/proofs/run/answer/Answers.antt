@@ -1,14 +1,13 @@
 -- The ways of a statement, by where the function returns.
-use Rattle.std.proofs.Common.{◌≤◌, refl, arith}
+use Rattle.std.proofs.Common.{refl}
 use Rattle.access_schema.specs.Meaning.{meaning_of}
 use Rattle.source_trait.proofs.LaneSteps.{LanesStay-refl}
 use Rattle.command_io.specs.declared.stop.Stop.TheVariants as stop
-use Rattle.command_io.proofs.Later.{rose_between, decision_later, tells_later}
 use Rattle.proof_search.specs.Plans.{IsPlanFor, known_of}
 use Rattle.proof_search.specs.Whole.{HasNoWholePlan}
 use Rattle.run_command.specs.Ends.UnplannedStop.{no_memory, no_plan_yet}
 use Rattle.run_command.specs.Ends.PlanEnds.{unplanned, untold}
-use Rattle.run_command.proofs.Results.{names_are, delivered, not_delivered, lanes_stay}
+use Rattle.run_command.proofs.Results.{planned, names_are, delivered, not_delivered, lanes_stay}
 use Rattle.run_command.proofs.run.answer.Goals as goal
 
 pub returns-in-Ok-None-clause-ends : goal.returns-in-Ok-None-clause-ends
@@ -17,7 +16,7 @@ returns-in-Ok-None-clause-ends g c =
     unplanned c.tell.result (record {
       given = stop.NoPlanYet;
       cause = no_plan_yet none;
-      tells = rw c.as_slice-relations.ensures at c.tell.ensures.tells;
+      tells = c.tell.ensures.tells;
     }) refl refl
 
 pub returns-in-Ok-None-clause-lanes : goal.returns-in-Ok-None-clause-lanes
@@ -27,7 +26,7 @@ pub returns-in-Err-clause-ends : goal.returns-in-Err-clause-ends
 returns-in-Err-clause-ends g c = unplanned c.tell-in-Err.result (record {
   given = stop.Memory;
   cause = no_memory;
-  tells = rw c.as_slice-relations.ensures at c.tell-in-Err.ensures.tells;
+  tells = c.tell-in-Err.ensures.tells;
 }) refl refl
 
 pub returns-in-Err-clause-lanes : goal.returns-in-Err-clause-lanes
@@ -35,14 +34,15 @@ returns-in-Err-clause-lanes g c = LanesStay-refl g.S.Source.seen c.args.lanes.no
 
 pub returns-in-Err-write_plan-clause-ends : goal.returns-in-Err-write_plan-clause-ends
 returns-in-Err-write_plan-clause-ends g c =
-    let is : IsPlanFor c.args.schema.now c.args.statement.now c.in-Ok-Some.plan = (rw c.in-Ok-Some.field-0-is at c.in-Ok-Some.ensures).plan in
-    let begun : g.E.Sink.faults c.args.err.now ≤ g.E.Sink.faults c.write_plan.new.err = c.write_plan.ensures.later in
-    let ended : g.E.Sink.faults c.write_plan.new.err ≤ g.E.Sink.faults c.tell-in-Err-write_plan.new.err = c.tell-in-Err-write_plan.ensures.later in
-    untold c.in-Ok-Some.plan (g.E.Sink.taken c.write_plan.new.err) c.tell-in-Err-write_plan.result
-    is c.in-Err-write_plan.ensures.prefix (record {
+    untold c.in-Ok-Some.plan (g.E.Sink.taken c.write_plan.new.err)
+    (record { faults = g.E.Sink.faults c.write_plan.new.err; begun = c.write_plan.ensures.later; ended = c.tell-in-Err-write_plan.ensures.later })
+    c.tell-in-Err-write_plan.result
+    (planned c.args.schema.now c.args.statement.now c.in-Ok-Some.plan c.requires (rw c.in-Ok-Some.field-0-is at c.in-Ok-Some.ensures.asked)
+    (rw c.in-Ok-Some.field-0-is at c.in-Ok-Some.ensures.one) (rw c.in-Ok-Some.field-0-is at c.in-Ok-Some.ensures.plan))
+    c.in-Err-write_plan.ensures.part (record {
       given = c.in-Err-write_plan.stop;
-      cause = decision_later _ _ c.in-Err-write_plan.stop (rose_between _ _ _ _ (omega arith) ended) c.in-Err-write_plan.ensures.cause;
-      tells = tells_later _ _ _ _ _ _ _ (rose_between _ _ _ _ begun (omega arith)) (rw c.as_slice-relations.ensures at c.tell-in-Err-write_plan.ensures.tells);
+      cause = c.in-Err-write_plan.ensures.cause;
+      tells = rw c.as_slice-relations.ensures at c.tell-in-Err-write_plan.ensures.tells;
     }) refl refl
 
 pub returns-in-Err-write_plan-clause-lanes : goal.returns-in-Err-write_plan-clause-lanes
@@ -55,20 +55,22 @@ deliver-requires-clause-lawful g c κs within =
 
 pub returns-in-Ok-deliver-clause-ends : goal.returns-in-Ok-deliver-clause-ends
 returns-in-Ok-deliver-clause-ends g c =
-    let is : IsPlanFor c.args.schema.now c.args.statement.now c.in-Ok-Some.plan = (rw c.in-Ok-Some.field-0-is at c.in-Ok-Some.ensures).plan in
     delivered g.S.Source.seen c.args.schema.now c.args.statement.now c.in-Ok-Some.plan
-    is
-    c.only_select.result.now.names (names_are c.args.statement.now c.only_select.result.now c.only_select.ensures) _ _ _ _ _ (g.E.Sink.taken c.write_plan.new.err)
+    (planned c.args.schema.now c.args.statement.now c.in-Ok-Some.plan c.requires (rw c.in-Ok-Some.field-0-is at c.in-Ok-Some.ensures.asked)
+    (rw c.in-Ok-Some.field-0-is at c.in-Ok-Some.ensures.one) (rw c.in-Ok-Some.field-0-is at c.in-Ok-Some.ensures.plan))
+    c.only_select.result.now.names (names_are c.args.statement.now c.only_select.result.now c.only_select.ensures) _ _ _ _ _
     c.in-Ok.ensures.whole c.in-Ok-deliver.ensures.delivers
 
 pub returns-clause-ends : goal.returns-clause-ends
 returns-clause-ends g c =
-    let is : IsPlanFor c.args.schema.now c.args.statement.now c.in-Ok-Some.plan = (rw c.in-Ok-Some.field-0-is at c.in-Ok-Some.ensures).plan in
     not_delivered g.S.Source.seen c.args.schema.now c.args.statement.now c.in-Ok-Some.plan
-    is
-    c.only_select.result.now.names (names_are c.args.statement.now c.only_select.result.now c.only_select.ensures) _ _ _ _ _ (g.E.Sink.taken c.write_plan.new.err)
+    (planned c.args.schema.now c.args.statement.now c.in-Ok-Some.plan c.requires (rw c.in-Ok-Some.field-0-is at c.in-Ok-Some.ensures.asked)
+    (rw c.in-Ok-Some.field-0-is at c.in-Ok-Some.ensures.one) (rw c.in-Ok-Some.field-0-is at c.in-Ok-Some.ensures.plan))
+    c.only_select.result.now.names (names_are c.args.statement.now c.only_select.result.now c.only_select.ensures) _ _ _ _ _
+    (g.E.Sink.taken c.write_plan.new.err)
+    (record { faults = g.E.Sink.faults c.write_plan.new.err; begun = c.write_plan.ensures.later; ended = c.tell-in-Err-deliver.ensures.later })
     c.in-Err-deliver.stop c.tell-in-Err-deliver.result c.in-Ok.ensures.whole c.in-Err-deliver.ensures.delivers
-    (tells_later _ _ _ _ _ _ _ (rose_between _ _ _ _ c.write_plan.ensures.later (omega arith)) (rw c.as_slice-relations.ensures at c.tell-in-Err-deliver.ensures.tells))
+    (rw c.as_slice-relations.ensures at c.tell-in-Err-deliver.ensures.tells)
 
 pub returns-clause-lanes : goal.returns-clause-lanes
 returns-clause-lanes g c = lanes_stay g.S.Source.seen _ _ _ _ _ _ _ _ c.deliver.result c.deliver.ensures.delivers

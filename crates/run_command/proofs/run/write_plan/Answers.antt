@@ -6,8 +6,8 @@ use Rattle.run_command.proofs.run.write_plan.Goals as goal
 pub returns-in-Err-clause-cause : goal.returns-in-Err-clause-cause
 returns-in-Err-clause-cause g c = no_memory
 
-pub returns-clause-prefix : goal.returns-clause-prefix
-returns-clause-prefix g c = rw (c.as_slice.ensures, c.in-Ok.ensures) at c.print.ensures.prefix
+pub returns-clause-part : goal.returns-clause-part
+returns-clause-part g c = rw (c.as_slice.ensures, c.in-Ok.ensures) at c.print.ensures.part
 
 pub returns-clause-cause : goal.returns-clause-cause
 returns-clause-cause g c = decision_stops _ c.print.result c.print.ensures.cause

@@ -1,5 +1,5 @@
 -- The three ways in which the command ends.
-use Rattle.std.proofs.Common.{◌≡◌, ◌≤◌, ◌∙◌, ℕ, List, [], refl, sym, arith}
+use Rattle.std.proofs.Common.{refl}
 use Rattle.schema_command.specs.Ends.SchemaEnds.{printed, refused, cut}
 use Rattle.schema_command.proofs.print.print_schema.Goals as goal
 
