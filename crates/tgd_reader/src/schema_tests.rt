@@ -60,6 +60,20 @@ constant 'x'
 constant ''
 ";
 
+const LETTERS: &str = "relation \"gehälter\"(\"Name\", betrag)
+source \"gehälter\" csv 'löhne/日本.csv'
+rule \"gehälter\"(n, 'é\"''é') -> r(n)
+relation r(\"ä\"\"ä\")
+constant 'Übergröße'";
+
+const LETTERS_PRINTED: &str = "relation \"gehälter\"(\"Name\", betrag)
+relation r(\"ä\"\"ä\")
+rule \"gehälter\"(x0, 'é\"''é') -> r(x0)
+constant 'Übergröße'
+constant 'é\"''é'
+source \"gehälter\" csv 'löhne/日本.csv'
+";
+
 const TOO_DEAR: &str = "relation r(a)
 method m on r() cost 1000000000000000000000000000000000000000000000000000000000000000000000000000000000000000000000000000
 ";
@@ -78,6 +92,7 @@ fn a_schema_is_printed_and_read_again(rt: HostRuntime) -> Result<(), Fail> {
         (KEY_STAFF, KEY_STAFF_PRINTED),
         (ODD, ODD_PRINTED),
         (CONSTANTS, CONSTANTS_PRINTED),
+        (LETTERS, LETTERS_PRINTED),
         ("", ""),
         ("\n \t\r\n# nothing", ""),
         (
