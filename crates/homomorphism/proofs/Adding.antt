@@ -1,9 +1,15 @@
 -- Facts added one after another.
-use Rattle.std.proofs.Common.{◌≡◌, ℕ, ◌+◌, ◌<◌, List, [], ◌∷◌, ◌++◌, length, sym, ap, ◌∙◌, Contains, take, slice_index_or}
-use Rattle.std.proofs.lemmas.List.Sums.{fold_more}
+use Rattle.std.proofs.Common.{◌≡◌, ℕ, zero, suc, ◌+◌, ◌-◌, ◌<◌, ◌≤◌, List, [], ◌∷◌, ◌++◌, length, refl, sym, ap, ◌∙◌, subst, ⊎_elim, arith, Contains, take, slice_index_or}
+use Rattle.std.proofs.lemmas.List.Sums.{fold_more, fold-append}
+use Rattle.meaning.specs.declared.types.Fact.{Fact}
 use Rattle.meaning.specs.declared.types.Ground.{Ground}
+use Rattle.meaning.specs.Search.{AreDistinct}
 use Rattle.meaning.specs.Added.{with_fact, with_facts}
-use Rattle.meaning_laws.proofs.Added.{added_front, with_new, with_old}
+use Rattle.meaning_laws.proofs.Added.{added_front, added_right, added_cases, with_new, with_old}
+use Rattle.homomorphism.specs.declared.fact_index.FactIndex.{FactIndex}
+use Rattle.homomorphism.specs.Instances.{AreFactsOf}
+use Rattle.homomorphism.specs.Listed.{IsIndexOf}
+use Rattle.homomorphism.proofs.Members.{contains_none, distinct_parts}
 
 -- a push where the fact is not there, and none where it is
 pub pushed : (facts : List Ground) (fact : Ground) → (Contains facts fact → ⊥) → facts ++ fact ∷ [] ≡ with_fact facts fact
@@ -19,3 +25,29 @@ adding_more first news now next i fact copy l is same so e =
 -- the facts that were there stand in front
 pub front : (first news now : List Ground) → now ≡ with_facts first news → take (length first) now ≡ first
 front first news now e = ap (take (length first)) e ∙ added_front first news
+
+-- facts added to no facts
+pub adding_push : (first done : List Ground) (fact : Ground) (now next : List Ground) → now ≡ with_facts first done → next ≡ with_fact now fact → next ≡ with_facts first (done ++ fact ∷ [])
+adding_push first done fact now next so e = e ∙ ap (λ facts. with_fact facts fact) so ∙ sym (fold-append with_fact first done (fact ∷ []))
+
+pub added_of : (instance : List Fact) (facts now : List Ground) → AreFactsOf instance facts → now ≡ with_facts [] facts → AreFactsOf instance now
+added_of instance facts now are e fact = (
+  (λ c. ⊎_elim (λ none. absurd (contains_none fact none)) (λ h. (are fact).0 h) (added_cases [] facts fact (subst (λ fs. Contains fs fact) e c))),
+  (λ c. subst (λ fs. Contains fs fact) (sym e) (added_right [] facts fact ((are fact).1 c))),
+)
+
+-- the last fact taken out
+pub dropped : (facts rest : List Ground) (fact : Ground) (number : ℕ) (was now : FactIndex) → facts ≡ rest ++ fact ∷ [] → number ≡ length rest → AreDistinct facts × IsIndexOf facts was →
+    ((before : List Ground) → IsIndexOf (before ++ fact ∷ []) was → number ≡ length before → (Contains before fact → ⊥) → IsIndexOf before now) → AreDistinct rest × IsIndexOf rest now
+dropped facts rest fact number was now split is (once, r) remove =
+    let (front, new) = distinct_parts rest fact (subst AreDistinct split once) in
+    (front, remove rest (subst (λ fs. IsIndexOf fs was) split r) is new)
+
+pub take_again : {X : Type 0} (xs : List X) (count : ℕ) → count < length xs → take count (take (length xs - 1) xs) ≡ take count xs
+take_again xs count l = by (length xs - 1) xs count (omega arith)
+  where
+    by : {X : Type 0} (n : ℕ) (xs : List X) (count : ℕ) → count ≤ n → take count (take n xs) ≡ take count xs
+    by n xs zero l = refl
+    by zero xs (suc count) l = absurd (omega arith)
+    by (suc n) [] (suc count) l = refl
+    by (suc n) (x ∷ xs) (suc count) l = ap (λ z. x ∷ z) (by n xs count (omega arith))

@@ -7,3 +7,8 @@ pub mod Adding
 pub mod Pairs
 pub mod Covering
 pub mod Instances
+pub mod Exact
+pub mod Numbering
+pub mod Noting
+pub mod Indexing
+pub mod Choosing

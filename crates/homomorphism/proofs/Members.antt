@@ -1,6 +1,6 @@
 -- Membership and lists without doubles.
 use Rattle.std.proofs.Common.{◌≡◌, ℕ, zero, suc, List, [], ◌∷◌, ◌++◌, sym, subst, ⊎_elim, arith, Contains, take}
-use Rattle.std.proofs.lemmas.List.Elements.{Contains-append_cases}
+use Rattle.std.proofs.lemmas.List.Elements.{Contains-append_cases, Contains-append_left, Contains-push}
 use Rattle.lists.proofs.Members.{contains_here, contains_there, contains_cases}
 use Rattle.meaning.specs.Search.{AreDistinct}
 
@@ -27,3 +27,11 @@ pub distinct_take : {X : Type 0} (xs : List X) (n : ℕ) → AreDistinct xs → 
 distinct_take xs zero distinct = tt
 distinct_take [] (suc n) distinct = tt
 distinct_take (x ∷ xs) (suc n) (new, distinct) = ((λ c. new (in_take xs n x c)), distinct_take xs n distinct)
+
+pub distinct_parts : {X : Type 0} (xs : List X) (x : X) → AreDistinct (xs ++ x ∷ []) → AreDistinct xs × (Contains xs x → ⊥)
+distinct_parts [] x once = (tt, λ c. contains_none x c)
+distinct_parts (y ∷ xs) x (new, once) =
+    let (rest, last) = distinct_parts xs x once in (
+      ((λ c. new (Contains-append_left xs (x ∷ []) y c)), rest),
+      λ c. ⊎_elim (λ e. new (subst (Contains (xs ++ x ∷ [])) (sym e) (Contains-push xs x))) last (contains_cases y xs x c),
+    )

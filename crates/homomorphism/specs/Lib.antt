@@ -6,3 +6,4 @@ pub mod Narrowing
 pub mod Ways
 pub mod Covering
 pub mod Texts
+pub mod Listed

@@ -22,7 +22,7 @@ pub fn first_match(
     ensures some { IfOk result (λ found. IfSome found (λ m. IsMatch store.now atoms.now fixed.now m.vals)) }
     ensures none { IfOk result (λ found. IfNone found (NoMatch store.now atoms.now fixed.now)) }
 {
-    first(alloc, atoms.as_slice(), store.facts(), fixed)
+    first(alloc, atoms.as_slice(), store, fixed)
 }
 
 /// All assignments that agree with the fixed values and make each atom a fact of the store, each once.
@@ -36,5 +36,5 @@ pub fn all_matches(
     requires covered { AreCovered atoms.now fixed.now }
     ensures { IfOk result (λ found. AreMatches store.now atoms.now fixed.now found) }
 {
-    Ok(Seq::from_vec(every(alloc, atoms.as_slice(), store.facts(), fixed)?))
+    Ok(Seq::from_vec(every(alloc, atoms.as_slice(), store, fixed)?))
 }

@@ -7,8 +7,10 @@
 mod assignment;
 mod bind;
 mod conditions;
+mod fact_index;
 mod find;
 mod instance;
+mod key;
 mod matching;
 mod rules;
 mod store;

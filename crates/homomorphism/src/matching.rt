@@ -1,13 +1,13 @@
 // The assignments that make atoms facts.
 ghost use Rattle.std.specs.Prelude.{◌≡◌, ◌≤◌, ◌⊎◌, [], ◌∷◌, length, map, IfOk, IfSome, IfNone};
 ghost use Rattle.meaning.specs.Triggers.{terms_bound, bound};
-ghost use Rattle.meaning.specs.Search.{AreDistinct};
 ghost use Rattle.homomorphism.specs.Narrowing.{value_or_none};
 ghost use Rattle.homomorphism.specs.Matches.{IsMatch, NoMatch, AreMatches, AreCovered};
 ghost use Rattle.homomorphism.specs.Ways.{IsWayIf, AreWays};
 
 use crate::assignment::{Assignment, Bindings};
 use crate::bind::{could_be, unify};
+use crate::store::Store;
 use lists::{Copies, NoMemory, Seq};
 use meaning::types::{Atom, Ground, Val};
 use std::alloc::Global;
@@ -39,20 +39,20 @@ fn way(
     )
 }
 
-/// The ways to make the atom one of the facts.
+/// The ways to make the atom one of the facts of the store.
 fn ways(
     alloc: Global,
     atom: &Atom,
-    facts: &[Ground],
+    store: &Store,
     given: &Bindings,
 ) -> Result<Vec<Bindings>, NoMemory>
-    requires fits { terms_bound atom.now.terms ≤ length given.now }
-    requires once { AreDistinct facts.now }
-    ensures { IfOk result (λ ways. AreWays facts.now atom.now given.now ways.items) }
+    requires { terms_bound atom.now.terms ≤ length given.now }
+    ensures { IfOk result (λ ways. AreWays store.now atom.now given.now ways.items) }
 {
     let mut ways = Vec::new(alloc);
-    for fact in facts {
-        if let Some(way) = way(alloc, atom, fact, given)? {
+    let facts = store.facts();
+    for number in store.candidates(alloc, atom, given)? {
+        if let Some(way) = way(alloc, atom, &facts[*number], given)? {
             ways.push(way)?;
         }
     }
@@ -79,20 +79,19 @@ fn assignment(alloc: Global, given: &[Option<Val>]) -> Result<Assignment, NoMemo
 pub fn first(
     alloc: Global,
     atoms: &[Atom],
-    facts: &[Ground],
+    store: &Store,
     given: &Bindings,
 ) -> Result<Option<Assignment>, NoMemory>
     requires fits { bound atoms.now ≤ length given.now }
-    requires once { AreDistinct facts.now }
-    ensures some { IfOk result (λ found. IfSome found (λ m. IsMatch facts.now atoms.now given.now m.vals)) }
-    ensures none { IfOk result (λ found. IfNone found (NoMatch facts.now atoms.now given.now)) }
+    ensures some { IfOk result (λ found. IfSome found (λ m. IsMatch store.now atoms.now given.now m.vals)) }
+    ensures none { IfOk result (λ found. IfNone found (NoMatch store.now atoms.now given.now)) }
 {
     let [atom, rest @ ..] = atoms else {
         return Ok(Some(assignment(alloc, given.as_slice())?));
     };
-    let ways = ways(alloc, atom, facts, given)?;
+    let ways = ways(alloc, atom, store, given)?;
     for way in &ways {
-        if let Some(values) = first(alloc, rest, facts, way)? {
+        if let Some(values) = first(alloc, rest, store, way)? {
             return Ok(Some(values));
         }
     }
@@ -103,22 +102,21 @@ pub fn first(
 pub fn every(
     alloc: Global,
     atoms: &[Atom],
-    facts: &[Ground],
+    store: &Store,
     given: &Bindings,
 ) -> Result<Vec<Assignment>, NoMemory>
     requires fits { bound atoms.now ≤ length given.now }
     requires covered { AreCovered atoms.now given.now }
-    requires once { AreDistinct facts.now }
-    ensures { IfOk result (λ found. AreMatches facts.now atoms.now given.now found.items) }
+    ensures { IfOk result (λ found. AreMatches store.now atoms.now given.now found.items) }
 {
     let mut found = Vec::new(alloc);
     let [atom, rest @ ..] = atoms else {
         found.push(assignment(alloc, given.as_slice())?)?;
         return Ok(found);
     };
-    let ways = ways(alloc, atom, facts, given)?;
+    let ways = ways(alloc, atom, store, given)?;
     for way in &ways {
-        let mut more = every(alloc, rest, facts, way)?;
+        let mut more = every(alloc, rest, store, way)?;
         found.append(&mut more)?;
     }
     Ok(found)

@@ -1,12 +1,16 @@
 // Distinct facts, by number.
-ghost use Rattle.std.specs.Prelude.{◌≡◌, ◌↔◌, IsTrue, ◌⊎◌, [], ◌∷◌, ◌++◌, Contains, IfOk, OnErr, OnOk, slice_get, option_copied, true, false, if◌then◌else◌, take, length};
+ghost use Rattle.std.specs.Prelude.{◌≡◌, ◌↔◌, ◌≤◌, ◌-◌, IsTrue, [], ◌∷◌, ◌++◌, Contains, IfOk, OnErr, OnOk, slice_get, option_copied, true, false, if◌then◌else◌, take, length};
 ghost use Rattle.meaning.specs.Search.{AreDistinct};
 ghost use Rattle.meaning.specs.Added.{with_fact, with_facts};
+ghost use Rattle.meaning.specs.Triggers.{terms_bound};
 ghost use Rattle.homomorphism.specs.Instances.{AreFactsOf};
+ghost use Rattle.homomorphism.specs.Listed.{AreCandidates};
 
+use crate::assignment::Bindings;
+use crate::fact_index::FactIndex;
 use crate::instance::distinct_grounds;
-use lists::{Copies, Exact, NoMemory};
-use meaning::types::{Ground, Instance};
+use lists::{Copies, NoMemory};
+use meaning::types::{Atom, Ground, Instance};
 use std::alloc::Global;
 use std::marker::Model;
 
@@ -14,18 +18,20 @@ use std::marker::Model;
 #[derive(Drop)]
 pub struct Store {
     facts: Vec<Ground>,
+    index: FactIndex,
 }
 
 impl Model for Store {
     ghost use Rattle.std.specs.Prelude.{List};
     ghost use Rattle.meaning.specs.declared.types.Ground.{Ground};
     ghost use Rattle.meaning.specs.Search.{AreDistinct};
+    ghost use Rattle.homomorphism.specs.Listed.{IsIndexOf};
 
     ghost Value = { List Ground };
 
     ghost view = { λ s. s.facts.items };
 
-    ghost invariant = { λ s. AreDistinct s.facts.items };
+    ghost invariant = { λ s. AreDistinct s.facts.items × IsIndexOf s.facts.items s.index };
 }
 
 impl Store {
@@ -35,6 +41,7 @@ impl Store {
     {
         Store {
             facts: Vec::new(alloc),
+            index: FactIndex::new(alloc),
         }
     }
 
@@ -42,9 +49,19 @@ impl Store {
     pub fn of_instance(alloc: Global, instance: &Instance) -> Result<Store, NoMemory>
         ensures { IfOk result (λ store. AreFactsOf instance.now store) }
     {
-        Ok(Store {
-            facts: distinct_grounds(alloc, instance)?,
-        })
+        let facts = distinct_grounds(alloc, instance)?;
+        Ok(Store::of_facts(alloc, facts)?)
+    }
+
+    /// A store of these facts.
+    fn of_facts(alloc: Global, facts: Vec<Ground>) -> Result<Store, NoMemory>
+        ensures { IfOk result (λ store. store ≡ with_facts [] facts.items) }
+    {
+        let mut store = Store::new(alloc);
+        for fact in facts {
+            store.insert(alloc, fact)?;
+        }
+        Ok(store)
     }
 
     /// How many facts there are. Takes no memory.
@@ -72,13 +89,13 @@ impl Store {
     pub fn contains(&self, fact: &Ground) -> bool
         ensures { IsTrue result ↔ Contains self.now fact.now }
     {
-        among(self.facts.as_slice(), fact)
+        self.index.contains(fact)
     }
 
     /// Adds the fact as the last one where it is not there yet, and says whether it did. Where memory is refused,
     /// nothing changes.
     #[tactic(auto, using(crate::proofs::Members::distinct_push, crate::proofs::Adding::stays, crate::proofs::Adding::pushed))]
-    pub fn insert(&mut self, _alloc: Global, fact: Ground) -> Result<bool, NoMemory>
+    pub fn insert(&mut self, alloc: Global, fact: Ground) -> Result<bool, NoMemory>
         ensures there { IfOk result (λ added. (added ≡ false) ↔ Contains self.old fact) }
         ensures kept { OnOk result (self.new ≡ with_fact self.old fact) }
         ensures refused { OnErr result (self.new ≡ self.old) }
@@ -86,8 +103,15 @@ impl Store {
         if self.contains(&fact) {
             return Ok(false);
         }
-        self.facts.push(fact)?;
-        Ok(true)
+        let number = self.facts.len();
+        self.index.add(alloc, &fact, number)?;
+        match self.facts.push(fact) {
+            Ok(()) => Ok(true),
+            Err(refused) => {
+                self.index.remove(refused.value, number);
+                Err(NoMemory)
+            }
+        }
     }
 
     /// Adds copies of the facts that are not there yet, behind those that are. Where memory is refused, nothing changes.
@@ -99,18 +123,42 @@ impl Store {
         match self.add_copies(alloc, news) {
             Ok(()) => Ok(()),
             Err(fault) => {
-                self.facts.truncate(count);
+                self.truncate(count);
                 Err(fault)
             }
         }
     }
 
     /// Drops all facts behind the first `count`. Takes no memory.
-    #[tactic(auto, using(crate::proofs::Members::distinct_take))]
     pub fn truncate(&mut self, count: usize)
         ensures { self.new ≡ take count self.old }
     {
-        self.facts.truncate(count);
+        while self.facts.len() > count {
+            self.drop_last();
+        }
+    }
+
+    /// Drops the last fact, if there is one. Takes no memory.
+    fn drop_last(&mut self)
+        ensures { self.new ≡ take (length self.old - 1) self.old }
+    {
+        if let Some(fact) = self.facts.pop() {
+            let number = self.facts.len();
+            self.index.remove(fact, number);
+        }
+    }
+
+    /// Numbers of facts, ascending, among which is each fact that the atom can be where the given values hold.
+    pub(crate) fn candidates(
+        &self,
+        alloc: Global,
+        atom: &Atom,
+        given: &Bindings,
+    ) -> Result<&[usize], NoMemory>
+        requires { terms_bound atom.now.terms ≤ length given.now }
+        ensures { IfOk result (λ numbers. AreCandidates self.now atom.now given.now numbers.now) }
+    {
+        self.index.candidates(alloc, atom, given)
     }
 
     /// The facts, lent.
@@ -131,18 +179,4 @@ impl Store {
         }
         Ok(())
     }
-}
-
-/// Whether the fact is one of these.
-fn among(facts: &[Ground], fact: &Ground) -> bool
-    ensures { IsTrue result ↔ Contains facts.now fact.now }
-{
-    let mut left = facts;
-    while let [other, rest @ ..] = left {
-        if other.same(fact) {
-            return true;
-        }
-        left = rest;
-    }
-    false
 }

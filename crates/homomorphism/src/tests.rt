@@ -110,6 +110,47 @@ fn a_store_has_each_fact_once(rt: HostRuntime) -> Result<(), Fail> {
     Ok(())
 }
 
+/// How many edges go out from a node, and how many paths of two edges there are.
+fn paths(alloc: Global, store: &Store, from: &str) -> Result<Option<(usize, usize)>, AllocError> {
+    let one = atoms(alloc, &[(EDGE, &["x", "y"])])?;
+    let two = atoms(alloc, &[(EDGE, &["x", "y"]), (EDGE, &["y", "z"])])?;
+    let fixed = bindings(alloc, &[from, ""])?;
+    let free = bindings(alloc, &["", "", ""])?;
+    if variables_width(one.as_slice()) > fixed.len() || !is_covered(&one, &fixed) {
+        return Ok(None);
+    }
+    if variables_width(two.as_slice()) > free.len() || !is_covered(&two, &free) {
+        return Ok(None);
+    }
+    let out = all_matches(alloc, &one, store, &fixed)?.len();
+    if first_match(alloc, &one, store, &fixed)?.is_some() != (out > 0) {
+        return Ok(None);
+    }
+    Ok(Some((out, all_matches(alloc, &two, store, &free)?.len())))
+}
+
+#[test]
+fn a_dropped_fact_is_not_found_until_it_is_back(rt: HostRuntime) -> Result<(), Fail> {
+    let alloc = rt.alloc();
+    let mut store = circle(alloc)?;
+    assert_eq!(rt; paths(alloc, &store, "a")?, Some((2, 6)));
+    store.truncate(2);
+    assert_eq!(rt; store.len(), 2);
+    assert!(rt; store.contains(&ground(alloc, EDGE, &["a", "b"])?));
+    assert!(rt; !store.contains(&ground(alloc, EDGE, &["c", "a"])?));
+    assert_eq!(rt; paths(alloc, &store, "a")?, Some((1, 1)));
+    assert_eq!(rt; paths(alloc, &store, "c")?, Some((0, 1)));
+    assert!(rt; store.insert(alloc, ground(alloc, EDGE, &["c", "a"])?)?);
+    assert!(rt; !store.insert(alloc, ground(alloc, EDGE, &["b", "c"])?)?);
+    assert_eq!(rt; paths(alloc, &store, "c")?, Some((1, 3)));
+    store.truncate(9);
+    assert_eq!(rt; store.len(), 3);
+    store.truncate(0);
+    assert!(rt; store.is_empty());
+    assert_eq!(rt; paths(alloc, &store, "a")?, Some((0, 0)));
+    Ok(())
+}
+
 #[test]
 fn an_instance_is_a_store_of_its_facts(rt: HostRuntime) -> Result<(), Fail> {
     let alloc = rt.alloc();

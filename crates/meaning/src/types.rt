@@ -177,14 +177,14 @@ pub struct Request {
 }
 
 /// A value that is known, or a label that stands for one that is not.
-#[derive(Drop)]
+#[derive(PartialEq, Eq, PartialOrd, Ord, Drop)]
 pub enum Val {
     Const(Text),
     Label(u32),
 }
 
 /// A relation with a row of labelled values.
-#[derive(Drop)]
+#[derive(PartialEq, Eq, PartialOrd, Ord, Drop)]
 pub struct Ground {
     pub rel: u32,
     pub vals: Vals,

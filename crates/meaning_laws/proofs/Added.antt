@@ -16,7 +16,7 @@ use Rattle.meaning.specs.Triggers.{ground}
 use Rattle.meaning.specs.Runs.{opening_state}
 
 -- the tests are exact
-val_decides : (v w : Val) → Decides (is_same_val v w) (v ≡ w)
+pub val_decides : (v w : Val) → Decides (is_same_val v w) (v ≡ w)
 val_decides (Const c) (Const d) = Decides-like (is_same_val (Const c) (Const d)) (λ e. ap Const e) (λ e. const_is e) (bytes_decides c d)
   where
     const_is : Const c ≡ Const d → c ≡ d
@@ -28,7 +28,7 @@ val_decides (Label j) (Label k) = Decides-like (is_same_val (Label j) (Label k))
     label_is : Label j ≡ Label k → j ≡ k
     label_is e = cc
 
-fact_decides : (f g : Ground) → Decides (is_same_fact f g) (f ≡ g)
+pub fact_decides : (f g : Ground) → Decides (is_same_fact f g) (f ≡ g)
 fact_decides f g =
     Decides-like (is_same_fact f g) (λ (r, v). (λ i. record { rel = r i; vals = v i })) (λ e. (ap (λ (h : Ground). h.rel) e, ap (λ (h : Ground). h.vals) e))
     (Decides-and (nat_eq f.rel g.rel) (pointwise is_same_val f.vals g.vals) (Decides-eqb f.rel g.rel) (pointwise_decides val_decides f.vals g.vals))

@@ -1,4 +1,4 @@
 use Rattle.homomorphism.proofs.find.first_match.Goals as goal
 
 pub returns-clause-none : goal.returns-clause-none
-returns-clause-none c = rw c.as_slice.ensures at (rw c.facts.ensures.facts at c.first.ensures.none)
+returns-clause-none c = rw c.as_slice.ensures at c.first.ensures.none

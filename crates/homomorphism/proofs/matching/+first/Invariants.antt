@@ -7,4 +7,4 @@ abbrev pub decreases-first : goal.decreases-first
 decreases-first l = length l.atoms.now
 
 abbrev pub invariant-loop-way : goal.invariant-loop-way
-invariant-loop-way l = (way : List (Option Val)) → Contains (take l.way-index l.way-items) way → NoMatch l.facts l.rest way
+invariant-loop-way l = (way : List (Option Val)) → Contains (take l.way-index l.way-items) way → NoMatch l.store l.rest way

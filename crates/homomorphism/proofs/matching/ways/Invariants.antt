@@ -1,6 +1,7 @@
 use Rattle.std.proofs.Common.{take}
 use Rattle.homomorphism.specs.Ways.{AreWays}
+use Rattle.homomorphism.proofs.Choosing.{picked}
 use Rattle.homomorphism.proofs.matching.ways.Given as goal
 
-abbrev pub invariant-loop-fact : goal.invariant-loop-fact
-invariant-loop-fact l = AreWays (take l.fact-index l.facts) l.atom l.given l.ways.items
+abbrev pub invariant-loop-number : goal.invariant-loop-number
+invariant-loop-number l = AreWays (take l.number-index (picked l.store l.number-items)) l.atom l.given l.ways.items

@@ -1,0 +1,235 @@
+-- An index of facts, with one fact more and one fact fewer.
+use Rattle.std.proofs.Common.{◌≡◌, ◌⊎◌, ◌↔◌, ℕ, zero, suc, ◌+◌, ◌<◌, ◌≤◌, List, [], ◌∷◌, ◌++◌, length, Option, Some, None, Bool, true, false, cond, refl, sym, ap, ◌∙◌, subst, inl, inr, ⊎_elim, arith, Contains, slice_get, map}
+use Rattle.std.specs.Prelude.{Decides, nat_eq, ◌&&◌, if◌then◌else◌}
+use Rattle.std.specs.List.{list_any}
+use Rattle.std.specs.Ordering.{is_eq}
+use Rattle.std.specs.BTreeMap.{BTreeMap, is_at}
+use Rattle.std.specs.BTreeSet.{BTreeSet, contains}
+use Rattle.std.specs.declared.cmp.Ordering.{Ordering}
+use Rattle.std.specs.declared.cmp.Ordering.TheVariants.{Less, Equal, Greater}
+use Rattle.std.proofs.lemmas.Bool.Decides.{Decides-eqb, Decides-and, Decides-like}
+use Rattle.std.proofs.lemmas.Cmp.{tied_itself}
+use Rattle.std.proofs.lemmas.List.Elements.{Contains-append_left, Contains-push, Contains-push_cases}
+use Rattle.lists.proofs.Members.{contains_here, contains_there, contains_cases, some_injective}
+use Rattle.meaning_laws.proofs.Added.{val_decides}
+use Rattle.meaning.specs.declared.types.Val.{Val}
+use Rattle.meaning.specs.declared.types.Ground.{Ground}
+use Rattle.meaning.specs.Added.{is_same_val}
+use Rattle.meaning.specs.Search.{AreDistinct}
+use Rattle.homomorphism.specs.declared.key.Key.{Key}
+use Rattle.homomorphism.specs.declared.key.Key.TheVariants.{Relation, Value}
+use Rattle.homomorphism.specs.declared.fact_index.FactIndex.{FactIndex}
+use Rattle.homomorphism.specs.Listed.{value_keys, keys_of, is_val, has_key, numbers_from, listed, ground_cmp, MayEndIn, IsIndexOf}
+use Rattle.homomorphism.proofs.Exact.{ground_exact, ground_total}
+use Rattle.homomorphism.proofs.Members.{contains_none}
+
+-- the keys of a row
+in_values : (rel i : ℕ) (vals : List Val) (key : Key) → Contains (value_keys rel i vals) key → (k : ℕ) × (v : Val) × (slice_get vals k ≡ Some v) × (Value rel (i + k) v ≡ key)
+in_values rel i [] key c = absurd (contains_none key c)
+in_values rel i (val ∷ vals) key c =
+    ⊎_elim (λ e. (0, val, refl, ap (λ n. Value rel n val) (omega arith) ∙ e))
+    (λ h. let (k, v, got, e) = in_values rel (i + 1) vals key h in (suc k, v, got, ap (λ n. Value rel n v) (omega arith) ∙ e))
+    (contains_cases (Value rel i val) (value_keys rel (i + 1) vals) key c)
+
+pub of_values : (rel i n k : ℕ) (vals : List Val) (v : Val) → slice_get vals k ≡ Some v → n ≡ i + k → Contains (value_keys rel i vals) (Value rel n v)
+of_values rel i n k [] v got e = absurd (cc)
+of_values rel i n zero (val ∷ vals) v got e =
+    subst (Contains (value_keys rel i (val ∷ vals))) (same (some_injective val v got) (omega arith)) (contains_here (Value rel i val) (value_keys rel (i + 1) vals))
+  where
+    same : val ≡ v → i ≡ n → Value rel i val ≡ Value rel n v
+    same f g = cc
+of_values rel i n (suc k) (val ∷ vals) v got e =
+    contains_there (Value rel i val) (value_keys rel (i + 1) vals) (Value rel n v) (of_values rel (i + 1) n k vals v got (omega arith))
+
+value_parts : (r s p q : ℕ) (v w : Val) → Value r p v ≡ Value s q w → (r ≡ s) × (p ≡ q) × (v ≡ w)
+value_parts r s p q v w e =
+    let rel : r ≡ s = cc in
+    let position : p ≡ q = cc in
+    let val : v ≡ w = cc in
+    (rel, position, val)
+
+relation_part : (r s : ℕ) → Relation r ≡ Relation s → r ≡ s
+relation_part r s e = cc
+
+unlike : (r s p : ℕ) (v : Val) → Relation r ≡ Value s p v → ⊥
+unlike r s p v e = cc
+
+-- the test is exact
+is_val_decides : (o : Option Val) (v : Val) → Decides (is_val o v) (o ≡ Some v)
+is_val_decides None v = ((λ e. absurd (cc)), (λ e. absurd (cc)))
+is_val_decides (Some w) v = Decides-like (is_same_val w v) (λ e. ap Some e) (λ e. some_injective w v e) (val_decides w v)
+
+pub has_key_decides : (key : Key) (fact : Ground) → Decides (has_key key fact) (Contains (keys_of fact) key)
+has_key_decides (Relation rel) fact =
+    Decides-like (nat_eq fact.rel rel)
+    (λ e. subst (Contains (keys_of fact)) (ap Relation e) (contains_here (Relation fact.rel) (value_keys fact.rel 0 fact.vals)))
+    (λ c. ⊎_elim (λ e. relation_part fact.rel rel e) (λ h. let (k, v, got, e) = in_values fact.rel 0 fact.vals (Relation rel) h in absurd (unlike rel fact.rel (0 + k) v (sym e)))
+    (contains_cases (Relation fact.rel) (value_keys fact.rel 0 fact.vals) (Relation rel) c))
+    (Decides-eqb fact.rel rel)
+has_key_decides (Value rel position val) fact =
+    Decides-like (nat_eq fact.rel rel && is_val (slice_get fact.vals position) val)
+    (λ (e, got). subst (λ r. Contains (keys_of fact) (Value r position val)) e
+    (contains_there (Relation fact.rel) (value_keys fact.rel 0 fact.vals) (Value fact.rel position val) (of_values fact.rel 0 position position fact.vals val got (omega arith))))
+    (λ c. ⊎_elim (λ e. absurd (unlike fact.rel rel position val e))
+    (λ h. let (k, v, got, e) = in_values fact.rel 0 fact.vals (Value rel position val) h in
+    let (r, p, w) = value_parts fact.rel rel (0 + k) position v val e in
+    let q : k ≡ position = omega arith in
+    (r, ap (slice_get fact.vals) (sym q) ∙ got ∙ ap Some w))
+    (contains_cases (Relation fact.rel) (value_keys fact.rel 0 fact.vals) (Value rel position val) c))
+    (Decides-and (nat_eq fact.rel rel) (is_val (slice_get fact.vals position) val) (Decides-eqb fact.rel rel) (is_val_decides (slice_get fact.vals position) val))
+
+values_distinct : (rel i : ℕ) (vals : List Val) → AreDistinct (value_keys rel i vals)
+values_distinct rel i [] = tt
+values_distinct rel i (val ∷ vals) = (
+  (λ c.
+      let (k, v, got, e) = in_values rel (i + 1) vals (Value rel i val) c in
+      let (r, p, w) = value_parts rel rel (i + 1 + k) i v val e in
+      omega arith),
+  values_distinct rel (i + 1) vals,
+)
+
+pub keys_distinct : (fact : Ground) → AreDistinct (keys_of fact)
+keys_distinct fact = (
+  (λ c. let (k, v, got, e) = in_values fact.rel 0 fact.vals (Relation fact.rel) c in unlike fact.rel fact.rel (0 + k) v (sym e)),
+  values_distinct fact.rel 0 fact.vals,
+)
+
+-- numbers of facts
+pub numbers_below : (i : ℕ) (key : Key) (facts : List Ground) (n : ℕ) → Contains (numbers_from i key facts) n → n < i + length facts
+numbers_below i key [] n c = absurd (contains_none n c)
+numbers_below i key (fact ∷ facts) n c = by (has_key key fact) (numbers_below (i + 1) key facts n) c
+  where
+    by : (t : Bool) → (Contains (numbers_from (i + 1) key facts) n → n < i + 1 + length facts) → Contains (if t then i ∷ numbers_from (i + 1) key facts else numbers_from (i + 1) key facts) n → n < i + suc (length facts)
+    by true more c = ⊎_elim (λ e. omega arith) (λ h. let l = more h in omega arith) (contains_cases i (numbers_from (i + 1) key facts) n c)
+    by false more c = let l = more c in omega arith
+
+numbers_push : (i : ℕ) (key : Key) (facts : List Ground) (fact : Ground) →
+    numbers_from i key (facts ++ fact ∷ []) ≡ numbers_from i key facts ++ (if has_key key fact then (i + length facts) ∷ [] else [])
+numbers_push i key [] fact = by (has_key key fact)
+  where
+    by : (t : Bool) → (if t then i ∷ [] else []) ≡ [] ++ (if t then (i + 0) ∷ [] else [])
+    by true = ap (λ n. n ∷ []) (omega arith)
+    by false = refl
+numbers_push i key (first ∷ facts) fact = by (has_key key first) (has_key key fact) (numbers_push (i + 1) key facts fact)
+  where
+    by : (t u : Bool) → numbers_from (i + 1) key (facts ++ fact ∷ []) ≡ numbers_from (i + 1) key facts ++ (if u then (i + 1 + length facts) ∷ [] else []) →
+        (if t then i ∷ numbers_from (i + 1) key (facts ++ fact ∷ []) else numbers_from (i + 1) key (facts ++ fact ∷ []))
+        ≡ (if t then i ∷ numbers_from (i + 1) key facts else numbers_from (i + 1) key facts) ++ (if u then (i + suc (length facts)) ∷ [] else [])
+    by true true e = ap (λ l. i ∷ l) (e ∙ ap (λ n. numbers_from (i + 1) key facts ++ n ∷ []) (omega arith))
+    by true false e = ap (λ l. i ∷ l) e
+    by false true e = e ∙ ap (λ n. numbers_from (i + 1) key facts ++ n ∷ []) (omega arith)
+    by false false e = e
+
+pub push_with : (key : Key) (facts : List Ground) (fact : Ground) (number : ℕ) → number ≡ length facts → Contains (keys_of fact) key →
+    numbers_from 0 key (facts ++ fact ∷ []) ≡ numbers_from 0 key facts ++ number ∷ []
+push_with key facts fact number e c =
+    numbers_push 0 key facts fact ∙ ap (λ t. numbers_from 0 key facts ++ (if t then (0 + length facts) ∷ [] else [])) ((has_key_decides key fact).1 c) ∙ ap (λ n. numbers_from 0 key facts ++ n ∷ []) (omega arith)
+
+pub push_without : (key : Key) (facts : List Ground) (fact : Ground) → has_key key fact ≡ false → numbers_from 0 key (facts ++ fact ∷ []) ≡ numbers_from 0 key facts
+push_without key facts fact e =
+    numbers_push 0 key facts fact ∙ ap (λ t. numbers_from 0 key facts ++ (if t then (0 + length facts) ∷ [] else [])) e ∙ nothing (numbers_from 0 key facts)
+  where
+    nothing : (xs : List ℕ) → xs ++ [] ≡ xs
+    nothing [] = refl
+    nothing (x ∷ xs) = ap (λ l. x ∷ l) (nothing xs)
+
+not_numbered : (key : Key) (facts : List Ground) (number : ℕ) → number ≡ length facts → Contains (numbers_from 0 key facts) number → ⊥
+not_numbered key facts number e c = let l = numbers_below 0 key facts number c in omega arith
+
+has_or_not : (key : Key) (fact : Ground) → Contains (keys_of fact) key ⊎ (has_key key fact ≡ false)
+has_or_not key fact = by (has_key key fact) refl
+  where
+    by : (t : Bool) → has_key key fact ≡ t → Contains (keys_of fact) key ⊎ (has_key key fact ≡ false)
+    by true e = inl ((has_key_decides key fact).0 e)
+    by false e = inr e
+
+-- a list with the fact's number at its end, or without it, is the one before or ends in the number
+ends_as : (facts : List Ground) (fact : Ground) (number : ℕ) (key : Key) → number ≡ length facts →
+    MayEndIn (Contains (keys_of fact) key) number (numbers_from 0 key facts) (numbers_from 0 key (facts ++ fact ∷ []))
+ends_as facts fact number key e = ⊎_elim (λ c. inr (c, push_with key facts fact number e c)) (λ no. inl (push_without key facts fact no)) (has_or_not key fact)
+
+module _ (facts : List Ground) (fact : Ground) (number : ℕ) (is : number ≡ length facts) (was now : FactIndex) where
+  -- the fact is added
+  pub index_added : (noted : (key : Key) → Contains (keys_of fact) key → listed now.numbers key ≡ listed was.numbers key ++ number ∷ []) →
+      (part : (key : Key) → MayEndIn (Contains (keys_of fact) key) number (listed was.numbers key) (listed now.numbers key)) →
+      ((other : Ground) → contains ground_cmp now.present other ≡ cond (is_at (ground_cmp fact) other) true (contains ground_cmp was.present other)) →
+      IsIndexOf facts was → IsIndexOf (facts ++ fact ∷ []) now
+  index_added noted part put r = record {
+    members = λ other. (
+      (λ e. by other (ground_cmp fact other) refl (sym (put other) ∙ e)),
+      (λ c. put other ∙ ⊎_elim (λ h. before other (is_at (ground_cmp fact) other) ((r.members other).1 h)) (λ e. here other e) (Contains-push_cases facts fact other c)),
+    );
+    lists = λ key. ⊎_elim (λ c. noted key c ∙ ap (λ l. l ++ number ∷ []) (r.lists key) ∙ sym (push_with key facts fact number is c))
+        (λ no. ⊎_elim (λ e. e ∙ r.lists key ∙ sym (push_without key facts fact no)) (λ (c, e). absurd (clash (sym ((has_key_decides key fact).1 c) ∙ no))) (part key)) (has_or_not key fact);
+  }
+    where
+      clash : true ≡ false → ⊥
+      clash e = cc
+
+      by : (other : Ground) (o : Ordering) → ground_cmp fact other ≡ o → cond (is_eq o) true (contains ground_cmp was.present other) ≡ true → Contains (facts ++ fact ∷ []) other
+      by other Less e t = Contains-append_left facts (fact ∷ []) other ((r.members other).0 t)
+      by other Greater e t = Contains-append_left facts (fact ∷ []) other ((r.members other).0 t)
+      by other Equal e t = subst (Contains (facts ++ fact ∷ [])) (ground_exact fact other e) (Contains-push facts fact)
+
+      before : (other : Ground) (t : Bool) → contains ground_cmp was.present other ≡ true → cond t true (contains ground_cmp was.present other) ≡ true
+      before other true e = refl
+      before other false e = e
+
+      here : (other : Ground) → fact ≡ other → cond (is_at (ground_cmp fact) other) true (contains ground_cmp was.present other) ≡ true
+      here other e = ap (λ o. cond (is_eq o) true (contains ground_cmp was.present other)) (ap (ground_cmp fact) (sym e) ∙ tied_itself ground_total fact)
+
+  -- the fact is not added after all
+  pub index_refused : (mid : FactIndex) → ((key : Key) → MayEndIn (Contains (keys_of fact) key) number (listed was.numbers key) (listed mid.numbers key)) →
+      ((key : Key) (before : List ℕ) → (Contains before number → ⊥) → MayEndIn (Contains (keys_of fact) key) number before (listed mid.numbers key) → listed now.numbers key ≡ before) →
+      now.present.keys ≡ was.present.keys → IsIndexOf facts was → IsIndexOf facts now
+  index_refused mid part struck same r = record {
+    members = λ other. subst (λ keys. (list_any (is_at (ground_cmp other)) keys ≡ true) ↔ Contains facts other) (sym same) (r.members other);
+    lists = λ key. struck key (numbers_from 0 key facts) (not_numbered key facts number is) (subst (λ l. MayEndIn (Contains (keys_of fact) key) number l (listed mid.numbers key)) (r.lists key) (part key));
+  }
+
+  -- the last fact is taken out
+  pub index_removed : ((key : Key) (before : List ℕ) → (Contains before number → ⊥) → MayEndIn (Contains (keys_of fact) key) number before (listed was.numbers key) → listed now.numbers key ≡ before) →
+      ((other : Ground) → contains ground_cmp now.present other ≡ cond (is_at (ground_cmp fact) other) false (contains ground_cmp was.present other)) →
+      (Contains facts fact → ⊥) → IsIndexOf (facts ++ fact ∷ []) was → IsIndexOf facts now
+  index_removed struck put new r = record {
+    members = λ other. (
+      (λ e. by other (ground_cmp fact other) refl (sym (put other) ∙ e)),
+      (λ c. put other ∙ stays other (ground_cmp fact other) refl c),
+    );
+    lists = λ key. struck key (numbers_from 0 key facts) (not_numbered key facts number is)
+        (subst (λ l. MayEndIn (Contains (keys_of fact) key) number (numbers_from 0 key facts) l) (sym (r.lists key)) (ends_as facts fact number key is));
+  }
+    where
+      apart : (o : Ordering) → (o ≡ Equal → ⊥) → (other : Ground) → ground_cmp fact other ≡ o → fact ≡ other → ⊥
+      apart o unequal other e same = unequal (sym e ∙ ap (ground_cmp fact) (sym same) ∙ tied_itself ground_total fact)
+
+      by : (other : Ground) (o : Ordering) → ground_cmp fact other ≡ o → cond (is_eq o) false (contains ground_cmp was.present other) ≡ true → Contains facts other
+      by other Less e t = ⊎_elim (λ h. h) (λ same. absurd (apart Less (λ e. cc) other e same)) (Contains-push_cases facts fact other ((r.members other).0 t))
+      by other Greater e t = ⊎_elim (λ h. h) (λ same. absurd (apart Greater (λ e. cc) other e same)) (Contains-push_cases facts fact other ((r.members other).0 t))
+      by other Equal e t = absurd (cc)
+
+      stays : (other : Ground) (o : Ordering) → ground_cmp fact other ≡ o → Contains facts other → cond (is_eq o) false (contains ground_cmp was.present other) ≡ true
+      stays other Less e c = (r.members other).1 (Contains-append_left facts (fact ∷ []) other c)
+      stays other Greater e c = (r.members other).1 (Contains-append_left facts (fact ∷ []) other c)
+      stays other Equal e c = absurd (new (subst (Contains facts) (sym (ground_exact fact other e)) c))
+
+-- the same of keys and of a copy that the code has made
+module _ (fact copy : Ground) (keys : List Key) (number : ℕ) (was now : FactIndex) (ks : keys ≡ keys_of fact) (cs : copy ≡ fact) where
+  pub added_as : ((key : Key) → Contains keys key → listed now.numbers key ≡ listed was.numbers key ++ number ∷ []) →
+      ((key : Key) → MayEndIn (Contains keys key) number (listed was.numbers key) (listed now.numbers key)) →
+      (before : BTreeSet Ground) → before ≡ was.present →
+      ((other : Ground) → contains ground_cmp now.present other ≡ cond (is_at (ground_cmp copy) other) true (contains ground_cmp before other)) →
+      (facts : List Ground) → IsIndexOf facts was → number ≡ length facts → IsIndexOf (facts ++ fact ∷ []) now
+  added_as noted part before same put facts r is = index_added facts fact number is was now
+      (λ key c. noted key (subst (λ k. Contains k key) (sym ks) c))
+      (λ key. subst (λ k. MayEndIn (Contains k key) number (listed was.numbers key) (listed now.numbers key)) ks (part key))
+      (λ other. put other ∙ ap (λ f. cond (is_at (ground_cmp f) other) true (contains ground_cmp before other)) cs ∙ ap (λ s. cond (is_at (ground_cmp fact) other) true (contains ground_cmp s other)) same)
+      r
+
+  pub refused_as : (mid : BTreeMap Key (List ℕ)) → ((key : Key) → MayEndIn (Contains keys key) number (listed was.numbers key) (listed mid key)) →
+      ((key : Key) (before : List ℕ) → (Contains before number → ⊥) → MayEndIn (Contains (keys_of copy) key) number before (listed mid key) → listed now.numbers key ≡ before) →
+      now.present.keys ≡ was.present.keys → (facts : List Ground) → IsIndexOf facts was → number ≡ length facts → IsIndexOf facts now
+  refused_as mid part struck same facts r is = index_refused facts fact number is was now (record { present = was.present; numbers = mid })
+      (λ key. subst (λ k. MayEndIn (Contains k key) number (listed was.numbers key) (listed mid key)) ks (part key))
+      (λ key before none h. struck key before none (subst (λ f. MayEndIn (Contains (keys_of f) key) number before (listed mid key)) (sym cs) h))
+      same r

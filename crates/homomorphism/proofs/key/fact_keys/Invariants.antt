@@ -1,0 +1,7 @@
+use Rattle.std.proofs.Common.{◌≡◌, ◌∷◌, take}
+use Rattle.homomorphism.specs.declared.key.Key.TheVariants.{Relation}
+use Rattle.homomorphism.specs.Listed.{value_keys}
+use Rattle.homomorphism.proofs.key.fact_keys.Given as goal
+
+abbrev pub invariant-loop-position : goal.invariant-loop-position
+invariant-loop-position l = (l.keys.items ≡ Relation l.fact.rel ∷ value_keys l.fact.rel 0 (take l.position l.val-items))

@@ -1,0 +1,67 @@
+-- The numbers of the facts that have a key, which is a relation, or a relation with a value at a position.
+use Rattle.std.specs.Prelude.{◌≡◌, ◌↔◌, ◌⊎◌, ℕ, ◌+◌, List, [], ◌∷◌, ◌++◌, Contains, Option, Some, None, Bool, true, false, ◌&&◌, nat_eq, slice_get, if◌then◌else◌, unwrap_or}
+use Rattle.std.specs.declared.cmp.Ordering.{Ordering}
+use Rattle.std.specs.BTreeMap.{BTreeMap, get}
+use Rattle.std.specs.BTreeSet.{BTreeSet, contains}
+use Rattle.meaning.specs.declared.types.Val.{Val}
+use Rattle.meaning.specs.declared.types.Ground.{Ground}
+use Rattle.meaning.specs.contracts.types.GroundOrd.TheImpl as ground_ord
+use Rattle.meaning.specs.declared.types.Atom.{Atom}
+use Rattle.meaning.specs.Added.{is_same_val}
+use Rattle.meaning.specs.Triggers.{ground}
+use Rattle.homomorphism.specs.Bindings.{Agrees}
+use Rattle.homomorphism.specs.declared.key.Key.{Key}
+use Rattle.homomorphism.specs.declared.key.Key.TheVariants.{Relation, Value}
+use Rattle.homomorphism.specs.declared.fact_index.FactIndex.{FactIndex}
+use Rattle.homomorphism.specs.contracts.key.KeyOrd.TheImpl as key_ord
+
+-- The keys of a row of the relation, from a position on.
+abbrev pub value_keys : ℕ → ℕ → List Val → List Key
+value_keys rel position [] = []
+value_keys rel position (val ∷ vals) = Value rel position val ∷ value_keys rel (position + 1) vals
+
+-- The keys of a fact are its relation and its value at each position.
+abbrev pub keys_of : Ground → List Key
+keys_of fact = Relation fact.rel ∷ value_keys fact.rel 0 fact.vals
+
+-- Whether the value is this one.
+abbrev pub is_val : Option Val → Val → Bool
+is_val None val = false
+is_val (Some other) val = is_same_val other val
+
+-- Whether the key is one of the fact's.
+abbrev pub has_key : Key → Ground → Bool
+has_key (Relation rel) fact = nat_eq fact.rel rel
+has_key (Value rel position val) fact = nat_eq fact.rel rel && is_val (slice_get fact.vals position) val
+
+-- The numbers of the facts that have the key, where the first fact has the given number.
+abbrev pub numbers_from : ℕ → Key → List Ground → List ℕ
+numbers_from first key [] = []
+numbers_from first key (fact ∷ facts) =
+    if has_key key fact then first ∷ numbers_from (first + 1) key facts else numbers_from (first + 1) key facts
+
+abbrev pub key_cmp : Key → Key → Ordering
+key_cmp = (key_ord.ghosts).cmp
+
+abbrev pub ground_cmp : Ground → Ground → Ordering
+ground_cmp = (ground_ord.ghosts).cmp
+
+-- The list of a key, which is empty where there is none.
+abbrev pub listed : BTreeMap Key (List ℕ) → Key → List ℕ
+listed numbers key = unwrap_or (get key_cmp numbers key) []
+
+-- An index of facts tells which facts there are, and has for each key exactly the numbers of the facts that have it.
+pub record IsIndexOf (facts : List Ground) (index : FactIndex) : Type 0 where
+  pub members : (fact : Ground) → (contains ground_cmp index.present fact ≡ true) ↔ Contains facts fact
+  pub lists : (key : Key) → listed index.numbers key ≡ numbers_from 0 key facts
+
+-- A list is as before, or, where a condition holds, ends in the number in addition.
+abbrev pub MayEndIn : Type 0 → ℕ → List ℕ → List ℕ → Type 0
+MayEndIn Condition number before now = (now ≡ before) ⊎ (Condition × (now ≡ before ++ number ∷ []))
+
+-- The numbers are those of the facts that have some key, and the atom has it under each assignment that agrees with
+-- what is given.
+abbrev pub AreCandidates : List Ground → Atom → List (Option Val) → List ℕ → Type 0
+AreCandidates facts atom given numbers =
+    (key : Key) × (numbers ≡ numbers_from 0 key facts)
+    × ((a : ℕ → Val) → Agrees given a → has_key key (ground a atom) ≡ true)
