@@ -10,4 +10,4 @@ pub returns-clause-cause : goal.returns-clause-cause
 returns-clause-cause g c = result_stops _ c.print.result c.print.ensures.cause
 
 pub returns-clause-prefix : goal.returns-clause-prefix
-returns-clause-prefix g c = rw (c.as_slice.ensures, c.in-Ok.ensures) at c.print.ensures.prefix
+returns-clause-prefix g c = rw (c.as_slice.ensures, c.in-Ok.ensures.text) at c.print.ensures.prefix
