@@ -11,4 +11,4 @@ pub returns-clause-cause : goal.returns-clause-cause
 returns-clause-cause g c = result_stops _ c.print.result c.print.ensures.cause
 
 pub returns-clause-prefix : goal.returns-clause-prefix
-returns-clause-prefix g c = on_part _ _ _ c.print.result (rw (c.as_slice.ensures, c.in-Ok.ensures) at c.print.ensures.part)
+returns-clause-prefix g c = on_part _ _ _ c.print.result (rw (c.as_slice.ensures, c.in-Ok.ensures.text) at c.print.ensures.part)
