@@ -17,7 +17,7 @@ use Rattle.homomorphism.specs.declared.assignment.Assignment.{Assignment}
 use Rattle.homomorphism.specs.Bindings.{Agrees, IsBound, at, values_of}
 use Rattle.homomorphism.specs.Narrowing.{value_or_none}
 use Rattle.homomorphism.specs.Ways.{AreApart, AreWays}
-use Rattle.homomorphism.specs.Matches.{IsMatch, NoMatch, AreMatches, AreCovered}
+use Rattle.homomorphism.specs.Matches.{IsMatch, AreMatches, AreCovered}
 use Rattle.homomorphism.proofs.Members.{contains_none, distinct_append}
 use Rattle.homomorphism.proofs.Ways.{apart_take}
 use Rattle.homomorphism.proofs.Binding.{apart}
@@ -66,11 +66,6 @@ module _ (facts : List Ground) (atom : Atom) (rest : List Atom) (given : List (O
     facts_are = λ other among. ⊎_elim (λ e. subst (λ (t : Atom). Contains facts (ground (at values) t)) e (r.sound way (at values) c m.agrees)) (λ h. m.facts_are other h) (contains_cases atom rest other among);
   }
 
-  pub no_match_more : ((way : List (Option Val)) → Contains ways way → NoMatch facts rest way) → NoMatch facts (atom ∷ rest) given
-  no_match_more none a ag are =
-      let (way, c, bg) = r.complete a ag (are atom (contains_here atom rest)) in
-      none way c a bg (λ other among. are other (contains_there atom rest other among))
-
   pub fits_more : (way : List (Option Val)) → Contains ways way → bound (atom ∷ rest) ≤ length given → bound rest ≤ length way
   fits_more way c l = let e : length way ≡ length given = r.width way c in let f : max (terms_bound atom.terms) (bound rest) ≤ length given = l in omega arith
 
@@ -113,11 +108,6 @@ turn_collect facts rest given ways i way found more l is apart width z m = subst
     turn : take (i + 1) ways ≡ take i ways ++ way ∷ []
     turn = take_more ways i way l ∙ ap (λ w. take i ways ++ w ∷ []) (sym is)
 
-pub turn_none : (facts : List Ground) (rest : List Atom) (ways : List (List (Option Val))) (i : ℕ) (way : List (Option Val)) → i < length ways → way ≡ slice_index_or ways i way →
-    ((w : List (Option Val)) → Contains (take i ways) w → NoMatch facts rest w) → NoMatch facts rest way → (w : List (Option Val)) → Contains (take (i + 1) ways) w → NoMatch facts rest w
-turn_none facts rest ways i way l is before now w c =
-    ⊎_elim (λ h. before w h) (λ e. subst (NoMatch facts rest) e now) (Contains-push_cases (take i ways) way w (subst (λ done. Contains done w) (take_more ways i way l ∙ ap (λ v. take i ways ++ v ∷ []) (sym is)) c))
-
 -- a slice of atoms taken apart by a pattern
 module _ (facts : List Ground) (atoms : List Atom) (atom : Atom) (given : List (Option Val)) (ways : List (List (Option Val))) (l : 1 ≤ length atoms) (is : atom ≡ slice_index_or atoms 0 atom) (r : AreWays facts atom given ways) where
   abbrev rest : List Atom
@@ -125,12 +115,6 @@ module _ (facts : List Ground) (atoms : List Atom) (atom : Atom) (given : List (
 
   split : atoms ≡ atom ∷ rest
   split = apart atoms atom l is
-
-  pub match_at : (way : List (Option Val)) (values : List Val) → Contains ways way → IsMatch facts (take (length atoms - 1) (drop 1 atoms)) way values → IsMatch facts atoms given values
-  match_at way values c m = subst (λ z. IsMatch facts z given values) (sym split) (match_more facts atom rest given ways r way values c m)
-
-  pub no_match_at : ((way : List (Option Val)) → Contains ways way → NoMatch facts (take (length atoms - 1) (drop 1 atoms)) way) → NoMatch facts atoms given
-  no_match_at none = subst (λ z. NoMatch facts z given) (sym split) (no_match_more facts atom rest given ways r none)
 
   pub matches_at : (found : List Assignment) → Collected facts (take (length atoms - 1) (drop 1 atoms)) given ways found → AreMatches facts atoms given found
   matches_at found z = subst (λ z. AreMatches facts z given found) (sym split) (collected_all facts atom rest given ways found r z)

@@ -1,5 +1,5 @@
 -- Facts that an atom can be under given values, by a key.
-use Rattle.std.proofs.Common.{◌≡◌, ℕ, zero, suc, ◌+◌, ◌<◌, ◌≤◌, List, [], ◌∷◌, ◌++◌, length, Option, Some, Bool, true, false, refl, sym, ap, ◌∙◌, subst, ◌⊎◌, ⊎_elim, cond, arith, Contains, slice_get, slice_index_or, map, append_assoc}
+use Rattle.std.proofs.Common.{◌≡◌, ℕ, zero, suc, ◌+◌, ◌<◌, List, [], ◌∷◌, ◌++◌, length, Option, Some, Bool, true, false, refl, sym, ap, ◌∙◌, subst, ◌⊎◌, ⊎_elim, cond, arith, Contains, slice_get, slice_index_or, map, append_assoc}
 use Rattle.std.specs.Prelude.{if◌then◌else◌}
 use Rattle.std.specs.List.{filter}
 use Rattle.std.specs.BTreeMap.{BTreeMap}
@@ -18,8 +18,7 @@ use Rattle.homomorphism.specs.declared.key.Key.TheVariants.{Relation, Value}
 use Rattle.homomorphism.specs.declared.fact_index.FactIndex.{FactIndex}
 use Rattle.homomorphism.specs.Bindings.{Agrees}
 use Rattle.homomorphism.specs.Ways.{AreWays}
-use Rattle.homomorphism.specs.Listed.{keys_of, value_keys, has_key, numbers_from, listed, IsIndexOf, AreCandidates}
-use Rattle.homomorphism.proofs.Members.{contains_none}
+use Rattle.homomorphism.specs.Listed.{value_keys, has_key, numbers_from, listed, IsIndexOf, AreCandidates}
 use Rattle.homomorphism.proofs.Indexing.{has_key_decides, of_values, numbers_below}
 
 -- the list is that of some key, which the atom has under each assignment that agrees
@@ -126,14 +125,18 @@ module _ (facts : List Ground) (atom : Atom) (given : List (Option Val)) (number
   unfolding picked_are
   picked_distinct once = subst AreDistinct (sym picked_are) (distinct_filter (has_key r.0) facts once)
 
-  pub ways_picked : (ways : List (List (Option Val))) → AreWays (picked facts numbers) atom given ways → AreWays facts atom given ways
+  pub picked_has : (a : ℕ → Val) → Agrees given a → Contains facts (ground a atom) → Contains (picked facts numbers) (ground a atom)
   unfolding picked_are
+  picked_has a ag c = subst (λ l. Contains l (ground a atom)) (sym picked_are) (to_filter (has_key r.0) facts (ground a atom) c (r.2 a ag))
+
+  pub ways_picked : (ways : List (List (Option Val))) → AreWays (picked facts numbers) atom given ways → AreWays facts atom given ways
+  unfolding picked_are picked_has
   ways_picked ways w = record {
     width = w.width;
     covers = w.covers;
     wider = w.wider;
     sound = λ way a c ag. in_filter (has_key r.0) facts (ground a atom) (subst (λ l. Contains l (ground a atom)) picked_are (w.sound way a c ag));
-    complete = λ a ag c. w.complete a ag (subst (λ l. Contains l (ground a atom)) (sym picked_are) (to_filter (has_key r.0) facts (ground a atom) c (r.2 a ag)));
+    complete = λ a ag c. w.complete a ag (picked_has a ag c);
     apart = w.apart;
   }
 

@@ -1,5 +1,5 @@
 -- Variables that occur, one after another.
-use Rattle.std.proofs.Common.{◌≡◌, ◌↔◌, ◌⊎◌, ℕ, ◌+◌, ◌-◌, ◌<◌, ◌≤◌, List, [], ◌∷◌, length, Some, None, Option, refl, sym, ap, ◌∙◌, subst, inl, inr, ⊎_elim, arith, Contains, take, drop, slice_get, slice_index_or, IsTrue, Bool, true, false}
+use Rattle.std.proofs.Common.{◌≡◌, ◌↔◌, ◌⊎◌, ℕ, ◌+◌, ◌-◌, ◌<◌, ◌≤◌, List, ◌∷◌, length, Some, None, Option, refl, sym, ap, ◌∙◌, subst, ⊎_elim, arith, Contains, take, drop, slice_index_or, IsTrue, Bool, true, false}
 use Rattle.std.proofs.lemmas.Bool.{cases_lt}
 use Rattle.std.proofs.lemmas.Option.{slice_get-get_or}
 use Rattle.lists.proofs.Members.{contains_there, contains_cases, some_injective}

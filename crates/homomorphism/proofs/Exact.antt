@@ -1,5 +1,5 @@
 -- The orders of keys and facts tell any two apart.
-use Rattle.std.proofs.Common.{◌≡◌, ℕ, List, [], ◌∷◌, Bool, true, false, refl, sym, ap, ◌∙◌, subst, inl, inr, ◌⊎◌, arith}
+use Rattle.std.proofs.Common.{◌≡◌, List, [], ◌∷◌, false, refl, sym, ap, ◌∙◌, inl, inr, ◌⊎◌}
 use Rattle.std.specs.Cmp.{IsTotalOrder}
 use Rattle.std.specs.Cmp.Lexicographic.{slice_cmp}
 use Rattle.std.specs.Ordering.{nat_cmp, ordering_then, is_eq}
@@ -12,10 +12,8 @@ use Rattle.meaning.specs.declared.types.Val.{Val}
 use Rattle.meaning.specs.declared.types.Val.TheVariants.{Const, Label}
 use Rattle.meaning.specs.declared.types.Ground.{Ground}
 use Rattle.meaning.specs.contracts.types.ValOrd.TheImpl as val_ord
-use Rattle.meaning.specs.contracts.types.GroundOrd.TheImpl as ground_ord
 use Rattle.homomorphism.specs.declared.key.Key.{Key}
 use Rattle.homomorphism.specs.declared.key.Key.TheVariants.{Relation, Value}
-use Rattle.homomorphism.specs.contracts.key.KeyOrd.TheImpl as key_ord
 use Rattle.meaning.specs.contracts.types.GroundOrd.TheImpl.Laws.{total-law as ground_law}
 use Rattle.homomorphism.specs.contracts.key.KeyOrd.TheImpl.Laws.{total-law as key_law}
 use Rattle.homomorphism.specs.Listed.{key_cmp, ground_cmp}

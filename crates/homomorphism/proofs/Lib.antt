@@ -12,3 +12,4 @@ pub mod Numbering
 pub mod Noting
 pub mod Indexing
 pub mod Choosing
+pub mod FactByFact

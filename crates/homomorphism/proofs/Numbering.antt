@@ -1,5 +1,5 @@
 -- Numbers of facts that have a key.
-use Rattle.std.proofs.Common.{◌≡◌, ◌⊎◌, ℕ, zero, suc, ◌+◌, ◌<◌, ◌≤◌, List, [], ◌∷◌, ◌++◌, length, Bool, true, false, refl, sym, ap, ◌∙◌, subst, inl, inr, ⊎_elim, arith, Contains, slice_get, slice_index_or, take}
+use Rattle.std.proofs.Common.{◌≡◌, ℕ, zero, suc, ◌+◌, ◌<◌, List, [], ◌∷◌, ◌++◌, length, refl, sym, ap, ◌∙◌, arith, slice_index_or, take}
 use Rattle.std.proofs.lemmas.List.{take_more}
 use Rattle.meaning.specs.declared.types.Val.{Val}
 use Rattle.homomorphism.specs.declared.key.Key.{Key}

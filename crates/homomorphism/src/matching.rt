@@ -89,10 +89,12 @@ pub fn first(
     let [atom, rest @ ..] = atoms else {
         return Ok(Some(assignment(alloc, given.as_slice())?));
     };
-    let ways = ways(alloc, atom, store, given)?;
-    for way in &ways {
-        if let Some(values) = first(alloc, rest, store, way)? {
-            return Ok(Some(values));
+    let facts = store.facts();
+    for number in store.candidates(alloc, atom, given)? {
+        if let Some(way) = way(alloc, atom, &facts[*number], given)? {
+            if let Some(values) = first(alloc, rest, store, &way)? {
+                return Ok(Some(values));
+            }
         }
     }
     Ok(None)
