@@ -1,15 +1,11 @@
 -- How far the variables of atoms and the labels of facts go.
-use Rattle.std.proofs.Common.{ℕ, ◌+◌, ◌-◌, ◌≤◌, List, [], ◌∷◌, ◌++◌, map, refl, subst, ⊎_elim, arith}
-use Rattle.std.specs.Prelude.{Contains}
-use Rattle.lists.proofs.Members.{contains_cases}
-use Rattle.meaning.specs.declared.types.Term.{Term}
-use Rattle.meaning.specs.declared.types.Term.TheVariants.{Var, Const as Said}
+use Rattle.std.proofs.Common.{ℕ, ◌≤◌, List, [], ◌∷◌, ◌++◌, map, refl, ⊎_elim, arith}
 use Rattle.meaning.specs.declared.types.Atom.{Atom}
 use Rattle.meaning.specs.declared.types.Ground.{Ground}
 use Rattle.meaning.specs.declared.types.Rule.{Rule}
 use Rattle.meaning.specs.declared.types.Trigger.{Trigger}
 use Rattle.meaning.specs.Added.{with_facts}
-use Rattle.meaning.specs.Triggers.{State, LabelsBelow, AreNumbered, IsTrigger, assigned, ground, bound, terms_bound, fired}
+use Rattle.meaning.specs.Triggers.{State, LabelsBelow, AreNumbered, IsTrigger, assigned, ground, bound, fired}
 use Rattle.meaning_laws.proofs.Added.{added_cases, added_right}
 use Rattle.meaning_laws.proofs.Carrying.{run_below}
 use Rattle.access_schema.specs.declared.schema.Schema.{Schema}
