@@ -1,10 +1,10 @@
 // Small graphs, whose paths are counted by hand; each call that takes memory answers with ample memory.
 use crate::{
-    Assignment, Bindings, Store, all_matches, body_matches, first_match, first_unmet, is_covered,
-    is_met, is_numbered, row_under, variables_width,
+    Assignment, Assigns, Bindings, Freezing, Store, all_matches, body_matches, first_match,
+    first_unmet, ground_under, is_covered, is_met, is_numbered, row_under, variables_width,
 };
 use lists::{Copies, Exact, Row, Seq, Text};
-use meaning::types::{Atom, Atoms, Fact, Ground, Instance, Rule, Term, Val};
+use meaning::types::{Atom, Atoms, Fact, Ground, Instance, Rule, Term, Trigger, Val};
 use std::alloc::{AllocError, Global};
 use std::test::Fail;
 
@@ -278,6 +278,32 @@ fn a_match_is_met_or_not(rt: HostRuntime) -> Result<(), Fail> {
         head: atoms(alloc, &[(EDGE, &["y", "x"])])?,
     };
     assert!(rt; !is_numbered(&turned));
+    Ok(())
+}
+
+#[test]
+fn atoms_are_facts_of_values_and_labels(rt: HostRuntime) -> Result<(), Fail> {
+    let alloc = rt.alloc();
+    let trigger = Trigger {
+        rule: 0,
+        values: ground(alloc, EDGE, &["a"])?.vals,
+        fresh: 5,
+    };
+    assert!(rt; trigger.value(alloc, 0)?.same(&known(alloc, "a")?));
+    assert!(rt; trigger.value(alloc, 1)?.same(&Val::Label(5)));
+    assert!(rt; trigger.value(alloc, 2)?.same(&Val::Label(6)));
+    let body = atoms(alloc, &[(EDGE, &["y", "a"]), (MARK, &["x"])])?;
+    let facts = ground_under(alloc, body.as_slice(), &Freezing)?;
+    let [edge, mark] = facts.as_slice() else {
+        return Err(Fail::from("there are not two facts"));
+    };
+    assert_eq!(rt; edge.rel, EDGE);
+    let mut ends = Seq::new(alloc);
+    ends.push(Val::Label(1))?;
+    ends.push(known(alloc, "a")?)?;
+    assert!(rt; edge.vals.same(&ends));
+    assert_eq!(rt; mark.rel, MARK);
+    assert_eq!(rt; mark.vals.len(), 1);
     Ok(())
 }
 

@@ -4,7 +4,8 @@ ghost use Rattle.meaning.specs.declared.types.Val.TheVariants.{Const, Label};
 ghost use Rattle.meaning.specs.Matching.{value_of};
 ghost use Rattle.meaning.specs.Triggers.{ground};
 
-use lists::{Copies, NoMemory, Seq};
+use homomorphism::{Freezing, ground_under, values_under};
+use lists::NoMemory;
 use meaning::types::{Atom, Ground, Term, Val};
 use std::alloc::Global;
 
@@ -12,39 +13,12 @@ use std::alloc::Global;
 pub fn frozen_facts(alloc: Global, atoms: &[Atom]) -> Result<Vec<Ground>, NoMemory>
     ensures { IfOk result (λ facts. facts.items ≡ map (ground Label) atoms.now) }
 {
-    let mut facts = Vec::with_capacity(alloc, atoms.len())?;
-    for atom in atoms {
-        facts.push(frozen_fact(alloc, atom)?)?;
-    }
-    Ok(facts)
-}
-
-fn frozen_fact(alloc: Global, atom: &Atom) -> Result<Ground, NoMemory>
-    ensures { IfOk result (λ fact. fact ≡ ground Label atom.now) }
-{
-    let vals = frozen_values(alloc, atom.terms.as_slice())?;
-    Ok(Ground {
-        rel: atom.rel,
-        vals: Seq::from_vec(vals),
-    })
+    ground_under(alloc, atoms, &Freezing)
 }
 
 /// The values of terms with label k in place of variable k.
 pub fn frozen_values(alloc: Global, terms: &[Term]) -> Result<Vec<Val>, NoMemory>
     ensures { IfOk result (λ vals. vals.items ≡ map (value_of Const Label) terms.now) }
 {
-    let mut vals = Vec::with_capacity(alloc, terms.len())?;
-    for term in terms {
-        vals.push(frozen_value(alloc, term)?)?;
-    }
-    Ok(vals)
-}
-
-fn frozen_value(alloc: Global, term: &Term) -> Result<Val, NoMemory>
-    ensures { IfOk result (λ value. value ≡ value_of Const Label term.now) }
-{
-    match term {
-        Term::Var(variable) => Ok(Val::Label(*variable)),
-        Term::Const(text) => Ok(Val::Const(text.copy(alloc)?)),
-    }
+    values_under(alloc, terms, &Freezing)
 }

@@ -1,9 +1,9 @@
 // Plans for queries on one relation of two columns, worked out by hand.
-use crate::{only_select, plan_for};
+use crate::plan_for;
 use access_schema::{Part, Parts, Schema, are_named};
 use lists::{Seq, Text, Texts};
 use meaning::types::{Out, Place, Plan};
-use sql_select::read_select;
+use sql_select::{read_select, result_names};
 use std::alloc::{AllocError, Global};
 use std::test::Fail;
 
@@ -56,7 +56,7 @@ fn planned(alloc: Global, schema: &Schema, query: &str) -> Result<String, AllocE
         return Err(AllocError);
     };
     let mut made = String::new(alloc);
-    if let Some(name) = only_select(&statement).names.get(0) {
+    if let Some(name) = result_names(&statement).get(0) {
         made.push_str(name.as_str())?;
     }
     match plan_for(alloc, schema, &statement)? {

@@ -1,12 +1,12 @@
 -- What a pass uses of the rule order: rules that stand before a rule come earlier, and no rule feeds itself or an
 -- earlier one.
-use Rattle.std.proofs.Common.{◌≡◌, ◌⊎◌, ℕ, zero, suc, ◌+◌, ◌<◌, ◌≤◌, List, [], ◌∷◌, length, Some, refl, sym, ap, ◌∙◌, subst, ⊎_elim, arith, Contains, take, slice_get, slice_index_or}
+use Rattle.std.proofs.Common.{◌≡◌, ℕ, zero, suc, ◌+◌, ◌<◌, ◌≤◌, List, [], ◌∷◌, length, Some, refl, sym, ap, ◌∙◌, subst, ⊎_elim, arith, Contains, take, slice_get, slice_index_or}
 use Rattle.std.proofs.lemmas.Bool.{cases_lt}
 use Rattle.std.proofs.lemmas.Option.{slice_get_within}
 use Rattle.lists.proofs.Members.{contains_got, some_injective}
 use Rattle.meaning.specs.declared.types.Atom.{Atom}
 use Rattle.meaning.specs.declared.types.Rule.{Rule}
-use Rattle.meaning.specs.RuleOrder.{IsFed, IsLevel, IsRuleLevel, StandsBefore}
+use Rattle.meaning.specs.RuleOrder.{IsFed, IsRuleLevel, StandsBefore}
 use Rattle.rule_pass.specs.Order.{IsRuleOrder}
 
 -- The rule makes no fact of a relation of the other's body.

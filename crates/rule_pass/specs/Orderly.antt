@@ -1,5 +1,5 @@
 -- What firing asks of rules. The rules of every schema are so.
-use Rattle.std.specs.Prelude.{ℕ, ◌≤◌, List, Contains, length}
+use Rattle.std.specs.Prelude.{◌≤◌, List, Contains, length}
 use Rattle.meaning.specs.declared.types.Rule.{Rule}
 use Rattle.meaning.specs.Triggers.{AreNumbered, bound}
 use Rattle.access_schema.specs.declared.limits.TheConstants.{MOST_RULES, MOST_VARIABLES}

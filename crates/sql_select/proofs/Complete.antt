@@ -14,8 +14,8 @@ use Rattle.sql_select.specs.declared.piece.RawCondition.{RawCondition}
 use Rattle.sql_select.specs.declared.state.State.TheVariants as state
 use Rattle.sql_select.specs.declared.state.Done.TheVariants as done
 use Rattle.sql_select.specs.declared.piece.RawSelect.{RawSelect}
-use Rattle.sql_select.specs.Reading.{empty, added, read}
-use Rattle.sql_select.specs.Grammar.{shown_item, shown_from, shown_condition, parted, shown, IsText}
+use Rattle.sql_select.specs.Reading.{IsSelectText, empty, added, read}
+use Rattle.sql_select.specs.Grammar.{shown_item, shown_from, shown_condition, parted, shown}
 
 -- one part, and the piece that closes it
 abbrev ItemRead : RawSelect → RawItem → List Piece → Type 0
@@ -142,7 +142,7 @@ parts_read x xs y ys (c ∷ cs) =
     )
 
 -- what is written as a select is read as it
-pub complete : (raw : RawSelect) (pieces : List Piece) → IsText raw pieces → read state.Start empty pieces ≡ Ok raw
+pub complete : (raw : RawSelect) (pieces : List Piece) → IsSelectText raw pieces → read state.Start empty pieces ≡ Ok raw
 complete raw pieces is =
     let (x, xs, items) = cons_of raw.items is.items in
     let (y, ys, froms) = cons_of raw.froms is.froms in
@@ -151,7 +151,7 @@ complete raw pieces is =
     ⊎_elim (λ e. ap (λ q. read state.Start empty q) e ∙ both.0) (λ e. ap (λ q. read state.Start empty q) e ∙ both.1) is.written
 
 -- and as no other
-pub one_reading : (first second : RawSelect) (pieces : List Piece) → IsText first pieces → IsText second pieces → first ≡ second
+pub one_reading : (first second : RawSelect) (pieces : List Piece) → IsSelectText first pieces → IsSelectText second pieces → first ≡ second
 one_reading first second pieces is is' = let same : ◌≡◌ {A = Result RawSelect (List Piece)} (Ok first) (Ok second) = sym (complete first pieces is) ∙ complete second pieces is' in ok_same first second same
   where
     ok_same : (a b : RawSelect) → ◌≡◌ {A = Result RawSelect (List Piece)} (Ok a) (Ok b) → a ≡ b

@@ -8,13 +8,13 @@ use Rattle.sql_select.specs.declared.piece.RawSelect.{RawSelect}
 use Rattle.sql_select.specs.declared.reading.WalkFault.{WalkFault}
 use Rattle.sql_select.specs.declared.reading.WalkFault.TheVariants as fault
 use Rattle.sql_select.specs.Words.{piece_of, pieces_of}
-use Rattle.sql_select.specs.Reading.{empty, read, IsReading, IsFaultOf}
-use Rattle.sql_select.specs.Grammar.{IsText, S0, StopsAt}
+use Rattle.sql_select.specs.Reading.{IsSelectText, empty, read, IsReading, IsFaultOf}
+use Rattle.sql_select.specs.Grammar.{S0, StopsAt}
 use Rattle.sql_select.proofs.Said.{all_sound}
 use Rattle.sql_select.proofs.Leading.{stops, ends, ends_or_stops}
 use Rattle.sql_select.proofs.Complete.{complete}
 
-pub reads : (result : Result RawSelect WalkFault) (pieces : List Piece) → IsReading result (read state.Start empty pieces) → IfOk result (λ raw. IsText raw pieces)
+pub reads : (result : Result RawSelect WalkFault) (pieces : List Piece) → IsReading result (read state.Start empty pieces) → IfOk result (λ raw. IsSelectText raw pieces)
 reads (Ok raw) pieces is = all_sound pieces raw is
 reads (Err fault) pieces is = tt
 
@@ -54,5 +54,5 @@ faults text tokens (Err (fault.At left)) (after, e, count) =
     (parts.first, parts.second, parts.whole, sym (pieces_long text parts.second) ∙ ap length parts.is_second ∙ count, subst (λ q. StopsAt S0 (pieces_of text tokens) q) (sym parts.is_second) at)
 
 -- what is written as a select stops nowhere
-pub no_misfit : (raw : RawSelect) (pieces after : List Piece) → IsText raw pieces → StopsAt S0 pieces after → ⊥
+pub no_misfit : (raw : RawSelect) (pieces after : List Piece) → IsSelectText raw pieces → StopsAt S0 pieces after → ⊥
 no_misfit raw pieces after is stop = ends_or_stops pieces after (ends state.Start empty raw pieces (complete raw pieces is)) stop

@@ -4,7 +4,7 @@ use Rattle.std.specs.Prelude.{Contains, Some, slice_get}
 use Rattle.std.specs.List.{AllZip}
 use Rattle.std.proofs.lemmas.Slice.Zip.{AllZip-long}
 use Rattle.std.proofs.lemmas.Option.{slice_get_within}
-use Rattle.lists.proofs.Members.{contains_cases, got_mapped}
+use Rattle.lists.proofs.Members.{contains_here, contains_there, contains_cases, got_mapped}
 use Rattle.meaning.specs.declared.types.Relation.{Relation}
 use Rattle.meaning.specs.declared.types.Operand.{Operand}
 use Rattle.meaning.specs.declared.types.Operand.TheVariants.{Column, Literal}
@@ -16,6 +16,7 @@ use Rattle.access_schema.specs.declared.schema.Schema.{Schema}
 use Rattle.access_schema.specs.Meaning.{meaning_of}
 use Rattle.access_schema.specs.Names.{relation_names}
 use Rattle.sql_select.specs.declared.piece.RawItem.{RawItem}
+use Rattle.sql_select.specs.declared.piece.RawSelect.{RawSelect}
 use Rattle.sql_select.specs.declared.named.NamedOperand.{NamedOperand}
 use Rattle.sql_select.specs.declared.named.NamedOperand.TheVariants as named
 use Rattle.sql_select.specs.declared.named.NamedItem.{NamedItem}
@@ -24,7 +25,8 @@ use Rattle.sql_select.specs.declared.named.NamedCondition.{NamedCondition}
 use Rattle.sql_select.specs.declared.named.NamedSelect.{NamedSelect}
 use Rattle.sql_select.specs.Naming.{named_from, named_items, named_condition, named_select}
 use Rattle.sql_select.specs.Names.{IsMeant, IsMeaning}
-use Rattle.sql_select.specs.Statements.{IsStatementText, IsBounded, StatementFits}
+use Rattle.sql_select.specs.Limits.{IsWithinLimits}
+use Rattle.sql_select.specs.Statements.{Means, IsStatementText, IsBounded, StatementFits}
 use Rattle.sql_select.proofs.FromFaults.{nothing_in}
 
 map_long : {X Y : Type 0} (f : X → Y) (xs : List X) → length (map f xs) ≡ length xs
@@ -77,17 +79,17 @@ module _ (schema : Schema) (parts : NamedSelect) (select : Select) (is : IsMeani
     items = λ o c. items_fit parts.items select.items o is.items c;
   }
 
-bounded : (schema : Schema) (bytes : List ℕ) (statement : Statement) (is : IsStatementText schema bytes statement) → IsBounded is.select
-bounded schema bytes statement is =
-    let items : length is.select.items ≡ length is.raw.items = AllZip-long _ (named_select bytes is.raw).items is.select.items is.means.items ∙ items_long bytes 1 is.raw.items in
-    let froms : length is.select.froms ≡ length is.raw.froms = AllZip-long _ (named_select bytes is.raw).froms is.select.froms is.means.froms.relations_are ∙ map_long (named_from bytes) is.raw.froms in
-    let conditions : length is.select.conditions ≡ length is.raw.conditions = AllZip-long _ (named_select bytes is.raw).conditions is.select.conditions is.means.conditions ∙ map_long (named_condition bytes) is.raw.conditions in
-    let names : length is.select.names ≡ length is.raw.items = ap length is.means.names ∙ map_long (λ (item : NamedItem). item.name) (named_select bytes is.raw).items ∙ items_long bytes 1 is.raw.items in
-    let some_items = some_long is.raw.items is.written.text.items in
-    let some_froms = some_long is.raw.froms is.written.text.froms in
-    let few_items = is.within.items in
-    let few_froms = is.within.froms in
-    let few_conditions = is.within.conditions in
+bounded : (schema : Schema) (bytes : List ℕ) (raw : RawSelect) (select : Select) → Means schema.relations bytes raw select → IsWithinLimits raw → (raw.items ≡ [] → ⊥) → (raw.froms ≡ [] → ⊥) → IsBounded select
+bounded schema bytes raw select means within has_items has_froms =
+    let items : length select.items ≡ length raw.items = AllZip-long _ (named_select bytes raw).items select.items means.items ∙ items_long bytes 1 raw.items in
+    let froms : length select.froms ≡ length raw.froms = AllZip-long _ (named_select bytes raw).froms select.froms means.froms.relations_are ∙ map_long (named_from bytes) raw.froms in
+    let conditions : length select.conditions ≡ length raw.conditions = AllZip-long _ (named_select bytes raw).conditions select.conditions means.conditions ∙ map_long (named_condition bytes) raw.conditions in
+    let names : length select.names ≡ length raw.items = ap length means.names ∙ map_long (λ (item : NamedItem). item.name) (named_select bytes raw).items ∙ items_long bytes 1 raw.items in
+    let some_items = some_long raw.items has_items in
+    let some_froms = some_long raw.froms has_froms in
+    let few_items = within.items in
+    let few_froms = within.froms in
+    let few_conditions = within.conditions in
     record {
       some_items = omega (arith, items, some_items);
       items = omega (arith, items, few_items);
@@ -97,12 +99,21 @@ bounded schema bytes statement is =
       conditions = omega (arith, conditions, few_conditions);
     }
 
+-- each select of a statement is what a written one means
+meant : (schema : Schema) (bytes : List ℕ) (raws : List RawSelect) (selects : List Select) (select : Select) → AllZip (Means schema.relations bytes) raws selects → Contains selects select →
+    (raw : RawSelect) × Contains raws raw × Means schema.relations bytes raw select
+meant schema bytes raws [] select z c = absurd (nothing_in select c)
+meant schema bytes [] (x ∷ xs) select z c = absurd z
+meant schema bytes (raw ∷ raws) (x ∷ xs) select (m, z) c = ⊎_elim
+    (λ e. (raw, contains_here raw raws, subst (λ (s : Select). Means schema.relations bytes raw s) e m))
+    (λ h. let (other, among, means) = meant schema bytes raws xs select z h in (other, contains_there raw raws other among, means))
+    (contains_cases x xs select c)
+
 pub statement_fits : (schema : Schema) (bytes : List ℕ) (statement : Statement) → IsStatementText schema bytes statement → StatementFits schema statement
 statement_fits schema bytes statement is = record {
-  one = ap (λ (s : Statement). length s.selects) is.whole;
-  fits = λ select c. subst (λ (s : Select). SelectFits (meaning_of schema) s) (only select c) (select_fits schema (named_select bytes is.raw) is.select is.means);
-  bounded = λ select c. subst (λ (s : Select). IsBounded s) (only select c) (bounded schema bytes statement is);
+  count = AllZip-long _ is.raws statement.selects is.means ∙ is.written.text.count;
+  fits = λ select c. let (raw, among, means) = meant schema bytes is.raws statement.selects select is.means c in select_fits schema (named_select bytes raw) select means;
+  bounded = λ select c.
+      let (raw, among, means) = meant schema bytes is.raws statement.selects select is.means c in
+      bounded schema bytes raw select means (is.within raw among) (is.written.text.items raw among) (is.written.text.froms raw among);
 }
-  where
-    only : (select : Select) → Contains statement.selects select → is.select ≡ select
-    only select c = ⊎_elim (λ e. e) (λ h. absurd (nothing_in select h)) (contains_cases is.select [] select (subst (λ (s : Statement). Contains s.selects select) is.whole c))

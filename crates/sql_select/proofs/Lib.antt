@@ -9,6 +9,7 @@ pub mod ColumnFaults
 pub mod Stand
 pub mod Resolved
 pub mod Meanings
+pub mod Queries
 pub mod Unique
 pub mod Fitting
 pub mod Answering

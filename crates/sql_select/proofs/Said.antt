@@ -16,8 +16,8 @@ use Rattle.sql_select.specs.declared.state.Done.{Done}
 use Rattle.sql_select.specs.declared.state.Done.TheVariants as done
 use Rattle.sql_select.specs.declared.piece.RawSelect.{RawSelect}
 use Rattle.sql_select.specs.Steps.{step_of, ending_of, after_item, after_operand, after_from, after_left, after_condition}
-use Rattle.sql_select.specs.Reading.{empty, added, ended, moved, read}
-use Rattle.sql_select.specs.Grammar.{shown_operand, shown_item, shown_from, shown_condition, further, parted, shown_where, shown, IsText}
+use Rattle.sql_select.specs.Reading.{IsSelectText, empty, added, ended, moved, read}
+use Rattle.sql_select.specs.Grammar.{shown_operand, shown_item, shown_from, shown_condition, further, parted, shown_where, shown}
 
 -- members, each followed by the separator
 abbrev pub closed : {X : Type 0} → (X → List Piece) → Piece → List X → List Piece
@@ -318,7 +318,7 @@ moves state.End raw ps p at = tt
 -- where the end is listed, the pieces are the select
 abbrev IsEnded : RawSelect → List Piece → Option Done → Type 0
 IsEnded raw ps None = Unit {0}
-IsEnded raw ps (Some d) = IsText (added d raw) ps
+IsEnded raw ps (Some d) = IsSelectText (added d raw) ps
 
 ends : (s : State) (raw : RawSelect) (ps : List Piece) → IsAt s raw ps → IsEnded raw ps (ending_of s)
 ends (state.FromName n) raw ps at = record { items = at.items; froms = not_empty raw.froms (record { relation = n; alias = alias.Missing }); written = inl (from_shown raw ps (record { relation = n; alias = alias.Missing }) at) }
@@ -329,18 +329,18 @@ ends state.End raw ps at = record { items = at.items; froms = at.froms; written 
 ends _ raw ps at = tt
 
 -- what is read is a select as it is written
-pub read_sound : (s : State) (raw : RawSelect) (before left : List Piece) (final : RawSelect) → IsAt s raw before → read s raw left ≡ Ok final → IsText final (before ++ left)
+pub read_sound : (s : State) (raw : RawSelect) (before left : List Piece) (final : RawSelect) → IsAt s raw before → read s raw left ≡ Ok final → IsSelectText final (before ++ left)
 read_sound s raw before [] final at e = go (ending_of s) (ends s raw before at) e
   where
-    go : (found : Option Done) → IsEnded raw before found → ended found raw ≡ Ok final → IsText final (before ++ [])
+    go : (found : Option Done) → IsEnded raw before found → ended found raw ≡ Ok final → IsSelectText final (before ++ [])
     go None is e = absurd (cc)
-    go (Some d) is e = let same : added d raw ≡ final = cc in subst (λ r. IsText r (before ++ [])) same (subst (λ q. IsText (added d raw) q) (sym (append-nil before)) is)
+    go (Some d) is e = let same : added d raw ≡ final = cc in subst (λ r. IsSelectText r (before ++ [])) same (subst (λ q. IsSelectText (added d raw) q) (sym (append-nil before)) is)
 read_sound s raw before (p ∷ left) final at e = go (step_of s p) (moves s raw before p at) e (λ s' raw' at' e'. read_sound s' raw' (before ++ p ∷ []) left final at' e')
   where
     go : (found : Option (State × Done)) → Moved raw (before ++ p ∷ []) found → moved found raw (p ∷ left) (λ s' raw'. read s' raw' left) ≡ Ok final →
-        ((s' : State) (raw' : RawSelect) → IsAt s' raw' (before ++ p ∷ []) → read s' raw' left ≡ Ok final → IsText final ((before ++ p ∷ []) ++ left)) → IsText final (before ++ p ∷ left)
+        ((s' : State) (raw' : RawSelect) → IsAt s' raw' (before ++ p ∷ []) → read s' raw' left ≡ Ok final → IsSelectText final ((before ++ p ∷ []) ++ left)) → IsSelectText final (before ++ p ∷ left)
     go None is e rec = absurd (cc)
-    go (Some (s', d)) is e rec = subst (λ q. IsText final q) (append_assoc before (p ∷ []) left) (rec s' (added d raw) is e)
+    go (Some (s', d)) is e rec = subst (λ q. IsSelectText final q) (append_assoc before (p ∷ []) left) (rec s' (added d raw) is e)
 
-pub all_sound : (left : List Piece) (final : RawSelect) → read state.Start empty left ≡ Ok final → IsText final left
+pub all_sound : (left : List Piece) (final : RawSelect) → read state.Start empty left ≡ Ok final → IsSelectText final left
 all_sound left final e = read_sound state.Start empty [] left final (refl, refl) e

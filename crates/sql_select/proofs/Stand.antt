@@ -20,7 +20,8 @@ use Rattle.sql_select.specs.declared.piece.RawFrom.{RawFrom}
 use Rattle.sql_select.specs.declared.piece.RawCondition.{RawCondition}
 use Rattle.sql_select.specs.declared.piece.RawSelect.{RawSelect}
 use Rattle.sql_select.specs.Words.{written, is_refused_word, name_or_other, word_piece, symbol_piece, piece_for, pieces_of}
-use Rattle.sql_select.specs.Grammar.{shown_operand, shown_alias, shown_item, shown_from, shown_condition, further, parted, shown_where, shown, IsText}
+use Rattle.sql_select.specs.Grammar.{shown_operand, shown_alias, shown_item, shown_from, shown_condition, further, parted, shown_where, shown}
+use Rattle.sql_select.specs.Reading.{IsSelectText}
 use Rattle.sql_select.specs.Spanning.{OperandStands, AliasStands, ItemStands, FromStands, ConditionStands, SelectStands}
 
 all_left : {X : Type 0} (P : X → Type 0) (xs ys : List X) → AllByRecursion P (xs ++ ys) → AllByRecursion P xs
@@ -129,7 +130,7 @@ module _ (text : List ℕ) where
         conditions = where_stands raw.conditions (all_right PieceStands B W behind.1);
       }
 
-  pub select_stands : (raw : RawSelect) (tokens : List Token) → AllByRecursion (IsSpan text) tokens → IsText raw (pieces_of text tokens) → SelectStands text raw
+  pub select_stands : (raw : RawSelect) (tokens : List Token) → AllByRecursion (IsSpan text) tokens → IsSelectText raw (pieces_of text tokens) → SelectStands text raw
   select_stands raw tokens spans is =
       let all = pieces_stand tokens spans in
       shown_stands raw (⊎_elim
@@ -137,6 +138,6 @@ module _ (text : List ℕ) where
       (λ e. all_left PieceStands (shown raw) (piece.Semicolon ∷ []) (subst (λ ps. AllByRecursion PieceStands ps) e all))
       is.written)
 
-pub all_stand : (text : List ℕ) (tokens : List Token) (result : Result RawSelect WalkFault) → AllByRecursion (IsSpan text) tokens → IfOk result (λ raw. IsText raw (pieces_of text tokens)) → IfOk result (SelectStands text)
+pub all_stand : (text : List ℕ) (tokens : List Token) (result : Result RawSelect WalkFault) → AllByRecursion (IsSpan text) tokens → IfOk result (λ raw. IsSelectText raw (pieces_of text tokens)) → IfOk result (SelectStands text)
 all_stand text tokens (Ok raw) spans is = select_stands text raw tokens spans is
 all_stand text tokens (Err f) spans is = tt

@@ -1,5 +1,6 @@
 -- Bytes are one statement at most, and have one fault at most.
-use Rattle.std.proofs.Common.{◌≡◌, ◌≢◌, ℕ, List, [], ◌∷◌, ◌++◌, length, drop, ap, subst, sym, ◌∙◌, refl, arith, true, false, Ok, Err, length-append}
+use Rattle.std.proofs.Common.{◌≡◌, ◌≢◌, ℕ, List, [], ◌∷◌, ◌++◌, length, drop, ap, subst, sym, ◌∙◌, refl, ⊎_elim, arith, true, false, Ok, Err, length-append}
+use Rattle.std.specs.List.{AllZip}
 use Rattle.access_schema.specs.declared.fault.Limit.{Limit}
 use Rattle.access_schema.specs.declared.fault.Limit.TheVariants as limit
 use Rattle.access_schema.specs.declared.schema.Schema.{Schema}
@@ -21,11 +22,10 @@ use Rattle.sql_select.specs.declared.fault.SqlFault.{SqlFault}
 use Rattle.sql_select.specs.declared.fault.SqlFault.TheVariants as fault
 use Rattle.sql_select.specs.Words.{pieces_of}
 use Rattle.sql_select.specs.Grammar.{IsText, S0, StopsAt}
-use Rattle.sql_select.specs.Limits.{IsWithinLimits, IsOver}
+use Rattle.sql_select.specs.Limits.{AreWithinLimits, IsOver}
 use Rattle.sql_select.specs.Naming.{named_select}
-use Rattle.sql_select.specs.Names.{IsMeaning, IsNameFault}
-use Rattle.sql_select.specs.Statements.{AreTokens, IsWritten, IsStatementText, IsLexFault, IsMisfit, offset_of, begins_unsupported, first_written, IsSqlFault}
-use Rattle.sql_select.proofs.Complete.{one_reading}
+use Rattle.sql_select.specs.Statements.{AreTokens, IsWritten, Means, IsStatementText, IsFirstNameFault, IsLexFault, IsMisfit, offset_of, begins_unsupported, first_written, IsSqlFault}
+use Rattle.sql_select.proofs.Queries.{as_select, one_reading}
 use Rattle.sql_select.proofs.Leading.{one_rest}
 use Rattle.sql_select.proofs.Faults.{no_misfit, pieces_long}
 use Rattle.sql_select.proofs.Meanings.{one_select, no_name_fault, one_name_fault}
@@ -35,8 +35,8 @@ module _ (bytes : List ℕ) where
   one_tokens : (ts us : List Token) → AreTokens bytes ts → AreTokens bytes us → ts ≡ us
   one_tokens ts us are are' = tokens_only Sql bytes (Ok ts) are.lexes tt us are'.lexes
 
-  one_raw : (raw raw' : RawSelect) → IsWritten bytes raw → IsWritten bytes raw' → raw ≡ raw'
-  one_raw raw raw' w w' = one_reading raw raw' (pieces_of bytes w'.tokens) (subst (λ ts. IsText raw (pieces_of bytes ts)) (one_tokens w.tokens w'.tokens w.lexed w'.lexed) w.text) w'.text
+  one_raws : (raws raws' : List RawSelect) → IsWritten bytes raws → IsWritten bytes raws' → raws ≡ raws'
+  one_raws raws raws' w w' = one_reading raws raws' (pieces_of bytes w'.tokens) (subst (λ ts. IsText raws (pieces_of bytes ts)) (one_tokens w.tokens w'.tokens w.lexed w'.lexed) w.text) w'.text
 
   -- bytes with a fault of tokens have none
   lex_clash : (f : LexFault) (ts : List Token) → IsLexFault bytes f → AreTokens bytes ts → ⊥
@@ -68,10 +68,11 @@ module _ (bytes : List ℕ) where
       let same : p ≡ o = (Lexes-one Sql bytes 0 us ts p o lexes' (no_bad p _ bad') lexes (no_open o _ open_)).1 in
       absurd (bad_or_open _ (subst (λ n. token_at Sql n (drop n bytes) ≡ Bad) same bad') open_)
 
-  -- a select that is written stops nowhere
-  misfit_clash : (raw : RawSelect) (after : List Token) → IsWritten bytes raw → IsMisfit bytes after → ⊥
-  misfit_clash raw after w m =
-      no_misfit raw (pieces_of bytes w.tokens) (pieces_of bytes after) w.text
+  -- a query that is written stops nowhere
+  misfit_clash : (raws : List RawSelect) (after : List Token) → IsWritten bytes raws → IsMisfit bytes after → ⊥
+  misfit_clash raws after w m =
+      let (raw, _, text) = as_select raws (pieces_of bytes w.tokens) w.text in
+      no_misfit raw (pieces_of bytes w.tokens) (pieces_of bytes after) text
       (subst (λ ts. StopsAt S0 (pieces_of bytes ts) (pieces_of bytes after)) (one_tokens m.tokens w.tokens m.lexed w.lexed) m.stops)
 
   -- what is left of one list, as long as something else that is left of it, is that
@@ -90,54 +91,81 @@ module _ (bytes : List ℕ) where
       (subst (λ ts. StopsAt S0 (pieces_of bytes ts) (pieces_of bytes after)) tokens m.stops) m'.stops in
       same_suffix m.before m'.before after after' (sym m.whole ∙ tokens ∙ m'.whole) (sym (pieces_long bytes after) ∙ ap length pieces ∙ pieces_long bytes after')
 
-  over_clash : (raw : RawSelect) (l : Limit) → IsOver raw l → IsWithinLimits raw → ⊥
-  over_clash raw limit.Froms h w = let f = w.froms in omega (arith, f, h)
-  over_clash raw limit.Conditions h w = let f = w.conditions in let over = h.1 in omega (arith, f, over)
-  over_clash raw limit.Items h w = let f = w.items in let over = h.2 in omega (arith, f, over)
-  over_clash raw _ h w = absurd h
+  over_clash : (raws : List RawSelect) (l : Limit) → IsOver raws l → AreWithinLimits raws → ⊥
+  over_clash raws limit.Froms (raw, among, over) w = let few = (w raw among).froms in omega (arith, few, over)
+  over_clash raws limit.Conditions (few, (raw, among, over)) w = let most = (w raw among).conditions in omega (arith, most, over)
+  over_clash raws limit.Items (few, (raw, among, over)) w = let most = (w raw among).items in omega (arith, most, over)
+  over_clash raws _ h w = absurd h
 
-  one_limit : (raw : RawSelect) (l m : Limit) → IsOver raw l → IsOver raw m → l ≡ m
-  one_limit raw limit.Froms limit.Froms h h' = refl
-  one_limit raw limit.Conditions limit.Conditions h h' = refl
-  one_limit raw limit.Items limit.Items h h' = refl
-  one_limit raw limit.Froms limit.Conditions h h' = let few = h'.0 in absurd (omega (arith, h, few))
-  one_limit raw limit.Froms limit.Items h h' = let few = h'.0 in absurd (omega (arith, h, few))
-  one_limit raw limit.Conditions limit.Froms h h' = let few = h.0 in absurd (omega (arith, h', few))
-  one_limit raw limit.Items limit.Froms h h' = let few = h.0 in absurd (omega (arith, h', few))
-  one_limit raw limit.Conditions limit.Items h h' = let over = h.1 in let few = h'.1 in absurd (omega (arith, over, few))
-  one_limit raw limit.Items limit.Conditions h h' = let over = h'.1 in let few = h.1 in absurd (omega (arith, over, few))
-  one_limit raw limit.Froms _ h h' = absurd h'
-  one_limit raw limit.Conditions _ h h' = absurd h'
-  one_limit raw limit.Items _ h h' = absurd h'
-  one_limit raw _ m h h' = absurd h
+  one_limit : (raws : List RawSelect) (l m : Limit) → IsOver raws l → IsOver raws m → l ≡ m
+  one_limit raws limit.Froms limit.Froms h h' = refl
+  one_limit raws limit.Conditions limit.Conditions h h' = refl
+  one_limit raws limit.Items limit.Items h h' = refl
+  one_limit raws limit.Froms limit.Conditions (raw, among, over) h' = let few = h'.0 raw among in absurd (omega (arith, over, few))
+  one_limit raws limit.Froms limit.Items (raw, among, over) h' = let few = (h'.0 raw among).0 in absurd (omega (arith, over, few))
+  one_limit raws limit.Conditions limit.Froms h (raw, among, over) = let few = h.0 raw among in absurd (omega (arith, over, few))
+  one_limit raws limit.Items limit.Froms h (raw, among, over) = let few = (h.0 raw among).0 in absurd (omega (arith, over, few))
+  one_limit raws limit.Conditions limit.Items (few', (raw, among, over)) h' = let few = (h'.0 raw among).1 in absurd (omega (arith, over, few))
+  one_limit raws limit.Items limit.Conditions h (few', (raw, among, over)) = let few = (h.0 raw among).1 in absurd (omega (arith, over, few))
+  one_limit raws limit.Froms _ h h' = absurd h'
+  one_limit raws limit.Conditions _ h h' = absurd h'
+  one_limit raws limit.Items _ h h' = absurd h'
+  one_limit raws _ m h h' = absurd h
 
 module _ (schema : Schema) (bytes : List ℕ) where
+  -- what selects mean is one list
+  one_meaning : (raws : List RawSelect) (selects others : List Select) → AllZip (Means schema.relations bytes) raws selects → AllZip (Means schema.relations bytes) raws others → selects ≡ others
+  one_meaning [] [] [] z z' = refl
+  one_meaning [] [] (y ∷ ys) z z' = absurd z'
+  one_meaning [] (x ∷ xs) ys z z' = absurd z
+  one_meaning (raw ∷ raws) [] ys z z' = absurd z
+  one_meaning (raw ∷ raws) (x ∷ xs) [] z z' = absurd z'
+  one_meaning (raw ∷ raws) (x ∷ xs) (y ∷ ys) (m, z) (m', z') =
+      ap (λ s. s ∷ xs) (one_select schema.relations schema.valid.relations_are (named_select bytes raw) x y m m') ∙ ap (λ ss. y ∷ ss) (one_meaning raws xs ys z z')
+
   pub one_statement : (s t : Statement) → IsStatementText schema bytes s → IsStatementText schema bytes t → s ≡ t
   one_statement s t is is' =
-      let same : is'.raw ≡ is.raw = one_raw bytes is'.raw is.raw is'.written is.written in
-      let select : is.select ≡ is'.select = one_select schema.relations schema.valid.relations_are (named_select bytes is.raw) is.select is'.select is.means
-      (subst (λ r. IsMeaning schema.relations (named_select bytes r) is'.select) same is'.means) in
-      is.whole ∙ ap (λ (x : Select). record { selects = x ∷ [] }) select ∙ sym is'.whole
+      let same : is'.raws ≡ is.raws = one_raws bytes is'.raws is.raws is'.written is.written in
+      ap (λ (xs : List Select). record { selects = xs }) (one_meaning is.raws s.selects t.selects is.means (subst (λ rs. AllZip (Means schema.relations bytes) rs t.selects) same is'.means))
 
-  name_clash : (s : Statement) (raw : RawSelect) (f : NameFault) → IsStatementText schema bytes s → IsWritten bytes raw → IsNameFault schema.relations (named_select bytes raw) f → ⊥
-  name_clash s raw f is w h =
-      let same : raw ≡ is.raw = one_raw bytes raw is.raw w is.written in
-      no_name_fault schema.relations schema.valid.relations_are (named_select bytes is.raw) is.select f is.means (subst (λ r. IsNameFault schema.relations (named_select bytes r) f) same h)
+  -- selects that have meanings have no fault of names
+  no_first_fault : (raws : List RawSelect) (selects : List Select) (f : NameFault) → AllZip (Means schema.relations bytes) raws selects → IsFirstNameFault schema.relations bytes raws f → ⊥
+  no_first_fault [] selects f z h = h
+  no_first_fault (raw ∷ raws) [] f z h = absurd z
+  no_first_fault (raw ∷ raws) (x ∷ xs) f (m, z) h = ⊎_elim
+      (λ here. no_name_fault schema.relations schema.valid.relations_are (named_select bytes raw) x f m here)
+      (λ (_, _, later). no_first_fault raws xs f z later)
+      h
+
+  name_clash : (s : Statement) (raws : List RawSelect) (f : NameFault) → IsStatementText schema bytes s → IsWritten bytes raws → IsFirstNameFault schema.relations bytes raws f → ⊥
+  name_clash s raws f is w h = no_first_fault is.raws s.selects f is.means (subst (λ rs. IsFirstNameFault schema.relations bytes rs f) (one_raws bytes raws is.raws w is.written) h)
 
   pub no_fault : (s : Statement) (f : SqlFault) → IsStatementText schema bytes s → IsSqlFault schema bytes f → f ≡ fault.NoMemory
   no_fault s fault.NoMemory is h = refl
   no_fault s (fault.NotUtf8 o) is h = absurd (utf8_clash bytes o h is.written.lexed.utf8)
   no_fault s (fault.Lex f) is h = absurd (lex_clash bytes f is.written.tokens h.1 is.written.lexed)
-  no_fault s (fault.Syntax o) is h = absurd (misfit_clash bytes is.raw h.0 is.written h.1)
-  no_fault s (fault.Unsupported word o) is h = absurd (misfit_clash bytes is.raw h.0 is.written h.1)
-  no_fault s (fault.OverLimit l) is h = absurd (over_clash bytes h.0 l h.2 (subst IsWithinLimits (one_raw bytes is.raw h.0 is.written h.1) is.within))
+  no_fault s (fault.Syntax o) is h = absurd (misfit_clash bytes is.raws h.0 is.written h.1)
+  no_fault s (fault.Unsupported word o) is h = absurd (misfit_clash bytes is.raws h.0 is.written h.1)
+  no_fault s (fault.OverLimit l) is h = absurd (over_clash bytes h.0 l h.2 (subst AreWithinLimits (one_raws bytes is.raws h.0 is.written h.1) is.within))
   no_fault s (fault.UnknownName o) is h = absurd (name_clash s h.0 (name.Unknown o) is h.1 h.3)
   no_fault s (fault.Ambiguous o) is h = absurd (name_clash s h.0 (name.Ambiguous o) is h.1 h.3)
 
   -- two faults of names are one
-  names_one : (raw raw' : RawSelect) (f g : NameFault) → IsWritten bytes raw → IsWritten bytes raw' → IsNameFault schema.relations (named_select bytes raw) f → IsNameFault schema.relations (named_select bytes raw') g → f ≡ g
-  names_one raw raw' f g w w' h h' = one_name_fault schema.relations schema.valid.relations_are (named_select bytes raw) f g h
-      (subst (λ r. IsNameFault schema.relations (named_select bytes r) g) (one_raw bytes raw' raw w' w) h')
+  one_first_fault : (raws : List RawSelect) (f g : NameFault) → IsFirstNameFault schema.relations bytes raws f → IsFirstNameFault schema.relations bytes raws g → f ≡ g
+  one_first_fault [] f g h h' = absurd h
+  one_first_fault (raw ∷ raws) f g h h' = ⊎_elim
+      (λ here. ⊎_elim
+      (λ here'. one_name_fault schema.relations schema.valid.relations_are (named_select bytes raw) f g here here')
+      (λ (x, means, _). absurd (no_name_fault schema.relations schema.valid.relations_are (named_select bytes raw) x f means here))
+      h')
+      (λ (x, means, later). ⊎_elim
+      (λ here'. absurd (no_name_fault schema.relations schema.valid.relations_are (named_select bytes raw) x g means here'))
+      (λ (_, _, later'). one_first_fault raws f g later later')
+      h')
+      h
+
+  names_one : (raws raws' : List RawSelect) (f g : NameFault) → IsWritten bytes raws → IsWritten bytes raws' → IsFirstNameFault schema.relations bytes raws f → IsFirstNameFault schema.relations bytes raws' g → f ≡ g
+  names_one raws raws' f g w w' h h' = one_first_fault raws f g h (subst (λ rs. IsFirstNameFault schema.relations bytes rs g) (one_raws bytes raws' raws w' w) h')
 
   unknown_ambiguous : (o p : ℕ) → name.Unknown o ≡ name.Ambiguous p → ⊥
   unknown_ambiguous o p e = absurd (cc)
@@ -189,20 +217,20 @@ module _ (schema : Schema) (bytes : List ℕ) where
   one_fault (fault.OverLimit ao) (fault.Lex bo) h h' some some' = absurd (lex_clash bytes bo h.1.tokens h'.1 h.1.lexed)
   one_fault (fault.OverLimit ao) (fault.Syntax bo) h h' some some' = absurd (misfit_clash bytes h.0 h'.0 h.1 h'.1)
   one_fault (fault.OverLimit ao) (fault.Unsupported bw bo) h h' some some' = absurd (misfit_clash bytes h.0 h'.0 h.1 h'.1)
-  one_fault (fault.OverLimit ao) (fault.OverLimit bo) h h' some some' = ap (λ l. fault.OverLimit l) (one_limit bytes h.0 ao bo h.2 (subst (λ r. IsOver r bo) (one_raw bytes h'.0 h.0 h'.1 h.1) h'.2))
-  one_fault (fault.OverLimit ao) (fault.UnknownName bo) h h' some some' = absurd (over_clash bytes h.0 ao h.2 (subst IsWithinLimits (one_raw bytes h'.0 h.0 h'.1 h.1) h'.2))
-  one_fault (fault.OverLimit ao) (fault.Ambiguous bo) h h' some some' = absurd (over_clash bytes h.0 ao h.2 (subst IsWithinLimits (one_raw bytes h'.0 h.0 h'.1 h.1) h'.2))
+  one_fault (fault.OverLimit ao) (fault.OverLimit bo) h h' some some' = ap (λ l. fault.OverLimit l) (one_limit bytes h.0 ao bo h.2 (subst (λ rs. IsOver rs bo) (one_raws bytes h'.0 h.0 h'.1 h.1) h'.2))
+  one_fault (fault.OverLimit ao) (fault.UnknownName bo) h h' some some' = absurd (over_clash bytes h.0 ao h.2 (subst AreWithinLimits (one_raws bytes h'.0 h.0 h'.1 h.1) h'.2))
+  one_fault (fault.OverLimit ao) (fault.Ambiguous bo) h h' some some' = absurd (over_clash bytes h.0 ao h.2 (subst AreWithinLimits (one_raws bytes h'.0 h.0 h'.1 h.1) h'.2))
   one_fault (fault.UnknownName ao) (fault.NotUtf8 bo) h h' some some' = absurd (utf8_clash bytes bo h' h.1.lexed.utf8)
   one_fault (fault.UnknownName ao) (fault.Lex bo) h h' some some' = absurd (lex_clash bytes bo h.1.tokens h'.1 h.1.lexed)
   one_fault (fault.UnknownName ao) (fault.Syntax bo) h h' some some' = absurd (misfit_clash bytes h.0 h'.0 h.1 h'.1)
   one_fault (fault.UnknownName ao) (fault.Unsupported bw bo) h h' some some' = absurd (misfit_clash bytes h.0 h'.0 h.1 h'.1)
-  one_fault (fault.UnknownName ao) (fault.OverLimit bo) h h' some some' = absurd (over_clash bytes h'.0 bo h'.2 (subst IsWithinLimits (one_raw bytes h.0 h'.0 h.1 h'.1) h.2))
+  one_fault (fault.UnknownName ao) (fault.OverLimit bo) h h' some some' = absurd (over_clash bytes h'.0 bo h'.2 (subst AreWithinLimits (one_raws bytes h.0 h'.0 h.1 h'.1) h.2))
   one_fault (fault.UnknownName ao) (fault.UnknownName bo) h h' some some' = ap (λ n. fault.UnknownName n) (unknown_same ao bo (names_one h.0 h'.0 (name.Unknown ao) (name.Unknown bo) h.1 h'.1 h.3 h'.3))
   one_fault (fault.UnknownName ao) (fault.Ambiguous bo) h h' some some' = absurd (unknown_ambiguous ao bo (names_one h.0 h'.0 (name.Unknown ao) (name.Ambiguous bo) h.1 h'.1 h.3 h'.3))
   one_fault (fault.Ambiguous ao) (fault.NotUtf8 bo) h h' some some' = absurd (utf8_clash bytes bo h' h.1.lexed.utf8)
   one_fault (fault.Ambiguous ao) (fault.Lex bo) h h' some some' = absurd (lex_clash bytes bo h.1.tokens h'.1 h.1.lexed)
   one_fault (fault.Ambiguous ao) (fault.Syntax bo) h h' some some' = absurd (misfit_clash bytes h.0 h'.0 h.1 h'.1)
   one_fault (fault.Ambiguous ao) (fault.Unsupported bw bo) h h' some some' = absurd (misfit_clash bytes h.0 h'.0 h.1 h'.1)
-  one_fault (fault.Ambiguous ao) (fault.OverLimit bo) h h' some some' = absurd (over_clash bytes h'.0 bo h'.2 (subst IsWithinLimits (one_raw bytes h.0 h'.0 h.1 h'.1) h.2))
+  one_fault (fault.Ambiguous ao) (fault.OverLimit bo) h h' some some' = absurd (over_clash bytes h'.0 bo h'.2 (subst AreWithinLimits (one_raws bytes h.0 h'.0 h.1 h'.1) h.2))
   one_fault (fault.Ambiguous ao) (fault.UnknownName bo) h h' some some' = absurd (unknown_ambiguous bo ao (sym (names_one h.0 h'.0 (name.Ambiguous ao) (name.Unknown bo) h.1 h'.1 h.3 h'.3)))
   one_fault (fault.Ambiguous ao) (fault.Ambiguous bo) h h' some some' = ap (λ n. fault.Ambiguous n) (ambiguous_same ao bo (names_one h.0 h'.0 (name.Ambiguous ao) (name.Ambiguous bo) h.1 h'.1 h.3 h'.3))

@@ -1,5 +1,5 @@
--- The grammar of a select: the pieces that its parts are written as, and the table of places, which says where a text stops being one.
-use Rattle.std.specs.Prelude.{◌≡◌, ◌≢◌, ◌⊎◌, List, [], ◌∷◌, ◌++◌, Option, Some, None}
+-- The grammar of a query: the pieces that its parts are written as, and the table of places, which says where a text stops being one.
+use Rattle.std.specs.Prelude.{◌≡◌, ◌≢◌, ◌⊎◌, List, [], ◌∷◌, ◌++◌, Contains, length, Option, Some, None}
 use Rattle.sql_select.specs.declared.piece.Piece.{Piece}
 use Rattle.sql_select.specs.declared.piece.Piece.TheVariants as piece
 use Rattle.sql_select.specs.declared.piece.RawOperand.{RawOperand}
@@ -48,11 +48,21 @@ shown_where (condition ∷ conditions) = piece.Where ∷ parted shown_condition 
 abbrev pub shown : RawSelect → List Piece
 shown raw = piece.Select ∷ piece.Distinct ∷ (parted shown_item piece.Comma raw.items ++ piece.From ∷ (parted shown_from piece.Comma raw.froms ++ shown_where raw.conditions))
 
--- the pieces are this select, and one semicolon may follow
-pub record IsText (raw : RawSelect) (pieces : List Piece) : Type 0 where
-  pub items : raw.items ≢ []
-  pub froms : raw.froms ≢ []
-  pub written : (pieces ≡ shown raw) ⊎ (pieces ≡ shown raw ++ piece.Semicolon ∷ [])
+-- the selects of a query as they are written, one after another
+abbrev pub shown_query : List RawSelect → List Piece
+shown_query [] = []
+shown_query (raw ∷ raws) = shown raw ++ shown_query raws
+
+-- A query has one select.
+abbrev pub HasItsSelects : {X : Type 0} → List X → Type 0
+HasItsSelects selects = length selects ≡ 1
+
+-- the pieces are the query of these selects, and one semicolon may follow
+pub record IsText (raws : List RawSelect) (pieces : List Piece) : Type 0 where
+  pub count : HasItsSelects raws
+  pub items : (raw : RawSelect) → Contains raws raw → raw.items ≢ []
+  pub froms : (raw : RawSelect) → Contains raws raw → raw.froms ≢ []
+  pub written : (pieces ≡ shown_query raws) ⊎ (pieces ≡ shown_query raws ++ piece.Semicolon ∷ [])
 
 -- the places of the table, each with what it lists
 pub data Place : Type 0 where

@@ -1,5 +1,5 @@
--- The limits of a select, in the order in which they are looked at.
-use Rattle.std.specs.Prelude.{◌<◌, ◌≤◌, length}
+-- The limits of selects, in the order in which they are looked at.
+use Rattle.std.specs.Prelude.{◌<◌, ◌≤◌, List, Contains, length}
 use Rattle.access_schema.specs.declared.fault.Limit.{Limit}
 use Rattle.access_schema.specs.declared.fault.Limit.TheVariants as limit
 use Rattle.sql_select.specs.declared.limits.TheConstants.{MOST_FROMS, MOST_CONDITIONS, MOST_ITEMS}
@@ -11,9 +11,17 @@ pub record IsWithinLimits (raw : RawSelect) : Type 0 where
   pub conditions : length raw.conditions ≤ MOST_CONDITIONS
   pub items : length raw.items ≤ MOST_ITEMS
 
--- This is the first limit that the select passes.
-abbrev pub IsOver : RawSelect → Limit → Type 0
-IsOver raw limit.Froms = MOST_FROMS < length raw.froms
-IsOver raw limit.Conditions = (length raw.froms ≤ MOST_FROMS) × (MOST_CONDITIONS < length raw.conditions)
-IsOver raw limit.Items = (length raw.froms ≤ MOST_FROMS) × (length raw.conditions ≤ MOST_CONDITIONS) × (MOST_ITEMS < length raw.items)
-IsOver raw _ = ⊥
+-- Each of the selects keeps each limit.
+abbrev pub AreWithinLimits : List RawSelect → Type 0
+AreWithinLimits raws = (raw : RawSelect) → Contains raws raw → IsWithinLimits raw
+
+-- This is the first limit that one of the selects passes.
+abbrev pub IsOver : List RawSelect → Limit → Type 0
+IsOver raws limit.Froms = (raw : RawSelect) × Contains raws raw × (MOST_FROMS < length raw.froms)
+IsOver raws limit.Conditions =
+    ((raw : RawSelect) → Contains raws raw → length raw.froms ≤ MOST_FROMS)
+    × ((raw : RawSelect) × Contains raws raw × (MOST_CONDITIONS < length raw.conditions))
+IsOver raws limit.Items =
+    ((raw : RawSelect) → Contains raws raw → (length raw.froms ≤ MOST_FROMS) × (length raw.conditions ≤ MOST_CONDITIONS))
+    × ((raw : RawSelect) × Contains raws raw × (MOST_ITEMS < length raw.items))
+IsOver raws _ = ⊥

@@ -1,6 +1,7 @@
 -- The parts read step by step.
-use Rattle.std.specs.Prelude.{◌≡◌, ◌≤◌, ℕ, List, [], ◌∷◌, ◌++◌, length, Option, Some, None, Result, Ok, Err}
+use Rattle.std.specs.Prelude.{◌≡◌, ◌≢◌, ◌⊎◌, ◌≤◌, ℕ, List, [], ◌∷◌, ◌++◌, length, Option, Some, None, Result, Ok, Err}
 use Rattle.sql_select.specs.declared.piece.Piece.{Piece}
+use Rattle.sql_select.specs.declared.piece.Piece.TheVariants as piece
 use Rattle.sql_select.specs.declared.state.State.{State}
 use Rattle.sql_select.specs.declared.state.Done.{Done}
 use Rattle.sql_select.specs.declared.state.Done.TheVariants as done
@@ -10,7 +11,7 @@ use Rattle.sql_select.specs.declared.reading.WalkFault.TheVariants as fault
 use Rattle.pq_text.specs.declared.token.Token.{Token}
 use Rattle.sql_select.specs.Steps.{step_of, ending_of}
 use Rattle.sql_select.specs.Words.{pieces_of}
-use Rattle.sql_select.specs.Grammar.{S0, StopsAt}
+use Rattle.sql_select.specs.Grammar.{shown, S0, StopsAt}
 
 abbrev pub empty : RawSelect
 empty = record { items = []; froms = []; conditions = [] }
@@ -28,6 +29,12 @@ ended (Some d) raw = Ok (added d raw)
 abbrev pub moved : Option (State × Done) → RawSelect → List Piece → (State → RawSelect → Result RawSelect (List Piece)) → Result RawSelect (List Piece)
 moved None raw left go = Err left
 moved (Some (s, d)) raw left go = go s (added d raw)
+
+-- the pieces are this select, and one semicolon may follow
+pub record IsSelectText (raw : RawSelect) (pieces : List Piece) : Type 0 where
+  pub items : raw.items ≢ []
+  pub froms : raw.froms ≢ []
+  pub written : (pieces ≡ shown raw) ⊎ (pieces ≡ shown raw ++ piece.Semicolon ∷ [])
 
 -- the parts, or the pieces that are left at the first that is not listed
 abbrev pub read : State → RawSelect → List Piece → Result RawSelect (List Piece)

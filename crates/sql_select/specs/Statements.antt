@@ -1,5 +1,6 @@
 -- Which bytes are a statement over a schema, and which fault other bytes have.
-use Rattle.std.specs.Prelude.{◌≡◌, ◌≤◌, ◌++◌, ℕ, List, [], ◌∷◌, Bool, true, false, Contains, length}
+use Rattle.std.specs.Prelude.{◌≡◌, ◌≤◌, ◌⊎◌, ◌++◌, ℕ, List, [], ◌∷◌, Bool, true, false, Contains, length}
+use Rattle.std.specs.List.{AllZip}
 use Rattle.std.specs.Str.{IsUtf8}
 use Rattle.pq_text.specs.declared.token.Token.{Token}
 use Rattle.pq_text.specs.declared.token.Style.TheVariants.{Sql}
@@ -7,6 +8,7 @@ use Rattle.pq_text.specs.declared.token.LexFault.{LexFault}
 use Rattle.pq_text.specs.declared.token.LexFault.TheVariants as lex
 use Rattle.pq_text.specs.Tokens.{Lexes, HasFault}
 use Rattle.pq_text.specs.Utf8.{IsFirstBad}
+use Rattle.meaning.specs.declared.types.Relation.{Relation}
 use Rattle.meaning.specs.declared.types.Select.{Select}
 use Rattle.meaning.specs.declared.types.Statement.{Statement}
 use Rattle.meaning.specs.Conjunctive.{SelectFits}
@@ -14,12 +16,13 @@ use Rattle.access_schema.specs.declared.schema.Schema.{Schema}
 use Rattle.access_schema.specs.Meaning.{meaning_of}
 use Rattle.sql_select.specs.declared.limits.TheConstants.{MOST_FROMS, MOST_CONDITIONS, MOST_ITEMS}
 use Rattle.sql_select.specs.declared.piece.RawSelect.{RawSelect}
+use Rattle.sql_select.specs.declared.named.NameFault.{NameFault}
 use Rattle.sql_select.specs.declared.named.NameFault.TheVariants as name
 use Rattle.sql_select.specs.declared.fault.SqlFault.{SqlFault}
 use Rattle.sql_select.specs.declared.fault.SqlFault.TheVariants as fault
 use Rattle.sql_select.specs.Words.{written, is_unsupported, pieces_of}
-use Rattle.sql_select.specs.Grammar.{IsText, S0, StopsAt}
-use Rattle.sql_select.specs.Limits.{IsWithinLimits, IsOver}
+use Rattle.sql_select.specs.Grammar.{HasItsSelects, IsText, S0, StopsAt}
+use Rattle.sql_select.specs.Limits.{AreWithinLimits, IsOver}
 use Rattle.sql_select.specs.Naming.{named_select}
 use Rattle.sql_select.specs.Names.{IsMeaning, IsNameFault}
 
@@ -28,20 +31,22 @@ pub record AreTokens (bytes : List ℕ) (tokens : List Token) : Type 0 where
   pub utf8 : IsUtf8 bytes
   pub lexes : Lexes Sql bytes 0 tokens (length bytes)
 
--- The bytes are written as this select.
-pub record IsWritten (bytes : List ℕ) (raw : RawSelect) : Type 0 where
+-- The bytes are written as these selects.
+pub record IsWritten (bytes : List ℕ) (raws : List RawSelect) : Type 0 where
   pub tokens : List Token
   pub lexed : AreTokens bytes tokens
-  pub text : IsText raw (pieces_of bytes tokens)
+  pub text : IsText raws (pieces_of bytes tokens)
 
--- The bytes are the statement over the schema: one select, within the limits, with each name one that is there.
+-- The select is what the written one means over the relations.
+abbrev pub Means : List Relation → List ℕ → RawSelect → Select → Type 0
+Means relations bytes raw select = IsMeaning relations (named_select bytes raw) select
+
+-- The bytes are the statement over the schema: its selects, within the limits, with each name one that is there.
 pub record IsStatementText (schema : Schema) (bytes : List ℕ) (statement : Statement) : Type 0 where
-  pub raw : RawSelect
-  pub select : Select
-  pub written : IsWritten bytes raw
-  pub within : IsWithinLimits raw
-  pub means : IsMeaning schema.relations (named_select bytes raw) select
-  pub whole : statement ≡ record { selects = select ∷ [] }
+  pub raws : List RawSelect
+  pub written : IsWritten bytes raws
+  pub within : AreWithinLimits raws
+  pub means : AllZip (Means schema.relations bytes) raws statement.selects
 
 -- ---- what a statement keeps
 
@@ -54,11 +59,18 @@ pub record IsBounded (select : Select) : Type 0 where
   pub froms : length select.froms ≤ MOST_FROMS
   pub conditions : length select.conditions ≤ MOST_CONDITIONS
 
--- The statement is one select, over the schema and within the limits.
+-- The statement has its selects, each over the schema and within the limits.
 pub record StatementFits (schema : Schema) (statement : Statement) : Type 0 where
-  pub one : length statement.selects ≡ 1
+  pub count : HasItsSelects statement.selects
   pub fits : (select : Select) → Contains statement.selects select → SelectFits (meaning_of schema) select
   pub bounded : (select : Select) → Contains statement.selects select → IsBounded select
+
+-- ---- the columns of a result
+
+-- The names of the columns of a statement's rows are those of its first select.
+abbrev pub result_names : List Select → List (List ℕ)
+result_names [] = []
+result_names (select ∷ selects) = select.names
 
 -- ---- faults
 
@@ -90,6 +102,13 @@ abbrev pub first_written : List ℕ → List Token → List ℕ
 first_written bytes [] = []
 first_written bytes (t ∷ ts) = written bytes t
 
+-- The fault is that of the names of the first select that has one; each select before it has a meaning.
+abbrev pub IsFirstNameFault : List Relation → List ℕ → List RawSelect → NameFault → Type 0
+IsFirstNameFault relations bytes [] f = ⊥
+IsFirstNameFault relations bytes (raw ∷ raws) f =
+    IsNameFault relations (named_select bytes raw) f
+    ⊎ ((select : Select) × Means relations bytes raw select × IsFirstNameFault relations bytes raws f)
+
 -- The bytes have the fault. Faults are looked for in the order: no UTF-8, no tokens, no query, limits, names.
 abbrev pub IsSqlFault : Schema → List ℕ → SqlFault → Type 0
 IsSqlFault schema bytes fault.NoMemory = Unit {0}
@@ -99,8 +118,8 @@ IsSqlFault schema bytes (fault.Syntax offset) =
     (after : List Token) × IsMisfit bytes after × (begins_unsupported bytes after ≡ false) × (offset ≡ offset_of bytes after)
 IsSqlFault schema bytes (fault.Unsupported word offset) =
     (after : List Token) × IsMisfit bytes after × (begins_unsupported bytes after ≡ true) × (offset ≡ offset_of bytes after) × (word ≡ first_written bytes after)
-IsSqlFault schema bytes (fault.OverLimit limit) = (raw : RawSelect) × IsWritten bytes raw × IsOver raw limit
+IsSqlFault schema bytes (fault.OverLimit limit) = (raws : List RawSelect) × IsWritten bytes raws × IsOver raws limit
 IsSqlFault schema bytes (fault.UnknownName offset) =
-    (raw : RawSelect) × IsWritten bytes raw × IsWithinLimits raw × IsNameFault schema.relations (named_select bytes raw) (name.Unknown offset)
+    (raws : List RawSelect) × IsWritten bytes raws × AreWithinLimits raws × IsFirstNameFault schema.relations bytes raws (name.Unknown offset)
 IsSqlFault schema bytes (fault.Ambiguous offset) =
-    (raw : RawSelect) × IsWritten bytes raw × IsWithinLimits raw × IsNameFault schema.relations (named_select bytes raw) (name.Ambiguous offset)
+    (raws : List RawSelect) × IsWritten bytes raws × AreWithinLimits raws × IsFirstNameFault schema.relations bytes raws (name.Ambiguous offset)

@@ -15,9 +15,9 @@ pub fn places_reach_the_end()
     ensures { (token : Token) (place : Place) → (pieces : List Piece) × (last : Place) × Leads place pieces last × IsLast last }
 {}
 
-/// Pieces are those of one select at most.
+/// Pieces are those of one query at most.
 pub fn one_reading()
-    ensures { (first second : RawSelect) (pieces : List Piece) → IsText first pieces → IsText second pieces → first ≡ second }
+    ensures { (first second : List RawSelect) (pieces : List Piece) → IsText first pieces → IsText second pieces → first ≡ second }
 {}
 
 /// Bytes are one statement over a schema at most.

@@ -1,4 +1,4 @@
-//! Selects from SQL text.
+//! Statements from SQL text.
 //!
 //! Crates above use this: a text is read exactly where the grammar relates it to a statement over the schema, and
 //! otherwise its one fault is told. Begin at `specs/Statements.antt`.
@@ -26,7 +26,7 @@ pub use laws::{
     one_fault, one_reading, one_statement, places_reach_the_end, statements_have_no_fault,
 };
 pub use limits::{MOST_CONDITIONS, MOST_FROMS, MOST_ITEMS};
-pub use statement::read_select;
+pub use statement::{read_select, result_names};
 
 #[cfg(test)]
 mod tests;

@@ -1,6 +1,6 @@
 // The limits of a select.
-ghost use Rattle.std.specs.Prelude.{MatchOption};
-ghost use Rattle.sql_select.specs.Limits.{IsWithinLimits, IsOver};
+ghost use Rattle.std.specs.Prelude.{MatchOption, [], ◌∷◌};
+ghost use Rattle.sql_select.specs.Limits.{AreWithinLimits, IsOver};
 
 use crate::piece::RawSelect;
 use access_schema::Limit;
@@ -14,9 +14,9 @@ pub const MOST_CONDITIONS: usize = 64;
 /// The most items of a select, which has at least one.
 pub const MOST_ITEMS: usize = 64;
 
-/// The first limit that the select passes.
+/// The first limit that the query of this select passes.
 pub fn passed_limit(raw: &RawSelect) -> Option<Limit>
-    ensures { MatchOption result (IsWithinLimits raw.now) (IsOver raw.now) }
+    ensures { MatchOption result (AreWithinLimits (raw.now ∷ [])) (IsOver (raw.now ∷ [])) }
 {
     if raw.froms.len() > MOST_FROMS {
         return Some(Limit::Froms);

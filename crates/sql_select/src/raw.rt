@@ -1,5 +1,5 @@
 // From text to the parts of a select.
-ghost use Rattle.std.specs.Prelude.{◌≡◌, ◌≤◌, ◌-◌, length, drop, IfOk, IfErr};
+ghost use Rattle.std.specs.Prelude.{[], ◌∷◌, ◌≡◌, ◌≤◌, ◌-◌, length, drop, IfOk, IfErr};
 ghost use Rattle.std.specs.List.{AllByRecursion};
 ghost use Rattle.pq_text.specs.declared.token.Style.TheVariants.{Sql};
 ghost use Rattle.pq_text.specs.Tokens.{Lexes};
@@ -32,7 +32,7 @@ fn sql_tokens(alloc: Global, text: &str) -> Result<Tokens, SqlFault>
 /// The parts of the select that the text is, or its fault.
 pub fn read_raw(alloc: Global, text: &str) -> Result<RawSelect, SqlFault>
     requires { length text.now ≤ 65536 }
-    ensures read { IfOk result (IsWritten text.now) }
+    ensures read { IfOk result (λ raw. IsWritten text.now (raw ∷ [])) }
     ensures stands { IfOk result (SelectStands text.now) }
     ensures fault { IfErr result (IsTextFault text.now) }
 {

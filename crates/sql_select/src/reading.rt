@@ -3,9 +3,8 @@ ghost use Rattle.std.specs.Prelude.{◌≡◌, ◌≤◌, ◌-◌, IfOk, IfErr, 
 ghost use Rattle.std.specs.List.{AllByRecursion};
 ghost use Rattle.pq_text.specs.Spans.{IsSpan};
 ghost use Rattle.sql_select.specs.Words.{pieces_of};
-ghost use Rattle.sql_select.specs.Grammar.{IsText};
 ghost use Rattle.sql_select.specs.Spanning.{SelectStands};
-ghost use Rattle.sql_select.specs.Reading.{added, empty, read, IsReading, LeavesAtMost, IsFaultOf};
+ghost use Rattle.sql_select.specs.Reading.{IsSelectText, added, empty, read, IsReading, LeavesAtMost, IsFaultOf};
 ghost use Rattle.sql_select.specs.declared.state.State.TheVariants as state;
 
 use crate::piece::RawSelect;
@@ -70,7 +69,7 @@ fn read_tokens(alloc: Global, text: &str, tokens: &[Token]) -> Result<RawSelect,
 /// The parts of the select that the tokens are.
 pub fn read_parts(alloc: Global, text: &str, tokens: &[Token]) -> Result<RawSelect, WalkFault>
     requires { AllByRecursion (IsSpan text.now) tokens.now }
-    ensures reads { IfOk result (λ raw. IsText raw (pieces_of text.now tokens.now)) }
+    ensures reads { IfOk result (λ raw. IsSelectText raw (pieces_of text.now tokens.now)) }
     ensures stands { IfOk result (SelectStands text.now) }
     ensures fault { IfErr result (IsFaultOf text.now tokens.now) }
     ensures left { IfErr result (LeavesAtMost (length tokens.now)) }

@@ -2,7 +2,7 @@
 ghost use Rattle.std.specs.Prelude.{◌≡◌, ◌≤◌, ◌∷◌, [], length, IfOk, IfErr, MatchResult};
 ghost use Rattle.meaning.specs.declared.types.Statement.{Statement};
 ghost use Rattle.sql_select.specs.declared.fault.SqlFault.TheVariants.{NoMemory};
-ghost use Rattle.sql_select.specs.Statements.{IsStatementText, StatementFits, IsSqlFault};
+ghost use Rattle.sql_select.specs.Statements.{IsStatementText, StatementFits, IsSqlFault, result_names};
 
 use crate::fault::SqlFault;
 use crate::limits::passed_limit;
@@ -10,7 +10,7 @@ use crate::naming::named_select;
 use crate::raw::read_raw;
 use crate::resolve::resolve_select;
 use access_schema::Schema;
-use lists::Seq;
+use lists::{Seq, Texts};
 use meaning::types::{Select, Statement};
 use pq_text::read_utf8;
 use std::alloc::{AllocError, Global};
@@ -54,6 +54,14 @@ fn read_text(alloc: Global, text: &str, schema: &Schema) -> Result<Statement, Sq
         Ok(select) => Ok(one_select(alloc, select)?),
         Err(fault) => Err(fault),
     }
+}
+
+/// The names of the columns of the statement's rows: those of its first select. Takes no memory.
+pub fn result_names(statement: &Statement) -> &Texts
+    requires { 1 ≤ length statement.now.selects }
+    ensures { result.now ≡ result_names statement.now.selects }
+{
+    &statement.selects.as_slice()[0].names
 }
 
 fn one_select(alloc: Global, select: Select) -> Result<Statement, AllocError>

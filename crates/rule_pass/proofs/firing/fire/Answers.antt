@@ -1,13 +1,29 @@
-use Rattle.std.proofs.Common.{◌≡◌, ◌∙◌, ◌+◌, ◌<◌, Some, List, map, length, slice_get, sym, ap, subst, arith}
+use Rattle.std.proofs.Common.{◌≡◌, ◌∙◌, ◌+◌, ◌<◌, ◌^◌, Some, List, map, length, slice_get, sym, ap, subst, arith}
 use Rattle.std.proofs.lemmas.Option.{slice_get_within}
 use Rattle.lists.proofs.Members.{some_injective}
+use Rattle.meaning.specs.declared.types.Atom.{Atom}
 use Rattle.meaning.specs.declared.types.Ground.{Ground}
 use Rattle.meaning.specs.declared.types.Rule.{Rule}
 use Rattle.meaning.specs.Added.{with_facts}
+use Rattle.meaning.specs.Matching.{OccursIn}
 use Rattle.meaning.specs.Triggers.{IsTrigger, LabelsBelow, assigned, ground, bound, fired}
+use Rattle.meaning_laws.proofs.Carrying.{occurs_below}
 use Rattle.rule_pass.proofs.Bounds.{made_below}
 use Rattle.rule_pass.proofs.OnePass.{numbered_at}
 use Rattle.rule_pass.proofs.firing.fire.Goals as goal
+
+pub ground_under-requires : goal.ground_under-requires
+ground_under-requires c x occurs =
+    let its : IsTrigger c.args.rules.now c.args.state.now c.args.trigger.now c.requires.active.0 = c.requires.active.1.trigger_is in
+    let fits : c.args.trigger.now.rule < length c.args.rules.now = slice_get_within c.args.rules.now c.args.trigger.now.rule c.requires.active.0 its.numbered in
+    let got : slice_get c.args.rules.now c.args.trigger.now.rule ≡ Some c.index-as_slice-trigger.result = numbered_at c.args.rules.now c.args.trigger.now.rule c.index-as_slice-trigger.result fits (rw c.as_slice.ensures at c.index-as_slice-trigger.is) in
+    let one : c.requires.active.0 ≡ c.index-as_slice-trigger.result = some_injective c.requires.active.0 c.index-as_slice-trigger.result (sym its.numbered ∙ got) in
+    let is : IsTrigger c.args.rules.now c.args.state.now c.args.trigger.now c.index-as_slice-trigger.result = subst (IsTrigger c.args.rules.now c.args.state.now c.args.trigger.now) one its in
+    let occurring : OccursIn c.index-as_slice-trigger.result.head x = subst (λ (atoms : List Atom). OccursIn atoms x) c.as_slice-2.ensures occurs in
+    let below : x < bound c.index-as_slice-trigger.result.head = occurs_below c.index-as_slice-trigger.result.head x occurring in
+    let width : length c.args.trigger.now.values ≡ bound c.index-as_slice-trigger.result.body = is.width in
+    let room : (fired c.args.state.now c.args.trigger.now c.index-as_slice-trigger.result).next < 2 ^ 32 = c.requires.labels c.index-as_slice-trigger.result got in
+    omega arith
 
 pub add-requires-clause-labels : goal.add-requires-clause-labels
 add-requires-clause-labels c below =

@@ -1,4 +1,3 @@
-use Rattle.std.proofs.Common.{arith}
 use Rattle.rule_pass.proofs.Steps.{at_place, turned}
 use Rattle.rule_pass.proofs.Tables.{level_push}
 use Rattle.rule_pass.proofs.levels.greatest_level.Goals as goal

@@ -1,7 +1,5 @@
-use Rattle.std.proofs.Common.{◌≡◌, ◌++◌, ◌∷◌, [], ◌<◌, ◌≤◌, ◌+◌, take, length, arith, sym, ◌∙◌, ap, subst, true, false, refl, List, ℕ}
-use Rattle.std.specs.Prelude.{sum, slice_set, slice_index}
-use Rattle.meaning.specs.declared.types.Atom.{Atom}
-use Rattle.rule_pass.specs.Levels.{Raises}
+use Rattle.std.proofs.Common.{◌≡◌, ◌++◌, ◌∷◌, [], ◌<◌, ◌≤◌, ◌+◌, take, length, arith, refl}
+use Rattle.std.specs.Prelude.{slice_index}
 use Rattle.rule_pass.proofs.Steps.{at_place, turned}
 use Rattle.rule_pass.proofs.Tables.{raises_none, raises_over, raises_more, sum_rises, sum_kept}
 use Rattle.rule_pass.proofs.levels.raise.Goals.{then-levels-rel, else-levels-rel}

@@ -1,7 +1,6 @@
-use Rattle.std.proofs.Common.{◌≡◌, ◌++◌, ◌∷◌, [], ◌<◌, ◌≤◌, ◌+◌, take, length, arith, subst, sym, ◌∙◌, true, false, refl, List, ℕ}
-use Rattle.std.specs.Prelude.{Contains, sum, slice_index}
+use Rattle.std.proofs.Common.{◌≡◌, ◌++◌, ◌∷◌, [], ◌<◌, ◌+◌, take, arith, subst, sym, ◌∙◌}
+use Rattle.std.specs.Prelude.{Contains, sum}
 use Rattle.std.proofs.lemmas.List.{take_all}
-use Rattle.meaning.specs.declared.types.Rule.{Rule}
 use Rattle.rule_pass.specs.Levels.{AreReached, Raises, Rise, greatest_level}
 use Rattle.rule_pass.proofs.Steps.{at_place, turned}
 use Rattle.rule_pass.proofs.Tables.{few_steps, reached_more, sum_kept, rise_more}

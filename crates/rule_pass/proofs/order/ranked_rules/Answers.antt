@@ -1,7 +1,7 @@
-use Rattle.std.proofs.Common.{◌≡◌, ◌+◌, subst, sym, length}
+use Rattle.std.proofs.Common.{◌≡◌}
 use Rattle.rule_pass.specs.Levels.{greatest_level}
 use Rattle.rule_pass.proofs.Steps.{at_place}
-use Rattle.rule_pass.proofs.Ranking.{AreRankedSoFar, ranked_more}
+use Rattle.rule_pass.proofs.Ranking.{ranked_more}
 use Rattle.rule_pass.proofs.order.ranked_rules.Goals as goal
 
 pub greatest_level-requires : goal.greatest_level-requires

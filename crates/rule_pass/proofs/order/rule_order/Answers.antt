@@ -1,4 +1,4 @@
-use Rattle.std.proofs.Common.{ℕ, subst, sym, length}
+use Rattle.std.proofs.Common.{ℕ, length}
 use Rattle.std.specs.Prelude.{slice_index}
 use Rattle.meaning.specs.RuleOrder.{IsLevel}
 use Rattle.rule_pass.specs.Levels.{RulesAreBelow}
