@@ -1,7 +1,6 @@
 use Rattle.std.proofs.Common.{refl, ap}
 use Rattle.std.specs.Prelude.{Ok}
 use Rattle.access_schema.specs.Meaning.{meaning_of}
-
 use Rattle.accessible_copy.specs.Proving.{IsOrdered}
 use Rattle.accessible_copy.proofs.Rounding.{not_spent, settled_ordered, settled_goes}
 use Rattle.accessible_copy.proofs.rounds.settle_part.Goals as goal
