@@ -58,6 +58,7 @@ module _ (rel : ℕ) (positions : List ℕ) (requests : RowList) where
     held = refl;
     attached = refl;
     offers = refl;
+    passes = refl;
     later = omega arith;
   }
     where
@@ -94,6 +95,7 @@ module _ (rel : ℕ) (positions : List ℕ) (requests : RowList) where
       held = gives.held ∙ so_far.held;
       attached = gives.attached ∙ so_far.attached;
       offers = gives.offers ∙ so_far.offers;
+      passes = gives.passes ∙ so_far.passes;
       later = omega (arith, gives.later, so_far.later);
     }
       where
@@ -122,6 +124,7 @@ module _ (rel : ℕ) (positions : List ℕ) (requests : RowList) where
       held = gives.held ∙ so_far.held;
       attached = gives.attached ∙ so_far.attached;
       offers = gives.offers ∙ so_far.offers;
+      passes = gives.passes ∙ so_far.passes;
       later = omega (arith, gives.later, so_far.later);
     }
     answers_stop call.NoMemory gives = record {
@@ -135,6 +138,7 @@ module _ (rel : ℕ) (positions : List ℕ) (requests : RowList) where
       held = gives.held ∙ so_far.held;
       attached = gives.attached ∙ so_far.attached;
       offers = gives.offers ∙ so_far.offers;
+      passes = gives.passes ∙ so_far.passes;
       later = omega (arith, gives.later, so_far.later);
     }
 
@@ -151,6 +155,7 @@ module _ (rel : ℕ) (positions : List ℕ) (requests : RowList) where
       held = gives.held ∙ so_far.held;
       attached = gives.attached ∙ so_far.attached;
       offers = gives.offers ∙ so_far.offers;
+      passes = gives.passes ∙ so_far.passes;
       later = omega (arith, gives.later, so_far.later);
     }
 

@@ -24,9 +24,9 @@ use Rattle.source_trait.specs.declared.source.AttachFault.TheVariants as attach
 use Rattle.source_trait.specs.declared.lanes.Kind.{Kind}
 use Rattle.source_trait.proofs.LaneSteps.{StepsOn-stays, StepsOn-source, StepsAt-source, KindsStay-refl, KindsStay-trans, KindsStay-names}
 use Rattle.middleware.specs.PlanSources.{line_for, IsAccessed}
-use Rattle.middleware.specs.Attaching.{IsTouched, TouchesPlan, OnlyFirst, IsAttached, AttachesOne, AttachesInOrder}
-use Rattle.middleware.specs.Asked.{of_kind, AskedJust}
-use Rattle.middleware.specs.Branches.{TellsSame, AsksLane, IsAskable}
+use Rattle.middleware.specs.Attaching.{IsTouched, TouchesPlan, OnlyFirst, IsAttached, AttachesOne, AttachesInOrder, TellsSame}
+use Rattle.middleware.specs.Asked.{of_kind, AskedJust, AsksLane}
+use Rattle.middleware.specs.Branches.{IsAskable}
 use Rattle.middleware.specs.Rounds.{CanAskAll}
 use Rattle.middleware.specs.Sources.{IsPlaced, AttachBreaks}
 use Rattle.middleware.proofs.Answering.{twice, asked_nothing}

@@ -1,11 +1,10 @@
 -- The rounds of a branch: one more, one that stopped, and the output after all.
-use Rattle.std.proofs.Common.{◌≡◌, inl, inr, ⊎_elim, ℕ, zero, suc, ◌+◌, ◌-◌, ◌<◌, ◌≤◌, List, [], ◌∷◌, ◌++◌, length, length-append, map, take, drop, get_or, Option, None, Some, Bool, true, false, cond, nat_eq, refl, sym, ◌∙◌, ap, subst, append_assoc, arith}
+use Rattle.std.proofs.Common.{◌≡◌, inl, inr, ⊎_elim, ℕ, zero, suc, ◌+◌, ◌-◌, ◌<◌, ◌≤◌, List, [], ◌∷◌, ◌++◌, length, length-append, map, take, drop, get_or, Option, None, Some, Bool, refl, sym, ◌∙◌, ap, subst, append_assoc, arith}
 use Rattle.std.specs.Prelude.{Contains, IsSomeAnd, slice_get}
 use Rattle.std.specs.List.{AllZip}
-use Rattle.std.specs.Cmp.Lexicographic.{pointwise}
-use Rattle.std.proofs.lemmas.List.{take_more, drop_more, append-nil, map-append, take-append-drop, take-map, take_all}
+use Rattle.std.proofs.lemmas.List.{take_more, length-take-le, drop_more, append-nil, map-append, take-append-drop, take-map, take_all}
 use Rattle.std.proofs.lemmas.Option.{slice_get_read}
-use Rattle.lists.proofs.Members.{contains_here, contains_there, contains_map, contains_mapped, contains_got, got_below, some_injective}
+use Rattle.lists.proofs.Members.{contains_here, contains_there, contains_map, contains_mapped, contains_got, got_below}
 use Rattle.meaning.specs.declared.types.Fact.{Fact}
 use Rattle.meaning.specs.declared.types.Method.{Method}
 use Rattle.meaning.specs.declared.types.SchemaParts.{SchemaParts}
@@ -22,19 +21,18 @@ use Rattle.meaning.specs.Requests.{IsRound, AreStepsRequests}
 use Rattle.access_schema.specs.declared.schema.Schema.{Schema}
 use Rattle.access_schema.specs.Meaning.{meaning_of}
 use Rattle.source_trait.specs.Asking.{RowList, Seen}
-use Rattle.source_trait.specs.Causes.{Rose}
-use Rattle.source_trait.specs.Lanes.{source_of, KindsStay, SourceSteps}
+use Rattle.source_trait.specs.Lanes.{source_of}
 use Rattle.source_trait.specs.declared.lanes.Kind.{Kind}
 use Rattle.middleware.specs.Held.{SameFacts, HoldsRelation}
-use Rattle.middleware.specs.Asked.{HasConstant, IsStepRequest}
+use Rattle.middleware.specs.Attaching.{TellsSame}
+use Rattle.middleware.specs.Asked.{AsksLane, HasConstant, IsStepRequest}
 use Rattle.middleware.specs.Joining.{input_row_of, input_value_or}
 use Rattle.middleware.specs.Rounds.{requests_of, IsWanted, CanAskAll, RoundCause, next_rows}
-use Rattle.middleware.specs.Branches.{HasAdded, IsInput, columns_after, IsReady, AreReady, IsReadyOut, IsReadyBranch, out_value, output_of, IsAskable, HoldSteps, TellsSame, AsksLane, RoseAt, RoundGoes, RoundStops, ArePartial, Means, Reached, BranchCause, BranchStops, stop_of, BranchGoes}
+use Rattle.middleware.specs.Branches.{HasAdded, IsInput, columns_after, IsReady, AreReady, IsReadyOut, IsReadyBranch, out_value, output_of, IsAskable, HoldSteps, RoseAt, RoundGoes, RoundStops, ArePartial, Means, Reached, BranchCause, BranchStops, stop_of, BranchGoes}
 use Rattle.middleware.specs.Live.{AreAlike, is_live, is_shown}
 use Rattle.middleware.specs.declared.round.RoundFault.{RoundFault}
 use Rattle.middleware.specs.declared.round.RoundFault.TheVariants as round
 use Rattle.middleware.specs.declared.branch.BranchFault.TheVariants as branch
-use Rattle.middleware.proofs.Answering.{rose_from}
 use Rattle.middleware.proofs.Steps.{in_append, append_first, append_second, steps_length, requests_append, requests_one, next_partial, is_round, len_requests}
 use Rattle.middleware.proofs.Existing.{first_partial, steps_exist, steps_rest}
 use Rattle.middleware.proofs.Alike.{all_alike, alike_through, outputs_alike, round_wanted, round_alike}
@@ -174,26 +172,6 @@ module _ {S : Type 0} (seen : S → Seen) where
       ready = attached_later (source_of old a.line.kind) (source_of new a.line.kind) (λ attached. CanAskAll (attached method.rel) method) (asks.tells a.line.kind) a.ready;
     }
 
-  -- a source whose count rose later on rose
-  stays_source : (old mid : List (Kind S)) (kind : List ℕ) (m : S) → KindsStay seen old mid → source_of mid kind ≡ Some m → (b : S) × (source_of old kind ≡ Some b) × ((seen b).faults ≤ (seen m).faults)
-  stays_source [] [] kind m stay e = absurd (cc)
-  stays_source [] (y ∷ ys) kind m stay e = absurd stay
-  stays_source (x ∷ xs) [] kind m stay e = absurd stay
-  stays_source (x ∷ xs) (y ∷ ys) kind m stay e = go (pointwise nat_eq y.name kind) (ap (λ (n : List ℕ). pointwise nat_eq n kind) stay.0.name) e (λ f. stays_source xs ys kind m stay.1 f)
-    where
-      go : (b : Bool) → b ≡ pointwise nat_eq x.name kind → cond b (Some y.object) (source_of ys kind) ≡ Some m → (source_of ys kind ≡ Some m → (b : S) × (source_of xs kind ≡ Some b) × ((seen b).faults ≤ (seen m).faults))
-          → (b : S) × (cond (pointwise nat_eq x.name kind) (Some x.object) (source_of xs kind) ≡ Some b) × ((seen b).faults ≤ (seen m).faults)
-      go true test e later = let here : y.object ≡ m = some_injective y.object m e in (x.object, ap (λ c. cond c (Some x.object) (source_of xs kind)) (sym test), subst (λ (t : S). (seen x.object).faults ≤ (seen t).faults) here stay.0.later)
-      go false test e later = let (b, at, less) = later e in (b, ap (λ c. cond c (Some x.object) (source_of xs kind)) (sym test) ∙ at, less)
-
-  pub steps_earlier : (old mid new : List (Kind S)) (kind : List ℕ) → KindsStay seen old mid → SourceSteps mid new kind (λ s t. Rose (seen s).faults (seen t).faults) → SourceSteps old new kind (λ s t. Rose (seen s).faults (seen t).faults)
-  steps_earlier old mid new kind stay steps =
-      let (b, at, less) = stays_source old mid kind steps.before stay steps.was in
-      record { before = b; after = steps.after; was = at; now = steps.now; steps = rose_from (seen b).faults (seen steps.before).faults (seen steps.after).faults less steps.steps }
-
-  pub rose_earlier : (schema : Schema) (rel : ℕ) (old mid new : List (Kind S)) → KindsStay seen old mid → RoseAt seen schema rel mid new → RoseAt seen schema rel old new
-  rose_earlier schema rel old mid new stay rose = record { line = rose.line; line_is = rose.line_is; rose = steps_earlier old mid new rose.line.kind stay rose.rose }
-
   -- ---- the rounds of the steps
 
   module _ (schema : Schema) where
@@ -283,7 +261,7 @@ module _ {S : Type 0} (seen : S → Seen) where
         asks = AsksLane-trans seen schema r.list part old mid new r.asks stops.asks;
         of_steps = λ request c. elim (in_append r.list part request c) [
           | inl first ↦ let (s, among, is) = r.of_steps request first in (s, in_take n steps s among, is)
-          | inr second ↦ (step, contains_got steps n step got, of_step parts step stops.method (columns_after 0 (take n steps)) stops.named inputs kept stops.list stops.wanted stops.count request second)
+          | inr second ↦ (step, contains_got steps n step got, of_part request second)
         ];
         part = λ instance holds.
             let m = means instance holds in
@@ -323,6 +301,12 @@ module _ {S : Type 0} (seen : S → Seen) where
               ∙ ap (λ (l : List Request). l ++ later) (sym (append_assoc r.list part (requests_of stops.method.rel stops.method.inputs (drop stops.count stops.list))))
               ∙ append_assoc (r.list ++ part) (requests_of stops.method.rel stops.method.inputs (drop stops.count stops.list)) later
 
+          of_part : (request : Request) → Contains part request → IsStepRequest parts step request
+          of_part request c = of_step parts step stops.method (columns_after 0 (take n steps)) stops.named inputs kept stops.list stops.wanted stops.count request c
+
+          asked : length part ≡ stops.count
+          asked = len_requests stops.method.rel stops.method.inputs (take stops.count stops.list) ∙ length-take-le stops.count stops.list stops.within
+
           long : length now ≡ length stops.list
           long = len_requests stops.method.rel stops.method.inputs stops.list
 
@@ -333,19 +317,22 @@ module _ {S : Type 0} (seen : S → Seen) where
             at = got;
             method = stops.method;
             named = stops.named;
-            rose = rose_earlier schema stops.method.rel old mid new r.asks.stay why.2;
+            before = mid;
+            earlier = r.list;
+            now = part;
+            asks_earlier = r.asks;
+            asks_now = stops.asks;
+            some = let s = why.0 in omega (arith, s, asked);
+            of_step = of_part;
+            rose = why.2;
             means = λ instance holds. record {
               step = step;
               at = got;
-              earlier = r.list;
-              now = now;
+              round = now;
               earlier_are = (means instance holds).are;
-              now_is = round_at instance holds;
-              count = stops.count;
-              some = why.0;
-              within = let w = stops.within in omega (arith, w, long);
+              round_is = round_at instance holds;
               fits = let a = why.1 in let b = r.count in omega (arith, a, b, fits, long);
-              asked_is = ap (λ (l : List Request). r.list ++ l) (sym (take-map (λ (v : List (List ℕ)). record { rel = stops.method.rel; positions = stops.method.inputs; values = v }) stops.count stops.list));
+              first = sym (take-map (λ (v : List (List ℕ)). record { rel = stops.method.rel; positions = stops.method.inputs; values = v }) stops.count stops.list) ∙ ap (λ (k : ℕ). take k now) (sym asked);
             };
           }
           cause_of (round.OverCalls wanted) why =

@@ -31,17 +31,18 @@ use Rattle.middleware.specs.declared.fault.RunFault.{RunFault}
 use Rattle.middleware.specs.declared.fault.RunFault.TheVariants as fault
 use Rattle.middleware.specs.PlanSources.{line_for, IsAccessed, IsPlanSource, AllHaveLines}
 use Rattle.middleware.specs.Held.{HoldPlan, Holds}
-use Rattle.middleware.specs.Attaching.{TouchesPlan, AttachesOnly, AllAttached, OnUsed, AttachesOne, AttachesInOrder}
-use Rattle.middleware.specs.Asked.{AskedJust, AskedPart, AsksOnly, IsStepRequest}
-use Rattle.middleware.specs.Causes.{LacksFirst, FindsSources, IsPastAttaching, AttachStops, CallStops, CapStops, StopsFor, LeavesStopped, LeavesLane}
-use Rattle.middleware.specs.Branches.{IsReadyBranch, AreAskable, AsksLane, RoundsCause}
+use Rattle.middleware.specs.Attaching.{TouchesPlan, AttachesOnly, AttachesEach, AllAttached, OnUsed, AttachesOne, AttachesInOrder}
+use Rattle.middleware.specs.Asked.{AskedJust, AsksLane, AskedPart, AsksOnly, IsStepRequest}
+use Rattle.middleware.specs.Causes.{LacksFirst, FindsSources, IsPastAttaching, AttachStops, RoundFails, CallStops, CapStops, StopsFor, LeavesStopped, LeavesLane}
+use Rattle.middleware.specs.Branches.{IsReadyBranch, AreAskable, RoundsCause}
 use Rattle.middleware.specs.Sources.{first_lineless, first_kindless, has_place, IsPlaced, AttachBreaks, RoundsGive}
 use Rattle.middleware.specs.Running.{StopsOn, RunsOn, refused_as, IsUnknownKind, LacksFirstKind, LaneGives, RunsAlone}
 use Rattle.middleware.proofs.Answering.{asked_nothing}
+use Rattle.middleware.proofs.Laning.{AsksLane-refl}
 use Rattle.middleware.proofs.LaneRuns.{OnlyFirst-refl, OnlyFirst-trans, OnlyFirst-map}
 use Rattle.middleware.proofs.Lacking.{above, kindless_none, kindless_some, lineless_none, lineless_some, place_none, place_source, rises_strictly, the_line}
 use Rattle.middleware.proofs.Existing.{branches_exist}
-use Rattle.middleware.proofs.Branching.{branch_ready, steps_earlier}
+use Rattle.middleware.proofs.Branching.{branch_ready}
 use Rattle.middleware.proofs.Planning.{relation_there, accessed_by, plan_earlier}
 use Rattle.middleware.proofs.Attached.{asked_after, one_stays, one_asked, one_only, touches_on, order_stays, order_asked, order_only, order_attached, attached_after, attached_askable}
 
@@ -127,6 +128,9 @@ module _ {S : Type 0} (seen : S → Seen) (schema : Schema) (plan : Plan) where
       stays : KindsStay seen old mid
       stays = order_stays seen schema rels old mid order
 
+      attaches : AttachesEach seen schema plan old mid
+      attaches = record { rels = rels; ascends = up; exactly = exactly; order = order }
+
       -- the methods of the plan may be asked
       pub all_askable : (its : Branch) → Contains plan.branches its → AreAskable seen schema mid its.steps
       all_askable its c step method among named =
@@ -148,9 +152,13 @@ module _ {S : Type 0} (seen : S → Seen) (schema : Schema) (plan : Plan) where
         }
 
         attached : AllAttached seen schema plan old new
-        attached rel relation line source =
-            attached_after seen schema rel relation line list old mid new asks
-            (order_attached seen schema rels rises rel ((exactly rel).1 source.accessed) relation line source.relation_is source.line_is old mid order)
+        attached = record {
+          middle = mid;
+          attaches = attaches;
+          asks = record { stay = asks.stay; tells = asks.tells };
+          each = λ rel relation line source. attached_after seen schema rel relation line list old mid new asks
+              (order_attached seen schema rels rises rel ((exactly rel).1 source.accessed) relation line source.relation_is source.line_is old mid order);
+        }
 
         part : (instance : List Fact) (rest : List Request) → AreRequests parts plan instance (list ++ rest) → (done : Type 0) → (done → rest ≡ []) → AskedPart seen schema plan instance done old new
         part instance rest are done whole = record {
@@ -164,25 +172,8 @@ module _ {S : Type 0} (seen : S → Seen) (schema : Schema) (plan : Plan) where
         shift : (requests : List Request) → AskedJust seen schema requests mid new → AskedJust seen schema requests old new
         shift requests h = asked_after seen schema requests old mid new stays (order_asked seen schema rels old mid order) h
 
-        calls : (cap branch step : ℕ) → CallStops seen schema plan cap branch step mid new → CallStops seen schema plan cap branch step old new
-        calls cap branch step c = record {
-          rel = c.rel;
-          relation = c.relation;
-          line = c.line;
-          of_step = c.of_step;
-          is_source = c.is_source;
-          rose = steps_earlier seen old mid new c.line.kind stays c.rose;
-          asked = λ instance holds. let b = c.asked instance holds in record {
-            earlier = b.earlier;
-            now = b.now;
-            round = b.round;
-            fits = b.fits;
-            count = b.count;
-            some = b.some;
-            within = b.within;
-            asked = shift _ b.asked;
-          };
-        }
+        calls : (cap branch step : ℕ) → RoundFails seen schema plan cap branch step mid new → CallStops seen schema plan cap branch step old new
+        calls cap branch step c = record { middle = mid; attaches = attaches; fails = c }
 
         caps : (cap made wanted : ℕ) → CapStops seen schema plan cap made wanted mid new → CapStops seen schema plan cap made wanted old new
         caps cap made wanted c = record {
@@ -514,7 +505,12 @@ module _ {S : Type 0} (seen : S → Seen) (schema : Schema) (plan : Plan) where
       made = λ instance holds. ([], (runs instance).1, (runs instance).2);
       of_plan = used_refl lanes (AsksOnly seen schema plan) (λ kinds. only_none kinds kinds (asked_refl kinds));
       only = used_refl lanes (AttachesOnly seen schema plan) only_refl;
-      attached = λ past. used_refl lanes (AllAttached seen schema plan) (λ kinds rel relation line source. absurd (alone rel source.accessed));
+      attached = λ past. used_refl lanes (AllAttached seen schema plan) (λ kinds. record {
+        middle = kinds;
+        attaches = record { rels = []; ascends = λ k less. absurd (omega arith); exactly = λ rel. ((λ c. absurd (no_member rel c)), (λ a. absurd (alone rel a))); order = refl };
+        asks = let none = AsksLane-refl seen schema kinds in record { stay = none.stay; tells = none.tells };
+        each = λ rel relation line source. absurd (alone rel source.accessed);
+      });
       found = ((λ rel a. absurd (alone rel a)), (λ rel relation line source. absurd (alone rel source.accessed)));
       stops = tt;
       stay = LanesStay-refl seen lanes;

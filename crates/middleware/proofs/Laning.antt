@@ -23,10 +23,11 @@ use Rattle.source_trait.specs.declared.lanes.Kind.{Kind}
 use Rattle.source_trait.proofs.LaneSteps.{StepsOn-stays, StepsOn-source, StepsOn-others, StepsAt-source, KindsStay-refl, KindsStay-trans, AtKind-map}
 use Rattle.middleware.specs.PlanSources.{line_for}
 use Rattle.middleware.specs.Held.{SameFacts, HoldsRelation}
-use Rattle.middleware.specs.Asked.{has_kind, of_kind, AskedJust}
+use Rattle.middleware.specs.Attaching.{TellsSame}
+use Rattle.middleware.specs.Asked.{has_kind, of_kind, AskedJust, AsksLane}
 use Rattle.middleware.specs.Joining.{grown, input_row_of}
 use Rattle.middleware.specs.Rounds.{requests_of, IsWanted, AnswersAll, CanAskAll, next_rows, RoundAnswers, RoundCause, RoundRefused}
-use Rattle.middleware.specs.Branches.{TellsSame, AsksLane, RoseAt, HoldSteps, RoundGoes, RoundStops}
+use Rattle.middleware.specs.Branches.{RoseAt, HoldSteps, RoundGoes, RoundStops}
 use Rattle.middleware.specs.declared.round.RoundFault.{RoundFault}
 use Rattle.middleware.specs.declared.round.RoundFault.TheVariants as round
 use Rattle.middleware.proofs.Answering.{twice, asked_nothing}
@@ -63,6 +64,7 @@ module _ (places : List Place) (method : Method) (rows : RowList) (room : ℕ) w
     held = refl;
     attached = refl;
     offers = refl;
+    passes = refl;
     later = omega arith;
   }
 
@@ -77,6 +79,7 @@ module _ (places : List Place) (method : Method) (rows : RowList) (room : ℕ) w
     held = a.held;
     attached = a.attached;
     offers = a.offers;
+    passes = a.passes;
     later = a.later;
   }
 
@@ -91,6 +94,7 @@ module _ (places : List Place) (method : Method) (rows : RowList) (room : ℕ) w
     held = a.held;
     attached = a.attached;
     offers = a.offers;
+    passes = a.passes;
     later = a.later;
   }
 
@@ -103,6 +107,7 @@ module _ (places : List Place) (method : Method) (rows : RowList) (room : ℕ) w
     held = a.held;
     attached = a.attached;
     offers = a.offers;
+    passes = a.passes;
     later = a.later;
   }
     where
@@ -179,7 +184,7 @@ module _ (places : List Place) (method : Method) (rows : RowList) (room : ℕ) w
 module _ {S : Type 0} (seen : S → Seen) where
   tells_refl : (o : Option S) → TellsSame seen o o
   tells_refl None = tt
-  tells_refl (Some s) = (refl, refl, refl)
+  tells_refl (Some s) = (refl, refl, refl, refl)
 
   tells_trans : (a b c : Option S) → TellsSame seen a b → TellsSame seen b c → TellsSame seen a c
   tells_trans None None None h k = tt
@@ -187,7 +192,7 @@ module _ {S : Type 0} (seen : S → Seen) where
   tells_trans None (Some y) c h k = absurd h
   tells_trans (Some x) None c h k = absurd h
   tells_trans (Some x) (Some y) None h k = absurd k
-  tells_trans (Some x) (Some y) (Some z) h k = (k.0 ∙ h.0, k.1 ∙ h.1, k.2 ∙ h.2)
+  tells_trans (Some x) (Some y) (Some z) h k = (k.0 ∙ h.0, k.1 ∙ h.1, k.2 ∙ h.2, k.3 ∙ h.3)
 
   module _ (schema : Schema) where
     pub AsksLane-refl : (kinds : List (Kind S)) → AsksLane seen schema [] kinds kinds
@@ -231,6 +236,7 @@ module _ {S : Type 0} (seen : S → Seen) where
       pub held : t.held ≡ s.held
       pub attached : t.attached ≡ s.attached
       pub offers : t.offer ≡ s.offer
+      pub passes : t.passes ≡ s.passes
       pub later : s.faults ≤ t.faults
 
     pub lane_asked : (rel : ℕ) (positions : List ℕ) (list : RowList) (line : SourceLine) → line_for rel schema.sources ≡ Some line → (old new : List (Kind S)) (step : S → S → Type 0)
@@ -249,7 +255,7 @@ module _ {S : Type 0} (seen : S → Seen) where
               | inl same ↦ subst (λ (o : Option S). TellsSame seen (source_of old kind) o) (sym same) (tells_refl (source_of old kind))
               | inr moved ↦
                   let d = does moved.before moved.after moved.steps in
-                  let here : TellsSame seen (Some moved.before) (Some moved.after) = (d.held, d.attached, d.offers) in
+                  let here : TellsSame seen (Some moved.before) (Some moved.after) = (d.held, d.attached, d.offers, d.passes) in
                   subst (λ (o : Option S). TellsSame seen o (source_of new kind)) (sym moved.was) (subst (λ (o : Option S). TellsSame seen (Some moved.before) o) (sym moved.now) here)
             ]
 
@@ -283,7 +289,7 @@ module _ {S : Type 0} (seen : S → Seen) where
         list = list;
         wanted = subst (λ (r : RowList). IsWanted step.places method.inputs r list) re (subst (λ (p : List Place). IsWanted p method.inputs lent list) pe wanted);
         asks = lane_asked method.rel method.inputs list line line_is old new (λ s t. RoundAnswers places method lent list next (seen s) (seen t))
-            (λ s t a. record { asked = a.asked; held = a.held; attached = a.attached; offers = a.offers; later = a.later }) steps;
+            (λ s t a. record { asked = a.asked; held = a.held; attached = a.attached; offers = a.offers; passes = a.passes; later = a.later }) steps;
         count = ae;
         rows_are = are;
       }
@@ -325,7 +331,7 @@ module _ {S : Type 0} (seen : S → Seen) where
             there = at.there;
             now = at.now;
             name = at.name;
-            steps = record { does = record { asked = r.asked; held = r.held; attached = r.attached; offers = r.offers; later = r.later }; why = r.cause };
+            steps = record { does = record { asked = r.asked; held = r.held; attached = r.attached; offers = r.offers; passes = r.passes; later = r.later }; why = r.cause };
           }) in
           let moved = StepsOn-source old new by line.kind known in
           record {

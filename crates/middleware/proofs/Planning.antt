@@ -1,5 +1,5 @@
 -- The branches of a plan: one more, one that stopped, and all.
-use Rattle.std.proofs.Common.{◌≡◌, ◌↔◌, inl, inr, ⊎_elim, ℕ, suc, ◌+◌, ◌-◌, ◌^◌, ◌<◌, ◌≤◌, min, List, [], ◌∷◌, ◌++◌, length, length-append, take, drop, get_or, Some, refl, sym, ◌∙◌, ap, subst, append_assoc, arith}
+use Rattle.std.proofs.Common.{◌≡◌, ◌↔◌, inl, inr, ⊎_elim, ℕ, ◌+◌, ◌-◌, ◌^◌, ◌<◌, ◌≤◌, min, List, [], ◌∷◌, ◌++◌, length, length-append, take, drop, get_or, Some, refl, sym, ◌∙◌, ap, subst, append_assoc, arith}
 use Rattle.std.specs.Prelude.{Contains, slice_get}
 use Rattle.std.proofs.lemmas.List.{append-nil, take_more, take_all, take-append-drop}
 use Rattle.std.proofs.lemmas.Option.{slice_get_read, slice_get_within}
@@ -22,23 +22,19 @@ use Rattle.source_trait.specs.Asking.{RowList, Seen}
 use Rattle.source_trait.specs.declared.lanes.Kind.{Kind}
 use Rattle.middleware.specs.PlanSources.{IsAccessed}
 use Rattle.middleware.specs.Held.{HoldPlan}
-use Rattle.middleware.specs.Asked.{AskedJust}
-use Rattle.middleware.specs.Branches.{IsReadyBranch, AreAskable, HoldSteps, AsksLane, BranchCause, BranchStops, BranchGoes, Done, RoundsCause, PlanStops, fault_of, StepFits}
+use Rattle.middleware.specs.Asked.{AskedJust, AsksLane}
+use Rattle.middleware.specs.Branches.{IsReadyBranch, AreAskable, HoldSteps, BranchCause, BranchStops, BranchGoes, Done, RoundsCause, PlanStops, fault_of, StepFits}
 use Rattle.middleware.specs.declared.branch.BranchFault.{BranchFault}
 use Rattle.middleware.specs.declared.branch.BranchFault.TheVariants as branch
 use Rattle.middleware.specs.declared.fault.RunFault.TheVariants as fault
 use Rattle.middleware.proofs.Steps.{in_append, append_first, append_second}
 use Rattle.middleware.proofs.Existing.{split_at, branches_exist, branches_append, branches_one}
 use Rattle.middleware.proofs.Laning.{AsksLane-refl, AsksLane-trans}
-use Rattle.middleware.proofs.Branching.{relation_later, relation_earlier, steps_earlier, askable_later}
+use Rattle.middleware.proofs.Branching.{relation_later, relation_earlier, askable_later}
 
 take_whole : {X : Type 0} (xs ys : List X) (n : ℕ) → n ≡ length xs → take n (xs ++ ys) ≡ xs
 take_whole [] ys n e = ap (λ k. take k ys) e
 take_whole (x ∷ xs) ys n e = ap (λ k. take k (x ∷ (xs ++ ys))) e ∙ ap (λ (l : List _). x ∷ l) (take_whole xs ys (length xs) refl)
-
-take_further : {X : Type 0} (xs ys : List X) (i : ℕ) → take (length xs + i) (xs ++ ys) ≡ xs ++ take i ys
-take_further [] ys i = ap (λ n. take n ys) (omega arith)
-take_further (x ∷ xs) ys i = let e : length (x ∷ xs) + i ≡ suc (length xs + i) = omega arith in rw e (ap (λ (l : List _). x ∷ l) (take_further xs ys i))
 
 no_branch : {X : Type 0} (b : X) → Contains [] b → ⊥
 no_branch b n = omega arith
@@ -212,34 +208,35 @@ module _ {S : Type 0} (seen : S → Seen) (schema : Schema) (plan : Plan) where
             rel = why.method.rel;
             relation = relation;
             line = why.rose.line;
-            of_step = record { its_branch = its; its_step = why.step; method = why.method; there = record { of_plan = got; of_branch = why.at }; named = why.named; of_relation = refl };
+            of_relation = record { its_branch = its; its_step = why.step; method = why.method; there = record { of_plan = got; of_branch = why.at }; named = why.named; of_relation = refl };
             is_source = record { accessed = accessed_by schema plan its why.step why.method of_plan (contains_got its.steps step why.step why.at) why.named; relation_is = there; line_is = why.rose.line_is };
-            rose = steps_earlier seen old mid new why.rose.line.kind d.asks.stay why.rose.rose;
+            before = why.before;
+            earlier = d.list ++ why.earlier;
+            now = why.now;
+            asks_earlier = AsksLane-trans seen schema d.list why.earlier old mid why.before d.asks why.asks_earlier;
+            asks_now = why.asks_now;
+            some = why.some;
+            of_step = why.of_step;
+            rose = why.rose.rose;
             asked = λ instance holds.
                 let m = d.means instance (before_all instance holds) in
                 let b = why.means instance (at_branch instance holds) in
                 let a = d.count in let f = b.fits in
-                let e : d.list ++ s.list ≡ take (length (d.list ++ b.earlier) + b.count) ((d.list ++ b.earlier) ++ b.now) =
-                ap (λ (l : List Request). d.list ++ l) b.asked_is ∙ sym (append_assoc d.list b.earlier (take b.count b.now)) ∙ sym (take_further (d.list ++ b.earlier) b.now b.count) in
                 record {
-                  earlier = d.list ++ b.earlier;
-                  now = b.now;
-                  round = record {
+                  round = b.round;
+                  is_round = record {
                     its_branch = its;
                     its_step = b.step;
                     there = record { of_plan = got; of_branch = b.at };
                     of_branches = d.list;
-                    of_steps = b.earlier;
+                    of_steps = why.earlier;
                     branches_are = m.are;
                     steps_are = b.earlier_are;
                     earlier_is = refl;
-                    now_is = b.now_is;
+                    now_is = b.round_is;
                   };
-                  fits = omega (arith, a, f, length-append d.list b.earlier);
-                  count = b.count;
-                  some = b.some;
-                  within = b.within;
-                  asked = subst (λ (l : List Request). AskedJust seen schema l old new) e all_asks.asked;
+                  fits = omega (arith, a, f, length-append d.list why.earlier);
+                  first = b.first;
                 };
           }
       cause_of (branch.OverCalls total wanted) why = (

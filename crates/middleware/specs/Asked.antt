@@ -17,9 +17,10 @@ use Rattle.access_schema.specs.declared.schema.Schema.{Schema}
 use Rattle.access_schema.specs.declared.schema.SourceLine.{SourceLine}
 use Rattle.access_schema.specs.Meaning.{meaning_of}
 use Rattle.source_trait.specs.Asking.{Seen}
-use Rattle.source_trait.specs.Lanes.{source_of}
+use Rattle.source_trait.specs.Lanes.{source_of, KindsStay}
 use Rattle.source_trait.specs.declared.lanes.Kind.{Kind}
 use Rattle.middleware.specs.PlanSources.{line_for}
+use Rattle.middleware.specs.Attaching.{OnlyFirst, TellsSame}
 
 -- whether a relation's source line has the kind
 abbrev pub has_kind : Option SourceLine → List ℕ → Bool
@@ -35,7 +36,14 @@ abbrev pub AskedJust : {S : Type 0} → (S → Seen) → Schema → List Request
 AskedJust {S} seen schema requests old new = (kind : List ℕ) (before after : S) → source_of old kind ≡ Some before → source_of new kind ≡ Some after →
     (seen after).asked ≡ option_map (λ asked. asked ++ of_kind schema kind requests) ((seen before).asked)
 
--- the same, up to the nth request
+-- The lane's sources were asked just these requests, and nothing else that they tell changed.
+pub record AsksLane {S : Type 0} (seen : S → Seen) (schema : Schema) (requests : List Request) (old new : List (Kind S)) : Type 0 where
+  pub stay : KindsStay seen old new
+  pub asked : AskedJust seen schema requests old new
+  pub only : OnlyFirst (λ kind s t. (seen t).attached ≡ (seen s).attached) old new
+  pub tells : (kind : List ℕ) → TellsSame seen (source_of old kind) (source_of new kind)
+
+-- the first source of each kind was asked the requests up to the nth
 abbrev pub AskedTo : {S : Type 0} → (S → Seen) → Schema → ℕ → List Request → List (Kind S) → List (Kind S) → Type 0
 AskedTo seen schema n requests old new = AskedJust seen schema (take n requests) old new
 

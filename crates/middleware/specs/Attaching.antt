@@ -1,5 +1,6 @@
 -- Which relations become attached on the used lane, and how.
-use Rattle.std.specs.Prelude.{◌≡◌, ◌⊎◌, ℕ, List, [], ◌∷◌, IfSome, IsOk, slice_get, Some, None, Result, Ok}
+use Rattle.std.specs.Prelude.{◌≡◌, ◌⊎◌, ◌↔◌, ℕ, List, [], ◌∷◌, Contains, Option, IfSome, IsOk, slice_get, Some, None, Result, Ok}
+use Rattle.std.specs.List.Sorted.{IsStrictlyIncreasing}
 use Rattle.meaning.specs.declared.types.Relation.{Relation}
 use Rattle.meaning.specs.declared.types.Plan.{Plan}
 use Rattle.access_schema.specs.declared.schema.Schema.{Schema}
@@ -9,7 +10,7 @@ use Rattle.source_trait.specs.Lanes.{names_of, place_from, source_of, StepsOn, K
 use Rattle.source_trait.specs.declared.source.AttachFault.{AttachFault}
 use Rattle.source_trait.specs.declared.lanes.Kind.{Kind}
 use Rattle.source_trait.specs.declared.lanes.Lane.{Lane}
-use Rattle.middleware.specs.PlanSources.{line_for, IsPlanSource}
+use Rattle.middleware.specs.PlanSources.{line_for, IsAccessed, IsPlanSource}
 
 -- a relation of the plan was attached with its columns and its locator, or was refused and is not attached
 pub record IsTouched (schema : Schema) (plan : Plan) (kind : List ℕ) (rel : ℕ) (new : Seen) : Type 0 where
@@ -47,11 +48,6 @@ pub record IsAttached {S : Type 0} (seen : S → Seen) (rel : ℕ) (relation : R
   pub offered : IfSome ((seen before).offer rel relation.columns line.locator) IsOk
   pub held : IfSome ((seen before).offer rel relation.columns line.locator) (λ offer. IfSome ((seen after).held) (λ facts. offer ≡ Ok (pick facts rel [] [])))
 
--- each relation of the plan is attached
-abbrev pub AllAttached : {S : Type 0} → (S → Seen) → Schema → Plan → List (Kind S) → List (Kind S) → Type 0
-AllAttached seen schema plan old new = (rel : ℕ) (relation : Relation) (line : SourceLine) → IsPlanSource schema plan rel relation line →
-    IsAttached seen rel relation line old new
-
 -- the first lane did so, and the others stay
 abbrev pub OnUsed : {S : Type 0} → List (Lane S) → List (Lane S) → (List (Kind S) → List (Kind S) → Type 0) → Type 0
 OnUsed [] new P = new ≡ []
@@ -71,3 +67,31 @@ abbrev pub AttachesInOrder : {S : Type 0} → (S → Seen) → Schema → List �
 AttachesInOrder seen schema [] old new = new ≡ old
 AttachesInOrder {S} seen schema (rel ∷ rels) old new =
     (middle : List (Kind S)) × AttachesOne seen schema rel (Ok tt) old middle × AttachesInOrder seen schema rels middle new
+
+-- Each relation of the plan was attached once, in ascending order, and nothing else was done.
+pub record AttachesEach {S : Type 0} (seen : S → Seen) (schema : Schema) (plan : Plan) (old new : List (Kind S)) : Type 0 where
+  pub rels : List ℕ
+  pub ascends : IsStrictlyIncreasing rels
+  pub exactly : (rel : ℕ) → Contains rels rel ↔ IsAccessed schema plan rel
+  pub order : AttachesInOrder seen schema rels old new
+
+-- two sources of a kind tell the same, but for their requests and faults
+abbrev pub TellsSame : {S : Type 0} → (S → Seen) → Option S → Option S → Type 0
+TellsSame seen None None = Unit {0}
+TellsSame seen (Some s) (Some t) =
+    ((seen t).held ≡ (seen s).held) × ((seen t).attached ≡ (seen s).attached) × ((seen t).offer ≡ (seen s).offer) × ((seen t).passes ≡ (seen s).passes)
+TellsSame seen None (Some t) = ⊥
+TellsSame seen (Some s) None = ⊥
+
+-- Nothing that the lane's sources tell changed, but for their requests and faults. An attach may change what passes the limit.
+pub record OnlyAsks {S : Type 0} (seen : S → Seen) (old new : List (Kind S)) : Type 0 where
+  pub stay : KindsStay seen old new
+  pub tells : (kind : List ℕ) → TellsSame seen (source_of old kind) (source_of new kind)
+
+-- Each relation of the plan was attached once, in ascending order, and from then on the sources were only asked. So each is attached.
+pub record AllAttached {S : Type 0} (seen : S → Seen) (schema : Schema) (plan : Plan) (old new : List (Kind S)) : Type 0 where
+  pub middle : List (Kind S)
+  pub attaches : AttachesEach seen schema plan old middle
+  pub asks : OnlyAsks seen middle new
+  pub each : (rel : ℕ) (relation : Relation) (line : SourceLine) → IsPlanSource schema plan rel relation line →
+      IsAttached seen rel relation line old new

@@ -19,13 +19,12 @@ use Rattle.access_schema.specs.declared.schema.SourceLine.{SourceLine}
 use Rattle.access_schema.specs.Meaning.{meaning_of}
 use Rattle.source_trait.specs.Asking.{RowList, Seen}
 use Rattle.source_trait.specs.Causes.{Rose}
-use Rattle.source_trait.specs.Lanes.{source_of, AtKind, KindsStay, SourceSteps}
+use Rattle.source_trait.specs.Lanes.{AtKind, SourceSteps}
 use Rattle.source_trait.specs.declared.lanes.Kind.{Kind}
 use Rattle.middleware.specs.PlanSources.{line_for}
 use Rattle.middleware.specs.Held.{HoldsRelation, HoldPlan}
-use Rattle.middleware.specs.Attaching.{OnlyFirst}
-use Rattle.middleware.specs.Asked.{AskedJust, IsStepRequest}
-use Rattle.middleware.specs.Causes.{CallStops, CapStops}
+use Rattle.middleware.specs.Asked.{AsksLane, IsStepRequest}
+use Rattle.middleware.specs.Causes.{RoundFails, CapStops}
 use Rattle.middleware.specs.Joining.{text_or}
 use Rattle.middleware.specs.Rounds.{requests_of, IsWanted, CanAskAll, next_rows, RoundCause}
 use Rattle.middleware.specs.Live.{AreAlike}
@@ -100,20 +99,6 @@ abbrev pub HoldSteps : {S : Type 0} → (S → Seen) → Schema → List Step �
 HoldSteps seen schema steps kinds instance = (step : Step) (method : Method) (line : SourceLine) → Contains steps step → IsMethod (meaning_of schema) step.method method →
     line_for method.rel schema.sources ≡ Some line → HoldsRelation seen kinds line.kind method.rel instance
 
--- two sources of a kind tell the same, but for their requests and faults
-abbrev pub TellsSame : {S : Type 0} → (S → Seen) → Option S → Option S → Type 0
-TellsSame seen None None = Unit {0}
-TellsSame seen (Some s) (Some t) = ((seen t).held ≡ (seen s).held) × ((seen t).attached ≡ (seen s).attached) × ((seen t).offer ≡ (seen s).offer)
-TellsSame seen None (Some t) = ⊥
-TellsSame seen (Some s) None = ⊥
-
--- The lane's sources were asked just these requests, and nothing else that they tell changed.
-pub record AsksLane {S : Type 0} (seen : S → Seen) (schema : Schema) (requests : List Request) (old new : List (Kind S)) : Type 0 where
-  pub stay : KindsStay seen old new
-  pub asked : AskedJust seen schema requests old new
-  pub only : OnlyFirst (λ kind s t. (seen t).attached ≡ (seen s).attached) old new
-  pub tells : (kind : List ℕ) → TellsSame seen (source_of old kind) (source_of new kind)
-
 -- the count of faults of the source of the relation's kind rose
 pub record RoseAt {S : Type 0} (seen : S → Seen) (schema : Schema) (rel : ℕ) (old new : List (Kind S)) : Type 0 where
   pub line : SourceLine
@@ -167,19 +152,15 @@ pub record Reached {S : Type 0} (seen : S → Seen) (schema : Schema) (live : �
   pub of_steps : AreOfSteps (meaning_of schema) steps list
   pub means : (instance : List Fact) → HoldSteps seen schema steps old instance → Means (meaning_of schema) instance live steps rows list
 
--- on an instance: of the round of the nth step, for which there was room, the first requests were asked
-pub record BrokenAt (schema : SchemaParts) (facts : List Fact) (steps : List Step) (n before most : ℕ) (asked : List Request) : Type 0 where
+-- on an instance: the requests of the rounds before that of the nth step, and the first ones of its own, for which there was room
+pub record BrokenAt (schema : SchemaParts) (facts : List Fact) (steps : List Step) (n start most : ℕ) (earlier now : List Request) : Type 0 where
   pub step : Step
   pub at : slice_get steps n ≡ Some step
-  pub earlier : List Request
-  pub now : List Request
+  pub round : List Request
   pub earlier_are : AreStepsRequests schema facts [] (take n steps) earlier
-  pub now_is : IsRound schema facts (take n steps) step now
-  pub count : ℕ
-  pub some : 1 ≤ count
-  pub within : count ≤ length now
-  pub fits : before + length earlier + length now ≤ most
-  pub asked_is : asked ≡ earlier ++ take count now
+  pub round_is : IsRound schema facts (take n steps) step round
+  pub fits : start + length earlier + length round ≤ most
+  pub first : now ≡ take (length now) round
 
 -- on an instance: the requests of the rounds before some step, whose own round wants so many
 pub record FullAt (schema : SchemaParts) (facts : List Fact) (steps : List Step) (wanted : ℕ) (asked : List Request) : Type 0 where
@@ -192,13 +173,21 @@ pub record FullAt (schema : SchemaParts) (facts : List Fact) (steps : List Step)
   pub wanted_is : wanted ≡ length now
 
 -- a call of the nth round failed
-pub record FailsAt {S : Type 0} (seen : S → Seen) (schema : Schema) (steps : List Step) (n before most : ℕ) (asked : List Request) (old new : List (Kind S)) : Type 0 where
+pub record FailsAt {S : Type 0} (seen : S → Seen) (schema : Schema) (steps : List Step) (n start most : ℕ) (old new : List (Kind S)) : Type 0 where
   pub step : Step
   pub at : slice_get steps n ≡ Some step
   pub method : Method
   pub named : IsMethod (meaning_of schema) step.method method
-  pub rose : RoseAt seen schema method.rel old new
-  pub means : (instance : List Fact) → HoldSteps seen schema steps old instance → BrokenAt (meaning_of schema) instance steps n before most asked
+  -- the lane before the round, and what was asked until then and in it
+  pub before : List (Kind S)
+  pub earlier : List Request
+  pub now : List Request
+  pub asks_earlier : AsksLane seen schema earlier old before
+  pub asks_now : AsksLane seen schema now before new
+  pub some : 1 ≤ length now
+  pub of_step : (request : Request) → Contains now request → IsStepRequest (meaning_of schema) step request
+  pub rose : RoseAt seen schema method.rel before new
+  pub means : (instance : List Fact) → HoldSteps seen schema steps old instance → BrokenAt (meaning_of schema) instance steps n start most earlier now
 
 -- the next round would pass the cap
 pub record FillsAt {S : Type 0} (seen : S → Seen) (schema : Schema) (steps : List Step) (before most total wanted : ℕ) (asked : List Request) (old : List (Kind S)) : Type 0 where
@@ -210,7 +199,7 @@ pub record FillsAt {S : Type 0} (seen : S → Seen) (schema : Schema) (steps : L
 -- why the rounds of a branch stopped
 abbrev pub BranchCause : {S : Type 0} → (S → Seen) → Schema → List Step → ℕ → ℕ → List Request → List (Kind S) → List (Kind S) → BranchFault → Type 0
 BranchCause seen schema steps before most asked old new branch.NoMemory = Unit {0}
-BranchCause seen schema steps before most asked old new (branch.Failed step) = FailsAt seen schema steps step before most asked old new
+BranchCause seen schema steps before most asked old new (branch.Failed step) = FailsAt seen schema steps step before most old new
 BranchCause seen schema steps before most asked old new (branch.OverCalls total wanted) = FillsAt seen schema steps before most total wanted asked old
 
 -- The rounds of a branch stopped after some first part of its requests.
@@ -263,7 +252,7 @@ pub record Done {S : Type 0} (seen : S → Seen) (schema : Schema) (plan : Plan)
 -- why the rounds of a plan stopped
 abbrev pub RoundsCause : {S : Type 0} → (S → Seen) → Schema → Plan → ℕ → List (Kind S) → List (Kind S) → RunFault → Type 0
 RoundsCause seen schema plan cap old new fault.NoMemory = Unit {0}
-RoundsCause seen schema plan cap old new (fault.CallFailed branch step) = CallStops seen schema plan cap branch step old new
+RoundsCause seen schema plan cap old new (fault.CallFailed branch step) = RoundFails seen schema plan cap branch step old new
 RoundsCause seen schema plan cap old new (fault.OverCalls total wanted its) = (its ≡ cap) × CapStops seen schema plan cap total wanted old new
 RoundsCause seen schema plan cap old new end = ⊥
 

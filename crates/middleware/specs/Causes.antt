@@ -1,5 +1,5 @@
 -- What each answer of an execution says: of source lines and kinds, of attaches, of calls and of the cap.
-use Rattle.std.specs.Prelude.{◌≡◌, ◌≢◌, ℕ, ◌+◌, ◌-◌, ◌^◌, ◌<◌, ◌≤◌, ◌↔◌, ◌++◌, min, Bool, true, false, List, [], ◌∷◌, Contains, IsSome, None, Result, Ok, Err, length}
+use Rattle.std.specs.Prelude.{◌≡◌, ◌≢◌, ℕ, ◌+◌, ◌-◌, ◌^◌, ◌<◌, ◌≤◌, ◌↔◌, ◌++◌, min, take, Bool, true, false, List, [], ◌∷◌, Contains, IsSome, None, Result, Ok, Err, length}
 use Rattle.std.specs.List.Sorted.{IsStrictlyIncreasing}
 use Rattle.meaning.specs.declared.types.Fact.{Fact}
 use Rattle.meaning.specs.declared.types.Method.{Method}
@@ -8,6 +8,7 @@ use Rattle.meaning.specs.declared.types.Branch.{Branch}
 use Rattle.meaning.specs.declared.types.Relation.{Relation}
 use Rattle.meaning.specs.declared.types.Request.{Request}
 use Rattle.meaning.specs.declared.types.Plan.{Plan}
+use Rattle.meaning.specs.declared.types.SchemaParts.{SchemaParts}
 use Rattle.meaning.specs.Plans.{IsMethod}
 use Rattle.access_schema.specs.declared.schema.Schema.{Schema}
 use Rattle.access_schema.specs.declared.schema.SourceLine.{SourceLine}
@@ -24,8 +25,8 @@ use Rattle.middleware.specs.declared.fault.RunFault.{RunFault}
 use Rattle.middleware.specs.declared.fault.RunFault.TheVariants as fault
 use Rattle.middleware.specs.PlanSources.{line_for, IsAccessed, IsPlanSource, AllHaveLines, LinesBelow}
 use Rattle.middleware.specs.Held.{HoldPlan}
-use Rattle.middleware.specs.Attaching.{AttachesInOrder, AttachesOne, OnUsed}
-use Rattle.middleware.specs.Asked.{AskedTo, IsStepAt, IsRoundAt}
+use Rattle.middleware.specs.Attaching.{AttachesInOrder, AttachesOne, AttachesEach, OnUsed}
+use Rattle.middleware.specs.Asked.{AskedTo, AsksLane, IsStepRequest, IsStepAt, IsRoundAt}
 
 -- the first lane lacks the kind, or there is no lane
 abbrev pub LacksKind : {S : Type 0} → List (Lane S) → List ℕ → Type 0
@@ -88,27 +89,37 @@ pub record IsStepRelation (schema : Schema) (plan : Plan) (branch step rel : ℕ
   pub named : IsMethod (meaning_of schema) its_step.method method
   pub of_relation : method.rel ≡ rel
 
--- of a round that fits the cap the first requests were asked, and those of all rounds before it
-pub record BreaksOff {S : Type 0} (seen : S → Seen) (schema : Schema) (plan : Plan) (instance : List Fact) (cap branch step : ℕ) (old new : List (Kind S)) : Type 0 where
-  pub earlier : List Request
-  pub now : List Request
-  pub round : IsRoundAt (meaning_of schema) plan instance branch step earlier now
-  pub fits : length earlier + length now ≤ cap
-  -- how many of the round's
-  pub count : ℕ
-  pub some : 1 ≤ count
-  pub within : count ≤ length now
-  pub asked : AskedTo seen schema (length earlier + count) (earlier ++ now) old new
+-- the requests of all rounds before that of a step, and the first ones of its own, which fits the cap
+pub record BreaksOff (schema : SchemaParts) (plan : Plan) (instance : List Fact) (cap branch step : ℕ) (earlier now : List Request) : Type 0 where
+  pub round : List Request
+  pub is_round : IsRoundAt schema plan instance branch step earlier round
+  pub fits : length earlier + length round ≤ cap
+  pub first : now ≡ take (length now) round
 
--- A call of the step's round failed: the count of faults of the source of its relation rose.
-pub record CallStops {S : Type 0} (seen : S → Seen) (schema : Schema) (plan : Plan) (cap branch step : ℕ) (old new : List (Kind S)) : Type 0 where
+-- A call of the step's round failed: of its requests some were asked, and meanwhile the count of faults of the source of its
+-- relation rose.
+pub record RoundFails {S : Type 0} (seen : S → Seen) (schema : Schema) (plan : Plan) (cap branch step : ℕ) (old new : List (Kind S)) : Type 0 where
   pub rel : ℕ
   pub relation : Relation
   pub line : SourceLine
-  pub of_step : IsStepRelation schema plan branch step rel
+  pub of_relation : IsStepRelation schema plan branch step rel
   pub is_source : IsPlanSource schema plan rel relation line
-  pub rose : SourceSteps old new line.kind (λ s t. Rose (seen s).faults (seen t).faults)
-  pub asked : (instance : List Fact) → HoldPlan seen schema plan new instance → BreaksOff seen schema plan instance cap branch step old new
+  -- the lane before the round, and what was asked until then and in it
+  pub before : List (Kind S)
+  pub earlier : List Request
+  pub now : List Request
+  pub asks_earlier : AsksLane seen schema earlier old before
+  pub asks_now : AsksLane seen schema now before new
+  pub some : 1 ≤ length now
+  pub of_step : (request : Request) → Contains now request → IsStepRequest (meaning_of schema) of_relation.its_step request
+  pub rose : SourceSteps before new line.kind (λ s t. Rose (seen s).faults (seen t).faults)
+  pub asked : (instance : List Fact) → HoldPlan seen schema plan new instance → BreaksOff (meaning_of schema) plan instance cap branch step earlier now
+
+-- Each relation of the plan was attached once, in ascending order, and then a call failed.
+pub record CallStops {S : Type 0} (seen : S → Seen) (schema : Schema) (plan : Plan) (cap branch step : ℕ) (old new : List (Kind S)) : Type 0 where
+  pub middle : List (Kind S)
+  pub attaches : AttachesEach seen schema plan old middle
+  pub fails : RoundFails seen schema plan cap branch step middle new
 
 -- the requests of all rounds before some round were asked, and none of its own, of which there are too many
 pub record StopsBefore {S : Type 0} (seen : S → Seen) (schema : Schema) (plan : Plan) (instance : List Fact) (made wanted : ℕ) (old new : List (Kind S)) : Type 0 where

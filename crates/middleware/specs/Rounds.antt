@@ -35,6 +35,7 @@ pub record AnswersAll (rel : ℕ) (positions : List ℕ) (requests : RowList) (r
   pub held : new.held ≡ old.held
   pub attached : new.attached ≡ old.attached
   pub offers : new.offer ≡ old.offer
+  pub passes : new.passes ≡ old.passes
   pub later : old.faults ≤ new.faults
 
 -- each request of the method may be asked
@@ -52,6 +53,7 @@ pub record RoundAnswers (places : List Place) (method : Method) (rows requests n
   pub held : new.held ≡ old.held
   pub attached : new.attached ≡ old.attached
   pub offers : new.offer ≡ old.offer
+  pub passes : new.passes ≡ old.passes
   pub later : old.faults ≤ new.faults
 
 -- why a round stopped, of so many requests after so many of them
@@ -71,4 +73,5 @@ pub record RoundRefused (places : List Place) (method : Method) (rows : RowList)
   pub held : new.held ≡ old.held
   pub attached : new.attached ≡ old.attached
   pub offers : new.offer ≡ old.offer
+  pub passes : new.passes ≡ old.passes
   pub later : old.faults ≤ new.faults

@@ -1,7 +1,7 @@
 -- What asking relations one after another does to a lane.
-use Rattle.std.proofs.Common.{◌≡◌, ◌+◌, ◌<◌, ℕ, List, [], ◌∷◌, ◌++◌, length, take, get_or, Option, refl, sym, ◌∙◌, ap, subst, append_assoc}
+use Rattle.std.proofs.Common.{◌≡◌, inl, inr, ◌+◌, ◌<◌, ℕ, List, [], ◌∷◌, ◌++◌, length, take, get_or, Option, refl, sym, ◌∙◌, ap, subst, append_assoc, arith}
 use Rattle.std.specs.Prelude.{IsSome, Ok, Err, Result}
-use Rattle.std.proofs.lemmas.List.{append-nil, take_more}
+use Rattle.std.proofs.lemmas.List.{append-nil, take_more, take_all}
 use Rattle.std.proofs.lemmas.Option.{slice_get-get_or}
 use Rattle.meaning.specs.declared.types.Fact.{Fact}
 use Rattle.access_schema.specs.declared.schema.Schema.{Schema}
@@ -12,8 +12,8 @@ use Rattle.source_trait.specs.declared.source.CallFault.TheVariants as call
 use Rattle.source_trait.specs.declared.lanes.Kind.{Kind}
 use Rattle.source_trait.proofs.LaneSteps.{StepsOn-keeps}
 use Rattle.command_io.specs.declared.stop.Stop.TheVariants as stop
-use Rattle.verify_command.specs.Asking.{IsReady, AsksOne, AsksInOrder, AskStop}
-use Rattle.verify_command.specs.Asking.AskStop.{failed}
+use Rattle.verify_command.specs.Asking.{IsReady, AsksOne, AsksInOrder, AsksPart, AskStop}
+use Rattle.verify_command.specs.Asking.AskStop.{no_memory, failed}
 
 module _ {S : Type 0} (seen : S → Seen) (schema : Schema) where
   abbrev Gives : ℕ → Result RowList CallFault → S → S → Type 0
@@ -48,6 +48,30 @@ module _ {S : Type 0} (seen : S → Seen) (schema : Schema) where
   asks_take rels i less facts more rows is old mid new order one =
       subst (λ (f : List Fact). AsksInOrder seen schema (take (i + 1) rels) f old new) (sym is)
       (subst (λ (r : List ℕ). AsksInOrder seen schema r (facts ++ facts_of (get_or rels i 0) rows) old new) (sym (take_more rels i 0 less)) (asks_more (take i rels) (get_or rels i 0) facts rows old mid new order one))
+
+  -- the next request found no memory
+  pub asks_full : (rels : List ℕ) (i : ℕ) → i < length rels → (facts : List Fact) (old mid new : List (Kind S)) → AsksInOrder seen schema (take i rels) facts old mid → AsksOne seen schema (get_or rels i 0) (Err call.NoMemory) mid new → AskStop seen schema rels old new stop.Memory
+  asks_full rels i less facts old mid new order one = no_memory (record { n = i; facts = facts; middle = mid; asked = order; last = inr (get_or rels i 0, slice_get-get_or rels i 0 less, one) })
+
+  -- there was no memory for the facts of an answer
+  pub asks_dropped : (rels : List ℕ) (i : ℕ) → i < length rels → (facts : List Fact) (rows : RowList) (old mid new : List (Kind S)) → AsksInOrder seen schema (take i rels) facts old mid → AsksOne seen schema (get_or rels i 0) (Ok rows) mid new → AskStop seen schema rels old new stop.Memory
+  asks_dropped rels i less facts rows old mid new order one = no_memory (record {
+    n = i + 1;
+    facts = facts ++ facts_of (get_or rels i 0) rows;
+    middle = new;
+    asked = asks_take rels i less facts (facts ++ facts_of (get_or rels i 0) rows) rows refl old mid new order one;
+    last = inl refl;
+  })
+
+  -- there was no memory after all were asked
+  pub asks_whole : (rels : List ℕ) (facts : List Fact) (old new : List (Kind S)) → AsksInOrder seen schema rels facts old new → AsksPart seen schema rels old new
+  asks_whole rels facts old new order = record {
+    n = length rels;
+    facts = facts;
+    middle = new;
+    asked = subst (λ (r : List ℕ). AsksInOrder seen schema r facts old new) (sym (take_all (length rels) rels (omega arith))) order;
+    last = inl refl;
+  }
 
   pub asks_break : (rels : List ℕ) (i : ℕ) → i < length rels → (facts : List Fact) (old mid new : List (Kind S)) → AsksInOrder seen schema (take i rels) facts old mid → AsksOne seen schema (get_or rels i 0) (Err call.Failed) mid new → AskStop seen schema rels old new (stop.WholeFailed (get_or rels i 0))
   asks_break rels i less facts old mid new order one = failed (get_or rels i 0) (record { n = i; at = slice_get-get_or rels i 0 less; facts = facts; middle = mid; asked = order; failed = one })

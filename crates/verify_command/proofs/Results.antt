@@ -20,7 +20,7 @@ use Rattle.verify_command.specs.RuleRelations.{AreRuleRelations}
 use Rattle.verify_command.specs.Asking.{AsksInOrder, AskStop}
 use Rattle.verify_command.specs.Asking.AskStop.{no_memory as ask_memory, failed}
 use Rattle.verify_command.specs.Verifying.{IsVerified, Verifies, used, others}
-use Rattle.verify_command.specs.Verifying.Verifies.{no_memory, not_attached, not_asked, done}
+use Rattle.verify_command.specs.Verifying.Verifies.{no_memory_attaching, no_memory_asking, not_attached, not_asked, done}
 use Rattle.verify_command.specs.Listing.{stop_of_refusal}
 use Rattle.verify_command.proofs.Attaching.{order_ready}
 use Rattle.verify_command.proofs.Holding.{instance_asked}
@@ -28,16 +28,16 @@ use Rattle.verify_command.proofs.Alike.{verified_there}
 
 module _ {S : Type 0} (seen : S → Seen) (schema : Schema) (rels : List ℕ) (are : AreRuleRelations schema rels) (old middle new : List (Kind S)) where
   pub refused : (rel : ℕ) (why : AttachFault) → AttachBreaks seen schema rels rel why old new → Verifies seen schema old new (Err (stop_of_refusal rel why))
-  refused rel attach.NoMemory b = no_memory
-  refused rel attach.Missing b = not_attached rels rel attach.Missing are b
-  refused rel attach.Failed b = not_attached rels rel attach.Failed are b
-  refused rel (attach.BadHeader column) b = not_attached rels rel (attach.BadHeader column) are b
-  refused rel (attach.BadRow number) b = not_attached rels rel (attach.BadRow number) are b
-  refused rel (attach.NotUtf8 number) b = not_attached rels rel (attach.NotUtf8 number) are b
-  refused rel attach.TooLarge b = not_attached rels rel attach.TooLarge are b
+  refused rel attach.NoMemory b = no_memory_attaching rels rel are b
+  refused rel attach.Missing b = not_attached rels rel attach.Missing are b (λ h. cc)
+  refused rel attach.Failed b = not_attached rels rel attach.Failed are b (λ h. cc)
+  refused rel (attach.BadHeader column) b = not_attached rels rel (attach.BadHeader column) are b (λ h. cc)
+  refused rel (attach.BadRow number) b = not_attached rels rel (attach.BadRow number) are b (λ h. cc)
+  refused rel (attach.NotUtf8 number) b = not_attached rels rel (attach.NotUtf8 number) are b (λ h. cc)
+  refused rel attach.TooLarge b = not_attached rels rel attach.TooLarge are b (λ h. cc)
 
   pub unasked : (end : Stop) → AttachesInOrder seen schema rels old middle → AskStop seen schema rels middle new end → Verifies seen schema old new (Err end)
-  unasked end order ask_memory = no_memory
+  unasked end order (ask_memory part) = no_memory_asking rels middle are order part
   unasked end order (failed rel b) = not_asked rels rel middle are order b
 
   pub all_found : (facts : List Fact) (found : Option Broken) → AttachesInOrder seen schema rels old middle → AsksInOrder seen schema rels facts middle new → IsVerified schema facts found → Verifies seen schema old new (Ok found)

@@ -1,5 +1,5 @@
 -- Relations that are asked whole, one after another.
-use Rattle.std.specs.Prelude.{◌≡◌, ◌++◌, ℕ, List, [], ◌∷◌, IsSome, Some, slice_get, take, Result, Ok, Err}
+use Rattle.std.specs.Prelude.{◌≡◌, ◌⊎◌, ◌++◌, ℕ, List, [], ◌∷◌, IsSome, Some, slice_get, take, Result, Ok, Err}
 use Rattle.meaning.specs.declared.types.Fact.{Fact}
 use Rattle.access_schema.specs.declared.schema.Schema.{Schema}
 use Rattle.access_schema.specs.declared.schema.SourceLine.{SourceLine}
@@ -40,7 +40,15 @@ pub record AskBreaks {S : Type 0} (seen : S → Seen) (schema : Schema) (rels : 
   pub asked : AsksInOrder seen schema (take n rels) facts old middle
   pub failed : AsksOne seen schema rel (Err call.Failed) middle new
 
+-- Some first relations were asked for whole in order, and after them nothing, or the next one, whose request found no memory.
+pub record AsksPart {S : Type 0} (seen : S → Seen) (schema : Schema) (rels : List ℕ) (old new : List (Kind S)) : Type 0 where
+  pub n : ℕ
+  pub facts : List Fact
+  pub middle : List (Kind S)
+  pub asked : AsksInOrder seen schema (take n rels) facts old middle
+  pub last : (new ≡ middle) ⊎ ((rel : ℕ) × (slice_get rels n ≡ Some rel) × AsksOne seen schema rel (Err call.NoMemory) middle new)
+
 -- Why not all relations were asked: memory was wanted, or the request for one failed.
 pub data AskStop {S : Type 0} (seen : S → Seen) (schema : Schema) (rels : List ℕ) (old new : List (Kind S)) : Stop → Type 0 where
-  no_memory : AskStop seen schema rels old new stop.Memory
+  no_memory : AsksPart seen schema rels old new → AskStop seen schema rels old new stop.Memory
   failed : (rel : ℕ) → AskBreaks seen schema rels rel old new → AskStop seen schema rels old new (stop.WholeFailed rel)

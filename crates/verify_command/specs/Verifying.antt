@@ -1,11 +1,12 @@
 -- What verifying the rules of a schema does on the used lane, and what it finds.
-use Rattle.std.specs.Prelude.{◌≡◌, ◌↔◌, ℕ, List, [], ◌∷◌, Option, IfSome, IsNone, Result, Ok, Err}
+use Rattle.std.specs.Prelude.{◌≡◌, ◌≢◌, ◌↔◌, ℕ, List, [], ◌∷◌, Option, IfSome, IsNone, Result, Ok, Err}
 use Rattle.meaning.specs.declared.types.Fact.{Fact}
 use Rattle.meaning.specs.Matching.{Meets}
 use Rattle.access_schema.specs.declared.schema.Schema.{Schema}
 use Rattle.access_schema.specs.Meaning.{meaning_of}
 use Rattle.source_trait.specs.Asking.{Seen}
 use Rattle.source_trait.specs.declared.source.AttachFault.{AttachFault}
+use Rattle.source_trait.specs.declared.source.AttachFault.TheVariants as attach
 use Rattle.source_trait.specs.declared.lanes.Kind.{Kind}
 use Rattle.source_trait.specs.declared.lanes.Lane.{Lane}
 use Rattle.middleware.specs.Attaching.{AttachesInOrder}
@@ -17,7 +18,7 @@ use Rattle.command_io.specs.declared.stop.Stop.{Stop}
 use Rattle.command_io.specs.declared.stop.Stop.TheVariants as stop
 use Rattle.verify_command.specs.RuleRelations.{AreRuleRelations, IsFirstLineless, IsFirstKindless}
 use Rattle.verify_command.specs.Held.{HoldRules}
-use Rattle.verify_command.specs.Asking.{AsksInOrder, AskBreaks}
+use Rattle.verify_command.specs.Asking.{AsksInOrder, AsksPart, AskBreaks}
 
 -- The kinds of the used lane, which is the first; there are none without a lane.
 abbrev pub used : {S : Type 0} → List (Lane S) → List (Kind S)
@@ -47,12 +48,17 @@ pub record Finds {S : Type 0} (seen : S → Seen) (schema : Schema) (old new : L
   pub of_held : (instance : List Fact) → HoldRules seen schema new instance → IsVerified schema instance found
 
 -- What verifying gave, by what it came to: a relation without a source line, or one without a source of its kind, where nothing
--- changed; one that was refused; one whose request failed; or all rows.
+-- changed; one that was refused; one whose request failed; or all rows. Where memory was wanted, nothing had been done, or some
+-- first relations of the rules had been attached, or all of them attached and some first of them asked for whole.
 pub data Verifies {S : Type 0} (seen : S → Seen) (schema : Schema) (old new : List (Kind S)) : Result (Option Broken) Stop → Type 0 where
-  no_memory : Verifies seen schema old new (Err stop.Memory)
+  no_memory : new ≡ old → Verifies seen schema old new (Err stop.Memory)
+  no_memory_attaching : (rels : List ℕ) (rel : ℕ) → AreRuleRelations schema rels → AttachBreaks seen schema rels rel attach.NoMemory old new →
+      Verifies seen schema old new (Err stop.Memory)
+  no_memory_asking : (rels : List ℕ) (middle : List (Kind S)) → AreRuleRelations schema rels → AttachesInOrder seen schema rels old middle →
+      AsksPart seen schema rels middle new → Verifies seen schema old new (Err stop.Memory)
   no_source : (rel : ℕ) → IsFirstLineless schema rel → new ≡ old → Verifies seen schema old new (Err (stop.Run (run.NoSource rel)))
   unknown_kind : (rel : ℕ) → IsFirstKindless old schema rel → new ≡ old → Verifies seen schema old new (Err (stop.Run (run.UnknownKind rel)))
-  not_attached : (rels : List ℕ) (rel : ℕ) (why : AttachFault) → AreRuleRelations schema rels → AttachBreaks seen schema rels rel why old new →
+  not_attached : (rels : List ℕ) (rel : ℕ) (why : AttachFault) → AreRuleRelations schema rels → AttachBreaks seen schema rels rel why old new → why ≢ attach.NoMemory →
       Verifies seen schema old new (Err (stop.Run (run.Attach rel why)))
   not_asked : (rels : List ℕ) (rel : ℕ) (middle : List (Kind S)) → AreRuleRelations schema rels → AttachesInOrder seen schema rels old middle →
       AskBreaks seen schema rels rel middle new → Verifies seen schema old new (Err (stop.WholeFailed rel))

@@ -3,8 +3,7 @@ use Rattle.std.proofs.Common.{refl, get_or, arith}
 use Rattle.std.proofs.lemmas.Option.{slice_get-get_or}
 use Rattle.lists.proofs.Members.{contains_got}
 use Rattle.source_trait.proofs.LaneSteps.{KindsStay-refl, KindsStay-trans}
-use Rattle.verify_command.specs.Asking.AskStop.{no_memory}
-use Rattle.verify_command.proofs.Asking.{asked_ready, asks_take, asks_break}
+use Rattle.verify_command.proofs.Asking.{asked_ready, asks_take, asks_full, asks_dropped, asks_break}
 use Rattle.verify_command.proofs.ask.ask_all.Goals as goal
 
 pub loop-rel-init : goal.loop-rel-init
@@ -16,7 +15,9 @@ ask_one-requires-after_bounds g c κs within =
     (c.requires.ready (get_or c.args.rels.now c.loop-rel.rel-index 0) (contains_got c.args.rels.now c.loop-rel.rel-index _ (slice_get-get_or c.args.rels.now c.loop-rel.rel-index 0 (omega arith))))
 
 pub returns-in-Err-clause-stops : goal.returns-in-Err-clause-stops
-returns-in-Err-clause-stops g c = no_memory
+returns-in-Err-clause-stops g c =
+    asks_dropped g.S.Source.seen c.args.schema.now c.args.rels.now c.loop-rel.rel-index (omega arith) c.loop-rel.facts c.in-Ok.rows c.args.lane.now.kinds.items c.loop-rel.lane.kinds.items c.ask_one.new.lane.kinds.items
+    c.loop-rel.invariant.asked c.in-Ok.ensures.asks
 
 pub returns-in-Err-clause-stays : goal.returns-in-Err-clause-stays
 returns-in-Err-clause-stays g c = KindsStay-trans g.S.Source.seen _ _ _ c.loop-rel.invariant.stays c.ask_one.ensures.stays
@@ -30,7 +31,9 @@ pub returns-in-Err-Failed-clause-stays : goal.returns-in-Err-Failed-clause-stays
 returns-in-Err-Failed-clause-stays g c = KindsStay-trans g.S.Source.seen _ _ _ c.loop-rel.invariant.stays c.ask_one.ensures.stays
 
 pub returns-in-Err-NoMemory-clause-stops : goal.returns-in-Err-NoMemory-clause-stops
-returns-in-Err-NoMemory-clause-stops g c = no_memory
+returns-in-Err-NoMemory-clause-stops g c =
+    asks_full g.S.Source.seen c.args.schema.now c.args.rels.now c.loop-rel.rel-index (omega arith) c.loop-rel.facts c.args.lane.now.kinds.items c.loop-rel.lane.kinds.items c.ask_one.new.lane.kinds.items
+    c.loop-rel.invariant.asked (rw c.in-Err-NoMemory.field-0-is at c.in-Err-NoMemory.ensures.asks)
 
 pub returns-in-Err-NoMemory-clause-stays : goal.returns-in-Err-NoMemory-clause-stays
 returns-in-Err-NoMemory-clause-stays g c = KindsStay-trans g.S.Source.seen _ _ _ c.loop-rel.invariant.stays c.ask_one.ensures.stays

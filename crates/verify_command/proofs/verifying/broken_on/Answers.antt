@@ -4,10 +4,11 @@ use Rattle.access_schema.specs.declared.schema.SourceLine.{SourceLine}
 use Rattle.source_trait.specs.Lanes.{names_of}
 use Rattle.source_trait.proofs.LaneSteps.{KindsStay-refl, KindsStay-trans}
 use Rattle.middleware.specs.Sources.{first_kindless}
-use Rattle.verify_command.specs.Verifying.Verifies.{no_memory, unknown_kind}
+use Rattle.verify_command.specs.Verifying.Verifies.{no_memory_asking, unknown_kind}
 use Rattle.verify_command.proofs.Missing.{all_placed, first_kindless_is}
 use Rattle.middleware.proofs.Attached.{order_stays}
 use Rattle.verify_command.proofs.Attaching.{order_ready, break_stays}
+use Rattle.verify_command.proofs.Asking.{asks_whole}
 use Rattle.verify_command.proofs.Results.{refused, unasked, all_found}
 use Rattle.verify_command.proofs.verifying.broken_on.Goals as goal
 
@@ -49,6 +50,7 @@ returns-in-Ok-verify g c = record {
 
 pub returns : goal.returns
 returns g c = record {
-  verifies = no_memory;
+  verifies = no_memory_asking c.args.rels.now c.attach_all.new.lane.kinds.items c.requires.relations c.in-Ok.ensures.attached
+      (asks_whole g.S.Source.seen c.args.schema.now c.args.rels.now c.in-Ok-ask_all.facts c.attach_all.new.lane.kinds.items c.ask_all.new.lane.kinds.items c.in-Ok-ask_all.ensures.asked);
   stays = KindsStay-trans g.S.Source.seen _ _ _ (order_stays g.S.Source.seen c.args.schema.now c.args.rels.now c.args.lane.now.kinds.items c.attach_all.new.lane.kinds.items c.in-Ok.ensures.attached) c.ask_all.ensures.stays;
 }

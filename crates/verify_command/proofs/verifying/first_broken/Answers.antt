@@ -9,7 +9,7 @@ use Rattle.verify_command.proofs.Results.{first_used, first_others, first_stay}
 use Rattle.verify_command.proofs.verifying.first_broken.Goals as goal
 
 pub returns-in-Err-clause-verifies : goal.returns-in-Err-clause-verifies
-returns-in-Err-clause-verifies g c = no_memory
+returns-in-Err-clause-verifies g c = no_memory refl
 
 pub returns-in-Err-clause-lanes : goal.returns-in-Err-clause-lanes
 returns-in-Err-clause-lanes g c = LanesStay-refl g.S.Source.seen c.args.lanes.now.items
