@@ -1,5 +1,5 @@
--- A plan of one access over a schema can be written.
-use Rattle.std.proofs.Common.{◌≡◌, ℕ, ◌+◌, ◌≤◌, List, [], ◌∷◌, length, refl, sym, ap, ◌∙◌, subst, arith}
+-- A lawful plan of few steps over a schema can be written.
+use Rattle.std.proofs.Common.{◌≡◌, ℕ, ◌+◌, ◌*◌, ◌≤◌, List, [], ◌∷◌, length, refl, sym, ap, ◌∙◌, subst, arith}
 use Rattle.std.specs.Prelude.{Contains}
 use Rattle.std.specs.List.{AllByRecursion}
 use Rattle.lists.proofs.Members.{contains_here, contains_there, contains_got}
@@ -18,16 +18,16 @@ use Rattle.meaning.specs.Plans.{made, AreLawfulPlaces, IsLawfulOut, IsLawfulStep
 use Rattle.access_schema.specs.declared.schema.Schema.{Schema}
 use Rattle.access_schema.specs.Meaning.{meaning_of}
 use Rattle.sql_select.specs.Statements.{StatementFits}
-use Rattle.plan_form.specs.Fitting.{IsWritablePlace, IsWritableOut, IsWritableStep, IsWritableBranch, PlanFits}
-use Rattle.proof_search.specs.Plans.{IsPlanFor, IsOneAccess, known_of}
+use Rattle.plan_form.specs.Fitting.{IsWritablePlace, IsWritableOut, IsWritableStep, IsWritableBranch, HasFewSteps, PlanFits}
+use Rattle.proof_search.specs.Plans.{IsPlanFor, known_of}
 
--- what holds of each member holds of all
-all_of : {X : Type 0} (P : X → Type 0) (xs : List X) → ((x : X) → Contains xs x → P x) → AllByRecursion P xs
+-- what holds of each member holds of all, and the other way round
+pub all_of : {X : Type 0} (P : X → Type 0) (xs : List X) → ((x : X) → Contains xs x → P x) → AllByRecursion P xs
 all_of P [] each = tt
 all_of P (x ∷ xs) each = (each x (contains_here x xs), all_of P xs (λ y among. each y (contains_there x xs y among)))
 
 -- lawful places name columns whose number can be written
-places_fit : (constants : List Value) (inputs : List ℕ) (began p columns : ℕ) (places : List Place) → columns + length places ≤ 64 →
+places_fit : (constants : List Value) (inputs : List ℕ) (began p columns : ℕ) (places : List Place) → columns + length places ≤ 4294967296 →
     AreLawfulPlaces constants inputs began p columns places → AllByRecursion IsWritablePlace places
 places_fit constants inputs began p columns [] few lawful = tt
 places_fit constants inputs began p columns (Const c ∷ places) few lawful =
@@ -44,72 +44,69 @@ made_few columns (Col k ∷ places) = let rest = made_few columns places in omeg
 made_few columns (New ∷ places) = let rest = made_few (columns + 1) places in omega (arith, rest)
 
 -- and so do lawful outputs
-out_fits : (constants : List Value) (columns : ℕ) (out : Out) → columns ≤ 64 → IsLawfulOut constants columns out → IsWritableOut out
+out_fits : (constants : List Value) (columns : ℕ) (out : Out) → columns ≤ 4294967296 → IsLawfulOut constants columns out → IsWritableOut out
 out_fits constants columns (Fixed c) few lawful = tt
 out_fits constants columns (Made k) few lawful = omega (arith, few, lawful)
 
 module _ (schema : Schema) (constants : List Value) where
-  few_places : (step : Step) (method : Method) → IsLawfulStep (meaning_of schema) constants 0 step method →
+  few_places : (columns : ℕ) (step : Step) (method : Method) → IsLawfulStep (meaning_of schema) constants columns step method →
       (1 ≤ length step.places) × (length step.places ≤ 64)
-  few_places step method lawful =
-      let columns = schema.valid.relations_are.columns lawful.arity.relation (contains_got schema.relations method.rel lawful.arity.relation lawful.arity.there) in
-      let some : 1 ≤ length lawful.arity.relation.columns = columns.some in
-      let few : length lawful.arity.relation.columns ≤ 64 = columns.few in
+  few_places columns step method lawful =
+      let are = schema.valid.relations_are.columns lawful.arity.relation (contains_got schema.relations method.rel lawful.arity.relation lawful.arity.there) in
+      let some : 1 ≤ length lawful.arity.relation.columns = are.some in
+      let few : length lawful.arity.relation.columns ≤ 64 = are.few in
       let width : length step.places ≡ length lawful.arity.relation.columns = lawful.arity.width in
       (omega (arith, some, width), omega (arith, few, width))
 
-  step_fits : (step : Step) (method : Method) → IsLawfulStep (meaning_of schema) constants 0 step method → IsWritableStep step
-  step_fits step method lawful =
-      let few = few_places step method lawful in
+  step_fits : (columns : ℕ) (step : Step) (method : Method) → columns + 64 ≤ 4294967296 → IsLawfulStep (meaning_of schema) constants columns step method → IsWritableStep step
+  step_fits columns step method room lawful =
+      let few = few_places columns step method lawful in
       record {
         named = λ none. schema.valid.methods_are.named method lawful.named.0 (lawful.named.1 ∙ none);
         some = λ none. let empty : length step.places ≡ 0 = ap length none in absurd (omega (arith, few.0, empty));
-        places = places_fit constants method.inputs 0 0 0 step.places (omega (arith, few.1)) lawful.places;
+        places = places_fit constants method.inputs columns 0 columns step.places (omega (arith, room, few.1)) lawful.places;
       }
 
-  one_step : (steps : List Step) (outs : List Out) → length steps ≡ 1 → AreLawfulFrom (meaning_of schema) constants 0 steps outs →
+  -- each step makes at most 64 columns
+  steps_fit : (columns : ℕ) (steps : List Step) (outs : List Out) → columns + length steps * 64 ≤ 4294967296 → AreLawfulFrom (meaning_of schema) constants columns steps outs →
       AllByRecursion IsWritableStep steps × AllByRecursion IsWritableOut outs
-  one_step [] outs one lawful = absurd (omega (arith, one))
-  one_step (step ∷ other ∷ steps) outs one lawful = absurd (omega (arith, one))
-  one_step (step ∷ []) outs one (method, is, rest) =
-      let few = few_places step method is in
-      let bound = made_few 0 step.places in
-      let columns : made 0 step.places ≤ 64 = omega (arith, few.1, bound) in
-      ((step_fits step method is, tt), all_of IsWritableOut outs (λ out among. out_fits constants (made 0 step.places) out columns (rest out among)))
+  steps_fit columns [] outs room lawful = (tt, all_of IsWritableOut outs (λ out among. out_fits constants columns out (omega (arith, room)) (lawful out among)))
+  steps_fit columns (step ∷ steps) outs room (method, is, rest) =
+      let few = few_places columns step method is in
+      let bound = made_few columns step.places in
+      let later = steps_fit (made columns step.places) steps outs (omega (arith, room, few.1, bound)) rest in
+      ((step_fits columns step method (omega (arith, room)) is, later.0), later.1)
 
-  pub branch_fits : (branch : Branch) → length branch.steps ≡ 1 → 1 ≤ length branch.output → IsLawfulBranch (meaning_of schema) constants branch → IsWritableBranch branch
-  branch_fits branch one some lawful =
-      let parts = one_step branch.steps branch.output one lawful in
+  pub branch_fits : (branch : Branch) → length branch.steps ≤ 1048576 → 1 ≤ length branch.output → IsLawfulBranch (meaning_of schema) constants branch → IsWritableBranch branch
+  branch_fits branch few some lawful =
+      let parts = steps_fit 0 branch.steps branch.output (omega (arith, few)) lawful in
       record {
         steps = parts.0;
         some = λ none. let empty : length branch.output ≡ 0 = ap length none in absurd (omega (arith, some, empty));
         outs = parts.1;
       }
 
--- the plan of one access for a statement that fits
-pub plan_fits : (schema : Schema) (statement : Statement) (plan : Plan) → StatementFits schema statement → IsPlanFor schema statement plan → IsOneAccess plan → PlanFits plan
-plan_fits schema statement plan fits is one = of_selects statement.selects refl
+-- the plan for a statement that fits
+pub plan_fits : (schema : Schema) (statement : Statement) (plan : Plan) → StatementFits schema statement → IsPlanFor schema statement plan → PlanFits plan
+plan_fits schema statement plan fits is = of_selects statement.selects refl
   where
+    steps : (branch : Branch) → Contains plan.branches branch → length branch.steps ≤ 1048576
+    steps branch among = let few = is.steps branch among in omega (arith, few)
+
     with_width : 1 ≤ plan.width → plan.width ≤ 64 → PlanFits plan
-    with_width some most =
-        let branch_few : (branch : Branch) → Contains plan.branches branch → length branch.steps ≤ 1048576 =
-        λ branch among. let steps = one.steps branch among in omega (arith, steps) in
-        record {
-          writable = record {
-            some = some;
-            most = most;
-            branches = all_of IsWritableBranch plan.branches (λ branch among.
-                let width = (is.lawful branch among).0 in
-                branch_fits schema (known_of schema statement) branch (one.steps branch among) (omega (arith, some, width)) (is.lawful branch among).1);
-          };
-          few = record {
-            branches = let branches = one.branches in omega (arith, branches);
-            steps = all_of (λ branch. length branch.steps ≤ 1048576) plan.branches branch_few;
-          };
-        }
+    with_width some most = record {
+      writable = record {
+        some = some;
+        most = most;
+        branches = all_of IsWritableBranch plan.branches (λ branch among.
+            let width = (is.lawful branch among).0 in
+            branch_fits schema (known_of schema statement) branch (steps branch among) (omega (arith, some, width)) (is.lawful branch among).1);
+      };
+      few = record { branches = let few = is.branches in let one = fits.count in omega (arith, few, one); steps = all_of (λ branch. length branch.steps ≤ 1048576) plan.branches steps };
+    }
 
     of_selects : (selects : List Select) → statement.selects ≡ selects → PlanFits plan
-    of_selects [] are = let none : length statement.selects ≡ 0 = ap length are in let some = fits.one in absurd (omega (arith, none, some))
+    of_selects [] are = let none : length statement.selects ≡ 0 = ap length are in let some = fits.count in absurd (omega (arith, none, some))
     of_selects (select ∷ selects) are =
         let among : Contains statement.selects select = subst (λ list. Contains list select) (sym are) (contains_here select selects) in
         let wide = is.wide select among in

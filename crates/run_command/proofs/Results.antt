@@ -28,16 +28,14 @@ use Rattle.command_io.specs.Telling.{Tells}
 use Rattle.command_io.specs.Executing.{Executes, Delivers}
 use Rattle.command_io.specs.Executing.Delivers.{done as delivered_all, no_rows, no_text as no_text_made, cut as delivered_part}
 use Rattle.sql_select.specs.Statements.{StatementFits}
-use Rattle.proof_search.specs.Plans.{IsPlanFor, IsOneAccess}
-use Rattle.proof_search.specs.Whole.{IsAskedWhole}
+use Rattle.proof_search.specs.Plans.{IsPlanFor}
 use Rattle.run_command.proofs.Fits.{plan_fits}
 use Rattle.run_command.specs.Ends.{IsPlanned, IsResult, PlanEnds, result_names}
 use Rattle.run_command.specs.Ends.PlanEnds.{unplanned, untold, stopped, no_text, cut, done}
 
--- a plan that was made is one that is looked for
-pub planned : (schema : Schema) (statement : Statement) (plan : Plan) → StatementFits schema statement → IsAskedWhole (meaning_of schema) statement →
-    IsOneAccess plan → IsPlanFor schema statement plan → IsPlanned schema statement plan
-planned schema statement plan fits asked one is = record { asked = asked; one = one; is = is; fits = plan_fits schema statement plan fits is one }
+-- a plan that was made can be written
+pub planned : (schema : Schema) (statement : Statement) (plan : Plan) → StatementFits schema statement → IsPlanFor schema statement plan → IsPlanned schema statement plan
+planned schema statement plan fits is = record { is = is; fits = plan_fits schema statement plan fits is }
 
 module _ {S : Type 0} (seen : S → Seen) (schema : Schema) (statement : Statement) (plan : Plan) (is : IsPlanned schema statement plan)
     (columns : List (List ℕ)) (named : result_names statement.selects ≡ columns) (old new : List (Lane S)) where

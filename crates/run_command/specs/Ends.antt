@@ -27,19 +27,15 @@ use Rattle.command_io.specs.Writing.{TookAll, TookPart}
 use Rattle.command_io.specs.FaultLines.{Names}
 use Rattle.command_io.specs.Telling.{StopsFor}
 use Rattle.command_io.specs.Executing.{Executes, stop_of_run}
-use Rattle.proof_search.specs.Plans.{IsPlanFor, IsOneAccess}
-use Rattle.proof_search.specs.Whole.{IsAskedWhole, HasNoWholePlan}
+use Rattle.proof_search.specs.Plans.{IsPlanFor, NoPlanYet}
 
--- Why there is no plan: memory was wanted, or in this stage no plan of the statement is looked for.
+-- Why there is no plan: memory was wanted, or no lawful plan is equivalent to the statement or the firings are spent.
 pub data UnplannedStop (schema : Schema) (statement : Statement) : Stop → Type 0 where
   no_memory : UnplannedStop schema statement stop.Memory
-  no_plan_yet : HasNoWholePlan (meaning_of schema) statement → UnplannedStop schema statement stop.NoPlanYet
+  no_plan_yet : NoPlanYet schema statement → UnplannedStop schema statement stop.NoPlanYet
 
--- The plan is one that is looked for in this stage, the one access that asks for what the statement selects whole; and it can be
--- written, so that its text reads as it.
+-- The plan is one for the statement; and it can be written, so that its text reads as it.
 pub record IsPlanned (schema : Schema) (statement : Statement) (plan : Plan) : Type 0 where
-  pub asked : IsAskedWhole (meaning_of schema) statement
-  pub one : IsOneAccess plan
   pub is : IsPlanFor schema statement plan
   pub fits : PlanFits plan
 

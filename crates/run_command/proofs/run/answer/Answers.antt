@@ -3,8 +3,7 @@ use Rattle.std.proofs.Common.{refl}
 use Rattle.access_schema.specs.Meaning.{meaning_of}
 use Rattle.source_trait.proofs.LaneSteps.{LanesStay-refl}
 use Rattle.command_io.specs.declared.stop.Stop.TheVariants as stop
-use Rattle.proof_search.specs.Plans.{IsPlanFor, known_of}
-use Rattle.proof_search.specs.Whole.{HasNoWholePlan}
+use Rattle.proof_search.specs.Plans.{IsPlanFor, NoPlanYet, known_of}
 use Rattle.run_command.specs.Ends.UnplannedStop.{no_memory, no_plan_yet}
 use Rattle.run_command.specs.Ends.PlanEnds.{unplanned, untold}
 use Rattle.run_command.proofs.Results.{planned, names_are, delivered, not_delivered, lanes_stay}
@@ -12,7 +11,7 @@ use Rattle.run_command.proofs.run.answer.Goals as goal
 
 pub returns-in-Ok-None-clause-ends : goal.returns-in-Ok-None-clause-ends
 returns-in-Ok-None-clause-ends g c =
-    let none : HasNoWholePlan (meaning_of c.args.schema.now) c.args.statement.now = (rw c.in-Ok-None.field-0-is at c.in-Ok-None.ensures).none in
+    let none : NoPlanYet c.args.schema.now c.args.statement.now = (rw c.in-Ok-None.field-0-is at c.in-Ok-None.ensures).none in
     unplanned c.tell.result (record {
       given = stop.NoPlanYet;
       cause = no_plan_yet none;
@@ -37,8 +36,7 @@ returns-in-Err-write_plan-clause-ends g c =
     untold c.in-Ok-Some.plan (g.E.Sink.taken c.write_plan.new.err)
     (record { faults = g.E.Sink.faults c.write_plan.new.err; begun = c.write_plan.ensures.later; ended = c.tell-in-Err-write_plan.ensures.later })
     c.tell-in-Err-write_plan.result
-    (planned c.args.schema.now c.args.statement.now c.in-Ok-Some.plan c.requires (rw c.in-Ok-Some.field-0-is at c.in-Ok-Some.ensures.asked)
-    (rw c.in-Ok-Some.field-0-is at c.in-Ok-Some.ensures.one) (rw c.in-Ok-Some.field-0-is at c.in-Ok-Some.ensures.plan))
+    (planned c.args.schema.now c.args.statement.now c.in-Ok-Some.plan c.requires (rw c.in-Ok-Some.field-0-is at c.in-Ok-Some.ensures.plan))
     c.in-Err-write_plan.ensures.part (record {
       given = c.in-Err-write_plan.stop;
       cause = c.in-Err-write_plan.ensures.cause;
@@ -56,16 +54,14 @@ deliver-requires-clause-lawful g c κs within =
 pub returns-in-Ok-deliver-clause-ends : goal.returns-in-Ok-deliver-clause-ends
 returns-in-Ok-deliver-clause-ends g c =
     delivered g.S.Source.seen c.args.schema.now c.args.statement.now c.in-Ok-Some.plan
-    (planned c.args.schema.now c.args.statement.now c.in-Ok-Some.plan c.requires (rw c.in-Ok-Some.field-0-is at c.in-Ok-Some.ensures.asked)
-    (rw c.in-Ok-Some.field-0-is at c.in-Ok-Some.ensures.one) (rw c.in-Ok-Some.field-0-is at c.in-Ok-Some.ensures.plan))
+    (planned c.args.schema.now c.args.statement.now c.in-Ok-Some.plan c.requires (rw c.in-Ok-Some.field-0-is at c.in-Ok-Some.ensures.plan))
     c.only_select.result.now.names (names_are c.args.statement.now c.only_select.result.now c.only_select.ensures) _ _ _ _ _
     c.in-Ok.ensures.whole c.in-Ok-deliver.ensures.delivers
 
 pub returns-clause-ends : goal.returns-clause-ends
 returns-clause-ends g c =
     not_delivered g.S.Source.seen c.args.schema.now c.args.statement.now c.in-Ok-Some.plan
-    (planned c.args.schema.now c.args.statement.now c.in-Ok-Some.plan c.requires (rw c.in-Ok-Some.field-0-is at c.in-Ok-Some.ensures.asked)
-    (rw c.in-Ok-Some.field-0-is at c.in-Ok-Some.ensures.one) (rw c.in-Ok-Some.field-0-is at c.in-Ok-Some.ensures.plan))
+    (planned c.args.schema.now c.args.statement.now c.in-Ok-Some.plan c.requires (rw c.in-Ok-Some.field-0-is at c.in-Ok-Some.ensures.plan))
     c.only_select.result.now.names (names_are c.args.statement.now c.only_select.result.now c.only_select.ensures) _ _ _ _ _
     (g.E.Sink.taken c.write_plan.new.err)
     (record { faults = g.E.Sink.faults c.write_plan.new.err; begun = c.write_plan.ensures.later; ended = c.tell-in-Err-deliver.ensures.later })
