@@ -6,14 +6,17 @@
 
 mod real;
 
-ghost use Rattle.std.specs.Prelude.{◌≡◌, ◌∷◌, [], map, codes, IfOk};
+ghost use Rattle.std.specs.Prelude.{◌≡◌, ◌∷◌, [], List, map, drop, codes, IfOk};
+ghost use Rattle.std.specs.Iterator.{IsFinite, Drains};
+ghost use Rattle.std.specs.String.{string_bytes};
 ghost use Rattle.std.specs.Process.{exit_status};
 ghost use Rattle.source_trait.specs.Lanes.{names_of};
+ghost use Rattle.command_io.specs.Status.{code_of};
 
 use csv_sources::CsvFolder;
 use lists::{NoMemory, Text};
 use pdq_core::{Status, run_words};
-use real::{RealErr, RealFiles, RealOut};
+use real::{RealErr, RealFiles, RealOut, System};
 use source_trait::{Boxed, Kind, Lane, Sink};
 use std::alloc::Global;
 use std::env;
@@ -29,34 +32,56 @@ fn main(rt: HostRuntime) -> ExitCode {
     let Ok(words) = words_of(&rt) else {
         return want_of_memory(&mut err);
     };
-    let Ok(object) = Box::new(alloc, CsvFolder::new(alloc, RealFiles::new(rt))) else {
+    let Ok(object) = Box::new(
+        alloc,
+        CsvFolder::new(alloc, RealFiles::new(System::new(rt))),
+    ) else {
         return want_of_memory(&mut err);
     };
     let Ok(lanes) = lanes_of(alloc, Boxed { object }) else {
         return want_of_memory(&mut err);
     };
     let mut lanes = lanes;
-    let mut files = RealFiles::new(rt);
+    let mut files = RealFiles::new(System::new(rt));
     let words = words.as_slice();
     let status = run_words(alloc, words, &mut files, &mut lanes, &mut out, &mut err);
     // the rows are not freed one by one: the system takes them back with the process
     forget(lanes);
+    exit(status)
+}
+
+// The exit status of the program.
+fn exit(status: Status) -> ExitCode
+    ensures { exit_status result ≡ code_of status }
+{
     ExitCode::from(status.code())
 }
 
 // The words after the program's name. Where one of them is not UTF-8 there are no words, which are no command.
 fn words_of<R: Env + AllocGlobal>(rt: &R) -> Result<Vec<Text>, NoMemory> {
-    let mut words = Vec::new(rt.alloc());
     match env::args(rt) {
-        Ok(all) => {
-            for word in all.skip(1) {
-                words.push(Text::new(word))?;
-            }
-        }
-        Err(fault) => {
-            if fault.kind() == ErrorKind::OutOfMemory {
-                return Err(NoMemory);
-            }
+        Ok(all) => words_after_first(rt.alloc(), all),
+        Err(fault) if fault.kind() == ErrorKind::OutOfMemory => Err(NoMemory),
+        Err(_) => Ok(Vec::new(rt.alloc())),
+    }
+}
+
+// All words but the first, in order.
+fn words_after_first<I: Iterator<Item = String> + Drop>(
+    alloc: Global,
+    all: I,
+) -> Result<Vec<Text>, NoMemory>
+    requires can { I.can_next all }
+    requires ends { IsFinite (I.remaining all) }
+    ensures { IfOk result (λ words. (list : List _) × Drains I.next_gives all list × (words.items ≡ map string_bytes (drop 1 list))) }
+{
+    let mut words = Vec::new(alloc);
+    let mut is_first = true;
+    for word in all {
+        if is_first {
+            is_first = false;
+        } else {
+            words.push(Text::new(word))?;
         }
     }
     Ok(words)
@@ -82,5 +107,5 @@ fn want_of_memory(err: &mut RealErr) -> ExitCode
 {
     // where this line is not taken whole, nothing more can be said
     let _taken = err.write(b"out of memory\n");
-    ExitCode::from(Status::Memory.code())
+    exit(Status::Memory)
 }

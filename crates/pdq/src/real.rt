@@ -1,6 +1,9 @@
 // The outside: files of the system, and sinks over standard output and standard error.
-ghost use Rattle.std.specs.Prelude.{◌≡◌, ◌≢◌, ◌↔◌, ◌≤◌, ◌<◌, ◌+◌, ◌^◌, length, IfOk, IfSome, IsErrOf, None};
+ghost use Rattle.std.specs.Prelude.{◌≡◌, ◌≢◌, ◌↔◌, ◌≤◌, ◌<◌, ℕ, List, length, Option, IfOk, IfErr, IfSome, IsSomeAnd, IsErrOf, None, Some, refl};
+ghost use Rattle.std.specs.Option.{is_some};
 ghost use Rattle.std.specs.IoError.{error_kind};
+ghost use Rattle.source_trait.specs.Outside.{bytes_of};
+ghost use Rattle.pdq.specs.Heads.{head_of};
 
 use lists::{Bytes, Text};
 use source_trait::{FileFault, Files, Sink, SinkFault};
@@ -14,28 +17,67 @@ pub type RealOut = RealSink<Stdout>;
 /// Standard error.
 pub type RealErr = RealSink<Stderr>;
 
-/// The files of the system, by their paths.
-#[derive(Drop)]
-pub struct RealFiles<R> {
-    rt: R,
-    failures: u64,
+/// What opens files by their names.
+pub trait Opens {
+    type File: Read + Drop;
+
+    /// The names and their bytes, where they are told.
+    ghost contents: { Self → Option (List (List ℕ × List ℕ)) };
+
+    /// Opens the file of a name, at its first byte.
+    fn open(&self, name: &str) -> io::Result<Self::File>
+        ensures opened { IfOk result (λ file. IfSome (contents self.now) (λ files. IsSomeAnd (bytes_of files name.now) (λ bytes. Self.File.remaining file ≡ Some bytes))) }
+        ensures missing { IfErr result (λ fault. error_kind fault ≡ ErrorKind.NotFound → IfSome (contents self.now) (λ files. bytes_of files name.now ≡ None)) };
 }
 
-impl<R: std::rt::Files + Drop> RealFiles<R> {
-    pub fn new(rt: R) -> RealFiles<R>
-        ensures { result.failures ≡ 0 }
-    {
-        RealFiles { rt, failures: 0 }
+/// The files of the system, by their paths.
+#[derive(Drop)]
+pub struct System<R> {
+    rt: R,
+}
+
+impl<R> System<R> {
+    pub fn new(rt: R) -> System<R> {
+        System { rt }
     }
 }
 
-impl<R: std::rt::Files + Drop> Files for RealFiles<R> {
-    ghost contents = { λ f. None };
+impl<R: std::rt::Files> Opens for System<R> {
+    type File = R::File;
+
+    ghost contents = { λ s. None };
+
+    fn open(&self, name: &str) -> io::Result<R::File> {
+        fs::open(&self.rt, name)
+    }
+}
+
+/// Files that are opened by their names, and a count of the reads that failed.
+#[derive(Drop)]
+pub struct RealFiles<O> {
+    opener: O,
+    failures: u64,
+}
+
+impl<O: Opens> RealFiles<O> {
+    pub fn new(opener: O) -> RealFiles<O>
+        ensures opener { result.opener ≡ opener }
+        ensures failures { result.failures ≡ 0 }
+    {
+        RealFiles {
+            opener,
+            failures: 0,
+        }
+    }
+}
+
+impl<O: Opens + Drop> Files for RealFiles<O> {
+    ghost contents = { λ f. O.contents f.opener };
 
     ghost faults = { λ f. f.failures };
 
     fn read(&mut self, alloc: Global, name: &Text, limit: u64) -> Result<Bytes, FileFault> {
-        match read_named(alloc, &self.rt, name, limit) {
+        match read_named(alloc, &self.opener, name, limit) {
             Ok(bytes) => Ok(bytes),
             Err(FileFault::NoMemory) => Err(FileFault::NoMemory),
             Err(fault) => {
@@ -47,43 +89,75 @@ impl<R: std::rt::Files + Drop> Files for RealFiles<R> {
 }
 
 // The bytes of a file, where there are at most `limit`.
-fn read_named<R: std::rt::Files>(
+fn read_named<O: Opens>(
     alloc: Global,
-    rt: &R,
+    opener: &O,
     name: &Text,
     limit: u64,
 ) -> Result<Bytes, FileFault>
-    ensures { IfOk result (λ bytes. length bytes ≤ limit) }
+    ensures within { IfOk result (λ bytes. length bytes ≤ limit) }
+    ensures bytes { IfOk result (λ bytes. IfSome (O.contents opener.now) (λ files. bytes_of files name.now ≡ Some bytes)) }
+    ensures missing { IsErrOf result FileFault.Missing → IfSome (O.contents opener.now) (λ files. bytes_of files name.now ≡ None) }
+    ensures too_large { IsErrOf result FileFault.TooLarge → IfSome (O.contents opener.now) (λ files. IsSomeAnd (bytes_of files name.now) (λ bytes. limit < length bytes)) }
 {
-    match fs::open(rt, name.as_str()) {
+    match opener.open(name.as_str()) {
         Ok(file) => {
             let mut file = file;
             read_up_to(alloc, &mut file, limit)
         }
-        Err(fault) => Err(fault_of(&fault)),
+        Err(fault) => Err(open_fault(&fault)),
     }
 }
 
 // All bytes that a reader has left, where there are at most `limit`.
 fn read_up_to<T: Read>(alloc: Global, reader: &mut T, limit: u64) -> Result<Bytes, FileFault>
     ensures within { IfOk result (λ bytes. length bytes ≤ limit) }
-    ensures bytes { limit + 1 < 2 ^ 64 → IfOk result (λ bytes. IfSome (T.remaining reader.old) (λ left. bytes ≡ left)) }
-    ensures too_large { limit + 1 < 2 ^ 64 → IsErrOf result FileFault.TooLarge → IfSome (T.remaining reader.old) (λ left. limit < length left) }
+    ensures bytes { IfOk result (λ bytes. IfSome (T.remaining reader.old) (λ left. bytes ≡ left)) }
+    ensures too_large { IsErrOf result FileFault.TooLarge → IfSome (T.remaining reader.old) (λ left. limit < length left) }
+    ensures there { IsErrOf result FileFault.Missing → ⊥ }
 {
-    let mut bytes = Vec::new(alloc);
-    // one byte more than the limit tells a file that is too large, however large it is
-    let mut head = reader.take(limit.saturating_add(1));
-    if let Err(fault) = head.read_to_end(&mut bytes) {
-        return Err(fault_of(&fault));
-    }
+    let bytes = read_head(alloc, reader, limit.checked_add(1))?;
     if bytes.len() as u64 > limit {
         return Err(FileFault::TooLarge);
     }
     Ok(Bytes::from_vec(bytes))
 }
 
+// The first so many bytes that a reader has left, or all where there is no such number.
+fn read_head<T: Read>(
+    alloc: Global,
+    reader: &mut T,
+    most: Option<u64>,
+) -> Result<Vec<u8>, FileFault>
+    ensures bytes { IfOk result (λ bytes. IfSome (T.remaining reader.old) (λ left. bytes.items ≡ head_of most left)) }
+    ensures there { IsErrOf result FileFault.Missing → ⊥ }
+    ensures whole { IsErrOf result FileFault.TooLarge → ⊥ }
+{
+    let mut bytes = Vec::new(alloc);
+    let read = match most {
+        Some(most) => reader.take(most).read_to_end(&mut bytes),
+        None => reader.read_to_end(&mut bytes),
+    };
+    match read {
+        Ok(_) => Ok(bytes),
+        Err(fault) => Err(read_fault(&fault)),
+    }
+}
+
+// A file that was opened is there, whatever its reader says.
+fn read_fault(fault: &io::Error) -> FileFault
+    ensures memory { (result ≡ FileFault.NoMemory) ↔ (error_kind fault.now ≡ ErrorKind.OutOfMemory) }
+    ensures there { result ≢ FileFault.Missing }
+    ensures whole { result ≢ FileFault.TooLarge }
+{
+    match fault.kind() {
+        ErrorKind::OutOfMemory => FileFault::NoMemory,
+        _ => FileFault::Failed,
+    }
+}
+
 // Missing is said where no such file is there, and of nothing else.
-fn fault_of(fault: &io::Error) -> FileFault
+fn open_fault(fault: &io::Error) -> FileFault
     ensures missing { (result ≡ FileFault.Missing) ↔ (error_kind fault.now ≡ ErrorKind.NotFound) }
     ensures memory { (result ≡ FileFault.NoMemory) ↔ (error_kind fault.now ≡ ErrorKind.OutOfMemory) }
     ensures whole { result ≢ FileFault.TooLarge }
@@ -95,14 +169,27 @@ fn fault_of(fault: &io::Error) -> FileFault
     }
 }
 
-/// A sink over a writer of the system.
+/// A writer whose bytes a contract knows always, or never.
+pub trait Tells: Write {
+    ghost alike: { (one other : Self) → is_some (Self.contents one) ≡ is_some (Self.contents other) };
+}
+
+impl Tells for Stdout {
+    ghost alike = { λ one other. refl };
+}
+
+impl Tells for Stderr {
+    ghost alike = { λ one other. refl };
+}
+
+/// A sink over a writer, and a count of the writes that failed.
 #[derive(Drop)]
 pub struct RealSink<W> {
     writer: W,
     failures: u64,
 }
 
-impl<W: Write + Drop> RealSink<W> {
+impl<W: Tells + Drop> RealSink<W> {
     pub fn new(writer: W) -> RealSink<W>
         ensures writer { result.writer ≡ writer }
         ensures failures { result.failures ≡ 0 }
@@ -114,8 +201,8 @@ impl<W: Write + Drop> RealSink<W> {
     }
 }
 
-impl<W: Write + Drop> Sink for RealSink<W> {
-    ghost taken = { λ s. None };
+impl<W: Tells + Drop> Sink for RealSink<W> {
+    ghost taken = { λ s. W.contents s.writer };
 
     ghost faults = { λ s. s.failures };
 
@@ -142,7 +229,7 @@ mod tests {
         let alloc = rt.alloc();
         fs::write(&rt, "five", "a,b\n1").expect(&rt, "a file is made");
         fs::create_dir(&rt, "folder").expect(&rt, "a folder is made");
-        let mut files = RealFiles::new(rt);
+        let mut files = RealFiles::new(System::new(rt));
         for (name, limit, wanted) in [
             ("five", 5, Ok(5)),
             ("five", 6, Ok(5)),
@@ -181,6 +268,10 @@ mod tests {
         assert_eq!(rt; err.write(b""), Ok(0));
         assert_eq!(rt; err.write(b"err\n"), Ok(4));
         assert_eq!(rt; err.failures, 0);
+    }
+
+    impl Tells for &mut [u8] {
+        ghost alike = { λ one other. refl };
     }
 
     #[test]
