@@ -7,7 +7,7 @@
 mod exposing;
 mod plan;
 
-pub use plan::{only_select, plan_for};
+pub use plan::plan_for;
 
 #[cfg(test)]
 mod tests;

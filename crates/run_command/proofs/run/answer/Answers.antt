@@ -1,5 +1,5 @@
 -- The ways of a statement, by where the function returns.
-use Rattle.std.proofs.Common.{◌≤◌, refl, arith}
+use Rattle.std.proofs.Common.{◌≤◌, refl, sym, arith}
 use Rattle.access_schema.specs.Meaning.{meaning_of}
 use Rattle.source_trait.proofs.LaneSteps.{LanesStay-refl}
 use Rattle.command_io.specs.declared.stop.Stop.TheVariants as stop
@@ -8,7 +8,7 @@ use Rattle.proof_search.specs.Plans.{IsPlanFor, known_of}
 use Rattle.proof_search.specs.Whole.{HasNoWholePlan}
 use Rattle.run_command.specs.Ends.UnplannedStop.{no_memory, no_plan_yet}
 use Rattle.run_command.specs.Ends.PlanEnds.{unplanned, untold}
-use Rattle.run_command.proofs.Results.{names_are, delivered, not_delivered, lanes_stay}
+use Rattle.run_command.proofs.Results.{delivered, not_delivered, lanes_stay}
 use Rattle.run_command.proofs.run.answer.Goals as goal
 
 pub returns-in-Ok-None-clause-ends : goal.returns-in-Ok-None-clause-ends
@@ -58,7 +58,7 @@ returns-in-Ok-deliver-clause-ends g c =
     let is : IsPlanFor c.args.schema.now c.args.statement.now c.in-Ok-Some.plan = (rw c.in-Ok-Some.field-0-is at c.in-Ok-Some.ensures).plan in
     delivered g.S.Source.seen c.args.schema.now c.args.statement.now c.in-Ok-Some.plan
     is
-    c.only_select.result.now.names (names_are c.args.statement.now c.only_select.result.now c.only_select.ensures) _ _ _ _ _ (g.E.Sink.taken c.write_plan.new.err)
+    c.result_names-columns.result.now (sym c.result_names-columns.ensures) _ _ _ _ _ (g.E.Sink.taken c.write_plan.new.err)
     c.in-Ok.ensures.whole c.in-Ok-deliver.ensures.delivers
 
 pub returns-clause-ends : goal.returns-clause-ends
@@ -66,7 +66,7 @@ returns-clause-ends g c =
     let is : IsPlanFor c.args.schema.now c.args.statement.now c.in-Ok-Some.plan = (rw c.in-Ok-Some.field-0-is at c.in-Ok-Some.ensures).plan in
     not_delivered g.S.Source.seen c.args.schema.now c.args.statement.now c.in-Ok-Some.plan
     is
-    c.only_select.result.now.names (names_are c.args.statement.now c.only_select.result.now c.only_select.ensures) _ _ _ _ _ (g.E.Sink.taken c.write_plan.new.err)
+    c.result_names-columns.result.now (sym c.result_names-columns.ensures) _ _ _ _ _ (g.E.Sink.taken c.write_plan.new.err)
     c.in-Err-deliver.stop c.tell-in-Err-deliver.result c.in-Ok.ensures.whole c.in-Err-deliver.ensures.delivers
     (tells_later _ _ _ _ _ _ _ (rose_between _ _ _ _ c.write_plan.ensures.later (omega arith)) (rw c.as_slice-relations.ensures at c.tell-in-Err-deliver.ensures.tells))
 
