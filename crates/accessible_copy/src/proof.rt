@@ -1,9 +1,6 @@
 // A proof, and what it lends.
-ghost use Rattle.std.specs.Prelude.{◌≡◌, ◌≤◌, [], IfOk, IfSome, IfNone, slice_get, option_copied, map, None, Some, ◌∷◌};
-ghost use Rattle.meaning.specs.declared.types.Val.TheVariants.{Label};
-ghost use Rattle.meaning.specs.Matching.{value_of};
-ghost use Rattle.meaning.specs.declared.types.Val.TheVariants.{Const};
-ghost use Rattle.meaning.specs.Triggers.{ground, bound};
+ghost use Rattle.std.specs.Prelude.{◌≡◌, ◌≤◌, [], IfOk, IfSome, IfNone, slice_get, option_copied, None, Some};
+ghost use Rattle.meaning.specs.Triggers.{bound};
 ghost use Rattle.meaning.specs.Runs.{opening};
 ghost use Rattle.access_schema.specs.Meaning.{meaning_of};
 ghost use Rattle.rule_pass.specs.declared.pass.TheConstants.{HIGHEST_FIRST_LABEL};
@@ -14,8 +11,9 @@ use crate::entry::{Entry, Sizes};
 use crate::history::History;
 use crate::known::Known;
 use access_schema::Schema;
-use lists::{Copies, NoMemory, Seq, Texts};
-use meaning::types::{Atom, Firing, Ground, Query, Term, Val, Vals};
+use homomorphism::{Freezing, ground_under};
+use lists::{NoMemory, Seq, Texts};
+use meaning::types::{Firing, Ground, Query, Val};
 use rule_pass::State;
 use std::alloc::Global;
 use std::marker::Model;
@@ -64,7 +62,7 @@ impl Proof {
         ensures constants { IfOk result (λ proof. proof.constants ≡ known.now) }
         ensures empty { IfOk result (λ proof. proof.entries ≡ []) }
     {
-        let facts = Seq::from_vec(frozen_atoms(alloc, query.atoms.as_slice())?);
+        let facts = Seq::from_vec(ground_under(alloc, query.atoms.as_slice(), &Freezing)?);
         Ok(Proof {
             opening: State::start(alloc, &facts, query.variables)?,
             base: State::start(alloc, &facts, query.variables)?,
@@ -134,39 +132,5 @@ impl Proof {
         ensures { result ≡ self.now.end.next }
     {
         self.base.next()
-    }
-}
-
-/// The atoms as facts, with variable k as label k.
-fn frozen_atoms(alloc: Global, atoms: &[Atom]) -> Result<Vec<Ground>, NoMemory>
-    ensures { IfOk result (λ facts. facts.items ≡ map (ground Label) atoms.now) }
-{
-    let mut facts = Vec::with_capacity(alloc, atoms.len())?;
-    for atom in atoms {
-        facts.push(Ground {
-            rel: atom.rel,
-            vals: frozen_terms(alloc, atom.terms.as_slice())?,
-        })?;
-    }
-    Ok(facts)
-}
-
-/// The terms as values, with variable k as label k.
-fn frozen_terms(alloc: Global, terms: &[Term]) -> Result<Vals, NoMemory>
-    ensures { IfOk result (λ vals. vals ≡ map (value_of Const Label) terms.now) }
-{
-    let mut vals = Vec::with_capacity(alloc, terms.len())?;
-    for term in terms {
-        vals.push(frozen_term(alloc, term)?)?;
-    }
-    Ok(Seq::from_vec(vals))
-}
-
-fn frozen_term(alloc: Global, term: &Term) -> Result<Val, NoMemory>
-    ensures { IfOk result (λ val. val ≡ value_of Const Label term.now) }
-{
-    match term {
-        Term::Var(variable) => Ok(Val::Label(*variable)),
-        Term::Const(text) => Ok(Val::Const(text.copy(alloc)?)),
     }
 }

@@ -10,7 +10,7 @@ mod plan;
 mod proving;
 mod reading;
 
-pub use plan::{only_select, plan_for};
+pub use plan::plan_for;
 
 #[cfg(test)]
 mod tests;

@@ -38,8 +38,8 @@ pub fn plan_for(
     }
 }
 
-/// The select of a statement of one.
-pub fn only_select(statement: &Statement) -> &Select
+// The select of a statement, which has one in this stage.
+fn only_select(statement: &Statement) -> &Select
     requires { length statement.now.selects ≡ 1 }
     ensures { statement.now.selects ≡ result.now ∷ [] }
 {

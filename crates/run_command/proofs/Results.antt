@@ -2,7 +2,6 @@
 use Rattle.std.proofs.Common.{◌≡◌, ℕ, List, [], ◌∷◌, Option, Result, Ok, Err, None, refl, ap}
 use Rattle.std.specs.Prelude.{Contains}
 use Rattle.meaning.specs.declared.types.Fact.{Fact}
-use Rattle.meaning.specs.declared.types.Select.{Select}
 use Rattle.meaning.specs.declared.types.Statement.{Statement}
 use Rattle.meaning.specs.declared.types.Plan.{Plan}
 use Rattle.meaning.specs.Rows.{IsRow}
@@ -29,8 +28,9 @@ use Rattle.command_io.specs.Executing.{Executes, Delivers}
 use Rattle.command_io.specs.Executing.Delivers.{done as delivered_all, no_rows, no_text as no_text_made, cut as delivered_part}
 use Rattle.sql_select.specs.Statements.{StatementFits}
 use Rattle.proof_search.specs.Plans.{IsPlanFor}
+use Rattle.sql_select.specs.Statements.{result_names}
 use Rattle.run_command.proofs.Fits.{plan_fits}
-use Rattle.run_command.specs.Ends.{IsPlanned, IsResult, PlanEnds, result_names}
+use Rattle.run_command.specs.Ends.{IsPlanned, IsResult, PlanEnds}
 use Rattle.run_command.specs.Ends.PlanEnds.{unplanned, untold, stopped, no_text, cut, done}
 
 -- a plan that was made can be written
@@ -88,7 +88,3 @@ with_files seen schema statement names before after old new result (stopped plan
 with_files seen schema statement names before after old new result (no_text plan middle count run end is told executes why out) = no_text plan middle count run end is told executes why out
 with_files seen schema statement names before after old new result (cut plan middle count run text end is told executes of_rows took why) = cut plan middle count run text end is told executes of_rows took why
 with_files seen schema statement names before after old new result (done plan run text is told executes of_rows took) = done plan run text is told executes of_rows took
-
--- the names of the result are the select's
-pub names_are : (statement : Statement) (select : Select) → statement.selects ≡ select ∷ [] → result_names statement.selects ≡ select.names
-names_are statement select one = ap result_names one

@@ -1,7 +1,6 @@
 -- How the command `run` ends, and what is so of each way.
 use Rattle.std.specs.Prelude.{◌≡◌, ℕ, List, [], ◌∷◌, Contains, Option, Result, Ok, Err}
 use Rattle.meaning.specs.declared.types.Fact.{Fact}
-use Rattle.meaning.specs.declared.types.Select.{Select}
 use Rattle.meaning.specs.declared.types.Statement.{Statement}
 use Rattle.meaning.specs.declared.types.Plan.{Plan}
 use Rattle.meaning.specs.Rows.{IsRow}
@@ -9,6 +8,7 @@ use Rattle.meaning.specs.Answers.{Answers}
 use Rattle.meaning.specs.Claims.{IsModel}
 use Rattle.access_schema.specs.declared.schema.Schema.{Schema}
 use Rattle.access_schema.specs.Meaning.{meaning_of}
+use Rattle.sql_select.specs.Statements.{result_names}
 use Rattle.plan_form.specs.Fitting.{PlanFits}
 use Rattle.plan_form.specs.Printing.{plan_text}
 use Rattle.source_trait.specs.Asking.{Seen}
@@ -38,11 +38,6 @@ pub data UnplannedStop (schema : Schema) (statement : Statement) : Stop → Type
 pub record IsPlanned (schema : Schema) (statement : Statement) (plan : Plan) : Type 0 where
   pub is : IsPlanFor schema statement plan
   pub fits : PlanFits plan
-
--- The names of the result's columns.
-abbrev pub result_names : List Select → List (List ℕ)
-result_names [] = []
-result_names (select ∷ selects) = select.names
 
 -- The text is that of the rows that the execution gave. They are the plan's on whatever instance the sources hold, and so the
 -- statement's answers where the instance meets the rules.

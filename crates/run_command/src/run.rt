@@ -13,8 +13,9 @@ use command_io::{FileNames, Stop, deliver, print, schema_of, statement_of, tell}
 use lists::Text;
 use meaning::types::{Plan, Statement};
 use plan_form::plan_text;
-use proof_search::{only_select, plan_for};
+use proof_search::plan_for;
 use source_trait::{Files, Lane, Sink, Source};
+use sql_select::result_names;
 use std::alloc::Global;
 
 /// Answers the query of the second file over the schema of the first, and says why it stopped.
@@ -84,7 +85,7 @@ fn answer<S: Source + Send + Drop, O: Sink, E: Sink>(
         Ok(()) => {}
         Err(stop) => return Err(tell(alloc, err, stop, names, relations)),
     }
-    let columns = &only_select(statement).names;
+    let columns = result_names(statement);
     match deliver(alloc, schema, &plan, columns, lanes, out) {
         Ok(()) => Ok(()),
         Err(stop) => Err(tell(alloc, err, stop, names, relations)),

@@ -1,12 +1,12 @@
 -- The ways of a statement, by where the function returns.
-use Rattle.std.proofs.Common.{refl}
+use Rattle.std.proofs.Common.{refl, sym}
 use Rattle.access_schema.specs.Meaning.{meaning_of}
 use Rattle.source_trait.proofs.LaneSteps.{LanesStay-refl}
 use Rattle.command_io.specs.declared.stop.Stop.TheVariants as stop
 use Rattle.proof_search.specs.Plans.{IsPlanFor, NoPlanYet, known_of}
 use Rattle.run_command.specs.Ends.UnplannedStop.{no_memory, no_plan_yet}
 use Rattle.run_command.specs.Ends.PlanEnds.{unplanned, untold}
-use Rattle.run_command.proofs.Results.{planned, names_are, delivered, not_delivered, lanes_stay}
+use Rattle.run_command.proofs.Results.{planned, delivered, not_delivered, lanes_stay}
 use Rattle.run_command.proofs.run.answer.Goals as goal
 
 pub returns-in-Ok-None-clause-ends : goal.returns-in-Ok-None-clause-ends
@@ -55,14 +55,14 @@ pub returns-in-Ok-deliver-clause-ends : goal.returns-in-Ok-deliver-clause-ends
 returns-in-Ok-deliver-clause-ends g c =
     delivered g.S.Source.seen c.args.schema.now c.args.statement.now c.in-Ok-Some.plan
     (planned c.args.schema.now c.args.statement.now c.in-Ok-Some.plan c.requires (rw c.in-Ok-Some.field-0-is at c.in-Ok-Some.ensures.plan))
-    c.only_select.result.now.names (names_are c.args.statement.now c.only_select.result.now c.only_select.ensures) _ _ _ _ _
+    c.result_names-columns.result.now (sym c.result_names-columns.ensures) _ _ _ _ _
     c.in-Ok.ensures.whole c.in-Ok-deliver.ensures.delivers
 
 pub returns-clause-ends : goal.returns-clause-ends
 returns-clause-ends g c =
     not_delivered g.S.Source.seen c.args.schema.now c.args.statement.now c.in-Ok-Some.plan
     (planned c.args.schema.now c.args.statement.now c.in-Ok-Some.plan c.requires (rw c.in-Ok-Some.field-0-is at c.in-Ok-Some.ensures.plan))
-    c.only_select.result.now.names (names_are c.args.statement.now c.only_select.result.now c.only_select.ensures) _ _ _ _ _
+    c.result_names-columns.result.now (sym c.result_names-columns.ensures) _ _ _ _ _
     (g.E.Sink.taken c.write_plan.new.err)
     (record { faults = g.E.Sink.faults c.write_plan.new.err; begun = c.write_plan.ensures.later; ended = c.tell-in-Err-deliver.ensures.later })
     c.in-Err-deliver.stop c.tell-in-Err-deliver.result c.in-Ok.ensures.whole c.in-Err-deliver.ensures.delivers
