@@ -1,4 +1,5 @@
 pub mod Lists
+pub mod Placing
 pub mod Writing
 pub mod Opening
 pub mod Undoing

@@ -1,5 +1,5 @@
 -- Lists of active exposures, exposure by exposure.
-use Rattle.std.proofs.Common.{◌≡◌, ◌↔◌, ℕ, zero, suc, ◌+◌, ◌-◌, ◌<◌, ◌≤◌, List, [], ◌∷◌, ◌++◌, length, map, take, drop, slice_index_or, IsTrue, sym, ap, ◌∙◌, subst, inl, inr, ⊎_elim, arith}
+use Rattle.std.proofs.Common.{◌≡◌, ◌↔◌, ℕ, zero, suc, ◌+◌, ◌<◌, List, [], ◌∷◌, ◌++◌, length, map, take, slice_index_or, IsTrue, sym, ap, ◌∙◌, subst, inl, inr, ⊎_elim, arith}
 use Rattle.std.specs.Prelude.{Contains, Some, slice_index, slice_get, flat_map, Decides, Bool, true, false, if◌then◌else◌}
 use Rattle.std.proofs.lemmas.Bool.{cases_lt}
 use Rattle.std.proofs.lemmas.List.Elements.{Contains-append_left, Contains-append_right, Contains-append_cases, Contains-push, Contains-push_cases}
@@ -18,12 +18,10 @@ use Rattle.meaning.specs.Triggers.{ground, assigned}
 use Rattle.meaning.specs.Search.{AreDistinct}
 use Rattle.meaning.specs.Runs.{Proof, Fires, part_of, IsKnownValue}
 use Rattle.std.proofs.lemmas.Option.{slice_get-get_or, slice_get_within}
-use Rattle.homomorphism.proofs.Binding.{apart}
 use Rattle.std.proofs.lemmas.List.{take_more}
 use Rattle.homomorphism.proofs.Members.{distinct_append, distinct_push, contains_none}
 use Rattle.accessible_copy.specs.declared.entry.Entry.{Entry}
-use Rattle.accessible_copy.specs.declared.entry.Exposed.{Exposed}
-use Rattle.accessible_copy.specs.Known.{known_values, facts_of}
+use Rattle.accessible_copy.specs.Known.{known_values}
 use Rattle.accessible_copy.specs.Proving.{Proving, IsWritten, IsProofOf}
 use Rattle.accessible_copy.specs.Listing.{CanFire, AreExposures, AreExposuresOf, IsInput, AreInputs, CanExpose}
 
@@ -76,6 +74,9 @@ fact_is m n f g e = cc
 module _ (schema : SchemaParts) (proof : Proving) (fact : Ground) where
   pub of_none : AreExposuresOf schema proof fact 0 []
   of_none = record { each = λ firing c. absurd (contains_none firing c); all = λ number l can. absurd (omega arith); once = tt }
+
+  pub of_exposed : (count : ℕ) → Contains proof.end.exposed fact → AreExposuresOf schema proof fact count []
+  of_exposed count there = record { each = λ firing c. absurd (contains_none firing c); all = λ number l (method, can). absurd (can.new there); once = tt }
 
   pub of_more : (count : ℕ) (found : List Firing) → AreExposuresOf schema proof fact count found → CanFire schema proof count fact → AreExposuresOf schema proof fact (count + 1) (found ++ Expose count fact ∷ [])
   of_more count found are can = record {
@@ -149,13 +150,6 @@ pub proof_once : (schema : SchemaParts) (proof : Proving) → IsProofOf schema p
 proof_once schema proof is = written_once schema proof.constants 0 proof.start proof.entries proof.end is.once is.written
 
 -- the loops
-pub exposed_rest : (exposed left : List Exposed) (one : Exposed) (fact : Ground) → 1 ≤ length left → one ≡ slice_index_or left 0 one → (one.fact ≡ fact → ⊥) →
-    (Contains (facts_of exposed) fact ↔ Contains (facts_of left) fact) → Contains (facts_of exposed) fact ↔ Contains (facts_of (take (length left - 1) (drop 1 left))) fact
-exposed_rest exposed left one fact l e not before = (
-  (λ c. ⊎_elim (λ same. absurd (not same)) (λ h. h) (contains_cases one.fact (facts_of (take (length left - 1) (drop 1 left))) fact (subst (λ z. Contains (facts_of z) fact) (apart left one l e) (before.0 c)))),
-  (λ c. before.1 (subst (λ z. Contains (facts_of z) fact) (sym (apart left one l e)) (contains_there one.fact (facts_of (take (length left - 1) (drop 1 left))) fact c))),
-)
-
 pub at_index : (xs : List ℕ) (n : ℕ) → n < length xs → Contains xs (slice_index xs n)
 at_index [] n l = absurd (omega arith)
 at_index (x ∷ xs) zero l = contains_here x xs

@@ -1,6 +1,9 @@
 -- Fronts of lists.
 use Rattle.std.proofs.Common.{◌≡◌, ℕ, zero, suc, List, [], ◌∷◌, ◌++◌, length, map, take, refl, sym, ap, ◌∙◌, append_assoc, arith}
-use Rattle.std.specs.Prelude.{flat_map, None, slice_get, ◌≤◌}
+use Rattle.std.specs.Prelude.{flat_map, None, slice_get, ◌≤◌, Contains}
+use Rattle.std.proofs.lemmas.List.{append-nil, map-append}
+use Rattle.meaning.specs.Added.{with_facts}
+use Rattle.meaning_laws.proofs.Added.{with_new}
 use Rattle.meaning.specs.declared.types.Val.{Val}
 use Rattle.meaning.specs.declared.types.Ground.{Ground}
 use Rattle.meaning.specs.declared.types.Val.TheVariants.{Const}
@@ -28,6 +31,22 @@ known_front constants shown count width wide =
     let whole : known_values constants (facts_of shown) ≡ known_values constants (facts_of (take count shown)) ++ rest
     = ap (λ z. map Const constants ++ z) e ∙ sym (append_assoc (map Const constants) (values_in (take count shown)) rest) in
     rw wide (rw whole (take_front (known_values constants (facts_of (take count shown))) rest))
+
+values_push : (shown : List Exposed) (one : Exposed) → values_in (shown ++ one ∷ []) ≡ values_in shown ++ one.fact.vals
+values_push [] one = append-nil one.fact.vals
+values_push (first ∷ shown) one = ap (λ z. first.fact.vals ++ z) (values_push shown one) ∙ sym (append_assoc first.fact.vals (values_in shown) one.fact.vals)
+
+-- one exposed fact more
+pub known_push : (constants : List (List ℕ)) (shown : List Exposed) (one : Exposed) → known_values constants (facts_of (shown ++ one ∷ [])) ≡ known_values constants (facts_of shown) ++ one.fact.vals
+known_push constants shown one = ap (λ z. map Const constants ++ z) (values_push shown one) ∙ sym (append_assoc (map Const constants) (values_in shown) one.fact.vals)
+
+pub facts_added : (shown : List Exposed) (one : Exposed) (store : List Ground) → store ≡ facts_of shown → (Contains (facts_of shown) one.fact → ⊥) → with_facts store (one.fact ∷ []) ≡ facts_of (shown ++ one ∷ [])
+facts_added shown one store e not = rw e (with_new (facts_of shown) one.fact not ∙ sym (map-append (λ (x : Exposed). x.fact) shown (one ∷ [])))
+
+pub facts_cut : (shown : List Exposed) (count : ℕ) → take count (facts_of shown) ≡ facts_of (take count shown)
+facts_cut shown zero = refl
+facts_cut [] (suc count) = refl
+facts_cut (one ∷ shown) (suc count) = ap (λ z. one.fact ∷ z) (facts_cut shown count)
 
 pub none_beyond : {X : Type 0} (xs : List X) (n : ℕ) → slice_get xs n ≡ None → length xs ≤ n
 none_beyond [] n e = omega arith

@@ -1,3 +1,4 @@
+pub mod Places
 pub mod Known
 pub mod Written
 pub mod Proving

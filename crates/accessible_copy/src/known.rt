@@ -1,20 +1,24 @@
 // The known values, and the exposed facts that they come from.
-ghost use Rattle.std.specs.Prelude.{◌≡◌, ◌++◌, ◌∷◌, [], IfOk, OnOk, OnErr, length, take, map, slice_get, option_copied};
+ghost use Rattle.std.specs.Prelude.{◌≡◌, ◌↔◌, ◌++◌, ◌∷◌, [], IsTrue, Contains, IfOk, OnOk, OnErr, length, take, map, slice_get, option_copied};
 ghost use Rattle.meaning.specs.declared.types.Val.TheVariants.{Const};
 ghost use Rattle.accessible_copy.specs.Known.{known_values, facts_of};
 
 use crate::entry::Exposed;
+use crate::values::Values;
+use homomorphism::Store;
 use lists::{Copies, NoMemory, Texts};
 use meaning::types::{Ground, Val};
 use std::alloc::Global;
 use std::marker::Model;
+use std::slice;
 
 /// Constants, exposed facts with their methods, and the values that these make known.
 #[derive(Drop)]
 pub struct Known {
     constants: Texts,
     list: Vec<Exposed>,
-    values: Vec<Val>,
+    facts: Store,
+    values: Values,
 }
 
 impl Model for Known {
@@ -25,7 +29,7 @@ impl Model for Known {
 
     ghost view = { λ k. record { constants = k.constants; exposed = k.list.items } };
 
-    ghost invariant = { λ k. k.values.items ≡ known_values k.constants (facts_of k.list.items) };
+    ghost invariant = { λ k. (k.values ≡ known_values k.constants (facts_of k.list.items)) × (k.facts ≡ facts_of k.list.items) };
 }
 
 impl Known {
@@ -36,6 +40,7 @@ impl Known {
         Ok(Known {
             constants: constants.copy(alloc)?,
             list: Vec::new(alloc),
+            facts: Store::new(alloc),
             values: constant_values(alloc, constants)?,
         })
     }
@@ -65,38 +70,43 @@ impl Known {
     pub fn value(&self, number: usize) -> Option<&Val>
         ensures { option_copied result ≡ slice_get (known_values self.now.constants (facts_of self.now.exposed)) number }
     {
-        self.values.get(number)
+        self.values.as_slice().get(number)
     }
 
-    /// The exposed facts with their methods, lent. Takes no memory.
-    pub fn exposed(&self) -> &[Exposed]
-        ensures { result.now ≡ self.now.exposed }
+    /// Whether the fact is exposed. Takes no memory.
+    pub fn has(&self, fact: &Ground) -> bool
+        ensures { IsTrue result ↔ Contains (facts_of self.now.exposed) fact.now }
     {
-        self.list.as_slice()
+        self.facts.contains(fact)
     }
 
-    /// The known values, lent. Takes no memory.
-    pub fn values(&self) -> &[Val]
-        ensures { result.now ≡ known_values self.now.constants (facts_of self.now.exposed) }
+    /// Whether the value is known. Takes no memory.
+    pub fn knows(&self, val: &Val) -> bool
+        ensures { IsTrue result ↔ Contains (known_values self.now.constants (facts_of self.now.exposed)) val.now }
     {
-        self.values.as_slice()
+        self.values.contains(val)
     }
 
-    /// One more exposed fact. Where memory is refused, nothing changes.
+    /// One more exposed fact, which is not exposed yet. Where memory is refused, nothing changes.
     pub fn push(&mut self, alloc: Global, method: u32, fact: &Ground) -> Result<(), NoMemory>
+        requires new { Contains (facts_of self.old.exposed) fact.now → ⊥ }
         ensures pushed { OnOk result (self.new ≡ record self.old { exposed = self.old.exposed ++ record { method = method; fact = fact.now } ∷ [] }) }
         ensures refused { OnErr result (self.new ≡ self.old) }
     {
         let count = self.list.len();
-        let mut more = fact.vals.copy(alloc)?.into_vec();
         self.list.push(Exposed {
             method,
             fact: fact.copy(alloc)?,
         })?;
-        match self.values.append(&mut more) {
+        if let Err(fault) = self.facts.add_all(alloc, slice::from_ref(fact)) {
+            self.list.truncate(count);
+            return Err(fault);
+        }
+        match self.values.add_all(alloc, fact.vals.as_slice()) {
             Ok(()) => Ok(()),
             Err(fault) => {
                 self.list.truncate(count);
+                self.facts.truncate(count);
                 Err(fault)
             }
         }
@@ -108,15 +118,16 @@ impl Known {
         ensures { self.new ≡ record self.old { exposed = take count self.old.exposed } }
     {
         self.list.truncate(count);
+        self.facts.truncate(count);
         self.values.truncate(width);
     }
 }
 
 /// Each text as a constant.
-fn constant_values(alloc: Global, constants: &Texts) -> Result<Vec<Val>, NoMemory>
-    ensures { IfOk result (λ values. values.items ≡ map Const constants.now) }
+fn constant_values(alloc: Global, constants: &Texts) -> Result<Values, NoMemory>
+    ensures { IfOk result (λ values. values ≡ map Const constants.now) }
 {
-    let mut values = Vec::with_capacity(alloc, constants.len())?;
+    let mut values = Values::new(alloc);
     for text in constants.as_slice() {
         values.push(Val::Const(text.copy(alloc)?))?;
     }

@@ -15,6 +15,7 @@ mod marks;
 mod proof;
 mod rounds;
 mod settling;
+mod values;
 
 pub use entry::{Entry, Exposed, Mark, Sizes};
 pub use exposing::expose;

@@ -5,10 +5,10 @@ ghost use Rattle.accessible_copy.specs.Proving.{IsProofOf};
 ghost use Rattle.accessible_copy.specs.Known.{known_values, facts_of};
 ghost use Rattle.accessible_copy.specs.Listing.{AreExposures, AreExposuresOf, CanExpose, AreInputs, IsInput};
 
-use crate::entry::Exposed;
+use crate::known::Known;
 use crate::proof::Proof;
 use access_schema::Schema;
-use lists::{Copies, Exact, NoMemory, Seq};
+use lists::{Copies, NoMemory, Seq};
 use meaning::types::{Firing, Firings, Ground, Method, Val};
 use std::alloc::Global;
 
@@ -38,6 +38,9 @@ fn exposures_of(
     ensures { IfOk result (λ found. AreExposuresOf (meaning_of schema.now) proof.now fact.now (length schema.now.methods) found.items) }
 {
     let mut found = Vec::new(alloc);
+    if proof.known.has(fact) {
+        return Ok(found);
+    }
     let methods = schema.methods.as_slice();
     for number in 0..methods.len() {
         if can_expose(proof, &methods[number], fact) {
@@ -52,67 +55,33 @@ fn exposures_of(
 
 /// Whether the method can expose the fact, which is not exposed.
 fn can_expose(proof: &Proof, method: &Method, fact: &Ground) -> bool
+    requires { Contains proof.now.end.exposed fact.now → ⊥ }
     ensures { IsTrue result ↔ CanExpose proof.now fact.now method.now }
 {
     if method.rel != fact.rel {
         return false;
     }
-    if is_exposed(proof.known.exposed(), fact) {
-        return false;
-    }
-    are_inputs(
-        proof.known.values(),
-        method.inputs.as_slice(),
-        fact.vals.as_slice(),
-    )
+    are_inputs(&proof.known, method.inputs.as_slice(), fact.vals.as_slice())
 }
 
-/// Whether the fact is exposed.
-pub(crate) fn is_exposed(exposed: &[Exposed], fact: &Ground) -> bool
-    ensures { IsTrue result ↔ Contains (facts_of exposed.now) fact.now }
-{
-    let mut left = exposed;
-    while let [first, rest @ ..] = left {
-        if first.fact.same(fact) {
-            return true;
-        }
-        left = rest;
-    }
-    false
-}
-
-/// Whether each input place has a value, which is one of these.
-fn are_inputs(values: &[Val], inputs: &[u32], vals: &[Val]) -> bool
-    ensures { IsTrue result ↔ AreInputs values.now inputs.now vals.now }
+/// Whether each input place has a value, which is known.
+fn are_inputs(known: &Known, inputs: &[u32], vals: &[Val]) -> bool
+    ensures { IsTrue result ↔ AreInputs (known_values known.now.constants (facts_of known.now.exposed)) inputs.now vals.now }
 {
     for number in 0..inputs.len() {
-        if !is_input(values, inputs[number], vals) {
+        if !is_input(known, inputs[number], vals) {
             return false;
         }
     }
     true
 }
 
-/// Whether the place has a value, which is one of these.
-fn is_input(values: &[Val], place: u32, vals: &[Val]) -> bool
-    ensures { IsTrue result ↔ IsInput values.now vals.now place }
+/// Whether the place has a value, which is known.
+fn is_input(known: &Known, place: u32, vals: &[Val]) -> bool
+    ensures { IsTrue result ↔ IsInput (known_values known.now.constants (facts_of known.now.exposed)) vals.now place }
 {
     match vals.get(place as usize) {
-        Some(val) => is_among(values, val),
+        Some(val) => known.knows(val),
         None => false,
     }
-}
-
-/// Whether the value is one of these.
-fn is_among(values: &[Val], val: &Val) -> bool
-    ensures { IsTrue result ↔ Contains values.now val.now }
-{
-    let mut left = values;
-    while let [first, rest @ ..] = left {
-        if first.same(val) {
-            return true;
-        }
-        left = rest;
-    }
-    false
 }

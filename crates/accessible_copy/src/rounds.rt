@@ -14,7 +14,7 @@ ghost use Rattle.accessible_copy.specs.Listing.{CanFire, AreExposures};
 
 use crate::exposing::expose;
 use crate::going::goes_on;
-use crate::listing::{exposures, is_exposed};
+use crate::listing::exposures;
 use crate::proof::Proof;
 use crate::settling::{Round, settle};
 use access_schema::Schema;
@@ -148,7 +148,7 @@ fn expose_once(
     let Firing::Expose { method, fact } = firing else {
         return Ok(true);
     };
-    if is_exposed(proof.known.exposed(), fact) {
+    if proof.known.has(fact) {
         return Ok(true);
     }
     if proof.history.firings() >= budget as usize {

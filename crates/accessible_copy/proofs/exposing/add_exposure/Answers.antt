@@ -13,6 +13,11 @@ use Rattle.accessible_copy.specs.contracts.proof.Proof.{the_view}
 use Rattle.accessible_copy.proofs.Showing.{copy_new, fact_below, facts_push, taken_back}
 use Rattle.accessible_copy.proofs.exposing.add_exposure.Goals as goal
 
+pub push-requires : goal.push-requires
+push-requires c =
+    let (of, active) = c.requires.active in
+    record { new = λ h. active.new (subst (λ (p : Proving). Contains p.end.exposed c.args.fact.now) c.proof.view_is h) }
+
 pub add-requires-clause-labels : goal.add-requires-clause-labels
 add-requires-clause-labels c = λ own.
     let (of, active) = c.requires.active in

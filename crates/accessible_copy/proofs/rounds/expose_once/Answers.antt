@@ -11,8 +11,7 @@ use Rattle.accessible_copy.proofs.rounds.expose_once.Goals as goal
 
 pub returns-then-firings-budget-clause-spent : goal.returns-then-firings-budget-clause-spent
 returns-then-firings-budget-clause-spent c = λ e.
-    let not : Contains c.args.proof.now.end.exposed c.in-Expose.fact → ⊥ = λ h. denied _ c.is_exposed.ensures c.if-is_exposed.false
-    (rw c.exposed.ensures (subst (λ (p : Proving). Contains p.end.exposed c.in-Expose.fact) (sym c.proof.view_is) h)) in
+    let not : Contains c.args.proof.now.end.exposed c.in-Expose.fact → ⊥ = λ h. denied _ c.has.ensures c.if-has.false (subst (λ (p : Proving). Contains p.end.exposed c.in-Expose.fact) (sym c.proof.view_is) h) in
     let long : c.args.budget ≤ length c.args.proof.now.entries = subst (λ (p : Proving). c.args.budget ≤ length p.entries) c.proof.view_is (let n = c.firings.ensures in let t = c.if-firings-budget.true in omega arith) in
     (long, goes_expose (meaning_of c.args.schema.now) c.args.proof.now c.requires.run c.requires.ordered c.requires.quiet c.in-Expose.method c.in-Expose.fact (c.requires.active c.in-Expose.method c.in-Expose.fact c.in-Expose.is not))
 

@@ -1,5 +1,5 @@
 use Rattle.std.proofs.Common.{◌↔◌, Contains, length}
-use Rattle.accessible_copy.proofs.listing.is_among.Given as goal
+use Rattle.accessible_copy.proofs.values.is_among.Given as goal
 
 abbrev pub invariant-loop-left : goal.invariant-loop-left
 invariant-loop-left l = Contains l.values l.val ↔ Contains l.left l.val
