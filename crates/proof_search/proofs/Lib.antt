@@ -1,6 +1,7 @@
 pub mod Turns
 pub mod Literals
-pub mod OneAtom
-pub mod Asked
-pub mod Planned
-pub mod Unplanned
+pub mod Shown
+pub mod Read
+pub mod Searching
+pub mod Found
+pub mod Formed

@@ -1,3 +1,3 @@
+pub mod Searches
+pub mod Branches
 pub mod Plans
-pub mod Whole
-pub mod Exposing

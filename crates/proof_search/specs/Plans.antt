@@ -1,19 +1,41 @@
--- What makes a plan one for a statement.
-use Rattle.std.specs.Prelude.{◌≡◌, List, Contains, length}
-use Rattle.meaning.specs.declared.types.Branch.{Branch}
+-- What makes a plan one for a statement, and why there is none yet.
+use Rattle.std.specs.Prelude.{◌≡◌, ◌≤◌, ◌↔◌, List, [], ◌∷◌, ◌++◌, Contains, length}
+use Rattle.meaning.specs.declared.types.Query.{Query}
 use Rattle.meaning.specs.declared.types.Plan.{Plan}
+use Rattle.meaning.specs.declared.types.Select.{Select}
 use Rattle.meaning.specs.declared.types.Statement.{Statement}
-use Rattle.meaning.specs.Values.{Value}
+use Rattle.meaning.specs.declared.types.Firing.{Firing}
+use Rattle.meaning.specs.declared.types.Fact.{Fact}
+use Rattle.meaning.specs.Values.{Value, Row}
+use Rattle.meaning.specs.Instances.{IsInstance}
+use Rattle.meaning.specs.Matching.{AnswersQuery}
+use Rattle.meaning.specs.Answers.{AnswersSelect}
+use Rattle.meaning.specs.Fitting.{QueryFits, QueryHasConstants}
+use Rattle.sql_conjunctive.specs.Form.{IsNumbered, HaveLiterals}
 use Rattle.meaning.specs.Plans.{IsLawful}
 use Rattle.meaning.specs.Claims.{IsEquivalent}
+use Rattle.meaning.specs.Conjunctive.{IsConjunctive}
+use Rattle.meaning.specs.Runs.{Proof, IsOrderedRun, HasGoal, opening, frozen_head}
 use Rattle.access_schema.specs.declared.schema.Schema.{Schema}
 use Rattle.access_schema.specs.Meaning.{meaning_of}
 use Rattle.access_schema.specs.Lists.{once_after}
 use Rattle.sql_select.specs.Known.{literals_in}
+use Rattle.proof_search.specs.declared.branches.TheConstants.{FIRINGS}
 
 -- The known constants: those of the schema, which hold those of its rules, and those of the statement.
 abbrev pub known_of : Schema → Statement → List Value
 known_of schema statement = once_after schema.constants (literals_in statement.selects)
+
+-- The queries have a select's answers together: there is at most one, which is its conjunctive form, fits and is numbered, and has
+-- no constants that the select lacks.
+pub record AreQueriesOf (schema : Schema) (select : Select) (queries : List Query) : Type 0 where
+  pub form : (query : Query) → Contains queries query → IsConjunctive (meaning_of schema) select query
+  pub numbered : (query : Query) → Contains queries query → IsNumbered query
+  pub fits : (query : Query) → Contains queries query → QueryFits (meaning_of schema) query
+  pub constants : (query : Query) → Contains queries query → (known : List Value) → HaveLiterals known select → QueryHasConstants known query
+  pub few : length queries ≤ 1
+  pub answers : (facts : List Fact) → IsInstance (meaning_of schema) facts → (row : Row) →
+      ((query : Query) × Contains queries query × AnswersQuery query facts row) ↔ AnswersSelect select facts row
 
 -- The plan calls each method with known constants or received values alone, and has the statement's answers on every
 -- instance that meets the rules.
@@ -21,7 +43,26 @@ pub record IsPlanFor (schema : Schema) (statement : Statement) (plan : Plan) : T
   pub lawful : IsLawful plan (meaning_of schema) (known_of schema statement)
   pub equivalent : IsEquivalent plan statement (meaning_of schema)
 
--- The plan is one access: it has one branch, of one step.
-pub record IsOneAccess (plan : Plan) : Type 0 where
-  pub branches : length plan.branches ≡ 1
-  pub steps : (branch : Branch) → Contains plan.branches branch → length branch.steps ≡ 1
+-- No lawful plan over the known constants is equivalent to the statement.
+abbrev pub HasNoPlan : Schema → Statement → Type 0
+HasNoPlan schema statement =
+    (plan : Plan) → IsLawful plan (meaning_of schema) (known_of schema statement) → IsEquivalent plan statement (meaning_of schema) → ⊥
+
+-- The firings of a select's query are spent: an ordered run of just `FIRINGS` firings from its opening proof has no match of the
+-- query with the frozen head, and a further firing is active.
+pub record IsSpent (schema : Schema) (statement : Statement) : Type 0 where
+  pub select : Select
+  pub query : Query
+  pub log : List Firing
+  pub end : Proof
+  pub of_statement : Contains statement.selects select
+  pub form : IsConjunctive (meaning_of schema) select query
+  pub count : length log ≡ FIRINGS
+  pub run : IsOrderedRun (meaning_of schema) (known_of schema statement) 0 (opening query) log end
+  pub no_goal : HasGoal (query ∷ []) end (frozen_head query) → ⊥
+  pub goes_on : (firing : Firing) × (next : Proof) × IsOrderedRun (meaning_of schema) (known_of schema statement) 0 (opening query) (log ++ firing ∷ []) next
+
+-- Why there is no plan: no lawful plan is equivalent to the statement, or in this stage the firings are spent.
+pub data NoPlanYet (schema : Schema) (statement : Statement) : Type 0 where
+  none : HasNoPlan schema statement → NoPlanYet schema statement
+  spent : IsSpent schema statement → NoPlanYet schema statement

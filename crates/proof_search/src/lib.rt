@@ -1,11 +1,14 @@
-//! Plans for statements.
+//! Plans for statements, read off proofs.
 //!
 //! Crates above use this: `plan_for` gives a plan that is lawful over the known constants and equivalent to the statement, or none
-//! where in this stage none is looked for. Begin at `specs/Plans.antt` and `specs/Whole.antt`.
+//! where no lawful plan is, or where the firings of a proof are spent. Begin at `specs/Plans.antt` and `specs/Searches.antt`.
 #![tactic(auto)]
 
+mod branches;
 mod exposing;
 mod plan;
+mod proving;
+mod reading;
 
 pub use plan::{only_select, plan_for};
 

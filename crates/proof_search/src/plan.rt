@@ -1,25 +1,23 @@
 // The plan of a statement.
-ghost use Rattle.std.specs.Prelude.{◌≡◌, ◌↔◌, ◌∷◌, [], length, IsTrue, IfOk, IfSome, IfNone};
-ghost use Rattle.meaning.specs.Fitting.{QueryFits, QueryHasConstants};
+ghost use Rattle.std.specs.Prelude.{◌≡◌, ◌≤◌, ◌∷◌, [], length, IfOk, IfSome, IfNone};
+ghost use Rattle.meaning.specs.Conjunctive.{SelectFits};
 ghost use Rattle.access_schema.specs.Meaning.{meaning_of};
 ghost use Rattle.sql_select.specs.Statements.{StatementFits};
-ghost use Rattle.plan_extract.specs.Branches.{IsBranchOf};
-ghost use Rattle.proof_search.specs.Whole.{AreColumns, TakesColumns, IsAskedWhole, HasNoWholePlan};
-ghost use Rattle.proof_search.specs.Exposing.{IsExposed, HasNoFreeMethod};
-ghost use Rattle.proof_search.specs.Plans.{IsPlanFor, IsOneAccess};
+ghost use Rattle.sql_select.specs.declared.limits.TheConstants.{MOST_FROMS};
+ghost use Rattle.proof_search.specs.Plans.{AreQueriesOf, IsPlanFor, NoPlanYet};
 
-use crate::exposing::exposing_method;
+use crate::branches::branches_for;
 use access_schema::Schema;
-use lists::{NoMemory, Seq, Text};
-use meaning::types::{Branch, Operand, Plan, Query, Select, Statement};
-use plan_extract::{Exposure, frozen_facts, frozen_values, read_off};
+use lists::{NoMemory, Seq};
+use meaning::types::{Plan, Queries, Select, Statement};
 use sql_conjunctive::{Conjunctive, conjunctive};
 use sql_select::known;
 use std::alloc::Global;
 
-/// The plan of a statement: that of its conjunctive query, over the known constants.
+/// The plan of a statement over the known constants, read off a proof of its conjunctive query.
 ///
-/// In this stage a plan is made exactly where the statement takes columns of one relation that a method asks for whole.
+/// None comes where no lawful plan is equivalent to the statement, or where the firings of the proof are spent. A statement that
+/// never has an answer has a plan without branches.
 pub fn plan_for(
     alloc: Global,
     schema: &Schema,
@@ -27,29 +25,17 @@ pub fn plan_for(
 ) -> Result<Option<Plan>, NoMemory>
     requires { StatementFits schema.now statement.now }
     ensures plan { IfOk result (λ found. IfSome found (IsPlanFor schema.now statement.now)) }
-    ensures one { IfOk result (λ found. IfSome found IsOneAccess) }
-    ensures asked { IfOk result (λ found. IfSome found (λ plan. IsAskedWhole (meaning_of schema.now) statement.now)) }
-    ensures none { IfOk result (λ found. IfNone found (HasNoWholePlan (meaning_of schema.now) statement.now)) }
+    ensures none { IfOk result (λ found. IfNone found (NoPlanYet schema.now statement.now)) }
 {
     let select = only_select(statement);
-    if !takes_columns(select) {
-        return Ok(None);
-    }
+    let width = select.items.len() as u32;
+    let queries = queries_of(alloc, schema, select)?;
     let known = known(alloc, schema, statement)?;
-    let query = match conjunctive(alloc, select, schema)? {
-        Conjunctive::Query(query) => query,
-        Conjunctive::Never => return Ok(None),
-    };
-    let branch = match branch_for(alloc, schema, &query, known.as_slice())? {
-        Some(branch) => branch,
-        None => return Ok(None),
-    };
-    let mut branches = Seq::new(alloc);
-    branches.push(branch)?;
-    Ok(Some(Plan {
-        width: select.items.len() as u32,
-        branches,
-    }))
+    let found = branches_for(alloc, schema, &queries, &known)?;
+    match found {
+        Some(branches) => Ok(Some(Plan { width, branches })),
+        None => Ok(None),
+    }
 }
 
 /// The select of a statement of one.
@@ -60,48 +46,18 @@ pub fn only_select(statement: &Statement) -> &Select
     &statement.selects.as_slice()[0]
 }
 
-fn takes_columns(select: &Select) -> bool
-    ensures { IsTrue result ↔ TakesColumns select.now }
+/// The queries that stand for a select: none where it never has an answer, and otherwise its conjunctive query.
+fn queries_of(alloc: Global, schema: &Schema, select: &Select) -> Result<Queries, NoMemory>
+    requires fits { SelectFits (meaning_of schema.now) select.now }
+    requires froms { length select.now.froms ≤ MOST_FROMS }
+    ensures { IfOk result (AreQueriesOf schema.now select.now) }
 {
-    if select.froms.len() != 1 || !select.conditions.is_empty() {
-        return false;
-    }
-    are_columns(select.items.as_slice())
-}
-
-fn are_columns(items: &[Operand]) -> bool
-    ensures { IsTrue result ↔ AreColumns items.now }
-{
-    for item in items {
-        if let Operand::Literal(_) = item {
-            return false;
+    match conjunctive(alloc, select, schema)? {
+        Conjunctive::Never => Ok(Seq::new(alloc)),
+        Conjunctive::Query(query) => {
+            let mut queries = Seq::new(alloc);
+            queries.push(query)?;
+            Ok(queries)
         }
     }
-    true
-}
-
-// The branch of a query of one atom, where a method asks for it with known constants alone.
-fn branch_for(
-    alloc: Global,
-    schema: &Schema,
-    query: &Query,
-    known: &[Text],
-) -> Result<Option<Branch>, NoMemory>
-    requires fits { QueryFits (meaning_of schema.now) query.now }
-    requires constants { QueryHasConstants known.now query.now }
-    ensures branch { IfOk result (λ found. IfSome found (IsBranchOf (meaning_of schema.now) known.now query.now)) }
-    ensures exposed { IfOk result (λ found. IfSome found (λ branch. IsExposed (meaning_of schema.now) known.now query.now)) }
-    ensures one_step { IfOk result (λ found. IfSome found (λ branch. length branch.steps ≡ 1)) }
-    ensures none { IfOk result (λ found. IfNone found (HasNoFreeMethod (meaning_of schema.now) query.now)) }
-{
-    let facts = frozen_facts(alloc, query.atoms.as_slice())?;
-    let [fact] = facts.as_slice() else {
-        return Ok(None);
-    };
-    let Some(method) = exposing_method(schema.methods.as_slice(), fact, known) else {
-        return Ok(None);
-    };
-    let head = frozen_values(alloc, query.head.as_slice())?;
-    let branch = read_off(alloc, &[Exposure { method, fact }], head.as_slice())?;
-    Ok(Some(branch))
 }

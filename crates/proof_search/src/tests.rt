@@ -1,8 +1,8 @@
-// Plans for queries on one relation of two columns, worked out by hand.
+// Plans for queries on small schemas, worked out by hand.
 use crate::{only_select, plan_for};
 use access_schema::{Part, Parts, Schema, are_named};
 use lists::{Seq, Text, Texts};
-use meaning::types::{Out, Place, Plan};
+use meaning::types::{Branch, Out, Place, Plan};
 use sql_select::read_select;
 use std::alloc::{AllocError, Global};
 use std::test::Fail;
@@ -15,29 +15,34 @@ fn texts(alloc: Global, words: &[&str]) -> Result<Texts, AllocError> {
     Ok(made)
 }
 
-fn method(alloc: Global, name: &str, inputs: &[&str]) -> Result<Part, AllocError> {
+fn relation(alloc: Global, name: &str, columns: &[&str]) -> Result<Part, AllocError> {
+    Ok(Part::Relation {
+        name: Text::from_str(alloc, name)?,
+        columns: texts(alloc, columns)?,
+    })
+}
+
+fn method(alloc: Global, name: &str, of: &str, inputs: &[&str]) -> Result<Part, AllocError> {
     Ok(Part::Method {
         name: Text::from_str(alloc, name)?,
-        relation: Text::from_str(alloc, "r")?,
+        relation: Text::from_str(alloc, of)?,
         inputs: texts(alloc, inputs)?,
         cost: 1,
     })
 }
 
-/// The relation `r(a, b)` with a lookup by `a` and, where `whole`, two methods without inputs, and the constant `k`.
-fn schema(alloc: Global, whole: bool) -> Result<Schema, AllocError> {
-    let mut parts: Parts = Seq::new(alloc);
-    parts.push(Part::Relation {
-        name: Text::from_str(alloc, "r")?,
-        columns: texts(alloc, &["a", "b"])?,
-    })?;
-    parts.push(method(alloc, "by_a", &["a"])?)?;
-    if whole {
-        parts.push(method(alloc, "all_r", &[])?)?;
-        parts.push(method(alloc, "more_r", &[])?)?;
-    }
-    let text = Text::from_str(alloc, "k")?;
-    parts.push(Part::Constant { text })?;
+/// The rule that the columns of the one relation stand in the same columns of the other.
+fn key(alloc: Global, from: &str, to: &str, columns: &[&str]) -> Result<Part, AllocError> {
+    Ok(Part::ForeignKey {
+        line: 1,
+        relation: Text::from_str(alloc, from)?,
+        columns: texts(alloc, columns)?,
+        target: Text::from_str(alloc, to)?,
+        target_columns: texts(alloc, columns)?,
+    })
+}
+
+fn built(alloc: Global, parts: Parts) -> Result<Schema, AllocError> {
     if parts.len() > 100 || !are_named(parts.as_slice()) {
         return Err(AllocError);
     }
@@ -47,7 +52,49 @@ fn schema(alloc: Global, whole: bool) -> Result<Schema, AllocError> {
     }
 }
 
-/// The plan of a query over that schema, or `none`, after the name of the first item.
+/// The relation `r(a, b)` with a lookup by `a` and, where `whole`, two methods without inputs.
+fn small(alloc: Global, whole: bool) -> Result<Schema, AllocError> {
+    let mut parts: Parts = Seq::new(alloc);
+    parts.push(relation(alloc, "r", &["a", "b"])?)?;
+    parts.push(method(alloc, "by_a", "r", &["a"])?)?;
+    if whole {
+        parts.push(method(alloc, "all_r", "r", &[])?)?;
+        parts.push(method(alloc, "more_r", "r", &[])?)?;
+    }
+    built(alloc, parts)
+}
+
+/// Employees behind a lookup by number, and a directory that has each of them where `ruled`.
+fn staff(alloc: Global, ruled: bool) -> Result<Schema, AllocError> {
+    let mut parts: Parts = Seq::new(alloc);
+    parts.push(relation(alloc, "profinfo", &["eid", "onum", "lname"])?)?;
+    parts.push(relation(alloc, "udirect", &["eid", "lname"])?)?;
+    parts.push(method(alloc, "prof_by_eid", "profinfo", &["eid"])?)?;
+    parts.push(method(alloc, "all_direct", "udirect", &[])?)?;
+    if ruled {
+        parts.push(key(alloc, "profinfo", "udirect", &["eid", "lname"])?)?;
+    }
+    built(alloc, parts)
+}
+
+/// Lines that no method gives, each in an archive that is asked by number, and the numbers in a list.
+///
+/// What stands in the archive is a line, and a line has its number in the list.
+fn orders(alloc: Global, archived: bool) -> Result<Schema, AllocError> {
+    let mut parts: Parts = Seq::new(alloc);
+    parts.push(relation(alloc, "line", &["number", "part"])?)?;
+    parts.push(relation(alloc, "list", &["number"])?)?;
+    parts.push(relation(alloc, "archive", &["number", "part"])?)?;
+    parts.push(method(alloc, "all_list", "list", &[])?)?;
+    parts.push(method(alloc, "archive_of", "archive", &["number"])?)?;
+    parts.push(key(alloc, "line", "list", &["number"])?)?;
+    if archived {
+        parts.push(key(alloc, "archive", "line", &["number", "part"])?)?;
+    }
+    built(alloc, parts)
+}
+
+/// The plan of a query over the schema, or `none`.
 fn planned(alloc: Global, schema: &Schema, query: &str) -> Result<String, AllocError> {
     if query.len() > 1000 {
         return Err(AllocError);
@@ -56,48 +103,71 @@ fn planned(alloc: Global, schema: &Schema, query: &str) -> Result<String, AllocE
         return Err(AllocError);
     };
     let mut made = String::new(alloc);
-    if let Some(name) = only_select(&statement).names.get(0) {
-        made.push_str(name.as_str())?;
-    }
     match plan_for(alloc, schema, &statement)? {
         Some(plan) => show(alloc, &mut made, &plan)?,
-        None => made.push_str(" none")?,
+        None => made.push_str("none")?,
     }
     Ok(made)
 }
 
 fn show(alloc: Global, made: &mut String, plan: &Plan) -> Result<(), AllocError> {
-    made.push_str(format!(in alloc; " {}", plan.width)?.as_str())?;
+    made.push_str(format!(in alloc; "{}", plan.width)?.as_str())?;
     for branch in plan.branches.as_slice() {
-        for step in branch.steps.as_slice() {
-            made.push_str(format!(in alloc; "; {}", step.method.as_str())?.as_str())?;
-            for place in step.places.as_slice() {
-                made.push_str(if let Place::New = place {
-                    " new"
-                } else {
-                    " other"
-                })?;
-            }
-        }
-        made.push_str("; output")?;
-        for out in branch.output.as_slice() {
-            if let Out::Col(column) = out {
-                made.push_str(format!(in alloc; " ${column}")?.as_str())?;
-            }
-        }
+        show_branch(alloc, made, branch)?;
     }
     Ok(())
 }
 
+fn show_branch(alloc: Global, made: &mut String, branch: &Branch) -> Result<(), AllocError> {
+    for step in branch.steps.as_slice() {
+        made.push_str(format!(in alloc; "; {}", step.method.as_str())?.as_str())?;
+        for place in step.places.as_slice() {
+            made.push_str(place_text(alloc, place)?.as_str())?;
+        }
+    }
+    made.push_str("; output")?;
+    for out in branch.output.as_slice() {
+        made.push_str(out_text(alloc, out)?.as_str())?;
+    }
+    Ok(())
+}
+
+fn place_text(alloc: Global, place: &Place) -> Result<String, AllocError> {
+    match place {
+        Place::Const(text) => format!(in alloc; " '{}'", text.as_str()),
+        Place::Col(column) => format!(in alloc; " ${column}"),
+        Place::New => format!(in alloc; " new"),
+    }
+}
+
+fn out_text(alloc: Global, out: &Out) -> Result<String, AllocError> {
+    match out {
+        Out::Const(text) => format!(in alloc; " '{}'", text.as_str()),
+        Out::Col(column) => format!(in alloc; " ${column}"),
+    }
+}
+
 #[test]
-fn columns_of_one_relation_are_planned(rt: HostRuntime) -> Result<(), Fail> {
+fn columns_of_one_relation(rt: HostRuntime) -> Result<(), Fail> {
     let alloc = rt.alloc();
-    let schema = schema(alloc, true)?;
+    let schema = small(alloc, true)?;
     let cases = [
-        ("SELECT DISTINCT b FROM r", "b 1; all_r new new; output $1"),
+        ("SELECT DISTINCT b FROM r", "1; all_r new new; output $1"),
         (
             "SELECT DISTINCT b AS x, a, b FROM r AS t",
-            "x 3; all_r new new; output $1 $0 $1",
+            "3; all_r new new; output $1 $0 $1",
+        ),
+        (
+            "SELECT DISTINCT 'k', a FROM r",
+            "2; all_r new new; output 'k' $0",
+        ),
+        (
+            "SELECT DISTINCT a FROM r WHERE b = 'k'",
+            "1; all_r new 'k'; output $0",
+        ),
+        (
+            "SELECT DISTINCT a FROM r WHERE a = b",
+            "1; all_r new $0; output $0",
         ),
     ];
     for (query, wanted) in cases {
@@ -107,15 +177,18 @@ fn columns_of_one_relation_are_planned(rt: HostRuntime) -> Result<(), Fail> {
 }
 
 #[test]
-fn other_statements_have_no_plan_yet(rt: HostRuntime) -> Result<(), Fail> {
+fn a_lookup_takes_a_constant(rt: HostRuntime) -> Result<(), Fail> {
     let alloc = rt.alloc();
-    let schema = schema(alloc, true)?;
+    let schema = small(alloc, false)?;
     let cases = [
-        ("SELECT DISTINCT a FROM r WHERE b = 'k'", "a none"),
-        ("SELECT DISTINCT a FROM r WHERE a = a", "a none"),
-        ("SELECT DISTINCT a FROM r WHERE 'x' = 'y'", "a none"),
-        ("SELECT DISTINCT 'k', a FROM r", "column1 none"),
-        ("SELECT DISTINCT s.a FROM r, r AS s", "a none"),
+        (
+            "SELECT DISTINCT b FROM r WHERE a = 'k'",
+            "1; by_a 'k' new; output $0",
+        ),
+        (
+            "SELECT DISTINCT t.b FROM r AS s, r AS t WHERE s.a = 'k' AND s.b = t.a",
+            "1; by_a 'k' new; by_a $0 new; output $1",
+        ),
     ];
     for (query, wanted) in cases {
         assert_eq!(rt; planned(alloc, &schema, query)?.as_str(), wanted);
@@ -126,10 +199,67 @@ fn other_statements_have_no_plan_yet(rt: HostRuntime) -> Result<(), Fail> {
 #[test]
 fn a_lookup_alone_gives_no_plan(rt: HostRuntime) -> Result<(), Fail> {
     let alloc = rt.alloc();
-    let schema = schema(alloc, false)?;
+    let schema = small(alloc, false)?;
     assert_eq!(rt;
         planned(alloc, &schema, "SELECT DISTINCT a FROM r")?.as_str(),
-        "a none"
+        "none"
     );
+    let schema = staff(alloc, false)?;
+    assert_eq!(rt;
+        planned(
+            alloc,
+            &schema,
+            "SELECT DISTINCT eid FROM profinfo WHERE lname = 'Smith'"
+        )?
+        .as_str(),
+        "none"
+    );
+    Ok(())
+}
+
+#[test]
+fn a_query_that_never_has_an_answer(rt: HostRuntime) -> Result<(), Fail> {
+    let alloc = rt.alloc();
+    let schema = small(alloc, false)?;
+    assert_eq!(rt;
+        planned(
+            alloc,
+            &schema,
+            "SELECT DISTINCT a, b FROM r WHERE 'x' = 'y'"
+        )?
+        .as_str(),
+        "2"
+    );
+    Ok(())
+}
+
+#[test]
+fn a_relation_that_the_query_does_not_name(rt: HostRuntime) -> Result<(), Fail> {
+    let alloc = rt.alloc();
+    let schema = staff(alloc, true)?;
+    assert_eq!(rt;
+        planned(
+            alloc,
+            &schema,
+            "SELECT DISTINCT eid, onum FROM profinfo WHERE lname = 'Smith'"
+        )?
+        .as_str(),
+        "2; all_direct new 'Smith'; prof_by_eid $0 new 'Smith'; output $0 $1"
+    );
+    Ok(())
+}
+
+#[test]
+fn an_answer_that_needs_a_rule(rt: HostRuntime) -> Result<(), Fail> {
+    let alloc = rt.alloc();
+    let query =
+        "SELECT DISTINCT l.part FROM archive AS a, line AS l WHERE a.number = l.number AND a.part = l.part";
+    let schema = orders(alloc, true)?;
+    assert_eq!(rt;
+        planned(alloc, &schema, query)?.as_str(),
+        "1; all_list new; archive_of $0 new; output $1"
+    );
+    let schema = orders(alloc, false)?;
+    assert_eq!(rt; planned(alloc, &schema, query)?.as_str(), "none");
     Ok(())
 }

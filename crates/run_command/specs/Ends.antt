@@ -26,13 +26,12 @@ use Rattle.command_io.specs.Writing.{TookAll, TookPrefix}
 use Rattle.command_io.specs.FaultLines.{Names}
 use Rattle.command_io.specs.Telling.{StopsFor}
 use Rattle.command_io.specs.Executing.{Executes, stop_of_run}
-use Rattle.proof_search.specs.Plans.{IsPlanFor}
-use Rattle.proof_search.specs.Whole.{HasNoWholePlan}
+use Rattle.proof_search.specs.Plans.{IsPlanFor, NoPlanYet}
 
--- Why there is no plan: memory was wanted, or in this stage no plan of the statement is looked for.
+-- Why there is no plan: memory was wanted, or no lawful plan is equivalent to the statement or the firings are spent.
 pub data UnplannedStop (schema : Schema) (statement : Statement) : Stop → Type 0 where
   no_memory : UnplannedStop schema statement stop.Memory
-  no_plan_yet : HasNoWholePlan (meaning_of schema) statement → UnplannedStop schema statement stop.NoPlanYet
+  no_plan_yet : NoPlanYet schema statement → UnplannedStop schema statement stop.NoPlanYet
 
 -- The names of the result's columns.
 abbrev pub result_names : List Select → List (List ℕ)

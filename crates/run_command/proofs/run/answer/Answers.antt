@@ -4,8 +4,7 @@ use Rattle.access_schema.specs.Meaning.{meaning_of}
 use Rattle.source_trait.proofs.LaneSteps.{LanesStay-refl}
 use Rattle.command_io.specs.declared.stop.Stop.TheVariants as stop
 use Rattle.command_io.proofs.Later.{rose_between, decision_later, tells_later}
-use Rattle.proof_search.specs.Plans.{IsPlanFor, known_of}
-use Rattle.proof_search.specs.Whole.{HasNoWholePlan}
+use Rattle.proof_search.specs.Plans.{IsPlanFor, NoPlanYet, known_of}
 use Rattle.run_command.specs.Ends.UnplannedStop.{no_memory, no_plan_yet}
 use Rattle.run_command.specs.Ends.PlanEnds.{unplanned, untold}
 use Rattle.run_command.proofs.Results.{names_are, delivered, not_delivered, lanes_stay}
@@ -13,7 +12,7 @@ use Rattle.run_command.proofs.run.answer.Goals as goal
 
 pub returns-in-Ok-None-clause-ends : goal.returns-in-Ok-None-clause-ends
 returns-in-Ok-None-clause-ends g c =
-    let none : HasNoWholePlan (meaning_of c.args.schema.now) c.args.statement.now = (rw c.in-Ok-None.field-0-is at c.in-Ok-None.ensures).none in
+    let none : NoPlanYet c.args.schema.now c.args.statement.now = (rw c.in-Ok-None.field-0-is at c.in-Ok-None.ensures).none in
     unplanned c.tell.result (record {
       given = stop.NoPlanYet;
       cause = no_plan_yet none;

@@ -1,0 +1,185 @@
+-- The queries of a select can be searched, stand for its statement, and their branches make its plan.
+use Rattle.std.proofs.Common.{◌≡◌, ◌↔◌, ℕ, ◌+◌, ◌*◌, ◌<◌, ◌≤◌, max, zero, suc, List, [], ◌∷◌, length, sym, ap, ◌∙◌, subst, arith}
+use Rattle.std.specs.Prelude.{Contains, map}
+use Rattle.std.specs.List.{AllZip}
+use Rattle.std.proofs.lemmas.List.{length-append, length-map}
+use Rattle.lists.proofs.Members.{contains_here, contains_there}
+use Rattle.meaning.specs.declared.types.Atom.{Atom}
+use Rattle.meaning.specs.declared.types.Branch.{Branch}
+use Rattle.meaning.specs.declared.types.Fact.{Fact}
+use Rattle.meaning.specs.declared.types.Plan.{Plan}
+use Rattle.meaning.specs.declared.types.Query.{Query}
+use Rattle.meaning.specs.declared.types.Select.{Select}
+use Rattle.meaning.specs.declared.types.Statement.{Statement}
+use Rattle.meaning.specs.declared.types.Term.{Term}
+use Rattle.meaning.specs.declared.types.Term.TheVariants.{Var, Const as Said}
+use Rattle.meaning.specs.Values.{Value, Row}
+use Rattle.meaning.specs.Instances.{IsInstance}
+use Rattle.meaning.specs.Matching.{AnswersQuery}
+use Rattle.meaning.specs.Answers.{AnswersSelect}
+use Rattle.meaning.specs.Homomorphisms.{image, renamed}
+use Rattle.meaning.specs.Triggers.{terms_bound}
+use Rattle.meaning.specs.Runs.{frozen_head}
+use Rattle.meaning.specs.Conjunctive.{term_of, IsAtomFor, IsConjunctive, StandFor}
+use Rattle.meaning.specs.Fitting.{QueryFits, QueryHasConstants}
+use Rattle.meaning.specs.Extract.{IsQueryRival}
+use Rattle.meaning_laws.proofs.Carrying.{occurs_below}
+use Rattle.meaning_laws.proofs.Closing.{plan_from_branches}
+use Rattle.meaning_laws.proofs.Kept.{run_refutes}
+use Rattle.meaning_laws.proofs.Monotone.{no_plan_lem}
+use Rattle.meaning_laws.proofs.Renaming.{naming_exists}
+use Rattle.access_schema.specs.declared.schema.Schema.{Schema}
+use Rattle.access_schema.specs.Meaning.{meaning_of}
+use Rattle.access_schema.specs.Invariant.{terms_of}
+use Rattle.access_schema.proofs.Ordered.{OrderedFrom, ordered_from, bound_is}
+use Rattle.access_schema.proofs.Keeping.{well_formed, rules_fit}
+use Rattle.sql_conjunctive.specs.Form.{HaveLiterals, IsNumbered}
+use Rattle.proof_search.specs.Searches.{AreSearchable}
+use Rattle.proof_search.specs.Branches.{IsQueryBranch, HasNoBranch}
+use Rattle.proof_search.specs.Branches.HasNoBranch.{stuck, spent as ran_out}
+use Rattle.proof_search.specs.Plans.{known_of, AreQueriesOf, IsPlanFor, NoPlanYet}
+use Rattle.proof_search.specs.Plans.NoPlanYet.{none, spent}
+use Rattle.proof_search.proofs.Turns.{only_is}
+use Rattle.proof_search.proofs.Shown.{zip_long}
+use Rattle.proof_search.proofs.Read.{schema_narrow}
+
+-- ---- the queries of a select
+
+pub no_queries : (schema : Schema) (select : Select) (queries : List Query) → queries ≡ [] →
+    ((facts : List Fact) → IsInstance (meaning_of schema) facts → (row : Row) → ⊥ ↔ AnswersSelect select facts row) → AreQueriesOf schema select queries
+no_queries schema select queries nil answers = record {
+  form = λ query among. absurd (never query among);
+  numbered = λ query among. absurd (never query among);
+  fits = λ query among. absurd (never query among);
+  constants = λ query among. absurd (never query among);
+  few = let long = ap length nil in omega arith;
+  answers = λ facts is row. ((λ (query, among, answer). absurd (never query among)), (λ answer. absurd ((answers facts is row).1 answer)));
+}
+  where
+    never : (query : Query) → Contains queries query → ⊥
+    never query among = let there : Contains [] query = subst (λ list. Contains list query) nil among in omega (arith, there.1)
+
+pub one_query : (schema : Schema) (select : Select) (query : Query) (queries : List Query) → queries ≡ query ∷ [] → IsConjunctive (meaning_of schema) select query → IsNumbered query →
+    QueryFits (meaning_of schema) query → ((known : List Value) → HaveLiterals known select → QueryHasConstants known query) →
+    ((facts : List Fact) → IsInstance (meaning_of schema) facts → (row : Row) → AnswersQuery query facts row ↔ AnswersSelect select facts row) → AreQueriesOf schema select queries
+one_query schema select query queries one form numbered fits constants answers = record {
+  form = λ other among. subst (IsConjunctive (meaning_of schema) select) (only other among) form;
+  numbered = λ other among. subst IsNumbered (only other among) numbered;
+  fits = λ other among. subst (QueryFits (meaning_of schema)) (only other among) fits;
+  constants = λ other among known have. subst (QueryHasConstants known) (only other among) (constants known have);
+  few = let long = ap length one in omega arith;
+  answers = λ facts is row. (
+    (λ (other, among, answer). (answers facts is row).0 (subst (λ q. AnswersQuery q facts row) (sym (only other among)) answer)),
+    (λ answer. (query, subst (λ list. Contains list query) (sym one) (contains_here query []), (answers facts is row).1 answer)),
+  );
+}
+  where
+    only : (other : Query) → Contains queries other → query ≡ other
+    only other among = only_is query other (subst (λ list. Contains list other) one among)
+
+-- ---- their variables are counted and few
+
+bounded_terms : (n : ℕ) (terms : List Term) → ((x : ℕ) → Contains terms (Var x) → x < n) → terms_bound terms ≤ n
+bounded_terms n [] below = omega arith
+bounded_terms n (Said c ∷ terms) below = bounded_terms n terms (λ x among. below x (contains_there (Said c) terms (Var x) among))
+bounded_terms n (Var y ∷ terms) below =
+    let first = below y (contains_here (Var y) terms) in
+    let rest = bounded_terms n terms (λ x among. below x (contains_there (Var y) terms (Var x) among)) in
+    omega arith
+
+ordered_short : (n : ℕ) (terms : List Term) → OrderedFrom n terms → terms_bound terms ≤ n + length terms
+ordered_short n [] ordered = omega arith
+ordered_short n (Said c ∷ terms) ordered = let rest = ordered_short n terms ordered in omega arith
+ordered_short n (Var x ∷ terms) ordered = let first = ordered.0 in let rest = ordered_short (max (x + 1) n) terms ordered.1 in omega arith
+
+terms_few : (atoms : List Atom) → ((atom : Atom) → Contains atoms atom → length atom.terms ≤ 64) → length (terms_of atoms) ≤ 64 * length atoms
+terms_few [] narrow = omega arith
+terms_few (atom ∷ atoms) narrow =
+    let first = narrow atom (contains_here atom atoms) in
+    let rest = terms_few atoms (λ other among. narrow other (contains_there atom atoms other among)) in
+    let both = length-append atom.terms (terms_of atoms) in
+    omega arith
+
+-- ---- what is made of the search
+
+zip_map : {A B : Type 0} (P Q : A → B → Type 0) → ((x : A) (y : B) → P x y → Q x y) → (xs : List A) (ys : List B) → AllZip P xs ys → AllZip Q xs ys
+zip_map P Q f [] [] all = tt
+zip_map P Q f [] (y ∷ ys) all = absurd all
+zip_map P Q f (x ∷ xs) [] all = absurd all
+zip_map P Q f (x ∷ xs) (y ∷ ys) all = (f x y all.0, zip_map P Q f xs ys all.1)
+
+module _ (schema : Schema) (statement : Statement) (select : Select) (queries : List Query) (one : statement.selects ≡ select ∷ []) (are : AreQueriesOf schema select queries) where
+  pub searchable : (known : List Value) → HaveLiterals known select → length select.froms ≤ 16 → AreSearchable (meaning_of schema) known queries
+  searchable known literals froms query among =
+      let fits = are.fits query among in
+      let numbered = are.numbered query among in
+      let form = are.form query among in
+      let variables = fits.variables in
+      let terms : length (terms_of query.atoms) ≤ 64 * length query.atoms = terms_few query.atoms (λ atom there.
+      let fit = fits.arity atom there in let wide = fit.width in let columns = schema_narrow schema fit.relation atom.rel fit.there in omega arith) in
+      let atoms : length query.atoms ≡ length select.froms = zip_long (IsAtomFor (meaning_of schema)) select.froms query.atoms form.atoms in
+      let order : terms_bound (terms_of query.atoms) ≤ 0 + length (terms_of query.atoms) = ordered_short 0 (terms_of query.atoms) (ordered_from (terms_of query.atoms) numbered.in_order) in
+      let all = bound_is query.atoms in
+      let count = numbered.variables in
+      record {
+        fits = fits;
+        constants = are.constants query among known literals;
+        counted = record {
+          atoms = fits.variables;
+          head = bounded_terms query.variables query.head (λ x there. let below = occurs_below query.atoms x (fits.head x there) in omega arith);
+        };
+        few = omega arith;
+      }
+
+  of_statement : Contains statement.selects select
+  of_statement = subst (λ list. Contains list select) (sym one) (contains_here select [])
+
+  stand : StandFor (meaning_of schema) queries statement
+  stand = record {
+    sound = λ facts row query is among answer. (select, of_statement, (are.answers facts is row).0 (query, among, answer));
+    complete = λ facts row is (chosen, among, answer).
+        (are.answers facts is row).1 (subst (λ s. AnswersSelect s facts row) (sym (only_is select chosen (subst (λ list. Contains list chosen) one among))) answer);
+  }
+
+  wide : (branches : List Branch) (some : List Query) → ((query : Query) → Contains some query → Contains queries query) →
+      AllZip (IsQueryBranch (meaning_of schema) (known_of schema statement) queries) some branches → (branch : Branch) → Contains branches branch → length branch.output ≡ length select.items
+  wide [] [] within all branch among = absurd (omega (arith, among.1))
+  wide (b ∷ branches) [] within all branch among = absurd all
+  wide [] (q ∷ some) within all branch among = absurd all
+  wide (b ∷ branches) (q ∷ some) within all branch (zero, low, same) =
+      ap (λ (x : Branch). length x.output) (sym same) ∙ all.0.width ∙ ap length (are.form q (within q (contains_here q some))).head ∙ length-map select.items (term_of q.atoms)
+  wide (b ∷ branches) (q ∷ some) within all branch (suc k, low, same) =
+      wide branches some (λ query there. within query (contains_there q some query there)) all.1 branch (k, omega arith, same)
+
+  -- a branch for each query
+  pub planned : (branches : List Branch) → AllZip (IsQueryBranch (meaning_of schema) (known_of schema statement) queries) queries branches →
+      IsPlanFor schema statement (record { width = length select.items; branches = branches })
+  planned branches all =
+      let plan : Plan = record { width = length select.items; branches = branches } in
+      let both = plan_from_branches (meaning_of schema) (known_of schema statement) statement queries plan stand
+      (zip_map (IsQueryBranch (meaning_of schema) (known_of schema statement) queries) (IsQueryRival (meaning_of schema) (known_of schema statement) queries) (λ query branch is. is.rival) queries branches all)
+      (λ branch among. wide branches queries (λ query there. there) all branch among) in
+      record { lawful = both.0; equivalent = both.1 }
+
+  -- a query without a branch
+  pub unplanned : ((c : Value) → Contains schema.constants c → Contains (known_of schema statement) c) → AreSearchable (meaning_of schema) (known_of schema statement) queries → (query : Query) → Contains queries query →
+      HasNoBranch (meaning_of schema) (known_of schema statement) queries query → NoPlanYet schema statement
+  unplanned have can query among (stuck log end run is) =
+      let known = known_of schema statement in
+      none (λ plan lawful equivalent.
+      let (h, naming) = naming_exists known in
+      no_plan_lem (meaning_of schema) known statement (renamed h end.base) (renamed h end.copy) (map (image h) (frozen_head query)) (well_formed schema)
+      (run_refutes (meaning_of schema) known statement queries query log end h (rules_fit schema known have) stand among (λ other there. (can other there).constants) (can query among).fits run is (naming end.next))
+      plan lawful equivalent)
+  unplanned have can query among (ran_out log end firing next count run without on) = spent (record {
+    select = select;
+    query = query;
+    log = log;
+    end = end;
+    of_statement = of_statement;
+    form = are.form query among;
+    count = count;
+    run = run;
+    no_goal = λ (goal, there, match). without (goal, subst (Contains queries) (only_is query goal there) among, match);
+    goes_on = (firing, next, on);
+  })
