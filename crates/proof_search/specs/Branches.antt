@@ -11,8 +11,8 @@ use Rattle.meaning.specs.Plans.{IsLawfulBranch}
 use Rattle.meaning.specs.Rows.{IsBranchRow}
 use Rattle.meaning.specs.Runs.{Proof, IsRun, IsOrderedRun, IsStuck, HasGoal, opening, frozen_head}
 use Rattle.meaning.specs.Extract.{Exposure, IsQueryRival}
-use Rattle.accessible_copy.specs.declared.entry.Exposed.{Exposed}
 use Rattle.rule_pass.specs.declared.pass.TheConstants.{MOST_FIRINGS}
+use Rattle.accessible_copy.specs.declared.entry.Exposed.{Exposed}
 use Rattle.proof_search.specs.declared.branches.TheConstants.{FIRINGS}
 
 -- The exposure is of that fact, by the method with that number.

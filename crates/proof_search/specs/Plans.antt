@@ -40,8 +40,8 @@ pub record AreQueriesOf (schema : Schema) (select : Select) (queries : List Quer
       ((query : Query) × Contains queries query × AnswersQuery query facts row) ↔ AnswersSelect select facts row
 
 -- The plan calls each method with known constants or received values alone, is as wide as each select of the statement, has the
--- statement's answers on every instance that meets the rules, and has at most a branch for each select, each with at most as many
--- steps as a proof has firings.
+-- statement's answers on every instance that meets the rules, and has at most a branch for each select, each with no more steps
+-- than a proof has firings.
 pub record IsPlanFor (schema : Schema) (statement : Statement) (plan : Plan) : Type 0 where
   pub lawful : IsLawful plan (meaning_of schema) (known_of schema statement)
   pub wide : (select : Select) → Contains statement.selects select → plan.width ≡ length select.items

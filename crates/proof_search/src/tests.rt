@@ -1,5 +1,5 @@
 // Plans for queries on small schemas, worked out by hand.
-use crate::{only_select, plan_for};
+use crate::plan_for;
 use access_schema::{Part, Parts, Schema, are_named};
 use lists::{Seq, Text, Texts};
 use meaning::types::{Branch, Out, Place, Plan};
