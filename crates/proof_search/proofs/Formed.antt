@@ -34,12 +34,12 @@ use Rattle.access_schema.specs.Invariant.{terms_of}
 use Rattle.access_schema.proofs.Ordered.{OrderedFrom, ordered_from, bound_is}
 use Rattle.access_schema.proofs.Keeping.{well_formed, rules_fit}
 use Rattle.sql_conjunctive.specs.Form.{HaveLiterals, IsNumbered}
+use Rattle.rule_pass.specs.declared.pass.TheConstants.{MOST_FIRINGS}
 use Rattle.proof_search.specs.Searches.{AreSearchable}
 use Rattle.proof_search.specs.Branches.{IsQueryBranch, HasNoBranch}
 use Rattle.proof_search.specs.Branches.HasNoBranch.{stuck, spent as ran_out}
-use Rattle.proof_search.specs.Plans.{known_of, AreQueriesOf, IsPlanFor, NoPlanYet}
+use Rattle.proof_search.specs.Plans.{known_of, AreQueriesOf, IsPlanFor, HasFewSteps, NoPlanYet}
 use Rattle.proof_search.specs.Plans.NoPlanYet.{none, spent}
-use Rattle.rule_pass.specs.declared.pass.TheConstants.{MOST_FIRINGS}
 use Rattle.proof_search.proofs.Turns.{only_is}
 use Rattle.proof_search.proofs.Shown.{zip_long}
 use Rattle.proof_search.proofs.Read.{schema_narrow}
@@ -152,14 +152,6 @@ module _ (schema : Schema) (statement : Statement) (select : Select) (queries : 
   wide (b ∷ branches) (q ∷ some) within all branch (suc k, low, same) =
       wide branches some (λ query there. within query (contains_there q some query there)) all.1 branch (k, omega arith, same)
 
-  short : (some : List Query) (branches : List Branch) → AllZip (IsQueryBranch (meaning_of schema) (known_of schema statement) queries) some branches →
-      (branch : Branch) → Contains branches branch → length branch.steps ≤ MOST_FIRINGS
-  short [] [] all branch among = absurd (omega (arith, among.1))
-  short [] (b ∷ branches) all branch among = absurd all
-  short (q ∷ some) [] all branch among = absurd all
-  short (q ∷ some) (b ∷ branches) all branch (zero, low, same) = subst (λ (x : Branch). length x.steps ≤ MOST_FIRINGS) same all.0.few
-  short (q ∷ some) (b ∷ branches) all branch (suc k, low, same) = short some branches all.1 branch (k, omega arith, same)
-
   -- a branch for each query
   pub planned : (branches : List Branch) → AllZip (IsQueryBranch (meaning_of schema) (known_of schema statement) queries) queries branches →
       IsPlanFor schema statement (record { width = length select.items; branches = branches })
@@ -168,16 +160,25 @@ module _ (schema : Schema) (statement : Statement) (select : Select) (queries : 
       let both = plan_from_branches (meaning_of schema) (known_of schema statement) statement queries plan stand
       (zip_map (IsQueryBranch (meaning_of schema) (known_of schema statement) queries) (IsQueryRival (meaning_of schema) (known_of schema statement) queries) (λ query branch is. is.rival) queries branches all)
       (λ branch among. wide branches queries (λ query there. there) all branch among) in
-      let long = zip_long (IsQueryBranch (meaning_of schema) (known_of schema statement) queries) queries branches all in
-      let few = are.few in
-      let selects = ap length one in
       record {
         lawful = both.0;
         wide = λ other among. ap (λ (x : Select). length x.items) (only_is select other (subst (λ list. Contains list other) one among));
         equivalent = both.1;
-        branches = omega (arith, long, few, selects);
-        steps = short queries branches all;
       }
+
+  few : (branches : List Branch) (some : List Query) → AllZip (IsQueryBranch (meaning_of schema) (known_of schema statement) queries) some branches →
+      (branch : Branch) → Contains branches branch → length branch.steps ≤ MOST_FIRINGS
+  few [] [] all branch among = absurd (omega (arith, among.1))
+  few (b ∷ branches) [] all branch among = absurd all
+  few [] (q ∷ some) all branch among = absurd all
+  few (b ∷ branches) (q ∷ some) all branch (zero, low, same) = subst (λ (x : Branch). length x.steps ≤ MOST_FIRINGS) same all.0.few
+  few (b ∷ branches) (q ∷ some) all branch (suc k, low, same) = few branches some all.1 branch (k, omega arith, same)
+
+  pub short : (width : ℕ) (branches : List Branch) → AllZip (IsQueryBranch (meaning_of schema) (known_of schema statement) queries) queries branches → HasFewSteps (record { width = width; branches = branches })
+  short width branches all = record {
+    branches = let long = zip_long (IsQueryBranch (meaning_of schema) (known_of schema statement) queries) queries branches all in let one_query = are.few in omega arith;
+    steps = λ branch among. few branches queries all branch among;
+  }
 
   -- a query without a branch
   pub unplanned : ((c : Value) → Contains schema.constants c → Contains (known_of schema statement) c) → AreSearchable (meaning_of schema) (known_of schema statement) queries → (query : Query) → Contains queries query →

@@ -16,6 +16,7 @@ use Rattle.meaning.specs.Runs.{Proof, IsOrderedRun, NoExposure, HasGoal, opening
 use Rattle.meaning.specs.Fitting.{QueryFits}
 use Rattle.meaning_laws.proofs.Kept.{ordered_is_run}
 use Rattle.homomorphism.specs.Bindings.{at}
+use Rattle.rule_pass.specs.declared.pass.TheConstants.{MOST_FIRINGS}
 use Rattle.accessible_copy.specs.declared.entry.Entry.{Entry}
 use Rattle.accessible_copy.specs.Proving.{Proving, log_of}
 use Rattle.accessible_copy.specs.Goals.{IsGoal}
@@ -49,8 +50,8 @@ module _ (schema : SchemaParts) (known : List Value) (queries : List Query) (que
 -- a goal: the branch is a rival
 pub goal_branch : (schema : SchemaParts) (known : List Value) (queries : List Query) (query : Query) (copy : List Ground) (number : ℕ) (values : List Val) (branch : Branch) →
     AreSearchable schema known queries → IsGoal queries copy (frozen_head query) number values →
-    ((goal : Query) → QueryFits schema goal → IsQueryAnswer Const (GroundsOf copy) goal (frozen_head query) → IsBranchFor schema known query goal branch) → IsQueryBranch schema known queries query branch
-goal_branch schema known queries query copy number values branch searchable (goal, got, match) read =
+    ((goal : Query) → QueryFits schema goal → IsQueryAnswer Const (GroundsOf copy) goal (frozen_head query) → IsBranchFor schema known query goal branch) → length branch.steps ≤ MOST_FIRINGS → IsQueryBranch schema known queries query branch
+goal_branch schema known queries query copy number values branch searchable (goal, got, match) read few =
     let among : Contains queries goal = contains_got queries number goal got in
     let is = read goal (searchable goal among).fits (at values, match.facts_are, match.head_is) in
     record {
@@ -60,5 +61,5 @@ goal_branch schema known queries query copy number values branch searchable (goa
         complete = λ facts row model answer. is.complete facts row model.meets answer;
       };
       width = is.width;
-      few = is.few;
+      few = few;
     }

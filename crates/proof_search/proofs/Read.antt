@@ -10,6 +10,7 @@ use Rattle.meaning.specs.declared.types.Method.{Method}
 use Rattle.meaning.specs.declared.types.Query.{Query}
 use Rattle.meaning.specs.declared.types.Ground.{Ground}
 use Rattle.meaning.specs.declared.types.Trigger.{Trigger}
+use Rattle.meaning.specs.declared.types.Val.{Val}
 use Rattle.meaning.specs.declared.types.Val.TheVariants.{Const, Label}
 use Rattle.meaning.specs.declared.types.Firing.{Firing}
 use Rattle.meaning.specs.declared.types.Firing.TheVariants.{Base, Copy, Expose}
@@ -19,7 +20,7 @@ use Rattle.meaning.specs.Plans.{IsWellFormed}
 use Rattle.meaning.specs.Triggers.{State, IsFiringRun}
 use Rattle.meaning.specs.Runs.{Proof, base_state, copy_state, IsRun, opening, opening_state, frozen_head}
 use Rattle.meaning.specs.Fitting.{RulesFit, QueryFits, QueryHasConstants}
-use Rattle.meaning.specs.Extract.{Exposure, exposed_facts, IsExposing, columns_after, all_columns, steps_of, out_of, branch_of}
+use Rattle.meaning.specs.Extract.{Exposure, exposed_facts, IsExposing, all_columns, columns_after, steps_of, out_of, branch_of}
 use Rattle.meaning_laws.proofs.Decided.{copy_part, extracted}
 use Rattle.meaning_laws.proofs.Keeping.{run_keeps}
 use Rattle.meaning_laws.proofs.Kept.{kept_opening}
@@ -34,11 +35,6 @@ use Rattle.access_schema.proofs.Keeping.{well_formed, rules_fit}
 use Rattle.rule_pass.specs.declared.pass.TheConstants.{MOST_FIRINGS}
 use Rattle.proof_search.specs.Searches.{IsSearchable, IsSearch}
 use Rattle.proof_search.proofs.Shown.{shown_of, shown_in, few_exposed, zip_got, zip_long, same_shown}
-
--- a branch has a step for each exposure
-steps_long : (columns : List ℕ) (exposures : List Exposure) → length (steps_of columns exposures) ≡ length exposures
-steps_long columns [] = refl
-steps_long columns (e ∷ exposures) = let rest = steps_long (columns_after columns e.fact.vals) exposures in omega (arith, rest)
 
 module _ (schema : SchemaParts) (constants : List Value) where
   none_behind : (proof : Proof) (log : List Firing) (end : Proof) → IsRun schema constants 2 proof log end → shown_of log ≡ []
@@ -135,15 +131,14 @@ module _ (schema : SchemaParts) (constants : List Value) where
     lent_is = same_shown schema (shown_of log) its.exposures lent its.shown shown
 
     -- the branch of these exposures
-    pub read_branch : length lent ≤ MOST_FIRINGS → IsWellFormed schema → (goal : Query) → QueryFits schema goal → IsQueryAnswer Const (GroundsOf end.copy) goal (frozen_head query) → IsBranchFor schema constants query goal (branch_of lent (frozen_head query))
-    read_branch short well goal goal_fits match =
+    pub read_branch : IsWellFormed schema → (goal : Query) → QueryFits schema goal → IsQueryAnswer Const (GroundsOf end.copy) goal (frozen_head query) → IsBranchFor schema constants query goal (branch_of lent (frozen_head query))
+    read_branch well goal goal_fits match =
         let got = extracted schema constants query goal well rules fits goal_fits have its.base its.middle its.exposures its.copy (copy_state end) its.base_run its.exposing its.copy_run match in
         subst (λ exposures. IsBranchFor schema constants query goal (branch_of exposures (frozen_head query))) lent_is (record {
           lawful = got.0;
           sound = got.1;
           complete = got.2;
           width = length-map (frozen_head query) (out_of (all_columns [] its.exposures)) ∙ length-map query.head (value_of Const Label);
-          few = let long = steps_long [] its.exposures in let same = ap length lent_is in omega (arith, short, long, same);
         })
 
     -- each exposed fact is as wide as its relation
@@ -175,6 +170,11 @@ method_of schema proof is k x got =
     let (e, there) = zip_got (IsShown schema) proof.exposed d.exposures k x (subst (λ list. AllZip (IsShown schema) list d.exposures) (sym (is.exposed ∙ shown_in proof.entries)) d.shown) got in
     (e.method, there.0)
 
+-- a step for each exposure
+steps_long : (columns : List ℕ) (exposures : List Exposure) → length (steps_of columns exposures) ≡ length exposures
+steps_long columns [] = refl
+steps_long columns (e ∷ exposures) = let rest = steps_long (columns_after columns e.fact.vals) exposures in omega arith
+
 -- the exposures of a search, lent
 module _ (schema : Schema) (known : List Value) (query : Query) (proof : Proving) (searchable : IsSearchable (meaning_of schema) known query)
     (have : (c : Value) → Contains schema.constants c → Contains known c) (search : IsSearch (meaning_of schema) MOST_FIRINGS (opening query) known proof)
@@ -196,14 +196,15 @@ module _ (schema : Schema) (known : List Value) (query : Query) (proof : Proving
       let most = search.few in
       omega arith
 
-  lent_short : length lent ≤ MOST_FIRINGS
-  lent_short =
+  pub lent_steps : (head : List Val) → length (branch_of lent head).steps ≤ MOST_FIRINGS
+  lent_steps head =
+      let same = steps_long [] lent in
       let long = zip_long (IsShown (meaning_of schema)) proof.exposed lent shown in
       let few = few_exposed (meaning_of schema) proof search.run in
       let most = search.few in
-      omega (arith, long, few, most)
+      omega arith
 
   pub lent_branch : (goal : Query) → QueryFits (meaning_of schema) goal → IsQueryAnswer Const (GroundsOf proof.end.copy) goal (frozen_head query) →
       IsBranchFor (meaning_of schema) known query goal (branch_of lent (frozen_head query))
   lent_branch goal fits match =
-      read_branch (meaning_of schema) known query (log_of proof) proof.end (rules_fit schema known have) searchable.fits searchable.constants log_run lent shown_log lent_short (well_formed schema) goal fits match
+      read_branch (meaning_of schema) known query (log_of proof) proof.end (rules_fit schema known have) searchable.fits searchable.constants log_run lent shown_log (well_formed schema) goal fits match

@@ -19,16 +19,15 @@ use Rattle.proof_search.specs.declared.branches.TheConstants.{FIRINGS}
 abbrev pub IsShown : SchemaParts → Exposed → Exposure → Type 0
 IsShown schema exposed exposure = (slice_get schema.methods exposed.method ≡ Some exposure.method) × (exposed.fact ≡ exposure.fact)
 
--- The branch is lawful, as wide as the query's head, and has no more steps than a proof has firings; on every instance that meets the rules each of its rows is an answer of
+-- The branch is lawful and as wide as the query's head; on every instance that meets the rules each of its rows is an answer of
 -- the goal, and each answer of the query is one of its rows.
 pub record IsBranchFor (schema : SchemaParts) (known : List Value) (query goal : Query) (branch : Branch) : Type 0 where
   pub lawful : IsLawfulBranch schema known branch
   pub sound : (facts : List Fact) (row : Row) → Meets facts schema → IsBranchRow schema branch facts row → AnswersQuery goal facts row
   pub complete : (facts : List Fact) (row : Row) → Meets facts schema → AnswersQuery query facts row → IsBranchRow schema branch facts row
   pub width : length branch.output ≡ length query.head
-  pub few : length branch.steps ≤ MOST_FIRINGS
 
--- The branch is a rival for its query, among all the queries, as wide as its head, and has no more steps than a proof has firings.
+-- The branch is a rival for its query, among all the queries, as wide as its head, and has at most a step for each firing of a proof.
 pub record IsQueryBranch (schema : SchemaParts) (known : List Value) (queries : List Query) (query : Query) (branch : Branch) : Type 0 where
   pub rival : IsQueryRival schema known queries query branch
   pub width : length branch.output ≡ length query.head

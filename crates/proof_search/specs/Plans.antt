@@ -20,8 +20,8 @@ use Rattle.meaning.specs.Runs.{Proof, IsOrderedRun, HasGoal, opening, frozen_hea
 use Rattle.access_schema.specs.declared.schema.Schema.{Schema}
 use Rattle.access_schema.specs.Meaning.{meaning_of}
 use Rattle.access_schema.specs.Lists.{once_after}
-use Rattle.rule_pass.specs.declared.pass.TheConstants.{MOST_FIRINGS}
 use Rattle.sql_select.specs.Known.{literals_in}
+use Rattle.rule_pass.specs.declared.pass.TheConstants.{MOST_FIRINGS}
 use Rattle.proof_search.specs.declared.branches.TheConstants.{FIRINGS}
 
 -- The known constants: those of the schema, which hold those of its rules, and those of the statement.
@@ -39,14 +39,16 @@ pub record AreQueriesOf (schema : Schema) (select : Select) (queries : List Quer
   pub answers : (facts : List Fact) → IsInstance (meaning_of schema) facts → (row : Row) →
       ((query : Query) × Contains queries query × AnswersQuery query facts row) ↔ AnswersSelect select facts row
 
--- The plan calls each method with known constants or received values alone, is as wide as each select of the statement, has the
--- statement's answers on every instance that meets the rules, and has at most a branch for each select, each with no more steps
--- than a proof has firings.
+-- The plan calls each method with known constants or received values alone, is as wide as each select of the statement, and has
+-- the statement's answers on every instance that meets the rules.
 pub record IsPlanFor (schema : Schema) (statement : Statement) (plan : Plan) : Type 0 where
   pub lawful : IsLawful plan (meaning_of schema) (known_of schema statement)
   pub wide : (select : Select) → Contains statement.selects select → plan.width ≡ length select.items
   pub equivalent : IsEquivalent plan statement (meaning_of schema)
-  pub branches : length plan.branches ≤ length statement.selects
+
+-- The plan has at most one branch, and each has at most a step for each firing of a proof.
+pub record HasFewSteps (plan : Plan) : Type 0 where
+  pub branches : length plan.branches ≤ 1
   pub steps : (branch : Branch) → Contains plan.branches branch → length branch.steps ≤ MOST_FIRINGS
 
 -- No lawful plan over the known constants is equivalent to the statement.

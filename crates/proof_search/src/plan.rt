@@ -4,7 +4,7 @@ ghost use Rattle.meaning.specs.Conjunctive.{SelectFits};
 ghost use Rattle.access_schema.specs.Meaning.{meaning_of};
 ghost use Rattle.sql_select.specs.Statements.{StatementFits};
 ghost use Rattle.sql_select.specs.declared.limits.TheConstants.{MOST_FROMS};
-ghost use Rattle.proof_search.specs.Plans.{AreQueriesOf, IsPlanFor, NoPlanYet};
+ghost use Rattle.proof_search.specs.Plans.{AreQueriesOf, IsPlanFor, HasFewSteps, NoPlanYet};
 
 use crate::branches::branches_for;
 use access_schema::Schema;
@@ -25,6 +25,7 @@ pub fn plan_for(
 ) -> Result<Option<Plan>, NoMemory>
     requires { StatementFits schema.now statement.now }
     ensures plan { IfOk result (λ found. IfSome found (IsPlanFor schema.now statement.now)) }
+    ensures few { IfOk result (λ found. IfSome found HasFewSteps) }
     ensures none { IfOk result (λ found. IfNone found (NoPlanYet schema.now statement.now)) }
 {
     let select = only_select(statement);

@@ -33,7 +33,8 @@ pub fn extract(
     requires query { IsSearchable (meaning_of schema.now) proof.now.constants query.now }
     requires known { (c : List ℕ) → Contains schema.now.constants c → Contains proof.now.constants c }
     requires search { IsSearch (meaning_of schema.now) MOST_FIRINGS (opening query.now) proof.now.constants proof.now }
-    ensures { IfOk result (λ branch. (goal : Query) → QueryFits (meaning_of schema.now) goal →
+    ensures few { IfOk result (λ branch. length branch.steps ≤ MOST_FIRINGS) }
+    ensures branch { IfOk result (λ branch. (goal : Query) → QueryFits (meaning_of schema.now) goal →
         IsQueryAnswer Const (GroundsOf proof.now.end.copy) goal (frozen_head query.now) →
         IsBranchFor (meaning_of schema.now) proof.now.constants query.now goal branch) }
 {

@@ -19,7 +19,7 @@ use Rattle.access_schema.specs.declared.schema.Schema.{Schema}
 use Rattle.access_schema.specs.Meaning.{meaning_of}
 use Rattle.sql_select.specs.Statements.{StatementFits}
 use Rattle.plan_form.specs.Fitting.{IsWritablePlace, IsWritableOut, IsWritableStep, IsWritableBranch, HasFewSteps, PlanFits}
-use Rattle.proof_search.specs.Plans.{IsPlanFor, known_of}
+use Rattle.proof_search.specs.Plans.{IsPlanFor, HasFewSteps as HasFewPlanned, known_of}
 
 -- what holds of each member holds of all, and the other way round
 pub all_of : {X : Type 0} (P : X → Type 0) (xs : List X) → ((x : X) → Contains xs x → P x) → AllByRecursion P xs
@@ -87,11 +87,11 @@ module _ (schema : Schema) (constants : List Value) where
       }
 
 -- the plan for a statement that fits
-pub plan_fits : (schema : Schema) (statement : Statement) (plan : Plan) → StatementFits schema statement → IsPlanFor schema statement plan → PlanFits plan
-plan_fits schema statement plan fits is = of_selects statement.selects refl
+pub plan_fits : (schema : Schema) (statement : Statement) (plan : Plan) → StatementFits schema statement → IsPlanFor schema statement plan → HasFewPlanned plan → PlanFits plan
+plan_fits schema statement plan fits is few_planned = of_selects statement.selects refl
   where
     steps : (branch : Branch) → Contains plan.branches branch → length branch.steps ≤ 1048576
-    steps branch among = let few = is.steps branch among in omega (arith, few)
+    steps branch among = let few = few_planned.steps branch among in omega (arith, few)
 
     with_width : 1 ≤ plan.width → plan.width ≤ 64 → PlanFits plan
     with_width some most = record {
@@ -102,7 +102,7 @@ plan_fits schema statement plan fits is = of_selects statement.selects refl
             let width = (is.lawful branch among).0 in
             branch_fits schema (known_of schema statement) branch (steps branch among) (omega (arith, some, width)) (is.lawful branch among).1);
       };
-      few = record { branches = let few = is.branches in let one = fits.count in omega (arith, few, one); steps = all_of (λ branch. length branch.steps ≤ 1048576) plan.branches steps };
+      few = record { branches = let few = few_planned.branches in omega (arith, few); steps = all_of (λ branch. length branch.steps ≤ 1048576) plan.branches steps };
     }
 
     of_selects : (selects : List Select) → statement.selects ≡ selects → PlanFits plan

@@ -1,5 +1,5 @@
 -- What a delivery of a plan makes of its statement.
-use Rattle.std.proofs.Common.{◌≡◌, ℕ, List, [], ◌∷◌, Option, Result, Ok, Err, None, refl, ap}
+use Rattle.std.proofs.Common.{◌≡◌, ℕ, List, Option, Result, Ok, Err, None, refl}
 use Rattle.std.specs.Prelude.{Contains}
 use Rattle.meaning.specs.declared.types.Fact.{Fact}
 use Rattle.meaning.specs.declared.types.Statement.{Statement}
@@ -27,15 +27,15 @@ use Rattle.command_io.specs.Telling.{Tells}
 use Rattle.command_io.specs.Executing.{Executes, Delivers}
 use Rattle.command_io.specs.Executing.Delivers.{done as delivered_all, no_rows, no_text as no_text_made, cut as delivered_part}
 use Rattle.sql_select.specs.Statements.{StatementFits}
-use Rattle.proof_search.specs.Plans.{IsPlanFor}
+use Rattle.proof_search.specs.Plans.{IsPlanFor, HasFewSteps}
 use Rattle.sql_select.specs.Statements.{result_names}
 use Rattle.run_command.proofs.Fits.{plan_fits}
 use Rattle.run_command.specs.Ends.{IsPlanned, IsResult, PlanEnds}
 use Rattle.run_command.specs.Ends.PlanEnds.{unplanned, untold, stopped, no_text, cut, done}
 
 -- a plan that was made can be written
-pub planned : (schema : Schema) (statement : Statement) (plan : Plan) → StatementFits schema statement → IsPlanFor schema statement plan → IsPlanned schema statement plan
-planned schema statement plan fits is = record { is = is; fits = plan_fits schema statement plan fits is }
+pub planned : (schema : Schema) (statement : Statement) (plan : Plan) → StatementFits schema statement → IsPlanFor schema statement plan → HasFewSteps plan → IsPlanned schema statement plan
+planned schema statement plan fits is few = record { is = is; fits = plan_fits schema statement plan fits is few }
 
 module _ {S : Type 0} (seen : S → Seen) (schema : Schema) (statement : Statement) (plan : Plan) (is : IsPlanned schema statement plan)
     (columns : List (List ℕ)) (named : result_names statement.selects ≡ columns) (old new : List (Lane S)) where

@@ -26,7 +26,7 @@ returns-in-Some-clause-some c =
     let found : IsGoal c.args.queries.now c.in_ok-proof.proof.end.copy c.from_vec-head.result c.in-Some.field-0.select c.in-Some.field-0.assignment.vals = rw c.in-Some.is at c.in_ok-goal.ensures.some in
     goal_branch (meaning_of c.args.schema.now) c.args.known.now c.args.queries.now c.args.query.now c.in_ok-proof.proof.end.copy c.in-Some.field-0.select c.in-Some.field-0.assignment.vals c.in_ok-extract-in-Some.field-0
     c.requires.queries (subst (λ vals. IsGoal c.args.queries.now c.in_ok-proof.proof.end.copy vals c.in-Some.field-0.select c.in-Some.field-0.assignment.vals) head found)
-    (λ goal fits match. subst (λ known. IsBranchFor (meaning_of c.args.schema.now) known c.args.query.now goal c.in_ok-extract-in-Some.field-0) c.in_ok-proof.ensures.search.constants (c.in_ok-extract-in-Some.ensures goal fits match))
+    (λ goal fits match. subst (λ known. IsBranchFor (meaning_of c.args.schema.now) known c.args.query.now goal c.in_ok-extract-in-Some.field-0) c.in_ok-proof.ensures.search.constants (c.in_ok-extract-in-Some.ensures.branch goal fits match)) c.in_ok-extract-in-Some.ensures.few
 
 pub returns-clause-none : goal.returns-clause-none
 returns-clause-none c =

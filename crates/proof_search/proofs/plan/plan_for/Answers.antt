@@ -9,7 +9,7 @@ use Rattle.proof_search.specs.Searches.{AreSearchable}
 use Rattle.proof_search.specs.Branches.{IsQueryBranch, HasNoBranch}
 use Rattle.proof_search.specs.Plans.{known_of, IsPlanFor}
 use Rattle.proof_search.proofs.Literals.{known_literals}
-use Rattle.proof_search.proofs.Formed.{searchable, planned, unplanned}
+use Rattle.proof_search.proofs.Formed.{searchable, planned, short, unplanned}
 use Rattle.proof_search.proofs.plan.plan_for.Goals as goal
 
 pub branches_for-requires-clause-queries : goal.branches_for-requires-clause-queries
@@ -47,3 +47,12 @@ returns-clause-none c =
     unplanned c.args.schema.now c.args.statement.now select queries c.only_select-select.ensures c.in_ok-queries.ensures
     (λ constant there. subst (λ known. Contains known constant) same ((c.in_ok-known.ensures.members constant).1 (inl there)))
     (subst (λ known. AreSearchable schema known queries) same can) found.0 found.1 (subst (λ known. HasNoBranch schema known queries found.0) same found.2)
+
+pub returns-in-Some-clause-few : goal.returns-in-Some-clause-few
+returns-in-Some-clause-few c =
+    let schema = meaning_of c.args.schema.now in
+    let queries = c.in_ok-queries.queries in
+    let all : AllZip (IsQueryBranch schema c.in_ok-known.known queries) queries c.in-Some.branches = rw c.in-Some.is at c.in_ok-found.ensures.some in
+    let its : AllZip (IsQueryBranch schema (known_of c.args.schema.now c.args.statement.now) queries) queries c.in-Some.branches =
+    subst (λ known. AllZip (IsQueryBranch schema known queries) queries c.in-Some.branches) c.in_ok-known.ensures.order all in
+    short c.args.schema.now c.args.statement.now c.only_select-select.result.now queries c.only_select-select.ensures c.in_ok-queries.ensures c.len-width.result c.in-Some.branches its
