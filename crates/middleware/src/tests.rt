@@ -1,9 +1,10 @@
 // Joins and outputs worked out by hand.
 
 use crate::branch::output_texts;
+use crate::live::live_rows;
 use crate::partial_rows::{join, join_row};
-use lists::{Row, Rows, Text};
-use meaning::types::{Out, Place};
+use lists::{Row, Rows, Seq, Text};
+use meaning::types::{Out, Place, Step};
 use row_text::PackedRows;
 use std::alloc::{AllocError, Global};
 use std::test::Fail;
@@ -100,5 +101,54 @@ fn an_answer_is_taken_whole_only_where_its_rows_fit(rt: HostRuntime) -> Result<(
     assert_eq!(rt; grown(alloc, &[&["1", "2"], &["3", "4"]])?, 2);
     assert_eq!(rt; grown(alloc, &[&["1", "2"], &["3"]])?, 1);
     assert_eq!(rt; grown(alloc, &[&["1"], &["3", "4", "5"]])?, 0);
+    Ok(())
+}
+
+// A lone answer whose first two places are known: only the rows that agree with a partial row join it.
+#[test]
+fn a_lone_answer_joins_by_its_known_places(rt: HostRuntime) -> Result<(), Fail> {
+    let alloc = rt.alloc();
+    let places = [
+        Place::Const(Text::from_str(alloc, "k")?),
+        Place::Col(0),
+        Place::New,
+    ];
+    let requests = [Row::new(alloc)];
+    let mut answers = Vec::new(alloc);
+    answers.push(rows(
+        alloc,
+        &[
+            &["k", "b", "1"],
+            &["k", "a", "2"],
+            &["j", "a", "3"],
+            &["k", "c", "4"],
+            &["k", "a", "5"],
+        ],
+    )?)?;
+    let partial = rows(alloc, &[&["a"], &["b"], &["d"]])?;
+    let next = join(alloc, &places, &[], &requests, answers, &partial)?;
+    let grown = rows(alloc, &[&["a", "2"], &["a", "5"], &["b", "1"]])?;
+    assert!(rt; Rows::from_vec(next.rows(alloc)?) == Rows::from_vec(grown.rows(alloc)?));
+    Ok(())
+}
+
+// Of three columns the last is shown and a later step names the second; the first is named no more.
+#[test]
+fn values_that_are_named_no_more_are_dropped(rt: HostRuntime) -> Result<(), Fail> {
+    let alloc = rt.alloc();
+    let mut places = Vec::new(alloc);
+    places.push(Place::Col(1))?;
+    let step = Step {
+        method: Text::from_str(alloc, "m")?,
+        places: Seq::from_vec(places),
+    };
+    let outs = [Out::Col(2)];
+    let before = rows(
+        alloc,
+        &[&["a", "x", "1"], &["b", "x", "1"], &["b", "y", "2"]],
+    )?;
+    let kept = live_rows(alloc, &[step], &outs, before);
+    let wanted = rows(alloc, &[&["", "x", "1"], &["", "x", "1"], &["", "y", "2"]])?;
+    assert!(rt; Rows::from_vec(kept.rows(alloc)?) == Rows::from_vec(wanted.rows(alloc)?));
     Ok(())
 }
