@@ -17,11 +17,11 @@ use Rattle.rule_pass.specs.States.{SomeActive}
 use Rattle.rule_pass.proofs.OnePass.{met_quiet}
 use Rattle.accessible_copy.specs.declared.entry.Entry.{Entry}
 use Rattle.accessible_copy.specs.Known.{facts_of}
-use Rattle.accessible_copy.specs.Proving.{Proving, IsProofOf, log_of, sizes_of, firings_of, IsWritten}
+use Rattle.accessible_copy.specs.Proving.{Proving, IsProofOf, IsOrdered, log_of, sizes_of, firings_of, IsWritten}
 use Rattle.accessible_copy.specs.Written.{firing_of}
 use Rattle.accessible_copy.specs.Settling.{Settles, CanFollow}
 use Rattle.accessible_copy.specs.Exposing.{with_exposure}
-use Rattle.accessible_copy.specs.Rounds.{IsOrdered, IsAllQuiet, GoesOn}
+use Rattle.accessible_copy.specs.Rounds.{IsAllQuiet, GoesOn}
 use Rattle.accessible_copy.proofs.Writing.{firings_on}
 use Rattle.accessible_copy.proofs.Pushing.{goes_copy}
 use Rattle.accessible_copy.specs.Listing.{CanFire}
@@ -94,7 +94,7 @@ pub exposes_none : (schema : SchemaParts) (firings : ℕ) (proof : Proving) → 
 exposes_none schema firings proof search part = record { search = search; base = refl; part = part; more = λ fact among. among; longer = omega arith }
 
 pub exposes_more : (schema : SchemaParts) (firings : ℕ) (old now next : Proving) (number : ℕ) (fact : Ground) → Exposes schema firings old now → next ≡ with_exposure now number fact → IsProofOf schema next →
-    IsOrderedRun schema now.constants 0 now.start (log_of next) next.end → length now.entries < firings → Exposes schema firings old next × (length now.entries < length next.entries)
+    IsOrdered schema next → length now.entries < firings → Exposes schema firings old next × (length now.entries < length next.entries)
 exposes_more schema firings old now next number fact so_far e is ordered room =
     let entry : Entry = record { firing = Expose number fact; before = sizes_of now.constants now.end } in
     let long : length next.entries ≡ length now.entries + 1 = ap (λ (p : Proving). length p.entries) e ∙ length_push now.entries entry in
@@ -108,7 +108,7 @@ exposes_more schema firings old now next number fact so_far e is ordered room =
           run = is;
           begun = begun ∙ so_far.search.begun;
           constants = constants ∙ so_far.search.constants;
-          ordered = subst (λ start. IsOrderedRun schema next.constants 0 start (log_of next) next.end) (sym begun) (subst (λ known. IsOrderedRun schema known 0 now.start (log_of next) next.end) (sym constants) ordered);
+          ordered = ordered;
           few = omega arith;
         };
         base = ap (λ (p : Proving). p.end.base) e ∙ so_far.base;

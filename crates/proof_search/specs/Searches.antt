@@ -9,10 +9,9 @@ use Rattle.meaning.specs.Values.{Value}
 use Rattle.meaning.specs.Runs.{Proof, last_part}
 use Rattle.meaning.specs.Fitting.{QueryFits, QueryHasConstants}
 use Rattle.rule_pass.specs.declared.pass.TheConstants.{HIGHEST_FIRST_LABEL}
-use Rattle.accessible_copy.specs.Proving.{Proving, IsProofOf, log_of}
+use Rattle.accessible_copy.specs.Proving.{Proving, IsProofOf, IsOrdered, log_of}
 use Rattle.accessible_copy.specs.Listing.{CanFire}
 use Rattle.accessible_copy.specs.Goals.{IsCounted}
-use Rattle.accessible_copy.specs.Rounds.{IsOrdered}
 
 -- A query can be searched where it fits the schema, its variables are counted and few, and its constants are known.
 pub record IsSearchable (schema : SchemaParts) (known : List Value) (query : Query) : Type 0 where
