@@ -33,7 +33,7 @@ use Rattle.accessible_copy.proofs.Writing.{written_run}
 use Rattle.proof_search.specs.Branches.{IsShown, IsBranchFor}
 use Rattle.access_schema.proofs.Keeping.{well_formed, rules_fit}
 use Rattle.rule_pass.specs.declared.pass.TheConstants.{MOST_FIRINGS}
-use Rattle.proof_search.specs.Searches.{IsSearchable, IsSearch}
+use Rattle.proof_search.specs.Searches.{IsSearchable, IsWithin}
 use Rattle.proof_search.proofs.Shown.{shown_of, shown_in, few_exposed, zip_got, zip_long, same_shown}
 
 module _ (schema : SchemaParts) (constants : List Value) where
@@ -177,7 +177,7 @@ steps_long columns (e ∷ exposures) = let rest = steps_long (columns_after colu
 
 -- the exposures of a search, lent
 module _ (schema : Schema) (known : List Value) (query : Query) (proof : Proving) (searchable : IsSearchable (meaning_of schema) known query)
-    (have : (c : Value) → Contains schema.constants c → Contains known c) (search : IsSearch (meaning_of schema) MOST_FIRINGS (opening query) known proof)
+    (have : (c : Value) → Contains schema.constants c → Contains known c) (search : IsWithin (meaning_of schema) MOST_FIRINGS (opening query) known proof)
     (lent : List Exposure) (shown : AllZip (IsShown (meaning_of schema)) proof.exposed lent) where
   log_run : IsRun (meaning_of schema) known 0 (opening query) (log_of proof) proof.end
   log_run =

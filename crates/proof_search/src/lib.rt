@@ -9,6 +9,7 @@ mod exposing;
 mod plan;
 mod proving;
 mod reading;
+mod resting;
 
 pub use plan::plan_for;
 

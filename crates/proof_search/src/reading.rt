@@ -10,7 +10,7 @@ ghost use Rattle.access_schema.specs.Meaning.{meaning_of};
 ghost use Rattle.rule_pass.specs.declared.pass.TheConstants.{MOST_FIRINGS};
 ghost use Rattle.accessible_copy.specs.Proving.{IsProofOf};
 ghost use Rattle.plan_extract.specs.Lent.{exposures_of};
-ghost use Rattle.proof_search.specs.Searches.{IsSearchable, IsSearch};
+ghost use Rattle.proof_search.specs.Searches.{IsSearchable, IsWithin};
 ghost use Rattle.proof_search.specs.Branches.{IsShown, IsBranchFor};
 
 use access_schema::Schema;
@@ -32,7 +32,7 @@ pub fn extract(
 ) -> Result<Branch, NoMemory>
     requires query { IsSearchable (meaning_of schema.now) proof.now.constants query.now }
     requires known { (c : List ℕ) → Contains schema.now.constants c → Contains proof.now.constants c }
-    requires search { IsSearch (meaning_of schema.now) MOST_FIRINGS (opening query.now) proof.now.constants proof.now }
+    requires search { IsWithin (meaning_of schema.now) MOST_FIRINGS (opening query.now) proof.now.constants proof.now }
     ensures few { IfOk result (λ branch. length branch.steps ≤ MOST_FIRINGS) }
     ensures branch { IfOk result (λ branch. (goal : Query) → QueryFits (meaning_of schema.now) goal →
         IsQueryAnswer Const (GroundsOf proof.now.end.copy) goal (frozen_head query.now) →

@@ -263,3 +263,52 @@ fn an_answer_that_needs_a_rule(rt: HostRuntime) -> Result<(), Fail> {
     assert_eq!(rt; planned(alloc, &schema, query)?.as_str(), "none");
     Ok(())
 }
+
+/// What the parts of the examples' flights are: routes by origin, flights by route and day, and two lists.
+fn flights(alloc: Global) -> Result<Schema, AllocError> {
+    let mut parts: Parts = Seq::new(alloc);
+    parts.push(relation(alloc, "route", &["origin", "destination"])?)?;
+    parts.push(relation(alloc, "flight", &["number", "origin", "destination", "day"])?)?;
+    parts.push(relation(alloc, "fare", &["number", "day", "class", "price"])?)?;
+    parts.push(relation(alloc, "carrier", &["number", "airline"])?)?;
+    parts.push(relation(alloc, "calendar", &["day"])?)?;
+    parts.push(method(alloc, "routes_from", "route", &["origin"])?)?;
+    parts.push(method(
+        alloc,
+        "flight_search",
+        "flight",
+        &["origin", "destination", "day"],
+    )?)?;
+    parts.push(method(alloc, "fare_of", "fare", &["number", "day"])?)?;
+    parts.push(method(alloc, "carrier_of", "carrier", &["number"])?)?;
+    parts.push(method(alloc, "booking_days", "calendar", &[])?)?;
+    parts.push(key(alloc, "flight", "route", &["origin", "destination"])?)?;
+    parts.push(key(alloc, "flight", "calendar", &["day"])?)?;
+    parts.push(key(alloc, "flight", "carrier", &["number"])?)?;
+    parts.push(key(alloc, "fare", "flight", &["number", "day"])?)?;
+    built(alloc, parts)
+}
+
+#[test]
+fn accesses_that_the_match_does_not_rest_on_are_left_out(rt: HostRuntime) -> Result<(), Fail> {
+    let alloc = rt.alloc();
+    let schema = flights(alloc)?;
+    let cases = [
+        (
+            "SELECT DISTINCT f.destination, c.airline, p.class, p.price FROM flight f, fare p, carrier c WHERE f.origin = 'OSL' AND f.day = 'mon' AND p.number = f.number AND p.day = f.day AND c.number = f.number",
+            "4; routes_from 'OSL' new; flight_search new 'OSL' $0 'mon'; fare_of $1 'mon' new new; carrier_of $1 new; output $0 $4 $2 $3",
+        ),
+        (
+            "SELECT DISTINCT number, day FROM flight WHERE origin = 'OSL'",
+            "2; routes_from 'OSL' new; booking_days new; flight_search new 'OSL' $0 $1; output $2 $1",
+        ),
+        (
+            "SELECT DISTINCT day FROM calendar",
+            "1; booking_days new; output $0",
+        ),
+    ];
+    for (query, wanted) in cases {
+        assert_eq!(rt; planned(alloc, &schema, query)?.as_str(), wanted);
+    }
+    Ok(())
+}

@@ -1,1 +1,1 @@
-SELECT DISTINCT t1.a FROM r t1, r t2, r t3, r t4, r t5, r t6, r t7, r t8, r t9, r t10, r t11, r t12, r t13, r t14, r t15, r t16 WHERE t1.a = t2.a AND t1.a = t3.a AND t1.a = t4.a AND t1.a = t5.a AND t1.a = t6.a AND t1.a = t7.a AND t1.a = t8.a AND t1.a = t9.a AND t1.a = t10.a AND t1.a = t11.a AND t1.a = t12.a AND t1.a = t13.a AND t1.a = t14.a AND t1.a = t15.a AND t1.a = t16.a
+SELECT DISTINCT t1.a FROM r t1, r t2, r t3, r t4, r t5, r t6, r t7, r t8, r t9, r t10, r t11, r t12, r t13, r t14, r t15, r t16

@@ -20,17 +20,17 @@ extract-requires-clause-query c =
 pub extract-requires-clause-known : goal.extract-requires-clause-known
 extract-requires-clause-known c constant among = subst (λ known. Contains known constant) (sym c.in_ok-proof.ensures.search.constants) (c.requires.known constant among)
 
-pub returns-in-Some-clause-some : goal.returns-in-Some-clause-some
-returns-in-Some-clause-some c =
+pub returns-in_default-clause-none : goal.returns-in_default-clause-none
+returns-in_default-clause-none c =
     let head : c.from_vec-head.result ≡ frozen_head c.args.query.now = c.from_vec-head.ensures ∙ c.in_ok-frozen_values.ensures ∙ ap (map (value_of Const Label)) c.as_slice.ensures in
-    let found : IsGoal c.args.queries.now c.in_ok-proof.proof.end.copy c.from_vec-head.result c.in-Some.field-0.select c.in-Some.field-0.assignment.vals = rw c.in-Some.is at c.in_ok-goal.ensures.some in
-    goal_branch (meaning_of c.args.schema.now) c.args.known.now c.args.queries.now c.args.query.now c.in_ok-proof.proof.end.copy c.in-Some.field-0.select c.in-Some.field-0.assignment.vals c.in_ok-extract-in-Some.field-0
-    c.requires.queries (subst (λ vals. IsGoal c.args.queries.now c.in_ok-proof.proof.end.copy vals c.in-Some.field-0.select c.in-Some.field-0.assignment.vals) head found)
-    (λ goal fits match. subst (λ known. IsBranchFor (meaning_of c.args.schema.now) known c.args.query.now goal c.in_ok-extract-in-Some.field-0) c.in_ok-proof.ensures.search.constants (c.in_ok-extract-in-Some.ensures.branch goal fits match)) c.in_ok-extract-in-Some.ensures.few
-
-pub returns-clause-none : goal.returns-clause-none
-returns-clause-none c =
-    let head : c.from_vec-head.result ≡ frozen_head c.args.query.now = c.from_vec-head.ensures ∙ c.in_ok-frozen_values.ensures ∙ ap (map (value_of Const Label)) c.as_slice.ensures in
-    let none : HasGoal c.args.queries.now c.in_ok-proof.proof.end c.from_vec-head.result → ⊥ = rw c.in-None.is at c.in_ok-goal.ensures.none in
+    let none : HasGoal c.args.queries.now c.in_ok-proof.proof.end c.from_vec-head.result → ⊥ = rw c.in_default.is at c.in_ok-found.ensures.none in
     no_branch (meaning_of c.args.schema.now) c.args.known.now c.args.queries.now c.args.query.now c.in_ok-proof.proof c.in_ok-proof.ensures.search
     (λ has. none (subst (HasGoal c.args.queries.now c.in_ok-proof.proof.end) (sym head) has)) c.in_ok-proof.field-0-1 c.in_ok-proof.ensures.quiet c.in_ok-proof.ensures.spent
+
+pub returns-clause-some : goal.returns-clause-some
+returns-clause-some c =
+    let head : c.from_vec-head.result ≡ frozen_head c.args.query.now = c.from_vec-head.ensures ∙ c.in_ok-frozen_values.ensures ∙ ap (map (value_of Const Label)) c.as_slice.ensures in
+    let found : IsGoal c.args.queries.now c.in_ok-proof.proof.end.copy c.from_vec-head.result c.in-Some.found.select c.in-Some.found.assignment.vals = rw c.in-Some.is at c.in_ok-found.ensures.some in
+    goal_branch (meaning_of c.args.schema.now) c.args.known.now c.args.queries.now c.args.query.now c.in_ok-proof.proof.end.copy c.in-Some.found.select c.in-Some.found.assignment.vals c.in_ok-branch-2.branch
+    c.requires.queries (subst (λ vals. IsGoal c.args.queries.now c.in_ok-proof.proof.end.copy vals c.in-Some.found.select c.in-Some.found.assignment.vals) head found)
+    (λ goal fits match. subst (λ known. IsBranchFor (meaning_of c.args.schema.now) known c.args.query.now goal c.in_ok-branch-2.branch) c.in_ok-proof.ensures.search.constants (c.in_ok-branch-2.ensures.branch goal fits match)) c.in_ok-branch-2.ensures.few
