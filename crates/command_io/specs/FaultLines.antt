@@ -153,7 +153,6 @@ fault_line names (stop.File input fault) = codes "read " ++ file_name names inpu
 fault_line names (stop.Schema fault) = schema_line fault
 fault_line names (stop.Query fault) = query_line fault
 fault_line names (stop.Plan fault) = plan_line fault
-fault_line names stop.NoPlanYet = codes "query: no plan yet\n"
 fault_line names stop.DecisionWrite = write_line
 fault_line names (stop.Illegal fault) = illegal_text fault
 fault_line names (stop.Run fault) = run_line names.relations fault

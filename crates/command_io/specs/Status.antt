@@ -57,7 +57,6 @@ status_of (stop.File input fault) = file_status fault
 status_of (stop.Schema fault) = is.Text
 status_of (stop.Query fault) = is.Text
 status_of (stop.Plan fault) = is.Text
-status_of stop.NoPlanYet = is.Text
 status_of stop.DecisionWrite = is.Write
 status_of (stop.Illegal fault) = is.Text
 status_of (stop.Run fault) = run_status fault

@@ -36,7 +36,6 @@ pub fn line_of(
         Stop::Schema(fault) => schema_line(alloc, *fault),
         Stop::Query(fault) => query_line(alloc, fault),
         Stop::Plan(fault) => plan_line(alloc, *fault),
-        Stop::NoPlanYet => plain(alloc, b"query: no plan yet\n"),
         Stop::DecisionWrite => plain(alloc, b"write failed\n"),
         Stop::Illegal(fault) => Ok(illegal_text(alloc, fault)?.into_vec()),
         Stop::Run(fault) => run_line(alloc, *fault, relations),

@@ -32,8 +32,6 @@ pub enum Stop {
     Query(SqlFault),
     /// The plan's text is no plan.
     Plan(PlanReadFault),
-    /// The statement is none that is planned in this stage.
-    NoPlanYet,
     /// The decision could not be written to standard error.
     DecisionWrite,
     /// The plan that was read is not lawful.
@@ -57,7 +55,6 @@ pub fn status(stop: &Stop) -> Status
         Stop::Schema(_) => Status::Text,
         Stop::Query(_) => Status::Text,
         Stop::Plan(_) => Status::Text,
-        Stop::NoPlanYet => Status::Text,
         Stop::DecisionWrite => Status::Write,
         Stop::Illegal(_) => Status::Text,
         Stop::Run(fault) => run_status(*fault),

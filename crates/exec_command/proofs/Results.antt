@@ -17,6 +17,8 @@ use Rattle.row_text.specs.RowText.{IsRowText}
 use Rattle.row_text.proofs.Texts.{IsRowText-alike}
 use Rattle.middleware.specs.declared.fault.Run.{Run}
 use Rattle.command_io.specs.declared.stop.Stop.{Stop}
+use Rattle.command_io.specs.declared.outcome.Outcome.{Outcome}
+use Rattle.command_io.specs.declared.outcome.Outcome.TheVariants as outcome
 use Rattle.command_io.specs.declared.delivery.TheConstants.{CALLS}
 use Rattle.command_io.specs.FaultLines.{Names}
 use Rattle.command_io.specs.Moments.{Moment}
@@ -54,7 +56,7 @@ module _ {S : Type 0} (seen : S → Seen) (schema : Schema) (plan : Plan) (may :
   module _ (names : Names) (before after : Moment) where
     pub delivered : after.err ≡ before.err →
         Delivers seen schema plan CALLS (column_names plan.width) old new before.out after.out (Rose before.out_faults after.out_faults) (Ok tt) →
-        PlanEnds seen schema plan names before after old new (Ok tt)
+        PlanEnds seen schema plan names before after old new (Ok outcome.Done)
     delivered same (delivered_all run text executes of_rows took) = done run text may executes (result_of run text executes of_rows) took same
 
     pub not_delivered : (given end : Stop) →
@@ -77,7 +79,7 @@ lanes_stay seen schema plan columns old new out_old out_new rose result (deliver
 
 -- what became of a plan does not depend on the files
 pub with_files : {S : Type 0} (seen : S → Seen) (schema : Schema) (plan : Plan) (names : Names) (before after : Moment) (old new : List (Lane S))
-    (result : Result (Unit {0}) Stop) →
+    (result : Result Outcome Stop) →
     PlanEnds seen schema plan names
     (record { files = None; file_faults = 0; out = before.out; out_faults = before.out_faults; err = before.err; err_faults = before.err_faults })
     (record { files = None; file_faults = 0; out = after.out; out_faults = after.out_faults; err = after.err; err_faults = after.err_faults }) old new result →

@@ -16,6 +16,8 @@ use Rattle.middleware.specs.declared.fault.Run.{Run}
 use Rattle.middleware.specs.declared.fault.RunFault.{RunFault}
 use Rattle.middleware.specs.Held.{Holds}
 use Rattle.command_io.specs.declared.stop.Stop.{Stop}
+use Rattle.command_io.specs.declared.outcome.Outcome.{Outcome}
+use Rattle.command_io.specs.declared.outcome.Outcome.TheVariants as outcome
 use Rattle.command_io.specs.declared.stop.Stop.TheVariants as stop
 use Rattle.command_io.specs.declared.delivery.TheConstants.{CALLS}
 use Rattle.command_io.specs.Inputs.{SchemaIsRead, PlanIsRead, SchemaStop, PlanStop}
@@ -49,7 +51,7 @@ pub record IsResult {S : Type 0} (seen : S → Seen) (schema : Schema) (plan : P
 -- What became of a plan: it was not executed; or it is lawful and was, and standard output took the text of its rows,
 -- whole or not.
 pub data PlanEnds {S : Type 0} (seen : S → Seen) (schema : Schema) (plan : Plan) (names : Names) (before after : Moment) (old new : List (Lane S)) :
-    Result (Unit {0}) Stop → Type 0 where
+    Result Outcome Stop → Type 0 where
   -- it was not executed, and nothing but the line was written
   idle : (end : Stop) →
       StopsFor (IdleStop schema plan) names before.err after.err (Rose before.err_faults after.err_faults) end →
@@ -70,11 +72,11 @@ pub data PlanEnds {S : Type 0} (seen : S → Seen) (schema : Schema) (plan : Pla
   -- it was executed, the text was written whole, and nothing was written on standard error
   done : (run : Run) (text : List ℕ) → MayRun schema plan → Executes seen schema plan CALLS old new (Ok run) →
       IsResult seen schema plan run new text → TookAll before.out after.out text → after.err ≡ before.err →
-      PlanEnds seen schema plan names before after old new (Ok tt)
+      PlanEnds seen schema plan names before after old new (Ok outcome.Done)
 
 -- How `exec` ends: a text was refused, and nothing but the line was written; or both were read.
 pub data ExecEnds {S : Type 0} (seen : S → Seen) (schema_name plan_name : List ℕ) (before after : Moment) (old new : List (Lane S)) :
-    Result (Unit {0}) Stop → Type 0 where
+    Result Outcome Stop → Type 0 where
   no_schema : (end : Stop) →
       StopsFor (SchemaStop before.files schema_name (Rose before.file_faults after.file_faults))
       (record { schema = schema_name; query = []; plan = plan_name; relations = [] }) before.err after.err (Rose before.err_faults after.err_faults) end →
@@ -83,7 +85,7 @@ pub data ExecEnds {S : Type 0} (seen : S → Seen) (schema_name plan_name : List
       StopsFor (PlanStop before.files plan_name (Rose before.file_faults after.file_faults))
       (record { schema = schema_name; query = []; plan = plan_name; relations = [] }) before.err after.err (Rose before.err_faults after.err_faults) end →
       after.out ≡ before.out → new ≡ old → ExecEnds seen schema_name plan_name before after old new (Err end)
-  read : (schema : Schema) (plan : Plan) (result : Result (Unit {0}) Stop) →
+  read : (schema : Schema) (plan : Plan) (result : Result Outcome Stop) →
       SchemaIsRead before.files schema_name schema → PlanIsRead before.files plan_name plan →
       PlanEnds seen schema plan (record { schema = schema_name; query = []; plan = plan_name; relations = schema.relations }) before after old new result →
       ExecEnds seen schema_name plan_name before after old new result

@@ -8,7 +8,7 @@ ghost use Rattle.exec_command.specs.Ends.{MayRun, IdleStop, PlanEnds, ExecEnds};
 
 use crate::known::{column_names, known};
 use access_schema::Schema;
-use command_io::{FileNames, Stop, deliver, plan_of_file, schema_of, tell};
+use command_io::{FileNames, Outcome, Stop, deliver, plan_of_file, schema_of, tell};
 use lists::Text;
 use meaning::types::Plan;
 use plan_form::lawful;
@@ -27,7 +27,7 @@ pub fn exec_plan<F: Files, S: Source + Send + Drop, O: Sink, E: Sink>(
     lanes: &mut Vec<Lane<S>>,
     out: &mut O,
     err: &mut E,
-) -> Result<(), Stop>
+) -> Result<Outcome, Stop>
     ensures ends { ExecEnds S.seen schema_name.now plan_name.now
         (record { files = F.contents files.old; file_faults = F.faults files.old; out = O.taken out.old; out_faults = O.faults out.old; err = E.taken err.old; err_faults = E.faults err.old })
         (record { files = F.contents files.new; file_faults = F.faults files.new; out = O.taken out.new; out_faults = O.faults out.new; err = E.taken err.new; err_faults = E.faults err.new })
@@ -63,7 +63,7 @@ fn carry_out<S: Source + Send + Drop, O: Sink, E: Sink>(
     lanes: &mut Vec<Lane<S>>,
     out: &mut O,
     err: &mut E,
-) -> Result<(), Stop>
+) -> Result<Outcome, Stop>
     requires { PlanFits plan.now }
     ensures ends { PlanEnds S.seen schema.now plan.now (record { schema = names.entry.schema.now; query = names.entry.query.now; plan = names.entry.plan.now; relations = schema.now.relations })
         (record { files = None; file_faults = 0; out = O.taken out.old; out_faults = O.faults out.old; err = E.taken err.old; err_faults = E.faults err.old })
@@ -83,7 +83,7 @@ fn carry_out<S: Source + Send + Drop, O: Sink, E: Sink>(
         Err(_) => return Err(tell(alloc, err, Stop::Memory, names, relations)),
     };
     match deliver(alloc, schema, plan, &columns, lanes, out) {
-        Ok(()) => Ok(()),
+        Ok(()) => Ok(Outcome::Done),
         Err(stop) => Err(tell(alloc, err, stop, names, relations)),
     }
 }

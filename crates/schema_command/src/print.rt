@@ -7,7 +7,7 @@ ghost use Rattle.command_io.specs.Writing.{TookAll, TookPrefix};
 ghost use Rattle.schema_command.specs.Ends.{SchemaEnds};
 
 use access_schema::Schema;
-use command_io::{FileNames, Stop, print, schema_of, tell};
+use command_io::{FileNames, Outcome, Stop, print, schema_of, tell};
 use lists::Text;
 use source_trait::{Files, Sink};
 use std::alloc::Global;
@@ -20,7 +20,7 @@ pub fn print_schema<F: Files, O: Sink, E: Sink>(
     files: &mut F,
     out: &mut O,
     err: &mut E,
-) -> Result<(), Stop>
+) -> Result<Outcome, Stop>
     ensures ends { SchemaEnds name.now
         (record { files = F.contents files.old; file_faults = F.faults files.old; out = O.taken out.old; out_faults = O.faults out.old; err = E.taken err.old; err_faults = E.faults err.old })
         (record { files = F.contents files.new; file_faults = F.faults files.new; out = O.taken out.new; out_faults = O.faults out.new; err = E.taken err.new; err_faults = E.faults err.new })
@@ -40,7 +40,7 @@ pub fn print_schema<F: Files, O: Sink, E: Sink>(
         Err(stop) => return Err(tell(alloc, err, stop, names, &[])),
     };
     match write_schema(alloc, &schema, out) {
-        Ok(()) => Ok(()),
+        Ok(()) => Ok(Outcome::Done),
         Err(stop) => Err(tell(alloc, err, stop, names, schema.relations.as_slice())),
     }
 }

@@ -1,6 +1,5 @@
 -- What became of the rules, by where verifying them stopped.
 use Rattle.std.proofs.Common.{◌≡◌, ◌<◌, ℕ, Bool, true, false, not, List, [], ◌∷◌, length, get_or, set, Option, None, Some, Result, Ok, Err, refl, subst, arith}
-use Rattle.std.specs.Prelude.{is_none}
 use Rattle.std.specs.Option.{is_some}
 use Rattle.meaning.specs.declared.types.Fact.{Fact}
 use Rattle.access_schema.specs.declared.schema.Schema.{Schema}
@@ -53,13 +52,6 @@ module _ {S : Type 0} (seen : S → Seen) (schema : Schema) (rels : List ℕ) (a
         let among = (are.exactly rel).1 named in
         instance_asked seen schema rels (rises_strictly rels are.ascends) facts middle new asked rel among (order_ready seen schema rels old middle order rel among) instance (λ line is. holds rel line named is)) found is;
   })
-
--- a test for some that fails
-pub told_none : {X : Type 0} (found : Option X) (test : Bool) → is_some found ≡ not test → is_none found ≡ test
-told_none None true e = refl
-told_none None false e = absurd (cc)
-told_none (Some x) true e = absurd (cc)
-told_none (Some x) false e = refl
 
 -- the first of the lanes
 module _ {S : Type 0} (seen : S → Seen) (lanes : List (Lane S)) (lane after : Lane S) (some : 0 < length lanes) (is : lane ≡ get_or lanes 0 lane) where

@@ -1,5 +1,5 @@
 -- How the command `verify` ends.
-use Rattle.std.specs.Prelude.{◌≡◌, ℕ, Bool, List, [], Option, is_none, Result, Ok, Err}
+use Rattle.std.specs.Prelude.{◌≡◌, ℕ, List, [], Option, None, Some, Result, Ok, Err}
 use Rattle.access_schema.specs.declared.schema.Schema.{Schema}
 use Rattle.source_trait.specs.Asking.{Seen}
 use Rattle.source_trait.specs.Causes.{Rose}
@@ -7,15 +7,22 @@ use Rattle.source_trait.specs.declared.lanes.Lane.{Lane}
 use Rattle.data_verify.specs.declared.broken.Broken.{Broken}
 use Rattle.data_verify.specs.Telling.{verification_text}
 use Rattle.command_io.specs.declared.stop.Stop.{Stop}
+use Rattle.command_io.specs.declared.outcome.Outcome.{Outcome}
+use Rattle.command_io.specs.declared.outcome.Outcome.TheVariants as outcome
 use Rattle.command_io.specs.Inputs.{SchemaIsRead, SchemaStop}
 use Rattle.command_io.specs.Moments.{Moment, ResultStop}
 use Rattle.command_io.specs.Writing.{TookAll, TookPrefix}
 use Rattle.command_io.specs.Telling.{StopsFor}
 use Rattle.verify_command.specs.Verifying.{Verifies, used, others}
 
+-- The outcome is done where no rule is broken, and no where one is.
+abbrev pub outcome_of : Option Broken → Outcome
+outcome_of None = outcome.Done
+outcome_of (Some broken) = outcome.No
+
 -- The four ways: no schema was read, and nothing but the line was written; the rows were not verified; they were, and the text
 -- of that was not written whole; or it was, and the answer is whether the rules are met. The lanes behind the first always stay.
-pub data VerifyEnds {S : Type 0} (seen : S → Seen) (name : List ℕ) (before after : Moment) (old new : List (Lane S)) : Result Bool Stop → Type 0 where
+pub data VerifyEnds {S : Type 0} (seen : S → Seen) (name : List ℕ) (before after : Moment) (old new : List (Lane S)) : Result Outcome Stop → Type 0 where
   no_schema : (end : Stop) →
       StopsFor (SchemaStop before.files name (Rose before.file_faults after.file_faults))
       (record { schema = name; query = []; plan = []; relations = [] }) before.err after.err (Rose before.err_faults after.err_faults) end →
@@ -32,4 +39,4 @@ pub data VerifyEnds {S : Type 0} (seen : S → Seen) (name : List ℕ) (before a
       VerifyEnds seen name before after old new (Err end)
   done : (schema : Schema) (found : Option Broken) → SchemaIsRead before.files name schema →
       Verifies seen schema (used old) (used new) (Ok found) → others new ≡ others old → TookAll before.out after.out (verification_text schema found) →
-      after.err ≡ before.err → VerifyEnds seen name before after old new (Ok (is_none found))
+      after.err ≡ before.err → VerifyEnds seen name before after old new (Ok (outcome_of found))

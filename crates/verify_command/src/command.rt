@@ -5,11 +5,11 @@ ghost use Rattle.source_trait.specs.Lanes.{LanesStay};
 ghost use Rattle.data_verify.specs.Telling.{verification_text as text_of};
 ghost use Rattle.command_io.specs.Moments.{Moment, Stays, ResultStop};
 ghost use Rattle.command_io.specs.Writing.{TookAll, TookPrefix};
-ghost use Rattle.verify_command.specs.Ends.{VerifyEnds};
+ghost use Rattle.verify_command.specs.Ends.{VerifyEnds, outcome_of};
 
 use crate::verifying::first_broken;
 use access_schema::Schema;
-use command_io::{FileNames, Stop, print, schema_of, tell};
+use command_io::{FileNames, Outcome, Stop, print, schema_of, tell};
 use data_verify::{Broken, verification_text};
 use lists::Text;
 use source_trait::{Files, Lane, Sink, Source};
@@ -18,8 +18,8 @@ use std::alloc::Global;
 /// Reads the schema of the file of this name, and tells whether the rows of the sources of the first lane meet its rules;
 /// says why it stopped.
 ///
-/// The relations that some rule names are attached and then asked whole, in ascending order. `true` comes where all rules are
-/// met, and `false` where one is not; `out` takes the line that says so.
+/// The relations that some rule names are attached and then asked whole, in ascending order. `Done` comes where all rules are
+/// met, and `No` where one is not; `out` takes the line that says so.
 pub fn verify_rules<F: Files, S: Source + Send + Drop, O: Sink, E: Sink>(
     alloc: Global,
     schema_name: &Text,
@@ -27,7 +27,7 @@ pub fn verify_rules<F: Files, S: Source + Send + Drop, O: Sink, E: Sink>(
     lanes: &mut Vec<Lane<S>>,
     out: &mut O,
     err: &mut E,
-) -> Result<bool, Stop>
+) -> Result<Outcome, Stop>
     ensures ends { VerifyEnds S.seen schema_name.now
         (record { files = F.contents files.old; file_faults = F.faults files.old; out = O.taken out.old; out_faults = O.faults out.old; err = E.taken err.old; err_faults = E.faults err.old })
         (record { files = F.contents files.new; file_faults = F.faults files.new; out = O.taken out.new; out_faults = O.faults out.new; err = E.taken err.new; err_faults = E.faults err.new })
@@ -53,8 +53,18 @@ pub fn verify_rules<F: Files, S: Source + Send + Drop, O: Sink, E: Sink>(
         Err(stop) => return Err(tell(alloc, err, stop, names, relations)),
     };
     match write_found(alloc, &schema, &found, out) {
-        Ok(()) => Ok(found.is_none()),
+        Ok(()) => Ok(outcome(&found)),
         Err(stop) => Err(tell(alloc, err, stop, names, relations)),
+    }
+}
+
+// All rules are met where none is broken.
+fn outcome(found: &Option<Broken>) -> Outcome
+    ensures { result ≡ outcome_of found.now }
+{
+    match found {
+        None => Outcome::Done,
+        Some(_) => Outcome::No,
     }
 }
 

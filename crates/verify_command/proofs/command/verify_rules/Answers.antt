@@ -1,8 +1,7 @@
 -- The four ways in which the command ends.
-use Rattle.std.proofs.Common.{refl, sym}
+use Rattle.std.proofs.Common.{refl}
 use Rattle.source_trait.proofs.LaneSteps.{LanesStay-refl}
 use Rattle.verify_command.specs.Ends.VerifyEnds.{no_schema, stopped, cut, done}
-use Rattle.verify_command.proofs.Results.{told_none}
 use Rattle.verify_command.proofs.command.verify_rules.Goals as goal
 
 pub returns-in-Err-clause-ends : goal.returns-in-Err-clause-ends
@@ -25,7 +24,7 @@ returns-in-Err-first_broken-clause-ends g c = stopped c.in-Ok.schema c.in-Err-fi
 
 pub returns-in-Ok-write_found-clause-ends : goal.returns-in-Ok-write_found-clause-ends
 returns-in-Ok-write_found-clause-ends g c =
-    rw (sym (told_none c.in-Ok-first_broken.found c.is_none.result c.is_none.ensures)) (done c.in-Ok.schema c.in-Ok-first_broken.found c.in-Ok.ensures.read c.in-Ok-first_broken.ensures.verifies c.in-Ok-first_broken.ensures.others c.in-Ok-write_found.ensures.whole refl)
+    rw c.outcome.ensures (done c.in-Ok.schema c.in-Ok-first_broken.found c.in-Ok.ensures.read c.in-Ok-first_broken.ensures.verifies c.in-Ok-first_broken.ensures.others c.in-Ok-write_found.ensures.whole refl)
 
 pub returns-clause-ends : goal.returns-clause-ends
 returns-clause-ends g c = cut c.in-Ok.schema c.in-Ok-first_broken.found c.tell-in-Err-write_found.result c.in-Ok.ensures.read
