@@ -1,0 +1,5 @@
+mod Numbers
+mod Cutting
+mod Splitting
+mod Giving
+mod Making

@@ -1,0 +1,195 @@
+-- Commands from what the words give.
+use Rattle.std.proofs.Common.{◌≡◌, ℕ, zero, suc, ◌+◌, ◌<◌, ◌≤◌, Bool, true, false, List, [], ◌∷◌, ◌++◌, length, get_or, take, drop, ◌-◌, ◌^◌, Option, None, Some, refl, sym, ap, subst, ◌∙◌, arith, rules}
+use Rattle.std.specs.Cmp.Lexicographic.{pointwise}
+use Rattle.std.specs.Prelude.{nat_eq, codes, if◌then◌else◌, option_map, unwrap_or, IfSome, IfNone}
+use Rattle.std.specs.Fmt.{decimal}
+use Rattle.std.proofs.lemmas.Fmt.{decimal_injective}
+use Rattle.command_words.specs.Table.{command_word, option_word, takes, limit, default_number}
+use Rattle.command_words.specs.Splits.{Item, Splits, positionals_of, texts_of, IsSet, Once, Absent}
+use Rattle.command_words.specs.Words.{Command, Help, Schema, Explain, Run, Exec, Verify, Setting, AreSet, Asks, firings, IsCommand, seen_as}
+use Rattle.command_words.specs.Arguments.{words_of, given_number, number_of, IsGiven, Give, AreArguments, MayBe, made}
+use Rattle.command_words.specs.declared.command.Command.{Command as Coded}
+use Rattle.command_words.specs.declared.table.CommandName.{CommandName}
+use Rattle.command_words.specs.declared.table.CommandName.TheVariants as name
+use Rattle.command_words.specs.declared.table.OptionName.{OptionName}
+use Rattle.command_words.specs.declared.table.OptionName.TheVariants.{Firings}
+use Rattle.command_words.specs.declared.given.Arguments.{Arguments}
+use Rattle.command_words.proofs.Splitting.{splits_once, not_taken, front_and_rest}
+
+-- a command's word is its own
+named_by : List ℕ → CommandName
+named_by word =
+    if pointwise nat_eq word (codes "help") then name.Help else (if pointwise nat_eq word (codes "schema") then name.Schema else
+    (if pointwise nat_eq word (codes "explain") then name.Explain else (if pointwise nat_eq word (codes "run") then name.Run else
+    (if pointwise nat_eq word (codes "exec") then name.Exec else name.Verify))))
+
+its_own : (which : CommandName) → named_by (command_word which) ≡ which
+unfolding named_by
+its_own name.Help = refl
+its_own name.Schema = refl
+its_own name.Explain = refl
+its_own name.Run = refl
+its_own name.Exec = refl
+its_own name.Verify = refl
+
+same_command : (one other : CommandName) → command_word one ≡ command_word other → one ≡ other
+same_command one other e = sym (its_own one) ∙ ap named_by e ∙ its_own other
+
+-- the words are the command that is made of their items
+record Makes (words : List (List ℕ)) (command : Command) : Type 0 where
+  pub name : CommandName
+  pub behind : List (List ℕ)
+  pub items : List Item
+  pub number : ℕ
+  pub first : words ≡ command_word name ∷ behind
+  pub splits : Splits name behind items
+  pub set : IsSet Firings items number
+  pub is_made : made name (positionals_of items) number ≡ Some command
+
+made_of : (words : List (List ℕ)) (which : CommandName) (positionals : List (List ℕ)) (settings : List Setting) (n : ℕ) (command : Command) (asks : Asks words which positionals settings) → IsSet Firings asks.items n → made which positionals n ≡ Some command → Makes words command
+made_of words which positionals settings n command asks set is = record {
+  name = which;
+  behind = asks.behind;
+  items = asks.items;
+  number = n;
+  first = asks.first;
+  splits = asks.splits;
+  set = set;
+  is_made = ap (λ (ps : List (List ℕ)). made which ps n) asks.in_order ∙ is;
+}
+
+-- a command without the option
+unset : (words : List (List ℕ)) (which : CommandName) (positionals : List (List ℕ)) (command : Command) → takes which Firings ≡ false → made which positionals 10000 ≡ Some command → Asks words which positionals [] → Makes words command
+unset words which positionals command off is asks =
+    made_of words which positionals [] 10000 command asks (Absent (not_taken which Firings asks.behind asks.items off asks.splits) refl) is
+
+makes : (words : List (List ℕ)) (command : Command) → IsCommand words command → Makes words command
+makes words Help asks = unset words name.Help [] Help refl refl asks
+makes words (Schema schema) asks = unset words name.Schema (schema ∷ []) (Schema schema) refl refl asks
+makes words (Explain schema query n) asks = made_of words name.Explain (schema ∷ query ∷ []) (firings n) n (Explain schema query n) asks asks.are_set.0 refl
+makes words (Run schema query n) asks = made_of words name.Run (schema ∷ query ∷ []) (firings n) n (Run schema query n) asks asks.are_set.0 refl
+makes words (Exec schema plan) asks = unset words name.Exec (schema ∷ plan ∷ []) (Exec schema plan) refl refl asks
+makes words (Verify schema) asks = unset words name.Verify (schema ∷ []) (Verify schema) refl refl asks
+
+-- ---- the other way round
+
+asked : (words behind : List (List ℕ)) (which : CommandName) (items : List Item) (n : ℕ) (positionals : List (List ℕ)) (command : Command) → words ≡ command_word which ∷ behind → Splits which behind items → IsSet Firings items n → positionals_of items ≡ positionals → made which positionals n ≡ Some command → IsCommand words command
+asked words behind which items n positionals command first splits set order is = go which positionals first splits order is
+  where
+    named : (c : Command) → c ≡ command → IsCommand words c → IsCommand words command
+    named c e here = subst (IsCommand words) e here
+
+    go : (which : CommandName) (positionals : List (List ℕ)) → words ≡ command_word which ∷ behind → Splits which behind items → positionals_of items ≡ positionals → made which positionals n ≡ Some command → IsCommand words command
+    go name.Help [] first splits order is = named Help (cc) (record { behind = behind; items = items; first = first; splits = splits; in_order = order; are_set = tt })
+    go name.Help (a ∷ ps) first splits order is = absurd cc
+    go name.Schema [] first splits order is = absurd cc
+    go name.Schema (a ∷ []) first splits order is = named (Schema a) (cc) (record { behind = behind; items = items; first = first; splits = splits; in_order = order; are_set = tt })
+    go name.Schema (a ∷ b ∷ ps) first splits order is = absurd cc
+    go name.Explain [] first splits order is = absurd cc
+    go name.Explain (a ∷ []) first splits order is = absurd cc
+    go name.Explain (a ∷ b ∷ []) first splits order is = named (Explain a b n) (cc) (record { behind = behind; items = items; first = first; splits = splits; in_order = order; are_set = (set, tt) })
+    go name.Explain (a ∷ b ∷ c ∷ ps) first splits order is = absurd cc
+    go name.Run [] first splits order is = absurd cc
+    go name.Run (a ∷ []) first splits order is = absurd cc
+    go name.Run (a ∷ b ∷ []) first splits order is = named (Run a b n) (cc) (record { behind = behind; items = items; first = first; splits = splits; in_order = order; are_set = (set, tt) })
+    go name.Run (a ∷ b ∷ c ∷ ps) first splits order is = absurd cc
+    go name.Exec [] first splits order is = absurd cc
+    go name.Exec (a ∷ []) first splits order is = absurd cc
+    go name.Exec (a ∷ b ∷ []) first splits order is = named (Exec a b) (cc) (record { behind = behind; items = items; first = first; splits = splits; in_order = order; are_set = tt })
+    go name.Exec (a ∷ b ∷ c ∷ ps) first splits order is = absurd cc
+    go name.Verify [] first splits order is = absurd cc
+    go name.Verify (a ∷ []) first splits order is = named (Verify a) (cc) (record { behind = behind; items = items; first = first; splits = splits; in_order = order; are_set = tt })
+    go name.Verify (a ∷ b ∷ ps) first splits order is = absurd cc
+
+-- ---- one command only
+
+small : (option : OptionName) (n : ℕ) → n ≤ limit option → n < 2 ^ 64
+small Firings n le = omega arith
+
+set_once : (option : OptionName) (items : List Item) (n m : ℕ) → IsSet option items n → IsSet option items m → n ≡ m
+set_once option items n m (Once is le) (Once is' le') = let e : decimal n ≡ decimal m = cc in decimal_injective n m (small option n le) (small option m le') e
+set_once option items n m (Once is le) (Absent is' e) = absurd cc
+set_once option items n m (Absent is e) (Once is' le) = absurd cc
+set_once option items n m (Absent is e) (Absent is' e') = e ∙ sym e'
+
+makes_once : (words : List (List ℕ)) (command other : Command) → Makes words command → Makes words other → command ≡ other
+makes_once words command other a b =
+    let word : command_word a.name ≡ command_word b.name = cc in
+    let which = same_command a.name b.name word in
+    let behind : b.behind ≡ a.behind = cc in
+    let there : Splits b.name a.behind b.items = subst (λ (ws : List (List ℕ)). Splits b.name ws b.items) behind b.splits in
+    let here : Splits a.name a.behind b.items = subst (λ (n : CommandName). Splits n a.behind b.items) (sym which) there in
+    let items = splits_once a.name a.behind a.items b.items a.splits here in
+    let number = set_once Firings a.items a.number b.number a.set (subst (λ (is : List Item). IsSet Firings is b.number) (sym items) b.set) in
+    let e : made a.name (positionals_of a.items) a.number ≡ made b.name (positionals_of b.items) b.number = cc in
+    cc
+
+pub one_command : (words : List (List ℕ)) (command other : Command) → IsCommand words command → IsCommand words other → command ≡ other
+one_command words command other here there = makes_once words command other (makes words command here) (makes words other there)
+
+-- ---- what the calls answer
+
+pub no_words : (words : List (List ℕ)) (command : Command) → length words < 1 → IsCommand words command → ⊥
+no_words words command none is = let m = makes words command is in omega (arith, none, ap length m.first)
+
+pub no_name : (words : List (List ℕ)) (word : List ℕ) (command : Command) → 1 ≤ length words → word ≡ get_or words 0 word → ((which : CommandName) → word ≡ command_word which → ⊥) → IsCommand words command → ⊥
+no_name words word command some is none asks =
+    let m = makes words command asks in
+    let all = front_and_rest words word some is in
+    none m.name (cc)
+
+-- the number that the arguments have
+set_number : (option : OptionName) (items : List Item) (number : Option ℕ) → IsGiven option items number → IsSet option items (unwrap_or number (default_number option))
+set_number option items None given = Absent given refl
+set_number option items (Some n) given = Once given.0 given.1
+
+pub is_command : (words behind : List (List ℕ)) (word : List ℕ) (which : CommandName) (arguments : Arguments) (r : Option Coded) → words ≡ word ∷ behind → word ≡ command_word which → AreArguments which behind arguments → option_map seen_as r ≡ made which (words_of arguments.positionals) (number_of Firings arguments) → IfSome r (λ command. IsCommand words (seen_as command))
+is_command words behind word which arguments None all is are e = tt
+is_command words behind word which arguments (Some command) all is are e =
+    asked words behind which are.items (number_of Firings arguments) (words_of arguments.positionals) (seen_as command) (all ∙ ap (λ (w : List ℕ). w ∷ behind) is) are.splits
+    (set_number Firings are.items (given_number Firings arguments) (are.give.are_given Firings)) are.give.in_order (sym e)
+
+few_positionals : (which : CommandName) (positionals : List (List ℕ)) (n : ℕ) (command : Command) → made which positionals n ≡ Some command → length positionals ≤ 2
+few_positionals which [] n command is = omega arith
+few_positionals which (a ∷ []) n command is = omega arith
+few_positionals which (a ∷ b ∷ []) n command is = omega arith
+few_positionals name.Help (a ∷ b ∷ c ∷ ps) n command is = absurd cc
+few_positionals name.Schema (a ∷ b ∷ c ∷ ps) n command is = absurd cc
+few_positionals name.Explain (a ∷ b ∷ c ∷ ps) n command is = absurd cc
+few_positionals name.Run (a ∷ b ∷ c ∷ ps) n command is = absurd cc
+few_positionals name.Exec (a ∷ b ∷ c ∷ ps) n command is = absurd cc
+few_positionals name.Verify (a ∷ b ∷ c ∷ ps) n command is = absurd cc
+
+-- the command's word says which command it is
+module _ (words behind : List (List ℕ)) (word : List ℕ) (which : CommandName) (all : words ≡ word ∷ behind) (is : word ≡ command_word which) where
+  items_of : (command : Command) (m : Makes words command) → (m.name ≡ which) × Splits which behind m.items
+  items_of command m =
+      let word' : command_word m.name ≡ command_word which = cc in
+      let same = same_command m.name which word' in
+      let rest : m.behind ≡ behind = cc in
+      let here : Splits m.name behind m.items = subst (λ (ws : List (List ℕ)). Splits m.name ws m.items) rest m.splits in
+      (same, subst (λ (n : CommandName). Splits n behind m.items) same here)
+
+  pub no_arguments : (command : Command) → ((items : List Item) → Splits which behind items → MayBe items → ⊥) → IsCommand words command → ⊥
+  no_arguments command none asks =
+      let m = makes words command asks in
+      let here = items_of command m in
+      none m.items here.1 (record { few = few_positionals m.name (positionals_of m.items) m.number command m.is_made; settable = set m })
+    where
+      set : (m : Makes words command) (option : OptionName) → (n : ℕ) × IsSet option m.items n
+      set m Firings = (m.number, m.set)
+
+  pub not_made : (arguments : Arguments) (r : Option Coded) → AreArguments which behind arguments → option_map seen_as r ≡ made which (words_of arguments.positionals) (number_of Firings arguments) → IfNone r ((command : Command) → IsCommand words command → ⊥)
+  not_made arguments (Some coded) are e = tt
+  not_made arguments None are e = λ command asks.
+      let m = makes words command asks in
+      let here = items_of command m in
+      let items = splits_once which behind m.items are.items here.1 are.splits in
+      let number = set_once Firings are.items m.number (number_of Firings arguments) (subst (λ (is : List Item). IsSet Firings is m.number) items m.set) (set_number Firings are.items (given_number Firings arguments) (are.give.are_given Firings)) in
+      let same : made m.name (positionals_of m.items) m.number ≡ made which (positionals_of are.items) (number_of Firings arguments) = let n = here.0 in cc in
+      let order = ap (λ (ps : List (List ℕ)). made which ps (number_of Firings arguments)) are.give.in_order in
+      let made' = m.is_made in
+      absurd cc
+
+pub first_word : (text word : List ℕ) → text ≡ word → ((which : CommandName) → text ≡ command_word which → ⊥) → (which : CommandName) → word ≡ command_word which → ⊥
+first_word text word same none which e = none which (same ∙ e)

@@ -1,0 +1,41 @@
+use Rattle.std.proofs.Common.{◌≡◌, ◌++◌, ◌∷◌, [], ◌∙◌, sym, ap, subst, List, ℕ, length, Option, Some, None, refl, ◌≤◌, arith, rules}
+use Rattle.std.specs.Prelude.{IfSome, IfNone}
+use Rattle.command_words.specs.Splits.{Item, item_of}
+use Rattle.command_words.specs.Arguments.{Give, MayBe}
+use Rattle.command_words.specs.declared.given.Arguments.{Arguments}
+use Rattle.command_words.specs.declared.item.Item.{Item as Lent}
+use Rattle.command_words.proofs.Giving.{third_positional, give_positional, give_option, no_number, with_option, without_option, none_at}
+use Rattle.command_words.proofs.given.Arguments.with.Goals as goal
+
+pub returns-in_err-with-in-Positional-clause-none :
+    goal.returns-in_err-with-in-Positional-clause-none
+returns-in_err-with-in-Positional-clause-none c =
+    none_at c.from_residual.result c.from_residual.ensures
+    (λ items rest give may. third_positional items rest c.in-Positional.word.now c.args.self c.in_err-with-in-Positional.ensures give
+    (subst (λ (i : Lent). MayBe (items ++ item_of i ∷ rest)) c.in-Positional.is may))
+
+pub returns-in_err-number_up_to-in-Given-clause-none :
+    goal.returns-in_err-number_up_to-in-Given-clause-none
+returns-in_err-number_up_to-in-Given-clause-none c =
+    none_at c.from_residual-in_err-number_up_to-in-Given.result c.from_residual-in_err-number_up_to-in-Given.ensures
+    (λ items rest give may. no_number items rest c.in-Given.option c.in-Given.text.now
+    (λ n le. c.in_err-number_up_to-in-Given.ensures n (subst (λ (m : ℕ). n ≤ m) (sym c.limit.ensures) le))
+    (subst (λ (i : Lent). MayBe (items ++ item_of i ∷ rest)) c.in-Given.is may))
+
+pub returns-in_ok-with-in-Positional-clause-some :
+    goal.returns-in_ok-with-in-Positional-clause-some
+returns-in_ok-with-in-Positional-clause-some c items give =
+    subst (λ (i : Lent). Give (items ++ item_of i ∷ []) (record { positionals = c.in_ok-with-in-Positional.field-0; firings = c.args.self.firings })) (sym c.in-Positional.is)
+    (give_positional items c.in-Positional.word.now c.args.self (record { positionals = c.in_ok-with-in-Positional.field-0; firings = c.args.self.firings }) c.in_ok-with-in-Positional.ensures refl give)
+
+pub returns-in_ok-number_up_to-in-Given-clause-some :
+    goal.returns-in_ok-number_up_to-in-Given-clause-some
+returns-in_ok-number_up_to-in-Given-clause-some c =
+    let number = c.in_ok-number_up_to-in-Given.ensures in
+    with_option c.args.item c.in-Given.option c.in-Given.text.now c.in_ok-number_up_to-in-Given.field-0 c.args.self c.with_number.result (ap item_of c.in-Given.is) number.0
+    (subst (λ (m : ℕ). c.in_ok-number_up_to-in-Given.field-0 ≤ m) c.limit.ensures number.1) c.with_number.ensures.given c.with_number.ensures.positionals c.with_number.ensures.numbers
+
+pub returns-in_ok-number_up_to-in-Given-clause-none :
+    goal.returns-in_ok-number_up_to-in-Given-clause-none
+returns-in_ok-number_up_to-in-Given-clause-none c =
+    without_option c.args.item c.in-Given.option c.in-Given.text.now c.args.self c.with_number.result (ap item_of c.in-Given.is) c.with_number.ensures.given

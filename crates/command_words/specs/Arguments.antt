@@ -1,0 +1,56 @@
+-- What the words behind a command's name give: at most two positionals, and a number or none for each option.
+use Rattle.std.specs.Prelude.{◌≡◌, ◌≤◌, ℕ, List, [], ◌∷◌, length, Option, None, Some, unwrap_or}
+use Rattle.std.specs.Fmt.{decimal}
+use Rattle.command_words.specs.Table.{limit, default_number}
+use Rattle.command_words.specs.Splits.{Item, Splits, positionals_of, texts_of, IsSet}
+use Rattle.command_words.specs.Words.{Command, Help, Schema, Explain, Run, Exec, Verify}
+use Rattle.command_words.specs.declared.table.CommandName.{CommandName}
+use Rattle.command_words.specs.declared.table.CommandName.TheVariants as name
+use Rattle.command_words.specs.declared.table.OptionName.{OptionName}
+use Rattle.command_words.specs.declared.table.OptionName.TheVariants.{Firings}
+use Rattle.command_words.specs.declared.given.Arguments.{Arguments}
+use Rattle.command_words.specs.declared.given.Positionals.{Positionals}
+use Rattle.command_words.specs.declared.given.Positionals.TheVariants as some
+
+abbrev pub words_of : Positionals → List (List ℕ)
+words_of some.Zero = []
+words_of (some.One first) = first.now ∷ []
+words_of (some.Two first second) = first.now ∷ second.now ∷ []
+
+abbrev pub given_number : OptionName → Arguments → Option ℕ
+given_number Firings arguments = arguments.firings
+
+-- the number that is given, or the default
+abbrev pub number_of : OptionName → Arguments → ℕ
+number_of option arguments = unwrap_or (given_number option arguments) (default_number option)
+
+-- The items give the option this number once, or none.
+abbrev pub IsGiven : OptionName → List Item → Option ℕ → Type 0
+IsGiven option items None = texts_of option items ≡ []
+IsGiven option items (Some n) = (texts_of option items ≡ decimal n ∷ []) × (n ≤ limit option)
+
+-- The items give these arguments.
+pub record Give (items : List Item) (arguments : Arguments) : Type 0 where
+  pub in_order : positionals_of items ≡ words_of arguments.positionals
+  pub are_given : (option : OptionName) → IsGiven option items (given_number option arguments)
+
+-- The words split into items that give these arguments.
+pub record AreArguments (name : CommandName) (words : List (List ℕ)) (arguments : Arguments) : Type 0 where
+  pub items : List Item
+  pub splits : Splits name words items
+  pub give : Give items arguments
+
+-- A command may have these items: there are at most two positionals, and each option has a number.
+pub record MayBe (items : List Item) : Type 0 where
+  pub few : length (positionals_of items) ≤ 2
+  pub settable : (option : OptionName) → (n : ℕ) × IsSet option items n
+
+-- The command with these positionals and this number of firings.
+abbrev pub made : CommandName → List (List ℕ) → ℕ → Option Command
+made name.Help [] n = Some Help
+made name.Schema (schema ∷ []) n = Some (Schema schema)
+made name.Explain (schema ∷ query ∷ []) n = Some (Explain schema query n)
+made name.Run (schema ∷ query ∷ []) n = Some (Run schema query n)
+made name.Exec (schema ∷ plan ∷ []) n = Some (Exec schema plan)
+made name.Verify (schema ∷ []) n = Some (Verify schema)
+made _ _ _ = None

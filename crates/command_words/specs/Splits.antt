@@ -1,0 +1,56 @@
+-- How the words behind a command's name are items: positionals, and options with the texts of their numbers.
+use Rattle.std.specs.Prelude.{◌≡◌, ◌≢◌, ◌++◌, ◌≤◌, ℕ, true, List, [], ◌∷◌, codes, if◌then◌else◌}
+use Rattle.std.specs.Fmt.{decimal}
+use Rattle.command_words.specs.Table.{option_word, same_option, takes, limit, default_number}
+use Rattle.command_words.specs.declared.table.CommandName.{CommandName}
+use Rattle.command_words.specs.declared.table.OptionName.{OptionName}
+use Rattle.command_words.specs.declared.item.Item.{Item as Lent}
+use Rattle.command_words.specs.declared.item.Item.TheVariants as lent
+
+pub data Item : Type 0 where
+  Positional : List ℕ → Item
+  Given : OptionName → List ℕ → Item
+
+-- A positional is not empty and does not begin with a dash.
+abbrev pub IsPositional : List ℕ → Type 0
+IsPositional [] = ⊥
+IsPositional (b ∷ bs) = b ≢ 45
+
+-- The words begin with this item, and the rest stands behind it.
+pub data Begins (name : CommandName) : List (List ℕ) → Item → List (List ℕ) → Type 0 where
+  -- a positional
+  InFront : (word : List ℕ) (rest : List (List ℕ)) → IsPositional word → Begins name (word ∷ rest) (Positional word) rest
+  -- an option of the command, `--name value`
+  InTwoWords : (option : OptionName) (value : List ℕ) (rest : List (List ℕ)) → takes name option ≡ true →
+      Begins name ((codes "--" ++ option_word option) ∷ value ∷ rest) (Given option value) rest
+  -- an option of the command, `--name=value`
+  InOneWord : (option : OptionName) (value : List ℕ) (rest : List (List ℕ)) → takes name option ≡ true →
+      Begins name ((codes "--" ++ option_word option ++ codes "=" ++ value) ∷ rest) (Given option value) rest
+
+-- The words are these items, one behind another.
+pub data Splits (name : CommandName) : List (List ℕ) → List Item → Type 0 where
+  End : Splits name [] []
+  More : (words : List (List ℕ)) (item : Item) (rest : List (List ℕ)) (items : List Item) →
+      Begins name words item rest → Splits name rest items → Splits name words (item ∷ items)
+
+-- the positionals among the items, in their order
+abbrev pub positionals_of : List Item → List (List ℕ)
+positionals_of [] = []
+positionals_of (Positional word ∷ items) = word ∷ positionals_of items
+positionals_of (Given option value ∷ items) = positionals_of items
+
+-- the texts that the items give for an option
+abbrev pub texts_of : OptionName → List Item → List (List ℕ)
+texts_of option [] = []
+texts_of option (Positional word ∷ items) = texts_of option items
+texts_of option (Given other text ∷ items) = if same_option option other then text ∷ texts_of option items else texts_of option items
+
+-- The option has this number: it is given once, in digits without a leading zero and within its range, or it is not given.
+pub data IsSet (option : OptionName) (items : List Item) (n : ℕ) : Type 0 where
+  Once : texts_of option items ≡ decimal n ∷ [] → n ≤ limit option → IsSet option items n
+  Absent : texts_of option items ≡ [] → n ≡ default_number option → IsSet option items n
+
+-- an item that is lent, as one of the definition
+abbrev pub item_of : Lent → Item
+item_of (lent.Positional word) = Positional word.now
+item_of (lent.Given option value) = Given option value.now

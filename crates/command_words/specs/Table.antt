@@ -1,0 +1,36 @@
+-- The commands and the options: one case a row.
+use Rattle.std.specs.Prelude.{ℕ, Bool, true, false, List, codes}
+use Rattle.command_words.specs.declared.table.CommandName.{CommandName}
+use Rattle.command_words.specs.declared.table.CommandName.TheVariants.{Help, Schema, Explain, Run, Exec, Verify}
+use Rattle.command_words.specs.declared.table.OptionName.{OptionName}
+use Rattle.command_words.specs.declared.table.OptionName.TheVariants.{Firings}
+
+-- the word that a command's list begins with
+abbrev pub command_word : CommandName → List ℕ
+command_word Help = codes "help"
+command_word Schema = codes "schema"
+command_word Explain = codes "explain"
+command_word Run = codes "run"
+command_word Exec = codes "exec"
+command_word Verify = codes "verify"
+
+-- the word that names an option, behind two dashes
+abbrev pub option_word : OptionName → List ℕ
+option_word Firings = codes "firings"
+
+abbrev pub same_option : OptionName → OptionName → Bool
+same_option Firings Firings = true
+
+-- the options that a command takes
+abbrev pub takes : CommandName → OptionName → Bool
+takes Explain Firings = true
+takes Run Firings = true
+takes _ _ = false
+
+-- the greatest number that an option takes
+abbrev pub limit : OptionName → ℕ
+limit Firings = 100000
+
+-- the number of an option that is not given
+abbrev pub default_number : OptionName → ℕ
+default_number Firings = 10000

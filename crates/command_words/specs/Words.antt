@@ -1,0 +1,59 @@
+-- Which words are a command.
+use Rattle.std.specs.Prelude.{◌≡◌, ℕ, List, [], ◌∷◌}
+use Rattle.command_words.specs.Table.{command_word}
+use Rattle.command_words.specs.Splits.{Item, Splits, positionals_of, IsSet}
+use Rattle.command_words.specs.declared.table.CommandName.{CommandName}
+use Rattle.command_words.specs.declared.table.CommandName.TheVariants as name
+use Rattle.command_words.specs.declared.table.OptionName.{OptionName}
+use Rattle.command_words.specs.declared.table.OptionName.TheVariants.{Firings}
+use Rattle.command_words.specs.declared.command.Command.TheVariants as code
+use Rattle.command_words.specs.declared.command.Command.{Command as Coded}
+
+-- A command, with the names of its files and the numbers of its options.
+pub data Command : Type 0 where
+  Help : Command
+  Schema : List ℕ → Command
+  Explain : List ℕ → List ℕ → ℕ → Command
+  Run : List ℕ → List ℕ → ℕ → Command
+  Exec : List ℕ → List ℕ → Command
+  Verify : List ℕ → Command
+
+-- an option with its number
+pub record Setting : Type 0 where
+  pub option : OptionName
+  pub number : ℕ
+
+-- Each of the settings is what the items set.
+abbrev pub AreSet : List Item → List Setting → Type 0
+AreSet items [] = Unit {0}
+AreSet items (setting ∷ settings) = IsSet setting.option items setting.number × AreSet items settings
+
+-- The first word is the command's, and the others are these positionals in this order and, anywhere among them, options of the
+-- command which set these numbers.
+pub record Asks (words : List (List ℕ)) (name : CommandName) (positionals : List (List ℕ)) (settings : List Setting) : Type 0 where
+  pub behind : List (List ℕ)
+  pub items : List Item
+  pub first : words ≡ command_word name ∷ behind
+  pub splits : Splits name behind items
+  pub in_order : positionals_of items ≡ positionals
+  pub are_set : AreSet items settings
+
+abbrev pub firings : ℕ → List Setting
+firings n = record { option = Firings; number = n } ∷ []
+
+-- The words are this command.
+abbrev pub IsCommand : List (List ℕ) → Command → Type 0
+IsCommand words Help = Asks words name.Help [] []
+IsCommand words (Schema schema) = Asks words name.Schema (schema ∷ []) []
+IsCommand words (Explain schema query n) = Asks words name.Explain (schema ∷ query ∷ []) (firings n)
+IsCommand words (Run schema query n) = Asks words name.Run (schema ∷ query ∷ []) (firings n)
+IsCommand words (Exec schema plan) = Asks words name.Exec (schema ∷ plan ∷ []) []
+IsCommand words (Verify schema) = Asks words name.Verify (schema ∷ []) []
+
+abbrev pub seen_as : Coded → Command
+seen_as code.Help = Help
+seen_as (code.Schema schema) = Schema schema.now
+seen_as (code.Explain schema query n) = Explain schema.now query.now n
+seen_as (code.Run schema query n) = Run schema.now query.now n
+seen_as (code.Exec schema plan) = Exec schema.now plan.now
+seen_as (code.Verify schema) = Verify schema.now

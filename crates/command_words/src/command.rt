@@ -1,0 +1,72 @@
+// The words of a command line.
+ghost use Rattle.std.specs.Prelude.{◌≡◌, IfSome, IfNone, option_map};
+ghost use Rattle.command_words.specs.Words.{Command as Plain, IsCommand, seen_as};
+ghost use Rattle.command_words.specs.Arguments.{made, words_of, number_of};
+ghost use Rattle.command_words.specs.declared.table.OptionName.TheVariants.{Firings as TheFirings};
+
+use crate::given::{Arguments, Positionals, read_arguments};
+use crate::table::{CommandName, OptionName, command_named};
+use lists::Text;
+
+/// What the words ask for. Names are those of files.
+#[derive(Clone, Copy)]
+pub enum Command<'a> {
+    Help,
+    Schema {
+        schema: &'a Text,
+    },
+    Explain {
+        schema: &'a Text,
+        query: &'a Text,
+        firings: u32,
+    },
+    Run {
+        schema: &'a Text,
+        query: &'a Text,
+        firings: u32,
+    },
+    Exec {
+        schema: &'a Text,
+        plan: &'a Text,
+    },
+    Verify {
+        schema: &'a Text,
+    },
+}
+
+/// The command that the words are; none where they are no command. Takes no memory.
+pub fn read_words(words: &[Text]) -> Option<Command<'_>>
+    ensures some { IfSome result (λ command. IsCommand words.now (seen_as command)) }
+    ensures none { IfNone result ((command : Plain) → IsCommand words.now command → ⊥) }
+{
+    let [word, behind @ ..] = words else {
+        return None;
+    };
+    let name = command_named(word.as_str())?;
+    let arguments = read_arguments(name, behind)?;
+    command_with(name, arguments)
+}
+
+// The command with these arguments; none where it has another number of positionals.
+fn command_with<'a>(name: CommandName, arguments: Arguments<'a>) -> Option<Command<'a>>
+    ensures { option_map seen_as result ≡ made name (words_of arguments.entry.positionals) (number_of TheFirings arguments.entry) }
+{
+    let firings = arguments.number_of(OptionName::Firings);
+    match (name, arguments.positionals) {
+        (CommandName::Help, Positionals::Zero) => Some(Command::Help),
+        (CommandName::Schema, Positionals::One(schema)) => Some(Command::Schema { schema }),
+        (CommandName::Explain, Positionals::Two(schema, query)) => Some(Command::Explain {
+            schema,
+            query,
+            firings,
+        }),
+        (CommandName::Run, Positionals::Two(schema, query)) => Some(Command::Run {
+            schema,
+            query,
+            firings,
+        }),
+        (CommandName::Exec, Positionals::Two(schema, plan)) => Some(Command::Exec { schema, plan }),
+        (CommandName::Verify, Positionals::One(schema)) => Some(Command::Verify { schema }),
+        _ => None,
+    }
+}

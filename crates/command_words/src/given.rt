@@ -1,0 +1,102 @@
+// What the words behind a command's name give.
+ghost use Rattle.std.specs.Prelude.{◌≡◌, ◌++◌, ◌∷◌, [], List, ℕ, length, Option, None, Some, IsSome, IfSome, IfNone, MatchOption, if◌then◌else◌};
+ghost use Rattle.command_words.specs.Table.{same_option};
+ghost use Rattle.command_words.specs.Splits.{Item as PlainItem, Splits, item_of};
+ghost use Rattle.command_words.specs.Arguments.{words_of, given_number, number_of, Give, AreArguments, MayBe};
+ghost use Rattle.command_words.specs.declared.table.OptionName as options;
+
+use crate::item::{Item, next_item};
+use crate::number::number_up_to;
+use crate::table::{CommandName, OptionName};
+use lists::Text;
+
+/// Positionals, in their order. No command has more than two.
+#[derive(Clone, Copy)]
+pub enum Positionals<'a> {
+    Zero,
+    One(&'a Text),
+    Two(&'a Text, &'a Text),
+}
+
+/// The positionals, and the number of each option that is given.
+#[derive(Clone, Copy)]
+pub struct Arguments<'a> {
+    pub positionals: Positionals<'a>,
+    pub firings: Option<u32>,
+}
+
+/// The arguments that the words behind a command's name give; none where they can be no command's.
+pub fn read_arguments<'a>(name: CommandName, words: &'a [Text]) -> Option<Arguments<'a>>
+    ensures some { IfSome result (AreArguments name words.now) }
+    ensures none { IfNone result ((items : List PlainItem) → Splits name words.now items → MayBe items → ⊥) }
+{
+    let mut arguments = Arguments {
+        positionals: Positionals::Zero,
+        firings: None,
+    };
+    let mut left = words;
+    while !left.is_empty() {
+        let (item, after) = next_item(name, left)?;
+        arguments = arguments.with(item)?;
+        left = after;
+    }
+    Some(arguments)
+}
+
+impl<'a> Positionals<'a> {
+    // One more positional.
+    fn with(self, word: &'a Text) -> Option<Positionals<'a>>
+        ensures { MatchOption result (length (words_of self.entry) ≡ 2) (λ more. words_of more ≡ words_of self.entry ++ word.now ∷ []) }
+    {
+        match self {
+            Positionals::Zero => Some(Positionals::One(word)),
+            Positionals::One(first) => Some(Positionals::Two(first, word)),
+            Positionals::Two(_, _) => None,
+        }
+    }
+}
+
+impl<'a> Arguments<'a> {
+    /// The number of an option, which is its default where it is not given.
+    pub fn number_of(self, option: OptionName) -> u32
+        ensures { result ≡ number_of option self.entry }
+    {
+        let given = match option {
+            OptionName::Firings => self.firings,
+        };
+        given.unwrap_or(option.default_number())
+    }
+
+    // One more item; none where no command has such items.
+    fn with(self, item: Item<'a>) -> Option<Arguments<'a>>
+        ensures some { IfSome result (λ more. (items : List PlainItem) → Give items self.entry → Give (items ++ item_of item.entry ∷ []) more) }
+        ensures none { IfNone result ((items rest : List PlainItem) → Give items self.entry → MayBe (items ++ item_of item.entry ∷ rest) → ⊥) }
+    {
+        match item {
+            Item::Positional(word) => Some(Arguments {
+                positionals: self.positionals.with(word)?,
+                firings: self.firings,
+            }),
+            Item::Given(option, text) => self.with_number(
+                option,
+                number_up_to(text, option.limit())?,
+            ),
+        }
+    }
+
+    // An option with its number; none where it is given already.
+    fn with_number(self, option: OptionName, number: u32) -> Option<Arguments<'a>>
+        ensures given { MatchOption result (IsSome (given_number option self.entry)) (λ more. given_number option self.entry ≡ None) }
+        ensures positionals { IfSome result (λ more. more.positionals ≡ self.entry.positionals) }
+        ensures numbers { IfSome result (λ more. (other : options.OptionName) →
+            given_number other more ≡ (if same_option other option then Some number else given_number other self.entry)) }
+    {
+        match (option, self.firings) {
+            (OptionName::Firings, None) => Some(Arguments {
+                positionals: self.positionals,
+                firings: Some(number),
+            }),
+            _ => None,
+        }
+    }
+}

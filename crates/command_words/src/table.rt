@@ -1,0 +1,79 @@
+// The commands and the options: a command's word and the options that it takes; an option's word, limit and default.
+ghost use Rattle.std.specs.Prelude.{◌≡◌, ◌≢◌, ◌≤◌, ℕ, MatchOption};
+ghost use Rattle.command_words.specs.Table.{command_word, option_word, takes, limit, default_number};
+ghost use Rattle.command_words.specs.declared.table.CommandName as commands;
+ghost use Rattle.command_words.specs.declared.table.OptionName as options;
+
+/// A command without what it is given.
+#[derive(Clone, Copy)]
+pub enum CommandName {
+    Help,
+    Schema,
+    Explain,
+    Run,
+    Exec,
+    Verify,
+}
+
+/// An option that takes a number.
+#[derive(Clone, Copy)]
+pub enum OptionName {
+    Firings,
+}
+
+/// The command with this word.
+pub fn command_named(word: &str) -> Option<CommandName>
+    ensures { MatchOption result ((name : commands.CommandName) → word.now ≢ command_word name) (λ name. word.now ≡ command_word name) }
+{
+    match word {
+        "help" => Some(CommandName::Help),
+        "schema" => Some(CommandName::Schema),
+        "explain" => Some(CommandName::Explain),
+        "run" => Some(CommandName::Run),
+        "exec" => Some(CommandName::Exec),
+        "verify" => Some(CommandName::Verify),
+        _ => None,
+    }
+}
+
+/// The option with this word, which stands behind two dashes.
+pub fn option_named(word: &[u8]) -> Option<OptionName>
+    ensures { MatchOption result ((option : options.OptionName) → word.now ≢ option_word option) (λ option. word.now ≡ option_word option) }
+{
+    match word {
+        b"firings" => Some(OptionName::Firings),
+        _ => None,
+    }
+}
+
+impl CommandName {
+    /// Whether the command takes the option.
+    pub fn takes(self, option: OptionName) -> bool
+        ensures { result ≡ takes self option }
+    {
+        match (self, option) {
+            (CommandName::Explain | CommandName::Run, OptionName::Firings) => true,
+            _ => false,
+        }
+    }
+}
+
+impl OptionName {
+    /// The greatest number that the option takes.
+    pub fn limit(self) -> u32
+        ensures { result ≡ limit self }
+    {
+        match self {
+            OptionName::Firings => 100_000,
+        }
+    }
+
+    /// The number of the option where it is not given.
+    pub fn default_number(self) -> u32
+        ensures { result ≡ default_number self }
+    {
+        match self {
+            OptionName::Firings => 10_000,
+        }
+    }
+}

@@ -1,0 +1,10 @@
+// The text that `help` prints.
+ghost use Rattle.std.specs.Prelude.{◌≡◌};
+ghost use Rattle.command_words.specs.Usage.{usage};
+
+/// The commands and what each takes, a line for each.
+pub fn usage_text() -> &'static [u8]
+    ensures { result.now ≡ usage }
+{
+    b"usage: pdq COMMAND\n  help\n  schema SCHEMA\n  explain SCHEMA QUERY [--firings N]\n  run SCHEMA QUERY [--firings N]\n  exec SCHEMA PLAN\n  verify SCHEMA\n"
+}
