@@ -1,0 +1,4 @@
+pub mod Ordering
+pub mod Limits
+pub mod Joining
+pub mod Labels

@@ -1,0 +1,7 @@
+use Rattle.std.proofs.Common.{◌≡◌, map, take}
+use Rattle.explain.specs.Lent.{lent_fact}
+use Rattle.explain.proofs.listing.lent.Given as goal
+
+-- the listing is the facts so far
+abbrev pub invariant-loop-fact : goal.invariant-loop-fact
+invariant-loop-fact l = map lent_fact l.listing.items ≡ take l.fact-index l.facts

@@ -1,0 +1,15 @@
+//! The printed texts of decisions, and refutations read back.
+//!
+//! Crates above use this: the text of a decision is exactly that of its plan, its refutation or its firings, and a printed
+//! refutation is read again with the same answer and the same facts. Begin at `specs/Printing.antt` and `specs/Grammar.antt`.
+#![tactic(auto)]
+
+mod decision;
+mod firings;
+mod listing;
+mod push;
+mod refutation;
+
+pub use decision::decision_text;
+pub use firings::undecided_text;
+pub use refutation::witness_text;

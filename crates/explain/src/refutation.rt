@@ -1,0 +1,86 @@
+// The text of a refutation.
+ghost use Rattle.std.specs.Prelude.{◌≡◌, ◌++◌, OnOk, IfOk, map, flat_map, slice_get};
+ghost use Rattle.std.specs.Str.{IsUtf8};
+ghost use Rattle.pq_text.specs.Utf8.{KeepsUtf8};
+ghost use Rattle.explain.specs.Lent.{lent_fact, lent_pair};
+ghost use Rattle.explain.specs.Printing.{relation_text, fact_text, witness_text, IsPrintedWitness};
+
+use crate::listing::ascending;
+use crate::push::{push_str, push_values};
+use access_schema::Schema;
+use lists::{Bytes, NoMemory, Row, Text};
+use no_plan_witness::Witness;
+use pq_text::print_name;
+use std::alloc::Global;
+
+/// The text of a refutation: the answer, and the facts of both instances, each once and in ascending order.
+pub fn witness_text(alloc: Global, pair: &Witness, schema: &Schema) -> Result<Bytes, NoMemory>
+    ensures text { IfOk result (λ text. IsPrintedWitness schema.now pair.now text) }
+    ensures utf8 { IfOk result (λ text. IsUtf8 text) }
+{
+    let first = ascending(alloc, pair.first.as_slice())?;
+    let second = ascending(alloc, pair.second.as_slice())?;
+    let mut out = Vec::new(alloc);
+    let answer = pair.answer.as_slice();
+    push_refutation(
+        &mut out,
+        schema,
+        answer,
+        first.as_slice(),
+        second.as_slice(),
+    )?;
+    Ok(Bytes::from_vec(out))
+}
+
+// Appends the text of a refutation, with the facts as they stand.
+fn push_refutation(
+    out: &mut Vec<u8>,
+    schema: &Schema,
+    answer: &[Text],
+    first: &[(u32, &Row)],
+    second: &[(u32, &Row)],
+) -> Result<(), NoMemory>
+    ensures text { OnOk result (out.new.items ≡ out.old.items ++ witness_text schema.now.relations (lent_pair first.now second.now answer.now)) }
+    ensures utf8 { OnOk result (KeepsUtf8 out.old.items out.new.items) }
+{
+    push_str(out, "no plan\nanswer ")?;
+    push_values(out, answer)?;
+    push_str(out, "\nfirst\n")?;
+    push_facts(out, schema, first)?;
+    push_str(out, "second\n")?;
+    push_facts(out, schema, second)?;
+    push_str(out, "end\n")
+}
+
+// Appends a line for each fact.
+fn push_facts(out: &mut Vec<u8>, schema: &Schema, facts: &[(u32, &Row)]) -> Result<(), NoMemory>
+    ensures text { OnOk result (out.new.items ≡ out.old.items ++ flat_map (fact_text schema.now.relations) (map lent_fact facts.now)) }
+    ensures utf8 { OnOk result (KeepsUtf8 out.old.items out.new.items) }
+{
+    for (rel, row) in facts {
+        push_fact(out, schema, *rel, row)?;
+    }
+    Ok(())
+}
+
+// Appends the line of a fact.
+fn push_fact(out: &mut Vec<u8>, schema: &Schema, rel: u32, row: &Row) -> Result<(), NoMemory>
+    ensures text { OnOk result (out.new.items ≡ out.old.items ++ fact_text schema.now.relations (record { rel = rel; row = row.now })) }
+    ensures utf8 { OnOk result (KeepsUtf8 out.old.items out.new.items) }
+{
+    push_relation(out, schema, rel)?;
+    push_str(out, "(")?;
+    push_values(out, row.as_slice())?;
+    push_str(out, ")\n")
+}
+
+// Appends the name of a relation.
+fn push_relation(out: &mut Vec<u8>, schema: &Schema, rel: u32) -> Result<(), NoMemory>
+    ensures text { OnOk result (out.new.items ≡ out.old.items ++ relation_text (slice_get schema.now.relations rel)) }
+    ensures utf8 { OnOk result (KeepsUtf8 out.old.items out.new.items) }
+{
+    match schema.relations.get(rel as usize) {
+        Some(relation) => print_name(out, &relation.name),
+        None => Ok(()),
+    }
+}
