@@ -6,10 +6,15 @@
 
 mod decision;
 mod firings;
+mod laws;
 mod listing;
 mod push;
 mod refutation;
 
 pub use decision::decision_text;
 pub use firings::undecided_text;
+pub use laws::printed_refutations_are_read;
 pub use refutation::witness_text;
+
+#[cfg(test)]
+mod tests;

@@ -2,6 +2,7 @@
 ghost use Rattle.std.specs.Prelude.{◌≡◌, ◌++◌, OnOk, IfOk, map, flat_map, slice_get};
 ghost use Rattle.std.specs.Str.{IsUtf8};
 ghost use Rattle.pq_text.specs.Utf8.{KeepsUtf8};
+ghost use Rattle.explain.specs.Grammar.{FitsSchema, IsReadAs};
 ghost use Rattle.explain.specs.Lent.{lent_fact, lent_pair};
 ghost use Rattle.explain.specs.Printing.{relation_text, fact_text, witness_text, IsPrintedWitness};
 
@@ -17,6 +18,9 @@ use std::alloc::Global;
 pub fn witness_text(alloc: Global, pair: &Witness, schema: &Schema) -> Result<Bytes, NoMemory>
     ensures text { IfOk result (λ text. IsPrintedWitness schema.now pair.now text) }
     ensures utf8 { IfOk result (λ text. IsUtf8 text) }
+
+    // What is printed is read with the same facts, in their order and each once.
+    ensures read { FitsSchema schema.now pair.now → IfOk result (λ text. IsReadAs schema.now text pair.now) }
 {
     let first = ascending(alloc, pair.first.as_slice())?;
     let second = ascending(alloc, pair.second.as_slice())?;

@@ -5,6 +5,7 @@ use Rattle.meaning.specs.declared.types.Fact.{Fact}
 use Rattle.no_plan_witness.specs.declared.refutation.Witness.{Witness}
 use Rattle.explain.specs.Lent.{lent_fact, lent_pair}
 use Rattle.explain.specs.Printing.{witness_text, IsListing}
+use Rattle.explain.proofs.PrintLaws.{printed_again}
 use Rattle.explain.proofs.refutation.witness_text.Goals as goal
 
 pub returns-clause-text : goal.returns-clause-text
@@ -26,3 +27,6 @@ returns-clause-text c =
 
 pub returns-clause-utf8 : goal.returns-clause-utf8
 returns-clause-utf8 c = subst IsUtf8 (sym c.from_vec.ensures) (c.in_ok-push_refutation.ensures.utf8 (subst IsUtf8 (sym c.new-out.ensures.items) IsUtf8-nil))
+
+pub returns-clause-read : goal.returns-clause-read
+returns-clause-read c = λ fits. printed_again c.args.schema.now c.args.pair.now c.from_vec.result fits (returns-clause-text c)

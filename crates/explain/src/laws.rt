@@ -1,0 +1,11 @@
+// What refutations promise their readers: laws on the definitions alone, as functions that do nothing.
+ghost use Rattle.std.specs.Prelude.{List, ℕ};
+ghost use Rattle.access_schema.specs.declared.schema.Schema.{Schema};
+ghost use Rattle.no_plan_witness.specs.declared.refutation.Witness.{Witness};
+ghost use Rattle.explain.specs.Printing.{IsPrintedWitness};
+ghost use Rattle.explain.specs.Grammar.{FitsSchema, IsReadAs};
+
+/// A printed refutation is read with the same answer and the same facts, whatever bytes its names and values are.
+pub fn printed_refutations_are_read()
+    ensures { (schema : Schema) (pair : Witness) (text : List ℕ) → FitsSchema schema pair → IsPrintedWitness schema pair text → IsReadAs schema text pair }
+{}
