@@ -1,11 +1,11 @@
 -- What items give, item by item.
-use Rattle.std.proofs.Common.{◌≡◌, ℕ, zero, suc, ◌+◌, ◌<◌, ◌≤◌, Bool, true, false, eqb, List, [], ◌∷◌, ◌++◌, length, Option, None, Some, refl, sym, ap, subst, ◌∙◌, arith, rules, append_assoc}
+use Rattle.std.proofs.Common.{◌≡◌, ℕ, ◌<◌, ◌≤◌, Bool, true, false, eqb, List, [], ◌∷◌, ◌++◌, length, Option, None, Some, refl, sym, ap, subst, ◌∙◌, arith, append_assoc}
 use Rattle.std.specs.Prelude.{if◌then◌else◌, IfNone, IfSome, MatchOption, IsSome}
 use Rattle.std.specs.Fmt.{decimal}
 use Rattle.std.proofs.lemmas.Bool.{eqb-true}
-use Rattle.command_words.specs.Table.{same_option, limit, default_number}
+use Rattle.command_words.specs.Table.{same_option, limit}
 use Rattle.command_words.specs.Splits.{Item, Positional, Given, Begins, Splits, End, More, positionals_of, texts_of, IsSet, Once, Absent, item_of}
-use Rattle.command_words.specs.Arguments.{words_of, given_number, number_of, IsGiven, Give, AreArguments, MayBe}
+use Rattle.command_words.specs.Arguments.{words_of, given_number, IsGiven, Give, AreArguments, MayBe}
 use Rattle.command_words.specs.declared.item.Item.{Item as Lent}
 use Rattle.command_words.specs.declared.table.CommandName.{CommandName}
 use Rattle.command_words.specs.declared.table.OptionName.{OptionName}

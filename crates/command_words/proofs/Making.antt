@@ -1,13 +1,13 @@
 -- Commands from what the words give.
-use Rattle.std.proofs.Common.{◌≡◌, ℕ, zero, suc, ◌+◌, ◌<◌, ◌≤◌, Bool, true, false, List, [], ◌∷◌, ◌++◌, length, get_or, take, drop, ◌-◌, ◌^◌, Option, None, Some, refl, sym, ap, subst, ◌∙◌, arith, rules}
+use Rattle.std.proofs.Common.{◌≡◌, ℕ, ◌<◌, ◌≤◌, false, List, [], ◌∷◌, length, get_or, ◌^◌, Option, None, Some, refl, sym, ap, subst, ◌∙◌, arith}
 use Rattle.std.specs.Cmp.Lexicographic.{pointwise}
 use Rattle.std.specs.Prelude.{nat_eq, codes, if◌then◌else◌, option_map, unwrap_or, IfSome, IfNone}
 use Rattle.std.specs.Fmt.{decimal}
 use Rattle.std.proofs.lemmas.Fmt.{decimal_injective}
-use Rattle.command_words.specs.Table.{command_word, option_word, takes, limit, default_number}
-use Rattle.command_words.specs.Splits.{Item, Splits, positionals_of, texts_of, IsSet, Once, Absent}
-use Rattle.command_words.specs.Words.{Command, Help, Schema, Explain, Run, Exec, Verify, Setting, AreSet, Asks, firings, IsCommand, seen_as}
-use Rattle.command_words.specs.Arguments.{words_of, given_number, number_of, IsGiven, Give, AreArguments, MayBe, made}
+use Rattle.command_words.specs.Table.{command_word, takes, limit, default_number}
+use Rattle.command_words.specs.Splits.{Item, Splits, positionals_of, IsSet, Once, Absent}
+use Rattle.command_words.specs.Words.{Command, Help, Schema, Explain, Run, Exec, Verify, Setting, Asks, firings, IsCommand, seen_as}
+use Rattle.command_words.specs.Arguments.{words_of, given_number, number_of, IsGiven, AreArguments, MayBe, made}
 use Rattle.command_words.specs.declared.command.Command.{Command as Coded}
 use Rattle.command_words.specs.declared.table.CommandName.{CommandName}
 use Rattle.command_words.specs.declared.table.CommandName.TheVariants as name

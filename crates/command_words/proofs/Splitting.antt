@@ -1,12 +1,11 @@
 -- Words as items: there is one way at most.
-use Rattle.std.proofs.Common.{◌≡◌, ℕ, zero, suc, ◌+◌, ◌<◌, ◌≤◌, Bool, true, false, List, [], ◌∷◌, ◌++◌, length, get_or, take, drop, ◌-◌, Option, None, Some, refl, sym, ap, subst, ◌∙◌, inl, inr, arith, rules}
+use Rattle.std.proofs.Common.{◌≡◌, ℕ, ◌≤◌, Bool, true, false, List, [], ◌∷◌, ◌++◌, length, get_or, take, drop, ◌-◌, None, Some, refl, sym, ap, subst, ◌∙◌, inl, inr, arith}
 use Rattle.std.specs.Prelude.{◌⊎◌, codes, if◌then◌else◌}
 use Rattle.std.proofs.lemmas.List.{take_rest}
-use Rattle.command_words.specs.Table.{command_word, option_word, same_option, takes}
-use Rattle.command_words.specs.Splits.{Item, Positional, Given, IsPositional, Begins, InFront, InTwoWords, InOneWord, Splits, End, More, positionals_of, texts_of}
+use Rattle.command_words.specs.Table.{option_word, same_option, takes}
+use Rattle.command_words.specs.Splits.{Item, Positional, Given, IsPositional, Begins, InFront, InTwoWords, InOneWord, Splits, End, More, texts_of}
 use Rattle.command_words.specs.Cuts.{before_equals, behind_equals}
 use Rattle.command_words.specs.declared.table.CommandName.{CommandName}
-use Rattle.command_words.specs.declared.table.CommandName.TheVariants.{Help, Schema, Explain, Run, Exec, Verify}
 use Rattle.command_words.specs.declared.table.OptionName.{OptionName}
 use Rattle.command_words.specs.declared.table.OptionName.TheVariants.{Firings}
 use Rattle.command_words.proofs.Cutting.{cut, uncut}

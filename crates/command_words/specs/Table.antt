@@ -1,5 +1,5 @@
 -- The commands and the options: one case a row.
-use Rattle.std.specs.Prelude.{ℕ, Bool, true, false, List, codes}
+use Rattle.std.specs.Prelude.{ℕ, Bool, true, false, List, [], ◌∷◌, codes}
 use Rattle.command_words.specs.declared.table.CommandName.{CommandName}
 use Rattle.command_words.specs.declared.table.CommandName.TheVariants.{Help, Schema, Explain, Run, Exec, Verify}
 use Rattle.command_words.specs.declared.table.OptionName.{OptionName}
@@ -13,6 +13,22 @@ command_word Explain = codes "explain"
 command_word Run = codes "run"
 command_word Exec = codes "exec"
 command_word Verify = codes "verify"
+
+-- what a command's positionals are called in the text that `help` prints
+abbrev pub positional_names : CommandName → List (List ℕ)
+positional_names Help = []
+positional_names Schema = codes "SCHEMA" ∷ []
+positional_names Explain = codes "SCHEMA" ∷ codes "QUERY" ∷ []
+positional_names Run = codes "SCHEMA" ∷ codes "QUERY" ∷ []
+positional_names Exec = codes "SCHEMA" ∷ codes "PLAN" ∷ []
+positional_names Verify = codes "SCHEMA" ∷ []
+
+-- the commands in the order in which `help` prints them
+abbrev pub commands : List CommandName
+commands = Help ∷ Schema ∷ Explain ∷ Run ∷ Exec ∷ Verify ∷ []
+
+abbrev pub options : List OptionName
+options = Firings ∷ []
 
 -- the word that names an option, behind two dashes
 abbrev pub option_word : OptionName → List ℕ

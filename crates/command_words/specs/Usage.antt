@@ -1,7 +1,23 @@
 -- What `help` prints: a line for each command.
-use Rattle.std.specs.Prelude.{◌++◌, ℕ, List, codes}
+use Rattle.std.specs.Prelude.{◌++◌, ℕ, List, [], ◌∷◌, codes, if◌then◌else◌}
+use Rattle.command_words.specs.Table.{command_word, positional_names, commands, option_word, options, takes}
+use Rattle.command_words.specs.declared.table.CommandName.{CommandName}
+use Rattle.command_words.specs.declared.table.OptionName.{OptionName}
+
+-- words, a blank before each
+abbrev pub spaced : List (List ℕ) → List ℕ
+spaced [] = []
+spaced (word ∷ words) = codes " " ++ word ++ spaced words
+
+-- those of the options that the command takes, as ` [--name N]`
+abbrev pub option_usage : CommandName → List OptionName → List ℕ
+option_usage name [] = []
+option_usage name (option ∷ others) = (if takes name option then codes " [--" ++ option_word option ++ codes " N]" else []) ++ option_usage name others
+
+abbrev pub usage_lines : List CommandName → List ℕ
+usage_lines [] = []
+usage_lines (name ∷ names) =
+    codes "  " ++ command_word name ++ spaced (positional_names name) ++ option_usage name options ++ codes "\n" ++ usage_lines names
 
 abbrev pub usage : List ℕ
-usage =
-    codes "usage: pdq COMMAND\n" ++ codes "  help\n" ++ codes "  schema SCHEMA\n" ++ codes "  explain SCHEMA QUERY [--firings N]\n"
-    ++ codes "  run SCHEMA QUERY [--firings N]\n" ++ codes "  exec SCHEMA PLAN\n" ++ codes "  verify SCHEMA\n"
+usage = codes "usage: pdq COMMAND\n" ++ usage_lines commands

@@ -1,4 +1,4 @@
-use Rattle.std.proofs.Common.{◌≡◌, ◌∙◌, sym, ap, List, ℕ, Some, None, arith, rules}
+use Rattle.std.proofs.Common.{◌∙◌, sym}
 use Rattle.command_words.proofs.Giving.{none_at}
 use Rattle.command_words.proofs.Splitting.{front_and_rest}
 use Rattle.command_words.proofs.Making.{no_name, no_arguments, is_command, not_made, first_word}

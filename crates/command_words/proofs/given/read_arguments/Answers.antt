@@ -1,6 +1,5 @@
-use Rattle.std.proofs.Common.{◌≡◌, ◌∙◌, sym, ap, List, ℕ, Some, None, arith, rules}
 use Rattle.command_words.specs.Splits.{item_of}
-use Rattle.command_words.proofs.Giving.{none_at, sofar_none, sofar_more, sofar_all, sofar_refused}
+use Rattle.command_words.proofs.Giving.{none_at, sofar_more, sofar_all, sofar_refused}
 use Rattle.command_words.proofs.given.read_arguments.Goals as goal
 
 pub returns-in_err-arguments-clause-none : goal.returns-in_err-arguments-clause-none

@@ -1,4 +1,4 @@
-use Rattle.std.proofs.Common.{◌≡◌, ◌∙◌, ◌+◌, sym, ap, arith, rules, Some, ℕ, List, drop, length}
+use Rattle.std.proofs.Common.{◌∙◌, ◌+◌, sym, ap, arith, Some, ℕ, drop}
 use Rattle.std.proofs.lemmas.List.{take_rest}
 use Rattle.std.proofs.Math.Numerals.{add-one}
 use Rattle.command_words.proofs.Cutting.{before_at, behind_at, before_all, behind_all}

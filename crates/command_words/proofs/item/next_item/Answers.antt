@@ -1,4 +1,3 @@
-use Rattle.std.proofs.Common.{◌≡◌, ◌∙◌, sym, ap, arith, rules, List, ℕ, Some, None}
 use Rattle.command_words.proofs.Splitting.{begins_positional}
 use Rattle.command_words.proofs.item.next_item.Goals as goal
 

@@ -1,6 +1,6 @@
-use Rattle.std.proofs.Common.{◌≡◌, ◌∙◌, sym, ap, arith, rules, List, ℕ, Some, None}
+use Rattle.std.proofs.Common.{◌∙◌, sym, ap}
 use Rattle.std.specs.Prelude.{option_map}
-use Rattle.command_words.proofs.Splitting.{begins_one, begins_two, begins_behind}
+use Rattle.command_words.proofs.Splitting.{begins_one, begins_behind}
 use Rattle.command_words.proofs.item.next_option.Goals as goal
 
 pub returns-in-Some-default-clause-some : goal.returns-in-Some-default-clause-some

@@ -1,4 +1,4 @@
-use Rattle.std.proofs.Common.{◌≡◌, ◌∙◌, sym, ap, arith, rules, true, false}
+use Rattle.std.proofs.Common.{◌∙◌, sym, ap, arith}
 use Rattle.std.specs.Str.{all_ascii_digits}
 use Rattle.command_words.proofs.Numbers.{value_from, plain_number, not_plain, not_digits, too_large, no_digit, no_more}
 use Rattle.command_words.proofs.number.number_up_to.Goals as goal

@@ -1,10 +1,8 @@
-use Rattle.std.proofs.Common.{◌≡◌, ◌++◌, ◌∷◌, [], ◌∙◌, sym, ap, subst, List, ℕ, length, Option, Some, None, refl, ◌≤◌, arith, rules}
-use Rattle.std.specs.Prelude.{IfSome, IfNone}
-use Rattle.command_words.specs.Splits.{Item, item_of}
+use Rattle.std.proofs.Common.{◌++◌, ◌∷◌, [], sym, ap, subst, ℕ, refl, ◌≤◌}
+use Rattle.command_words.specs.Splits.{item_of}
 use Rattle.command_words.specs.Arguments.{Give, MayBe}
-use Rattle.command_words.specs.declared.given.Arguments.{Arguments}
 use Rattle.command_words.specs.declared.item.Item.{Item as Lent}
-use Rattle.command_words.proofs.Giving.{third_positional, give_positional, give_option, no_number, with_option, without_option, none_at}
+use Rattle.command_words.proofs.Giving.{third_positional, give_positional, no_number, with_option, without_option, none_at}
 use Rattle.command_words.proofs.given.Arguments.with.Goals as goal
 
 pub returns-in_err-with-in-Positional-clause-none :
