@@ -3,3 +3,4 @@ pub mod FileTexts
 pub mod Delivering
 pub mod Lines
 pub mod Later
+pub mod Short

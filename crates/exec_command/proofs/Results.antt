@@ -1,14 +1,10 @@
 -- What a delivery makes of a lawful plan.
-use Rattle.std.proofs.Common.{◌≡◌, ◌≤◌, ℕ, List, [], ◌∷◌, Option, Result, Ok, Err, None, refl, subst, inl, inr, arith}
-use Rattle.std.specs.Prelude.{Contains, length}
-use Rattle.std.specs.List.{AllByRecursion}
-use Rattle.meaning.specs.declared.types.Branch.{Branch}
+use Rattle.std.proofs.Common.{◌≡◌, ℕ, List, Option, Result, Ok, Err, None, refl}
+use Rattle.std.specs.Prelude.{Contains}
 use Rattle.meaning.specs.declared.types.Plan.{Plan}
 use Rattle.meaning.specs.Rows.{IsRow}
-use Rattle.lists.proofs.Members.{contains_cases}
 use Rattle.access_schema.specs.declared.schema.Schema.{Schema}
 use Rattle.access_schema.specs.Meaning.{meaning_of}
-use Rattle.plan_form.specs.Fitting.{HasFewSteps}
 use Rattle.source_trait.specs.Asking.{Seen}
 use Rattle.source_trait.specs.Causes.{Rose}
 use Rattle.source_trait.specs.Lanes.{LanesStay}
@@ -23,26 +19,11 @@ use Rattle.command_io.specs.declared.delivery.TheConstants.{CALLS}
 use Rattle.command_io.specs.FaultLines.{Names}
 use Rattle.command_io.specs.Moments.{Moment}
 use Rattle.command_io.specs.Telling.{Tells}
-use Rattle.command_io.specs.Executing.{IsShort, Executes, Delivers}
+use Rattle.command_io.specs.Executing.{Executes, Delivers}
 use Rattle.command_io.specs.Executing.Delivers.{done as delivered_all, no_rows, no_text as no_text_made, cut as delivered_part}
 use Rattle.exec_command.specs.Known.{column_names}
 use Rattle.exec_command.specs.Ends.{MayRun, IsResult, PlanEnds}
 use Rattle.exec_command.specs.Ends.PlanEnds.{idle, stopped, no_text, cut, done}
-
-each_few : (branches : List Branch) → AllByRecursion (λ branch. length branch.steps ≤ 1048576) branches →
-    (branch : Branch) → Contains branches branch → length branch.steps ≤ 1048576
-each_few [] few branch (k, l, e) = absurd (omega (arith, l))
-each_few (first ∷ branches) few branch among = elim (contains_cases first branches branch among) [
-  | inl same ↦ let P : Branch → Type 0 = λ b. length b.steps ≤ 1048576 in subst P same few.0
-  | inr later ↦ each_few branches few.1 branch later
-]
-
--- a plan with few steps is short
-pub short : (plan : Plan) → HasFewSteps plan → IsShort plan
-short plan few = record {
-  branches = omega (arith, few.branches);
-  steps = λ branch among. let within = each_few plan.branches few.steps branch among in omega (arith, within);
-}
 
 module _ {S : Type 0} (seen : S → Seen) (schema : Schema) (plan : Plan) (may : MayRun schema plan) (old new : List (Lane S)) where
   -- the text of the rows is the result

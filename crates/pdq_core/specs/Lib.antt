@@ -1,2 +1,2 @@
-pub mod Words
+pub mod Help
 pub mod Runs

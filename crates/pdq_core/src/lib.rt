@@ -1,9 +1,10 @@
 //! The top call: the words of the command line, the command that they are, and the exit status.
 //!
-//! Begin at `specs/Runs.antt`, which says what every command does; each command stands in a crate of its own.
+//! Begin at `specs/Runs.antt`, which says what every command does; which words are a command stands in `command_words`, and each
+//! command but `help` in a crate below.
 #![tactic(auto)]
 
-mod command;
+mod help;
 mod top;
 
 pub use command_io::Status;

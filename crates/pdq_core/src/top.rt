@@ -2,13 +2,14 @@
 ghost use Rattle.std.specs.Prelude.{◌≡◌};
 ghost use Rattle.source_trait.specs.Lanes.{LanesStay};
 ghost use Rattle.command_io.specs.Moments.{Moment, Stays};
-ghost use Rattle.pdq_core.specs.Runs.{Runs, ended as ended_by, tested as tested_by};
+ghost use Rattle.pdq_core.specs.Runs.{Runs, ended as ended_by};
 
-use crate::command::{Command, command_of};
-use command_io::{Status, Stop, say, status};
+use crate::help::print_usage;
+use command_io::{Outcome, Status, Stop, say, status};
+use command_words::{Command, read_words};
 use exec_command::exec_plan;
 use lists::Text;
-use run_command::run_query;
+use run_command::{explain_query, run_query};
 use schema_command::print_schema;
 use source_trait::{Files, Lane, Sink, Source};
 use std::alloc::Global;
@@ -39,38 +40,41 @@ pub fn run_words<F: Files, S: Source + Send + Drop, O: Sink, E: Sink>(
     // Lanes and kinds keep their order, and no count of faults of a source falls.
     ensures lanes { LanesStay S.seen lanes.old.items lanes.new.items }
 {
-    match command_of(words) {
+    match read_words(words) {
         None => status(&say(err, b"words: not understood\n", Stop::Words)),
+        Some(Command::Help) => ended(print_usage(alloc, out, err)),
         Some(Command::Schema { schema }) => ended(print_schema(alloc, schema, files, out, err)),
-        Some(Command::Run { schema, query }) => ended(run_query(
-            alloc, schema, query, files, lanes, out, err,
+        Some(Command::Explain {
+            schema,
+            query,
+            firings,
+        }) => ended(explain_query(
+            alloc, schema, query, firings, files, out, err,
+        )),
+        Some(Command::Run {
+            schema,
+            query,
+            firings,
+        }) => ended(run_query(
+            alloc, schema, query, firings, files, lanes, out, err,
         )),
         Some(Command::Exec { schema, plan }) => {
             ended(exec_plan(alloc, schema, plan, files, lanes, out, err))
         }
         Some(Command::Verify { schema }) => {
-            tested(verify_rules(alloc, schema, files, lanes, out, err))
+            ended(verify_rules(alloc, schema, files, lanes, out, err))
         }
     }
 }
 
 // The status of the end of a command.
-fn ended(end: Result<(), Stop>) -> Status
+fn ended(end: Result<Outcome, Stop>) -> Status
     ensures { result ≡ ended_by end }
 {
     match end {
-        Ok(()) => Status::Done,
+        Ok(Outcome::Done) => Status::Done,
+        Ok(Outcome::No) => Status::No,
+        Ok(Outcome::Undecided) => Status::Undecided,
         Err(stop) => status(&stop),
-    }
-}
-
-// The status of the end of a command that tests something.
-fn tested(end: Result<bool, Stop>) -> Status
-    ensures { result ≡ tested_by end }
-{
-    match end {
-        Ok(true) => Status::Done,
-        Ok(false) => Status::No,
-        Err(cause) => status(&cause),
     }
 }

@@ -1,2 +1,4 @@
 pub mod Fits
+pub mod Decided
+pub mod Writing
 pub mod Results

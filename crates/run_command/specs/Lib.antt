@@ -1,1 +1,4 @@
+pub mod Deciding
+pub mod Texts
 pub mod Ends
+pub mod Explained

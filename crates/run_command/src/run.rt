@@ -1,36 +1,38 @@
 // A query, from the texts of its files to its answer.
-ghost use Rattle.std.specs.Prelude.{◌≡◌, ◌≤◌, None, [], OnOk, OnErr, IfErr};
+ghost use Rattle.std.specs.Prelude.{◌≡◌, ◌≤◌, None};
 ghost use Rattle.source_trait.specs.Causes.{Rose};
 ghost use Rattle.source_trait.specs.Lanes.{LanesStay};
 ghost use Rattle.sql_select.specs.Statements.{StatementFits};
-ghost use Rattle.plan_form.specs.Printing.{plan_text as text_of_plan};
-ghost use Rattle.command_io.specs.Moments.{Moment, Stays, DecisionStop};
-ghost use Rattle.command_io.specs.Writing.{TookAll, TookPart};
-ghost use Rattle.run_command.specs.Ends.{PlanEnds, RunEnds};
+ghost use Rattle.rule_pass.specs.declared.pass.TheConstants.{MOST_FIRINGS};
+ghost use Rattle.command_io.specs.Moments.{Moment, Stays};
+ghost use Rattle.run_command.specs.Ends.{StatementEnds, RunEnds};
 
+use crate::deciding::{decided, read_texts, write_decision};
 use access_schema::Schema;
-use command_io::{FileNames, Stop, deliver, print, schema_of, statement_of, tell};
+use command_io::{FileNames, Outcome, Stop, deliver, tell};
 use lists::Text;
-use meaning::types::{Plan, Statement};
-use plan_form::plan_text;
-use proof_search::plan_for;
+use meaning::types::Statement;
+use no_plan_witness::Decision;
 use source_trait::{Files, Lane, Sink, Source};
 use sql_select::result_names;
 use std::alloc::Global;
 
 /// Answers the query of the second file over the schema of the first, and says why it stopped.
 ///
-/// The plan is written to `err` before any source is attached, and the answer to `out`.
+/// The decision, with at most so many firings for the proof of each select, is written to `err` before any source is attached, and
+/// where it is a plan, the answer to `out`.
 pub fn run_query<F: Files, S: Source + Send + Drop, O: Sink, E: Sink>(
     alloc: Global,
     schema_name: &Text,
     query_name: &Text,
+    firings: u32,
     files: &mut F,
     lanes: &mut Vec<Lane<S>>,
     out: &mut O,
     err: &mut E,
-) -> Result<(), Stop>
-    ensures ends { RunEnds S.seen schema_name.now query_name.now
+) -> Result<Outcome, Stop>
+    requires { firings ≤ MOST_FIRINGS }
+    ensures ends { RunEnds S.seen schema_name.now query_name.now firings
         (record { files = F.contents files.old; file_faults = F.faults files.old; out = O.taken out.old; out_faults = O.faults out.old; err = E.taken err.old; err_faults = E.faults err.old })
         (record { files = F.contents files.new; file_faults = F.faults files.new; out = O.taken out.new; out_faults = O.faults out.new; err = E.taken err.new; err_faults = E.faults err.new })
         lanes.old.items lanes.new.items result }
@@ -45,29 +47,28 @@ pub fn run_query<F: Files, S: Source + Send + Drop, O: Sink, E: Sink>(
         query: query_name,
         plan: &none,
     };
-    let schema = match schema_of(alloc, files, schema_name) {
-        Ok(schema) => schema,
-        Err(stop) => return Err(tell(alloc, err, stop, names, &[])),
-    };
-    let statement = match statement_of(alloc, files, query_name, &schema) {
-        Ok(statement) => statement,
-        Err(stop) => return Err(tell(alloc, err, stop, names, &[])),
-    };
-    answer(alloc, names, &schema, &statement, lanes, out, err)
+    match read_texts(alloc, names, files, err) {
+        Ok((schema, statement)) => answer(
+            alloc, names, &schema, &statement, firings, lanes, out, err,
+        ),
+        Err(stop) => Err(stop),
+    }
 }
 
-// Plans the statement, writes the plan, executes it and writes the result.
+// Decides the statement, writes the decision, and where it is a plan, executes it and writes the result.
 fn answer<S: Source + Send + Drop, O: Sink, E: Sink>(
     alloc: Global,
     names: FileNames<'_>,
     schema: &Schema,
     statement: &Statement,
+    firings: u32,
     lanes: &mut Vec<Lane<S>>,
     out: &mut O,
     err: &mut E,
-) -> Result<(), Stop>
-    requires { StatementFits schema.now statement.now }
-    ensures ends { PlanEnds S.seen schema.now statement.now (record { schema = names.entry.schema.now; query = names.entry.query.now; plan = names.entry.plan.now; relations = schema.now.relations })
+) -> Result<Outcome, Stop>
+    requires fits { StatementFits schema.now statement.now }
+    requires budget { firings ≤ MOST_FIRINGS }
+    ensures ends { StatementEnds S.seen schema.now statement.now firings (record { schema = names.entry.schema.now; query = names.entry.query.now; plan = names.entry.plan.now; relations = schema.now.relations })
         (record { files = None; file_faults = 0; out = O.taken out.old; out_faults = O.faults out.old; err = E.taken err.old; err_faults = E.faults err.old })
         (record { files = None; file_faults = 0; out = O.taken out.new; out_faults = O.faults out.new; err = E.taken err.new; err_faults = E.faults err.new })
         lanes.old.items lanes.new.items result }
@@ -76,32 +77,21 @@ fn answer<S: Source + Send + Drop, O: Sink, E: Sink>(
     ensures later_err { E.faults err.old ≤ E.faults err.new }
 {
     let relations = schema.relations.as_slice();
-    let plan = match plan_for(alloc, schema, statement) {
-        Ok(Some(plan)) => plan,
-        Ok(None) => return Err(tell(alloc, err, Stop::NoPlanYet, names, relations)),
-        Err(_) => return Err(tell(alloc, err, Stop::Memory, names, relations)),
+    let decision = match decided(alloc, schema, statement, firings) {
+        Ok(decision) => decision,
+        Err(stop) => return Err(tell(alloc, err, stop, names, relations)),
     };
-    match write_plan(alloc, &plan, err) {
+    match write_decision(alloc, schema, &decision, err, Stop::DecisionWrite) {
         Ok(()) => {}
         Err(stop) => return Err(tell(alloc, err, stop, names, relations)),
     }
-    let columns = result_names(statement);
-    match deliver(alloc, schema, &plan, columns, lanes, out) {
-        Ok(()) => Ok(()),
+    let plan = match &decision {
+        Decision::Plan(plan) => plan,
+        Decision::NoPlan(_) => return Ok(Outcome::No),
+        Decision::Undecided { select: _, log: _ } => return Ok(Outcome::Undecided),
+    };
+    match deliver(alloc, schema, plan, result_names(statement), lanes, out) {
+        Ok(()) => Ok(Outcome::Done),
         Err(stop) => Err(tell(alloc, err, stop, names, relations)),
     }
-}
-
-// Writes the text of the plan.
-fn write_plan<E: Sink>(alloc: Global, plan: &Plan, err: &mut E) -> Result<(), Stop>
-    ensures whole { OnOk result (TookAll (E.taken err.old) (E.taken err.new) (text_of_plan plan.now)) }
-    ensures part { OnErr result (TookPart (E.taken err.old) (E.taken err.new) (text_of_plan plan.now)) }
-    ensures cause { IfErr result (DecisionStop (Rose (E.faults err.old) (E.faults err.new))) }
-    ensures later { E.faults err.old ≤ E.faults err.new }
-{
-    let text = match plan_text(alloc, plan) {
-        Ok(text) => text,
-        Err(_) => return Err(Stop::Memory),
-    };
-    print(err, text.as_slice(), Stop::DecisionWrite)
 }

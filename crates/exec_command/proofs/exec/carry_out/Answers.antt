@@ -5,7 +5,8 @@ use Rattle.command_io.specs.declared.stop.Stop.TheVariants as stop
 use Rattle.exec_command.specs.Known.{known_to}
 use Rattle.exec_command.specs.Ends.IdleStop.{no_memory}
 use Rattle.exec_command.specs.Ends.PlanEnds.{idle}
-use Rattle.exec_command.proofs.Results.{short, delivered, not_delivered, lanes_stay}
+use Rattle.command_io.proofs.Short.{short}
+use Rattle.exec_command.proofs.Results.{delivered, not_delivered, lanes_stay}
 use Rattle.exec_command.proofs.exec.carry_out.Goals as goal
 
 pub returns-in-Err-clause-ends : goal.returns-in-Err-clause-ends

@@ -1,15 +1,16 @@
 -- Each arm is one way in which a run ends.
-use Rattle.std.proofs.Common.{◌≡◌, ℕ, List, [], Option, Some, None, refl, sym}
+use Rattle.std.proofs.Common.{[], refl}
 use Rattle.source_trait.proofs.LaneSteps.{LanesStay-refl}
 use Rattle.command_io.specs.declared.stop.Stop.TheVariants as stop
 use Rattle.command_io.proofs.Lines.{said_tells}
-use Rattle.pdq_core.specs.Words.{command_of}
-use Rattle.pdq_core.specs.Words.Command.{Schema, Run, Exec, Verify}
-use Rattle.pdq_core.specs.Runs.Runs.{no_command, schema, run, exec, verify}
+use Rattle.command_words.specs.Words.{IsCommand}
+use Rattle.command_words.specs.Words.Command.{Help, Schema, Explain, Run, Exec, Verify}
+use Rattle.pdq_core.specs.Runs.Runs.{no_command, help, schema, explain, run, exec, verify}
+use Rattle.pdq_core.proofs.Ways.{few_explained, few_run, help_with_files}
 use Rattle.pdq_core.proofs.top.run_words.Goals as goal
 
 pub returns-in-None-clause-run : goal.returns-in-None-clause-run
-returns-in-None-clause-run g c = rw c.status.ensures (no_command c.say.result (sym c.in-None.ensures) (record {
+returns-in-None-clause-run g c = rw c.status.ensures (no_command c.say.result c.in-None.ensures.none (record {
   given = stop.Words;
   cause = refl;
   tells = said_tells _ _ _ (record { schema = []; query = []; plan = []; relations = [] }) stop.Words c.say.result c.say.ensures.said;
@@ -18,25 +19,52 @@ returns-in-None-clause-run g c = rw c.status.ensures (no_command c.say.result (s
 pub returns-in-None-clause-lanes : goal.returns-in-None-clause-lanes
 returns-in-None-clause-lanes g c = LanesStay-refl g.S.Source.seen c.args.lanes.now.items
 
+pub returns-in-Some-Help-clause-run : goal.returns-in-Some-Help-clause-run
+returns-in-Some-Help-clause-run g c =
+    let is : IsCommand c.args.words.now Help = rw c.in-Some-Help.field-0-is at c.in-Some-Help.ensures.some in
+    rw c.ended.ensures (help c.print_usage.result is (help_with_files _ _ c.print_usage.result c.print_usage.ensures.ends) refl)
+
+pub returns-in-Some-Help-clause-lanes : goal.returns-in-Some-Help-clause-lanes
+returns-in-Some-Help-clause-lanes g c = LanesStay-refl g.S.Source.seen c.args.lanes.now.items
+
 pub returns-in-Some-Schema-clause-run : goal.returns-in-Some-Schema-clause-run
 returns-in-Some-Schema-clause-run g c =
-    let is : command_of c.args.words.now ≡ Some (Schema c.in-Some-Schema.schema.now) = sym (rw c.in-Some-Schema.field-0-is at c.in-Some-Schema.ensures) in
-    rw c.ended.ensures (schema c.in-Some-Schema.schema.now c.print_schema.result is c.print_schema.ensures.ends refl)
+    let is : IsCommand c.args.words.now (Schema c.in-Some-Schema.schema.now) = rw c.in-Some-Schema.field-0-is at c.in-Some-Schema.ensures.some in
+    rw c.ended-in-Some-Schema.ensures (schema c.in-Some-Schema.schema.now c.print_schema.result is c.print_schema.ensures.ends refl)
 
 pub returns-in-Some-Schema-clause-lanes : goal.returns-in-Some-Schema-clause-lanes
 returns-in-Some-Schema-clause-lanes g c = LanesStay-refl g.S.Source.seen c.args.lanes.now.items
 
+pub returns-in-Some-Explain-clause-run : goal.returns-in-Some-Explain-clause-run
+returns-in-Some-Explain-clause-run g c =
+    let is : IsCommand c.args.words.now (Explain c.in-Some-Explain.schema.now c.in-Some-Explain.query.now c.in-Some-Explain.firings) =
+        rw c.in-Some-Explain.field-0-is at c.in-Some-Explain.ensures.some in
+    rw c.ended-in-Some-Explain.ensures (explain c.in-Some-Explain.schema.now c.in-Some-Explain.query.now c.in-Some-Explain.firings c.explain_query.result is c.explain_query.ensures.ends refl)
+
+pub returns-in-Some-Explain-clause-lanes : goal.returns-in-Some-Explain-clause-lanes
+returns-in-Some-Explain-clause-lanes g c = LanesStay-refl g.S.Source.seen c.args.lanes.now.items
+
+pub explain_query-requires : goal.explain_query-requires
+explain_query-requires g c =
+    few_explained c.args.words.now c.in-Some-Explain.schema.now c.in-Some-Explain.query.now c.in-Some-Explain.firings
+    (rw c.in-Some-Explain.field-0-is at c.in-Some-Explain.ensures.some)
+
 pub returns-in-Some-Run-clause-run : goal.returns-in-Some-Run-clause-run
 returns-in-Some-Run-clause-run g c =
-    let is : command_of c.args.words.now ≡ Some (Run c.in-Some-Run.schema.now c.in-Some-Run.query.now) = sym (rw c.in-Some-Run.field-0-is at c.in-Some-Run.ensures) in
-    rw c.ended-in-Some-Run.ensures (run c.in-Some-Run.schema.now c.in-Some-Run.query.now c.run_query.result is c.run_query.ensures.ends)
+    let is : IsCommand c.args.words.now (Run c.in-Some-Run.schema.now c.in-Some-Run.query.now c.in-Some-Run.firings) =
+        rw c.in-Some-Run.field-0-is at c.in-Some-Run.ensures.some in
+    rw c.ended-in-Some-Run.ensures (run c.in-Some-Run.schema.now c.in-Some-Run.query.now c.in-Some-Run.firings c.run_query.result is c.run_query.ensures.ends)
+
+pub run_query-requires : goal.run_query-requires
+run_query-requires g c = (c.type_bounds.send-S, few_run c.args.words.now c.in-Some-Run.schema.now c.in-Some-Run.query.now c.in-Some-Run.firings
+    (rw c.in-Some-Run.field-0-is at c.in-Some-Run.ensures.some))
 
 pub returns-in-Some-Exec-clause-run : goal.returns-in-Some-Exec-clause-run
 returns-in-Some-Exec-clause-run g c =
-    let is : command_of c.args.words.now ≡ Some (Exec c.in-Some-Exec.schema.now c.in-Some-Exec.plan.now) = sym (rw c.in-Some-Exec.field-0-is at c.in-Some-Exec.ensures) in
+    let is : IsCommand c.args.words.now (Exec c.in-Some-Exec.schema.now c.in-Some-Exec.plan.now) = rw c.in-Some-Exec.field-0-is at c.in-Some-Exec.ensures.some in
     rw c.ended-in-Some-Exec.ensures (exec c.in-Some-Exec.schema.now c.in-Some-Exec.plan.now c.exec_plan.result is c.exec_plan.ensures.ends)
 
 pub returns-in-Some-Verify-clause-run : goal.returns-in-Some-Verify-clause-run
 returns-in-Some-Verify-clause-run g c =
-    let is : command_of c.args.words.now ≡ Some (Verify c.in-Some-Verify.schema.now) = sym (rw c.in-Some-Verify.field-0-is at c.in-Some-Verify.ensures) in
-    rw c.tested.ensures (verify c.in-Some-Verify.schema.now c.verify_rules.result is c.verify_rules.ensures.ends)
+    let is : IsCommand c.args.words.now (Verify c.in-Some-Verify.schema.now) = rw c.in-Some-Verify.field-0-is at c.in-Some-Verify.ensures.some in
+    rw c.ended-in-Some-Verify.ensures (verify c.in-Some-Verify.schema.now c.verify_rules.result is c.verify_rules.ensures.ends)

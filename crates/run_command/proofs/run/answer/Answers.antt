@@ -1,74 +1,76 @@
 -- The ways of a statement, by where the function returns.
-use Rattle.std.proofs.Common.{refl, sym, arith}
-use Rattle.access_schema.specs.Meaning.{meaning_of}
+use Rattle.std.proofs.Common.{refl, sym}
 use Rattle.source_trait.proofs.LaneSteps.{LanesStay-refl}
-use Rattle.command_io.specs.declared.stop.Stop.TheVariants as stop
-use Rattle.proof_search.specs.Plans.{IsPlanFor, HasFewSteps, NoPlanYet, known_of}
-use Rattle.run_command.specs.Ends.UnplannedStop.{no_memory, no_plan_yet}
-use Rattle.run_command.specs.Ends.PlanEnds.{unplanned, untold}
-use Rattle.run_command.proofs.Results.{planned, delivered, not_delivered, lanes_stay}
+use Rattle.command_io.proofs.Later.{decision_stop}
+use Rattle.command_io.proofs.Short.{short}
+use Rattle.proof_search.specs.Plans.{known_of}
+use Rattle.run_command.specs.Ends.StatementEnds.{no_decision, untold}
+use Rattle.run_command.proofs.Results.{plan_of, plan_told, none_told, log_told, delivered, not_delivered, lanes_stay}
 use Rattle.run_command.proofs.run.answer.Goals as goal
 
-pub returns-in-Ok-None-clause-ends : goal.returns-in-Ok-None-clause-ends
-returns-in-Ok-None-clause-ends g c =
-    let none : NoPlanYet c.args.schema.now c.args.statement.now = (rw c.in-Ok-None.field-0-is at c.in-Ok-None.ensures).none in
-    unplanned c.tell.result (record {
-      given = stop.NoPlanYet;
-      cause = no_plan_yet none;
-      tells = c.tell.ensures.tells;
-    }) refl refl
-
-pub returns-in-Ok-None-clause-lanes : goal.returns-in-Ok-None-clause-lanes
-returns-in-Ok-None-clause-lanes g c = LanesStay-refl g.S.Source.seen c.args.lanes.now.items
-
 pub returns-in-Err-clause-ends : goal.returns-in-Err-clause-ends
-returns-in-Err-clause-ends g c = unplanned c.tell-in-Err.result (record {
-  given = stop.Memory;
-  cause = no_memory;
-  tells = c.tell-in-Err.ensures.tells;
+returns-in-Err-clause-ends g c = no_decision c.tell.result (record {
+  given = c.in-Err.stop;
+  cause = c.in-Err.ensures.memory;
+  tells = rw c.as_slice-relations.ensures at c.tell.ensures.tells;
 }) refl refl
 
 pub returns-in-Err-clause-lanes : goal.returns-in-Err-clause-lanes
 returns-in-Err-clause-lanes g c = LanesStay-refl g.S.Source.seen c.args.lanes.now.items
 
-pub returns-in-Err-write_plan-clause-ends : goal.returns-in-Err-write_plan-clause-ends
-returns-in-Err-write_plan-clause-ends g c =
-    untold c.in-Ok-Some.plan (g.E.Sink.taken c.write_plan.new.err)
-    (record { faults = g.E.Sink.faults c.write_plan.new.err; begun = c.write_plan.ensures.later; ended = c.tell-in-Err-write_plan.ensures.later })
-    c.tell-in-Err-write_plan.result
-    (planned c.args.schema.now c.args.statement.now c.in-Ok-Some.plan c.requires (rw c.in-Ok-Some.field-0-is at c.in-Ok-Some.ensures.plan)
-    (rw c.in-Ok-Some.field-0-is at c.in-Ok-Some.ensures.few))
-    c.in-Err-write_plan.ensures.part (record {
-      given = c.in-Err-write_plan.stop;
-      cause = c.in-Err-write_plan.ensures.cause;
-      tells = rw c.as_slice-relations.ensures at c.tell-in-Err-write_plan.ensures.tells;
+pub returns-in-Err-write_decision-clause-ends : goal.returns-in-Err-write_decision-clause-ends
+returns-in-Err-write_decision-clause-ends g c =
+    untold c.in-Ok.decision (g.E.Sink.taken c.write_decision.new.sink)
+    (record { faults = g.E.Sink.faults c.write_decision.new.sink; begun = c.write_decision.ensures.later; ended = c.tell-in-Err-write_decision.ensures.later })
+    c.tell-in-Err-write_decision.result c.in-Ok.ensures.decided c.in-Err-write_decision.ensures.part (record {
+      given = c.in-Err-write_decision.stop;
+      cause = decision_stop _ c.in-Err-write_decision.stop c.in-Err-write_decision.ensures.cause;
+      tells = rw c.as_slice-relations.ensures at c.tell-in-Err-write_decision.ensures.tells;
     }) refl refl
 
-pub returns-in-Err-write_plan-clause-lanes : goal.returns-in-Err-write_plan-clause-lanes
-returns-in-Err-write_plan-clause-lanes g c = LanesStay-refl g.S.Source.seen c.args.lanes.now.items
+pub returns-in-Err-write_decision-clause-lanes : goal.returns-in-Err-write_decision-clause-lanes
+returns-in-Err-write_decision-clause-lanes g c = LanesStay-refl g.S.Source.seen c.args.lanes.now.items
+
+pub returns-in-NoPlan-clause-ends : goal.returns-in-NoPlan-clause-ends
+returns-in-NoPlan-clause-ends g c =
+    none_told g.S.Source.seen c.args.schema.now c.args.statement.now c.args.firings c.requires.fits c.in-Ok.decision c.in-Ok.ensures.decided
+    _ _ _ _ _ refl refl c.in-NoPlan.field-0 c.in-NoPlan.is c.in-Ok-write_decision.ensures.whole
+
+pub returns-in-NoPlan-clause-lanes : goal.returns-in-NoPlan-clause-lanes
+returns-in-NoPlan-clause-lanes g c = LanesStay-refl g.S.Source.seen c.args.lanes.now.items
+
+pub returns-in-Undecided-clause-ends : goal.returns-in-Undecided-clause-ends
+returns-in-Undecided-clause-ends g c =
+    log_told g.S.Source.seen c.args.schema.now c.args.statement.now c.args.firings c.requires.fits c.in-Ok.decision c.in-Ok.ensures.decided
+    _ _ _ _ _ refl refl c.in-Undecided.select c.in-Undecided.log c.in-Undecided.is c.in-Ok-write_decision.ensures.whole
+
+pub returns-in-Undecided-clause-lanes : goal.returns-in-Undecided-clause-lanes
+returns-in-Undecided-clause-lanes g c = LanesStay-refl g.S.Source.seen c.args.lanes.now.items
 
 pub deliver-requires-clause-lawful : goal.deliver-requires-clause-lawful
 deliver-requires-clause-lawful g c κs within =
-    let is : IsPlanFor c.args.schema.now c.args.statement.now c.in-Ok-Some.plan = (rw c.in-Ok-Some.field-0-is at c.in-Ok-Some.ensures).plan in
-    (known_of c.args.schema.now c.args.statement.now, is.lawful)
+    let is = plan_of g.S.Source.seen c.args.schema.now c.args.statement.now c.args.firings c.requires.fits c.in-Ok.decision c.in-Ok.ensures.decided c.in-Plan.plan c.in-Plan.is in
+    (known_of c.args.schema.now c.args.statement.now, is.0.lawful)
+
+pub deliver-requires-clause-short : goal.deliver-requires-clause-short
+deliver-requires-clause-short g c κs within =
+    let is = plan_of g.S.Source.seen c.args.schema.now c.args.statement.now c.args.firings c.requires.fits c.in-Ok.decision c.in-Ok.ensures.decided c.in-Plan.plan c.in-Plan.is in
+    short c.in-Plan.plan is.1.few
 
 pub returns-in-Ok-deliver-clause-ends : goal.returns-in-Ok-deliver-clause-ends
 returns-in-Ok-deliver-clause-ends g c =
-    delivered g.S.Source.seen c.args.schema.now c.args.statement.now c.in-Ok-Some.plan
-    (planned c.args.schema.now c.args.statement.now c.in-Ok-Some.plan c.requires (rw c.in-Ok-Some.field-0-is at c.in-Ok-Some.ensures.plan)
-    (rw c.in-Ok-Some.field-0-is at c.in-Ok-Some.ensures.few))
-    c.result_names-columns.result.now (sym c.result_names-columns.ensures) _ _ _ _ _
-    c.in-Ok.ensures.whole c.in-Ok-deliver.ensures.delivers
+    let told = plan_told g.S.Source.seen c.args.schema.now c.args.statement.now c.args.firings c.requires.fits c.in-Ok.decision c.in-Ok.ensures.decided c.in-Plan.plan _ _ c.in-Plan.is c.in-Ok-write_decision.ensures.whole in
+    delivered g.S.Source.seen c.args.schema.now c.args.statement.now c.args.firings c.in-Plan.plan told.0
+    c.result_names.result.now (sym c.result_names.ensures) _ _ _ _ _ told.1 c.in-Ok-deliver.ensures.delivers
 
 pub returns-clause-ends : goal.returns-clause-ends
 returns-clause-ends g c =
-    not_delivered g.S.Source.seen c.args.schema.now c.args.statement.now c.in-Ok-Some.plan
-    (planned c.args.schema.now c.args.statement.now c.in-Ok-Some.plan c.requires (rw c.in-Ok-Some.field-0-is at c.in-Ok-Some.ensures.plan)
-    (rw c.in-Ok-Some.field-0-is at c.in-Ok-Some.ensures.few))
-    c.result_names-columns.result.now (sym c.result_names-columns.ensures) _ _ _ _ _
-    (g.E.Sink.taken c.write_plan.new.err)
-    (record { faults = g.E.Sink.faults c.write_plan.new.err; begun = c.write_plan.ensures.later; ended = c.tell-in-Err-deliver.ensures.later })
-    c.in-Err-deliver.stop c.tell-in-Err-deliver.result c.in-Ok.ensures.whole c.in-Err-deliver.ensures.delivers
+    let told = plan_told g.S.Source.seen c.args.schema.now c.args.statement.now c.args.firings c.requires.fits c.in-Ok.decision c.in-Ok.ensures.decided c.in-Plan.plan _ _ c.in-Plan.is c.in-Ok-write_decision.ensures.whole in
+    not_delivered g.S.Source.seen c.args.schema.now c.args.statement.now c.args.firings c.in-Plan.plan told.0
+    c.result_names.result.now (sym c.result_names.ensures) _ _ _ _ _
+    (g.E.Sink.taken c.write_decision.new.sink)
+    (record { faults = g.E.Sink.faults c.write_decision.new.sink; begun = c.write_decision.ensures.later; ended = c.tell-in-Err-deliver.ensures.later })
+    c.in-Err-deliver.stop c.tell-in-Err-deliver.result told.1 c.in-Err-deliver.ensures.delivers
     (rw c.as_slice-relations.ensures at c.tell-in-Err-deliver.ensures.tells)
 
 pub returns-clause-lanes : goal.returns-clause-lanes
@@ -76,11 +78,3 @@ returns-clause-lanes g c = lanes_stay g.S.Source.seen _ _ _ _ _ _ _ _ c.deliver.
 
 pub returns-in-Ok-deliver-clause-lanes : goal.returns-in-Ok-deliver-clause-lanes
 returns-in-Ok-deliver-clause-lanes g c = lanes_stay g.S.Source.seen _ _ _ _ _ _ _ _ c.deliver.result c.deliver.ensures.delivers
-
-pub deliver-requires-clause-short : goal.deliver-requires-clause-short
-deliver-requires-clause-short g c κs within =
-    let is : HasFewSteps c.in-Ok-Some.plan = (rw c.in-Ok-Some.field-0-is at c.in-Ok-Some.ensures).few in
-    record {
-      branches = let low = is.branches in omega arith;
-      steps = λ branch among. let low = is.steps branch among in omega arith;
-    }

@@ -1,0 +1,33 @@
+-- What the words of a command set, and what its ends rest on.
+use Rattle.std.proofs.Common.{◌≡◌, ◌≤◌, ℕ, List, [], ◌∷◌, None, Result, arith}
+use Rattle.rule_pass.specs.declared.pass.TheConstants.{MOST_FIRINGS}
+use Rattle.command_words.specs.Splits.{Item, IsSet}
+use Rattle.command_words.specs.Splits.IsSet.{Once, Absent}
+use Rattle.command_words.specs.declared.table.OptionName.TheVariants.{Firings}
+use Rattle.command_words.specs.Words.{Command, IsCommand}
+use Rattle.command_words.specs.Words.Command.{Explain, Run}
+use Rattle.command_io.specs.declared.stop.Stop.{Stop}
+use Rattle.command_io.specs.declared.outcome.Outcome.{Outcome}
+use Rattle.command_io.specs.Moments.{Moment}
+use Rattle.pdq_core.specs.Help.{HelpEnds}
+use Rattle.pdq_core.specs.Help.HelpEnds.{printed, cut}
+
+-- a number of firings is within its range, given or not
+in_range : (items : List Item) (n : ℕ) → IsSet Firings items n → n ≤ MOST_FIRINGS
+in_range items n (Once text most) = most
+in_range items n (Absent none is) = omega (arith, is)
+
+pub few_explained : (words : List (List ℕ)) (schema query : List ℕ) (n : ℕ) → IsCommand words (Explain schema query n) → n ≤ MOST_FIRINGS
+few_explained words schema query n is = in_range is.items n is.are_set.0
+
+pub few_run : (words : List (List ℕ)) (schema query : List ℕ) (n : ℕ) → IsCommand words (Run schema query n) → n ≤ MOST_FIRINGS
+few_run words schema query n is = in_range is.items n is.are_set.0
+
+-- the ends of `help` rest on the two outputs alone
+pub help_with_files : (before after : Moment) (result : Result Outcome Stop) →
+    HelpEnds
+    (record { files = None; file_faults = 0; out = before.out; out_faults = before.out_faults; err = before.err; err_faults = before.err_faults })
+    (record { files = None; file_faults = 0; out = after.out; out_faults = after.out_faults; err = after.err; err_faults = after.err_faults }) result →
+    HelpEnds before after result
+help_with_files before after result (printed took quiet) = printed took quiet
+help_with_files before after result (cut end took why) = cut end took why

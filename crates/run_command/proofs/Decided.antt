@@ -1,0 +1,85 @@
+-- A decision is right, and its text shows it.
+use Rattle.std.proofs.Common.{◌≡◌, ◌≢◌, ◌≤◌, ℕ, List, [], ◌∷◌, length, refl, sym, ap, ◌∙◌, subst, arith}
+use Rattle.std.specs.Prelude.{Contains}
+use Rattle.std.specs.Str.{IsUtf8}
+use Rattle.lists.proofs.Members.{contains_here}
+use Rattle.meaning.specs.declared.types.Plan.{Plan as PlanOf}
+use Rattle.meaning.specs.declared.types.Select.{Select}
+use Rattle.meaning.specs.declared.types.Statement.{Statement}
+use Rattle.meaning.specs.Values.{Value}
+use Rattle.meaning.specs.Claims.{Refutes}
+use Rattle.meaning_laws.proofs.Members.{refutes_alike}
+use Rattle.access_schema.specs.declared.schema.Schema.{Schema}
+use Rattle.access_schema.specs.Meaning.{meaning_of}
+use Rattle.sql_select.specs.Statements.{StatementFits}
+use Rattle.plan_form.specs.Fitting.{PlanFits}
+use Rattle.plan_form.specs.Printing.{plan_text}
+use Rattle.plan_form.proofs.PrintLaws.{printed_again as plan_again}
+use Rattle.no_plan_witness.specs.declared.refutation.Witness.{Witness}
+use Rattle.no_plan_witness.specs.declared.decision.Decision.{Decision}
+use Rattle.no_plan_witness.specs.declared.decision.Decision.TheVariants.{Plan, NoPlan, Undecided}
+use Rattle.explain.specs.Printing.{IsDecisionText}
+use Rattle.explain.specs.Grammar.{FitsSchema, IsReadAs}
+use Rattle.explain.proofs.PrintLaws.{printed_again}
+use Rattle.proof_search.specs.Plans.{IsPlanFor, known_of}
+use Rattle.proof_search.specs.Decisions.{IsRefutation, IsDecision}
+use Rattle.proof_search.specs.Decisions.IsDecision.{plan as plan_found, no_plan as no_plan_found, undecided as none_found}
+use Rattle.run_command.specs.Deciding.{IsPlanned, IsDecided, IsRefuted, Shows, outcome_of}
+use Rattle.run_command.specs.Deciding.IsDecided.{plan, no_plan, undecided}
+use Rattle.run_command.specs.Deciding.Shows.{plan as shows_plan, no_plan as shows_none, undecided as shows_log}
+use Rattle.run_command.proofs.Fits.{plan_fits}
+
+-- what the search decides is right, and a plan can be written
+pub decided_right : (schema : Schema) (statement : Statement) (firings : ℕ) (decision : Decision) → StatementFits schema statement →
+    IsDecision schema statement firings decision → IsDecided schema statement firings decision
+decided_right schema statement firings decision fits (plan_found of is few) = plan of is (plan_fits schema statement of fits is few)
+decided_right schema statement firings decision fits (no_plan_found pair is) = no_plan pair is
+decided_right schema statement firings decision fits (none_found select log is) = undecided select log is
+
+-- a plan whose text is UTF-8 is read again
+pub planned : (schema : Schema) (statement : Statement) (of : PlanOf) → IsPlanFor schema statement of → PlanFits of → IsUtf8 (plan_text of) → IsPlanned schema statement of
+planned schema statement of is fits utf8 = record { is = is; reads = (utf8, plan_again of fits.writable) }
+
+-- an answer that is as wide as each select is not empty
+some_answer : (schema : Schema) (statement : Statement) (answer : List Value) → StatementFits schema statement →
+    ((select : Select) → Contains statement.selects select → length answer ≡ length select.items) → answer ≢ []
+some_answer schema statement answer fits wide none = of_selects statement.selects refl
+  where
+    of_selects : (selects : List Select) → statement.selects ≡ selects → ⊥
+    of_selects [] are = let short : length statement.selects ≡ 0 = ap length are in let some = fits.count in absurd (omega (arith, short, some))
+    of_selects (select ∷ selects) are =
+        let among : Contains statement.selects select = subst (λ list. Contains list select) (sym are) (contains_here select selects) in
+        let empty : length answer ≡ 0 = ap length none in
+        let width = wide select among in
+        let some = (fits.bounded select among).some_items in
+        omega (arith, empty, width, some)
+
+-- what is read of a refutation refutes
+pub refuted : (schema : Schema) (statement : Statement) (pair : Witness) (text : List ℕ) → StatementFits schema statement → IsRefutation schema statement pair →
+    IsDecisionText schema (NoPlan pair) text → IsUtf8 text → IsRefuted schema statement text
+refuted schema statement pair text fits is of utf8 =
+    let fitting : FitsSchema schema pair = record {
+      first = is.refutes.first_meets.fits;
+      second = is.refutes.second_meets.fits;
+      some = some_answer schema statement pair.answer fits is.wide;
+    } in
+    let again : IsReadAs schema text pair = printed_again schema pair text fitting of in
+    record {
+      pair = again.read;
+      reads = (utf8, again.says);
+      refutes = record {
+        refutes = subst (λ row. Refutes (meaning_of schema) (known_of schema statement) statement again.read.first again.read.second row) (sym again.same.answer)
+            (refutes_alike (meaning_of schema) (known_of schema statement) statement pair.first pair.second again.read.first again.read.second pair.answer
+            again.same.first_there again.same.first_only again.same.second_there again.same.second_only is.refutes);
+        none = is.none;
+        wide = λ select among. ap length again.same.answer ∙ is.wide select among;
+      };
+    }
+
+-- the text of what is decided shows it
+pub shown : (schema : Schema) (statement : Statement) (firings : ℕ) (decision : Decision) (text : List ℕ) → StatementFits schema statement →
+    IsDecided schema statement firings decision → IsDecisionText schema decision text → IsUtf8 text →
+    Shows schema statement firings text (outcome_of decision)
+shown schema statement firings decision text fits (plan of is can) said utf8 = shows_plan of (planned schema statement of is can (subst IsUtf8 said utf8)) said
+shown schema statement firings decision text fits (no_plan pair is) said utf8 = shows_none (refuted schema statement pair text fits is said utf8)
+shown schema statement firings decision text fits (undecided select log is) said utf8 = shows_log select log is said

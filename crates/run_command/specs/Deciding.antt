@@ -1,0 +1,63 @@
+-- What is decided of a statement, and what the text of a decision shows.
+use Rattle.std.specs.Prelude.{◌≡◌, ◌⊎◌, ℕ, List, Option}
+use Rattle.std.specs.Str.{IsUtf8}
+use Rattle.meaning.specs.declared.types.Statement.{Statement}
+use Rattle.meaning.specs.declared.types.Plan.{Plan as PlanOf}
+use Rattle.meaning.specs.declared.types.Firing.{Firing}
+use Rattle.access_schema.specs.declared.schema.Schema.{Schema}
+use Rattle.plan_form.specs.Fitting.{PlanFits}
+use Rattle.plan_form.specs.Printing.{plan_text}
+use Rattle.plan_form.specs.Grammar.{IsPlanText}
+use Rattle.no_plan_witness.specs.declared.refutation.Witness.{Witness}
+use Rattle.no_plan_witness.specs.declared.decision.Decision.{Decision}
+use Rattle.no_plan_witness.specs.declared.decision.Decision.TheVariants.{Plan, NoPlan, Undecided}
+use Rattle.proof_search.specs.Plans.{IsPlanFor}
+use Rattle.proof_search.specs.Decisions.{IsRefutation, IsUndecided}
+use Rattle.explain.specs.Printing.{IsDecisionText, undecided_text}
+use Rattle.explain.specs.Grammar.{IsWitnessText}
+use Rattle.command_io.specs.declared.outcome.Outcome.{Outcome}
+use Rattle.command_io.specs.declared.outcome.Outcome.TheVariants as outcome
+use Rattle.command_io.specs.Writing.{TookAll, TookPart}
+
+-- The plan is one for the statement, and its text reads as it.
+pub record IsPlanned (schema : Schema) (statement : Statement) (plan : PlanOf) : Type 0 where
+  pub is : IsPlanFor schema statement plan
+  pub reads : IsPlanText (plan_text plan) plan
+
+-- A decision is right: a plan is one for the statement and can be written, a pair refutes, and a log is one of spent firings.
+pub data IsDecided (schema : Schema) (statement : Statement) (firings : ℕ) : Decision → Type 0 where
+  plan : (plan : PlanOf) → IsPlanFor schema statement plan → PlanFits plan → IsDecided schema statement firings (Plan plan)
+  no_plan : (pair : Witness) → IsRefutation schema statement pair → IsDecided schema statement firings (NoPlan pair)
+  undecided : (select : ℕ) (log : List Firing) → IsUndecided schema statement firings select log →
+      IsDecided schema statement firings (Undecided select log)
+
+-- The text reads as two instances and a row that refute, so that no lawful plan is equivalent to the statement.
+pub record IsRefuted (schema : Schema) (statement : Statement) (text : List ℕ) : Type 0 where
+  pub pair : Witness
+  pub reads : IsWitnessText schema text pair
+  pub refutes : IsRefutation schema statement pair
+
+-- What the text of a decision shows, by the outcome: it reads as a plan for the statement; it reads as a refutation; or it is that of
+-- spent firings.
+pub data Shows (schema : Schema) (statement : Statement) (firings : ℕ) (text : List ℕ) : Outcome → Type 0 where
+  plan : (plan : PlanOf) → IsPlanned schema statement plan → text ≡ plan_text plan → Shows schema statement firings text outcome.Done
+  no_plan : IsRefuted schema statement text → Shows schema statement firings text outcome.No
+  undecided : (select : ℕ) (log : List Firing) → IsUndecided schema statement firings select log →
+      text ≡ undecided_text schema select log → Shows schema statement firings text outcome.Undecided
+
+-- Nothing was taken, or a first part of one of these texts that is not all of it.
+abbrev pub TookPartOf : Option (List ℕ) → Option (List ℕ) → (List ℕ → Type 0) → Type 0
+TookPartOf old new IsText = (new ≡ old) ⊎ ((text : List ℕ) × IsText text × TookPart old new text)
+
+-- The text of the decision was taken whole, and it is UTF-8.
+pub record Written (schema : Schema) (decision : Decision) (old new : Option (List ℕ)) : Type 0 where
+  pub text : List ℕ
+  pub is : IsDecisionText schema decision text
+  pub utf8 : IsUtf8 text
+  pub took : TookAll old new text
+
+-- The outcome of a decision: done with a plan, no with a refutation, undecided with the log of spent firings.
+abbrev pub outcome_of : Decision → Outcome
+outcome_of (Plan found) = outcome.Done
+outcome_of (NoPlan pair) = outcome.No
+outcome_of (Undecided select log) = outcome.Undecided

@@ -1,0 +1,96 @@
+// What both commands do: they read two texts, decide the statement and write the text of the decision.
+ghost use Rattle.std.specs.Prelude.{◌≡◌, ◌≤◌, ◌⊎◌, [], OnOk, OnErr, IfOk, IfErr, None};
+ghost use Rattle.source_trait.specs.Causes.{Rose};
+ghost use Rattle.sql_select.specs.Statements.{StatementFits};
+ghost use Rattle.rule_pass.specs.declared.pass.TheConstants.{MOST_FIRINGS};
+ghost use Rattle.command_io.specs.Moments.{Moment};
+ghost use Rattle.command_io.specs.Inputs.{SchemaIsRead, QueryIsRead};
+ghost use Rattle.explain.specs.Printing.{IsDecisionText};
+ghost use Rattle.run_command.specs.Deciding.{IsDecided, Written, TookPartOf, outcome_of};
+ghost use Rattle.run_command.specs.Texts.{TextsStop};
+
+use access_schema::Schema;
+use command_io::{FileNames, Outcome, Stop, print, schema_of, statement_of, tell};
+use explain::decision_text;
+use meaning::types::Statement;
+use no_plan_witness::Decision;
+use proof_search::decide;
+use source_trait::{Files, Sink};
+use std::alloc::Global;
+
+/// The schema and the statement that the texts of the files are, or the stop whose line `err` took.
+pub fn read_texts<F: Files, E: Sink>(
+    alloc: Global,
+    names: FileNames<'_>,
+    files: &mut F,
+    err: &mut E,
+) -> Result<(Schema, Statement), Stop>
+    ensures schema { IfOk result (λ both. SchemaIsRead (F.contents files.old) names.entry.schema.now both.0) }
+    ensures statement { IfOk result (λ both. QueryIsRead (F.contents files.old) names.entry.query.now both.0 both.1) }
+    ensures fits { IfOk result (λ both. StatementFits both.0 both.1) }
+    ensures silent { OnOk result (err.new ≡ err.old) }
+    ensures stops { IfErr result (TextsStop (record { schema = names.entry.schema.now; query = names.entry.query.now; plan = names.entry.plan.now; relations = [] })
+        (record { files = F.contents files.old; file_faults = F.faults files.old; out = None; out_faults = 0; err = E.taken err.old; err_faults = E.faults err.old })
+        (record { files = F.contents files.new; file_faults = F.faults files.new; out = None; out_faults = 0; err = E.taken err.new; err_faults = E.faults err.new })) }
+    ensures later_files { F.faults files.old ≤ F.faults files.new }
+    ensures later_err { E.faults err.old ≤ E.faults err.new }
+    ensures same { F.contents files.new ≡ F.contents files.old }
+{
+    let schema = match schema_of(alloc, files, names.schema) {
+        Ok(schema) => schema,
+        Err(stop) => return Err(tell(alloc, err, stop, names, &[])),
+    };
+    match statement_of(alloc, files, names.query, &schema) {
+        Ok(statement) => Ok((schema, statement)),
+        Err(stop) => Err(tell(alloc, err, stop, names, &[])),
+    }
+}
+
+/// What is decided of the statement with a budget of `firings` for the proof of each select. `Stop::Memory` is the only refusal.
+pub fn decided(
+    alloc: Global,
+    schema: &Schema,
+    statement: &Statement,
+    firings: u32,
+) -> Result<Decision, Stop>
+    requires fits { StatementFits schema.now statement.now }
+    requires budget { firings ≤ MOST_FIRINGS }
+    ensures decided { IfOk result (IsDecided schema.now statement.now firings) }
+    ensures memory { IfErr result (λ stop. stop ≡ Stop.Memory) }
+{
+    match decide(alloc, schema, statement, firings) {
+        Ok(decision) => Ok(decision),
+        Err(_) => Err(Stop::Memory),
+    }
+}
+
+/// Writes the text of a decision whole, or stops: with `failed` where the sink failed.
+pub fn write_decision<K: Sink>(
+    alloc: Global,
+    schema: &Schema,
+    decision: &Decision,
+    sink: &mut K,
+    failed: Stop,
+) -> Result<(), Stop>
+    ensures whole { OnOk result (Written schema.now decision.now (K.taken sink.old) (K.taken sink.new)) }
+    ensures part { OnErr result (TookPartOf (K.taken sink.old) (K.taken sink.new) (IsDecisionText schema.now decision.now)) }
+    ensures cause { IfErr result (λ stop. (stop ≡ Stop.Memory) ⊎ ((stop ≡ failed) × Rose (K.faults sink.old) (K.faults sink.new))) }
+    ensures later { K.faults sink.old ≤ K.faults sink.new }
+{
+    let text = match decision_text(alloc, decision, schema) {
+        Ok(text) => text,
+        Err(_) => return Err(Stop::Memory),
+    };
+    print(sink, text.as_slice(), failed)
+}
+
+/// The outcome of a decision.
+pub fn outcome(decision: &Decision) -> Outcome
+    ensures { result ≡ outcome_of decision.now }
+{
+    match decision {
+        Decision::Plan(_) => Outcome::Done,
+        Decision::NoPlan(_) => Outcome::No,
+        Decision::Undecided { select: _, log: _ } => Outcome::Undecided,
+    }
+}

@@ -1,0 +1,77 @@
+// A query, from the texts of its files to the text of what is decided.
+ghost use Rattle.std.specs.Prelude.{◌≡◌, ◌≤◌, None};
+ghost use Rattle.source_trait.specs.Causes.{Rose};
+ghost use Rattle.sql_select.specs.Statements.{StatementFits};
+ghost use Rattle.rule_pass.specs.declared.pass.TheConstants.{MOST_FIRINGS};
+ghost use Rattle.command_io.specs.Moments.{Moment, Stays};
+ghost use Rattle.run_command.specs.Explained.{DecisionEnds, ExplainEnds};
+
+use crate::deciding::{decided, outcome, read_texts, write_decision};
+use access_schema::Schema;
+use command_io::{FileNames, Outcome, Stop, tell};
+use lists::Text;
+use meaning::types::Statement;
+use source_trait::{Files, Sink};
+use std::alloc::Global;
+
+/// Decides the query of the second file over the schema of the first with at most so many firings for each select, and writes the
+/// text of the decision to `out`; says why it stopped. No source is needed.
+pub fn explain_query<F: Files, O: Sink, E: Sink>(
+    alloc: Global,
+    schema_name: &Text,
+    query_name: &Text,
+    firings: u32,
+    files: &mut F,
+    out: &mut O,
+    err: &mut E,
+) -> Result<Outcome, Stop>
+    requires { firings ≤ MOST_FIRINGS }
+    ensures ends { ExplainEnds schema_name.now query_name.now firings
+        (record { files = F.contents files.old; file_faults = F.faults files.old; out = O.taken out.old; out_faults = O.faults out.old; err = E.taken err.old; err_faults = E.faults err.old })
+        (record { files = F.contents files.new; file_faults = F.faults files.new; out = O.taken out.new; out_faults = O.faults out.new; err = E.taken err.new; err_faults = E.faults err.new })
+        result }
+    ensures stays { Stays
+        (record { files = F.contents files.old; file_faults = F.faults files.old; out = O.taken out.old; out_faults = O.faults out.old; err = E.taken err.old; err_faults = E.faults err.old })
+        (record { files = F.contents files.new; file_faults = F.faults files.new; out = O.taken out.new; out_faults = O.faults out.new; err = E.taken err.new; err_faults = E.faults err.new }) }
+{
+    let none = Text::new(String::new(alloc));
+    let names = FileNames {
+        schema: schema_name,
+        query: query_name,
+        plan: &none,
+    };
+    match read_texts(alloc, names, files, err) {
+        Ok((schema, statement)) => show(alloc, names, &schema, &statement, firings, out, err),
+        Err(stop) => Err(stop),
+    }
+}
+
+// Decides the statement, and writes the text of the decision.
+fn show<O: Sink, E: Sink>(
+    alloc: Global,
+    names: FileNames<'_>,
+    schema: &Schema,
+    statement: &Statement,
+    firings: u32,
+    out: &mut O,
+    err: &mut E,
+) -> Result<Outcome, Stop>
+    requires fits { StatementFits schema.now statement.now }
+    requires budget { firings ≤ MOST_FIRINGS }
+    ensures ends { DecisionEnds schema.now statement.now firings (record { schema = names.entry.schema.now; query = names.entry.query.now; plan = names.entry.plan.now; relations = schema.now.relations })
+        (record { files = None; file_faults = 0; out = O.taken out.old; out_faults = O.faults out.old; err = E.taken err.old; err_faults = E.faults err.old })
+        (record { files = None; file_faults = 0; out = O.taken out.new; out_faults = O.faults out.new; err = E.taken err.new; err_faults = E.faults err.new })
+        result }
+    ensures later_out { O.faults out.old ≤ O.faults out.new }
+    ensures later_err { E.faults err.old ≤ E.faults err.new }
+{
+    let relations = schema.relations.as_slice();
+    let decision = match decided(alloc, schema, statement, firings) {
+        Ok(decision) => decision,
+        Err(stop) => return Err(tell(alloc, err, stop, names, relations)),
+    };
+    match write_decision(alloc, schema, &decision, out, Stop::ResultWrite) {
+        Ok(()) => Ok(outcome(&decision)),
+        Err(stop) => Err(tell(alloc, err, stop, names, relations)),
+    }
+}
