@@ -24,4 +24,6 @@ pub use judge_witness::check_witness;
 pub use refutation::Witness;
 
 #[cfg(test)]
+mod judging_tests;
+#[cfg(test)]
 mod tests;
