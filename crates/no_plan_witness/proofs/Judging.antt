@@ -3,7 +3,7 @@ use Rattle.std.proofs.Common.{◌≡◌, ◌↔◌, ◌<◌, ◌≤◌, ◌+◌,
 use Rattle.std.specs.Prelude.{IsTrue}
 use Rattle.std.proofs.lemmas.Bool.{cases_lt}
 use Rattle.std.proofs.lemmas.Option.{slice_get_read}
-use Rattle.lists.proofs.Members.{some_injective}
+use Rattle.lists.proofs.Members.{some_injective, contains_got}
 use Rattle.access_schema.proofs.Texts.{got_contained}
 use Rattle.meaning.specs.declared.types.Fact.{Fact}
 use Rattle.meaning.specs.declared.types.SchemaParts.{SchemaParts}
@@ -16,7 +16,9 @@ use Rattle.meaning.specs.Claims.{Refutes}
 use Rattle.data_verify.specs.declared.broken.Broken.{Broken}
 use Rattle.data_verify.specs.Breaking.{IsFirstBroken}
 use Rattle.no_plan_witness.specs.declared.refutation.Witness.{Witness}
-use Rattle.no_plan_witness.specs.declared.fault.WitnessFault.TheVariants.{NotAnswered, StillAnswered}
+use Rattle.no_plan_witness.specs.declared.fault.WitnessFault.{WitnessFault}
+use Rattle.no_plan_witness.specs.declared.fault.WitnessFault.TheVariants.{NoMemory, RuleBroken, NotIncluded, NotAnswered, StillAnswered}
+use Rattle.no_plan_witness.specs.declared.fault.Which.TheVariants.{First, Second}
 use Rattle.no_plan_witness.specs.Judging.{IsFirstUnmet, IsIncluded, IsFirstMissing, IsFault}
 
 -- a rule that some assignment breaks is not met
@@ -81,3 +83,14 @@ module _ (schema : SchemaParts) (constants known : List (List ℕ)) (same : cons
     answered = answered.0 holds;
     not_answered = λ a. let is = answers_still.1 a in (cc);
   }
+
+-- each fault but want of memory contradicts a part of a refutation
+pub faulty : (schema : SchemaParts) (constants : List (List ℕ)) (statement : Statement) (pair : Witness) (fault : WitnessFault) → IsFault schema constants statement pair fault → Refutes schema constants statement pair.first pair.second pair.answer → fault ≡ NoMemory
+faulty schema constants statement pair NoMemory is refutes = refl
+faulty schema constants statement pair (RuleBroken number First) is refutes =
+    absurd (is.unmet (refutes.first_meets.meets is.rule (contains_got schema.rules number is.rule is.numbered)))
+faulty schema constants statement pair (RuleBroken number Second) (one, is) refutes =
+    absurd (is.unmet (refutes.second_meets.meets is.rule (contains_got schema.rules number is.rule is.numbered)))
+faulty schema constants statement pair (NotIncluded fact) (both, is) refutes = absurd (is.missing (refutes.included fact is.accessible))
+faulty schema constants statement pair NotAnswered (both, within, none) refutes = absurd (none refutes.answered)
+faulty schema constants statement pair StillAnswered (both, within, one, still) refutes = absurd (refutes.not_answered still)
