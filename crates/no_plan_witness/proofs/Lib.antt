@@ -4,3 +4,6 @@ pub mod Occurring
 pub mod Looking
 pub mod Taking
 pub mod Refuting
+pub mod Turns
+pub mod Gathers
+pub mod Judging

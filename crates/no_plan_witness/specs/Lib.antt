@@ -1,3 +1,5 @@
 pub mod Texts
 pub mod Witnesses
 pub mod Passing
+pub mod Gathering
+pub mod Judging

@@ -11,7 +11,10 @@ ghost use Rattle.meaning.specs.Fitting.{RulesFit, QueryFits, QueryHasConstants};
 ghost use Rattle.meaning.specs.Conjunctive.{StandFor};
 ghost use Rattle.meaning.specs.Claims.{Refutes};
 ghost use Rattle.no_plan_witness.specs.declared.refutation.Witness.{Witness};
+ghost use Rattle.no_plan_witness.specs.declared.fault.WitnessFault.{WitnessFault as Fault};
+ghost use Rattle.no_plan_witness.specs.declared.fault.WitnessFault.TheVariants.{NoMemory};
 ghost use Rattle.no_plan_witness.specs.Witnesses.{IsWitnessOf};
+ghost use Rattle.no_plan_witness.specs.Judging.{IsFault};
 
 /// A run from the opening proof, after which nothing is active and no query has a goal, gives a witness that refutes.
 pub fn witnesses_refute()
@@ -28,4 +31,11 @@ pub fn witnesses_refute()
 pub fn answer_length()
     ensures { (constants : List Value) (proof : Proof) (head : List Val) (pair : Witness) →
         IsWitnessOf constants proof head pair → length pair.answer ≡ length head }
+{}
+
+/// A pair with a fault does not refute, unless the fault is want of memory.
+pub fn faulty_pairs_do_not_refute()
+    ensures { (schema : SchemaParts) (constants : List Value) (statement : Statement) (pair : Witness) (fault : Fault) →
+        IsFault schema constants statement pair fault →
+        Refutes schema constants statement pair.first pair.second pair.answer → fault ≡ NoMemory }
 {}
