@@ -4,4 +4,5 @@ pub mod Shown
 pub mod Read
 pub mod Searching
 pub mod Found
+pub mod Refuting
 pub mod Formed
