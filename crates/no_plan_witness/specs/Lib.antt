@@ -1,1 +1,3 @@
+pub mod Texts
 pub mod Witnesses
+pub mod Passing

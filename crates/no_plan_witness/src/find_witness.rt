@@ -1,23 +1,52 @@
 // The refutation of a proof.
-ghost use Rattle.std.specs.Prelude.{IfOk};
+ghost use Rattle.std.specs.Prelude.{◌≡◌, IfOk};
 ghost use Rattle.no_plan_witness.specs.Witnesses.{IsWitnessOf};
 
+use crate::naming::Naming;
 use crate::refutation::Witness;
 use accessible_copy::Proof;
-use lists::{NoMemory, Texts};
-use meaning::types::Vals;
+use lists::{Copies, NoMemory, Texts};
+use meaning::types::{Ground, Vals};
 use std::alloc::Global;
 
-/// The base facts and the copy facts of a proof, and the head, with texts for labels that differ from each other and from the
-/// known constants.
+/// The base facts and the copy facts of a proof, and the head, with texts for their labels: in ascending order, each label takes the
+/// next of `_1`, `_2`, `_3` and so on that is not a known constant. So two labels never get one text, and none gets a constant's.
+///
+/// A label of the head that is in no fact has the empty text.
 pub fn witness(
-    _alloc: Global,
+    alloc: Global,
     proof: &Proof,
     known: &Texts,
     head: &Vals,
 ) -> Result<Witness, NoMemory>
     ensures { IfOk result (IsWitnessOf known.now proof.now.end head.now) }
 {
-    let _ = (proof, known, head);
-    Err(NoMemory)
+    let base = base_facts(alloc, proof)?;
+    let copy = copy_facts(alloc, proof)?;
+    let naming = Naming::new(alloc, base.as_slice(), copy.as_slice(), known)?;
+    Ok(Witness {
+        first: naming.instance(alloc, base.as_slice())?,
+        second: naming.instance(alloc, copy.as_slice())?,
+        answer: naming.row(alloc, head.as_slice())?,
+    })
+}
+
+fn base_facts(alloc: Global, proof: &Proof) -> Result<Vec<Ground>, NoMemory>
+    ensures { IfOk result (λ facts. facts.items ≡ proof.now.end.base) }
+{
+    let mut facts = Vec::new(alloc);
+    while let Some(fact) = proof.base(facts.len()) {
+        facts.push(fact.copy(alloc)?)?;
+    }
+    Ok(facts)
+}
+
+fn copy_facts(alloc: Global, proof: &Proof) -> Result<Vec<Ground>, NoMemory>
+    ensures { IfOk result (λ facts. facts.items ≡ proof.now.end.copy) }
+{
+    let mut facts = Vec::new(alloc);
+    while let Some(fact) = proof.copy(facts.len()) {
+        facts.push(fact.copy(alloc)?)?;
+    }
+    Ok(facts)
 }

@@ -1,13 +1,21 @@
 //! Refutations: two instances and a row, which show that a statement has no plan; and what is decided of a statement.
 //!
 //! Crates above use this: `witness` gives the pair of a proof, and by the law `witnesses_refute` it refutes where nothing is active
-//! in the proof and no query has a goal. Begin at `specs/Witnesses.antt`.
+//! in the proof and no query has a goal. Begin at `specs/Texts.antt` and `specs/Witnesses.antt`.
 #![tactic(auto)]
 
+mod constants;
 mod decision;
 mod find_witness;
+mod free_texts;
+mod labels;
+pub mod laws;
+mod naming;
 mod refutation;
 
 pub use decision::Decision;
 pub use find_witness::witness;
 pub use refutation::Witness;
+
+#[cfg(test)]
+mod tests;

@@ -1,0 +1,12 @@
+use Rattle.std.proofs.Common.{◌≡◌, ◌≤◌, ◌-◌, take, length, vec_len}
+use Rattle.no_plan_witness.proofs.find_witness.copy_facts.Given as goal
+
+-- the first facts are there
+abbrev pub invariant-loop-fact : goal.invariant-loop-fact
+invariant-loop-fact l = record {
+  first : l.facts.items ≡ take (vec_len l.facts) l.proof.end.copy;
+  few : vec_len l.facts ≤ length l.proof.end.copy;
+}
+
+abbrev pub decreases-loop-fact : goal.decreases-loop-fact
+decreases-loop-fact l = length l.proof.end.copy - vec_len l.facts

@@ -1,0 +1,31 @@
+// What the pair of a proof is worth.
+ghost use Rattle.std.specs.Prelude.{◌≡◌, ℕ, List, Contains, length};
+ghost use Rattle.meaning.specs.declared.types.SchemaParts.{SchemaParts};
+ghost use Rattle.meaning.specs.declared.types.Statement.{Statement};
+ghost use Rattle.meaning.specs.declared.types.Query.{Query};
+ghost use Rattle.meaning.specs.declared.types.Firing.{Firing};
+ghost use Rattle.meaning.specs.declared.types.Val.{Val};
+ghost use Rattle.meaning.specs.Values.{Value};
+ghost use Rattle.meaning.specs.Runs.{Proof, IsRun, opening, frozen_head, IsStuck};
+ghost use Rattle.meaning.specs.Fitting.{RulesFit, QueryFits, QueryHasConstants};
+ghost use Rattle.meaning.specs.Conjunctive.{StandFor};
+ghost use Rattle.meaning.specs.Claims.{Refutes};
+ghost use Rattle.no_plan_witness.specs.declared.refutation.Witness.{Witness};
+ghost use Rattle.no_plan_witness.specs.Witnesses.{IsWitnessOf};
+
+/// A run from the opening proof, after which nothing is active and no query has a goal, gives a witness that refutes.
+pub fn witnesses_refute()
+    ensures { (schema : SchemaParts) (constants : List Value) (statement : Statement) (queries : List Query) (query : Query)
+        (log : List Firing) (end : Proof) (pair : Witness) →
+        RulesFit schema constants → StandFor schema queries statement → Contains queries query →
+        ((q : Query) → Contains queries q → QueryHasConstants constants q) → QueryFits schema query →
+        IsRun schema constants 0 (opening query) log end → IsStuck schema constants queries end (frozen_head query) →
+        IsWitnessOf constants end (frozen_head query) pair →
+        Refutes schema constants statement pair.first pair.second pair.answer }
+{}
+
+/// The answer of a witness has one value for each of the head.
+pub fn answer_length()
+    ensures { (constants : List Value) (proof : Proof) (head : List Val) (pair : Witness) →
+        IsWitnessOf constants proof head pair → length pair.answer ≡ length head }
+{}
