@@ -38,10 +38,11 @@ use Rattle.sql_conjunctive.specs.Form.{HaveLiterals, IsNumbered}
 use Rattle.rule_pass.specs.declared.pass.TheConstants.{MOST_FIRINGS}
 use Rattle.proof_search.specs.Searches.{AreSearchable}
 use Rattle.no_plan_witness.specs.declared.refutation.Witness.{Witness}
+use Rattle.no_plan_witness.specs.Texts.{text_under}
 use Rattle.proof_search.specs.Branches.{IsQueryBranch, IsStuckPair, IsFirstSpent}
 use Rattle.proof_search.specs.Plans.{known_of, AreQueriesOf, IsPlanFor, HasFewSteps}
 use Rattle.proof_search.specs.Decisions.{IsRefutation, IsUndecided}
-use Rattle.proof_search.proofs.Refuting.{witnesses_refute}
+use Rattle.no_plan_witness.proofs.Refuting.{witnesses_refute}
 use Rattle.proof_search.proofs.Turns.{only_is}
 use Rattle.proof_search.proofs.Shown.{zip_long}
 use Rattle.proof_search.proofs.Read.{schema_narrow}
@@ -193,7 +194,7 @@ module _ (schema : Schema) (statement : Statement) (select : Select) (queries : 
         refutes = refutes;
         none = no_plan_lem (meaning_of schema) known statement pair.first pair.second pair.answer (well_formed schema) refutes;
         wide = λ other there.
-            ap length its.of_end.answer ∙ length-map (frozen_head query) (image its.of_end.text) ∙ length-map query.head (value_of Const Label) ∙ ap length (are.form query among).head ∙ length-map select.items (term_of query.atoms)
+            ap length its.of_end.answer ∙ length-map (frozen_head query) (image (text_under its.of_end.names)) ∙ length-map query.head (value_of Const Label) ∙ ap length (are.form query among).head ∙ length-map select.items (term_of query.atoms)
             ∙ ap (λ (x : Select). length x.items) (only_is select other (subst (λ list. Contains list other) one there));
       }
 

@@ -1,6 +1,6 @@
 -- What the search of a query comes to.
-use Rattle.std.proofs.Common.{◌≡◌, ℕ, ◌+◌, ◌≤◌, List, [], ◌∷◌, ◌++◌, length, take, Bool, true, false, Option, Some, None, sym, subst, arith}
-use Rattle.std.specs.Prelude.{Contains, slice_get}
+use Rattle.std.proofs.Common.{◌≡◌, ℕ, ◌+◌, ◌≤◌, List, [], ◌∷◌, ◌++◌, length, take, Bool, true, false, Option, Some, None, Result, Ok, Err, sym, subst, arith}
+use Rattle.std.specs.Prelude.{Contains, slice_get, IfOk}
 use Rattle.std.specs.List.{AllZip}
 use Rattle.std.specs.Option.{option_or}
 use Rattle.std.proofs.lemmas.List.{length-map}
@@ -65,11 +65,16 @@ module _ (schema : SchemaParts) (known : List Value) (queries : List Query) (fir
         goes_on = (firing, next, moved (log_of proof ++ firing ∷ []) next on);
       }
 
-  pub without : (quiet : Bool) → (quiet ≡ true → IsAllQuiet schema proof) → (quiet ≡ false → (firings ≤ length proof.entries) × GoesOn schema proof) → (head : List Val) → head ≡ frozen_head query →
+  without : (quiet : Bool) → (quiet ≡ true → IsAllQuiet schema proof) → (quiet ≡ false → (firings ≤ length proof.entries) × GoesOn schema proof) → (head : List Val) → head ≡ frozen_head query →
       (outcome : QueryOutcome) → IsWithoutGoal known proof quiet head outcome → IsQueryOutcome schema known queries firings query outcome
   without quiet all on head same (one.Branch branch) is = absurd is
   without quiet all on head same (one.Stuck pair) is = stuck_pair (all is.0) pair (subst (λ vals. IsWitnessOf known proof.end vals pair) same is.1)
   without quiet all on head same (one.Spent log) is = let its = on is.0 in subst (IsSpentLog schema known queries firings query) (sym is.1) (spent_log its.0 its.1)
+
+  pub ended : {E : Type 0} → (quiet : Bool) → (quiet ≡ true → IsAllQuiet schema proof) → (quiet ≡ false → (firings ≤ length proof.entries) × GoesOn schema proof) → (head : List Val) → head ≡ frozen_head query →
+      (result : Result QueryOutcome E) → IfOk result (IsWithoutGoal known proof quiet head) → IfOk result (IsQueryOutcome schema known queries firings query)
+  ended quiet all on head same (Ok outcome) is = without quiet all on head same outcome is
+  ended quiet all on head same (Err e) is = tt
 
 -- a goal: the branch is a rival
 pub goal_branch : (schema : SchemaParts) (known : List Value) (queries : List Query) (query : Query) (copy : List Ground) (number : ℕ) (values : List Val) (branch : Branch) →

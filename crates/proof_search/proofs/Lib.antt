@@ -4,5 +4,4 @@ pub mod Shown
 pub mod Read
 pub mod Searching
 pub mod Found
-pub mod Refuting
 pub mod Formed

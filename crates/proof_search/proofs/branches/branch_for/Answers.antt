@@ -9,7 +9,7 @@ use Rattle.accessible_copy.specs.Goals.{IsGoal}
 use Rattle.proof_search.specs.Searches.{IsSearchable}
 use Rattle.proof_search.specs.Branches.{IsBranchFor}
 use Rattle.proof_search.proofs.Searching.{search_most}
-use Rattle.proof_search.proofs.Found.{goal_branch, without}
+use Rattle.proof_search.proofs.Found.{goal_branch, ended}
 use Rattle.proof_search.proofs.branches.branch_for.Goals as goal
 
 pub prove-requires-clause-query : goal.prove-requires-clause-query
@@ -32,3 +32,11 @@ returns c =
     goal_branch (meaning_of c.args.schema.now) c.args.known.now c.args.queries.now c.args.query.now c.in_ok-proof.proof.end.copy c.in-Some.found.select c.in-Some.found.assignment.vals c.in_ok-branch-2.branch
     c.requires.queries (subst (λ vals. IsGoal c.args.queries.now c.in_ok-proof.proof.end.copy vals c.in-Some.found.select c.in-Some.found.assignment.vals) head found)
     (λ goal fits match. subst (λ known. IsBranchFor (meaning_of c.args.schema.now) known c.args.query.now goal c.in_ok-branch-2.branch) c.in_ok-proof.ensures.search.constants (c.in_ok-branch-2.ensures.branch goal fits match)) c.in_ok-branch-2.ensures.few
+
+pub returns-in_default : goal.returns-in_default
+returns-in_default c =
+    let head : c.from_vec-head.result ≡ frozen_head c.args.query.now = c.from_vec-head.ensures ∙ c.in_ok-frozen_values.ensures ∙ ap (map (value_of Const Label)) c.as_slice.ensures in
+    let none : HasGoal c.args.queries.now c.in_ok-proof.proof.end c.from_vec-head.result → ⊥ = rw c.in_default.is at c.in_ok-found.ensures.none in
+    ended (meaning_of c.args.schema.now) c.args.known.now c.args.queries.now c.args.firings c.args.query.now c.in_ok-proof.proof c.in_ok-proof.ensures.search
+    (λ has. none (subst (HasGoal c.args.queries.now c.in_ok-proof.proof.end) (sym head) has)) c.in_ok-proof.field-0-1 c.in_ok-proof.ensures.quiet c.in_ok-proof.ensures.spent c.from_vec-head.result head
+    c.without_goal.result c.without_goal.ensures
