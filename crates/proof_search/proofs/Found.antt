@@ -93,6 +93,16 @@ goal_branch schema known queries query copy number values branch searchable (goa
       few = few;
     }
 
+-- what is read off a search with a goal
+pub read_branch : {E : Type 0} → (schema : SchemaParts) (known : List Value) (queries : List Query) (firings : ℕ) (query : Query) (proof : Proving) → AreSearchable schema known queries →
+    IsSearch schema firings (opening query) known proof → (number : ℕ) (values : List Val) → IsGoal queries proof.end.copy (frozen_head query) number values → (result : Result Branch E) →
+    IfOk result (λ branch. (goal : Query) → QueryFits schema goal → IsQueryAnswer Const (GroundsOf proof.end.copy) goal (frozen_head query) → IsBranchFor schema proof.constants query goal branch) →
+    IfOk result (λ branch. length branch.steps ≤ MOST_FIRINGS) → IfOk result (IsQueryBranch schema known queries query)
+read_branch schema known queries firings query proof searchable search number values found (Ok branch) read few =
+    goal_branch schema known queries query proof.end.copy number values branch searchable found
+    (λ goal fits match. subst (λ constants. IsBranchFor schema constants query goal branch) search.constants (read goal fits match)) few
+read_branch schema known queries firings query proof searchable search number values found (Err e) read few = tt
+
 -- ---- the queries so far
 
 -- a branch for each, or a first one whose firings are spent

@@ -1,9 +1,12 @@
 // The branches of queries.
-ghost use Rattle.std.specs.Prelude.{◌≡◌, ◌≤◌, ◌^◌, ℕ, List, IfOk, IfSome, Contains, length};
+ghost use Rattle.std.specs.Prelude.{◌≡◌, ◌≤◌, ◌^◌, ℕ, true, false, List, IfOk, IfSome, Contains, length};
+ghost use Rattle.meaning.specs.Runs.{opening, frozen_head};
 ghost use Rattle.access_schema.specs.Meaning.{meaning_of};
 ghost use Rattle.rule_pass.specs.declared.pass.TheConstants.{MOST_FIRINGS};
 ghost use Rattle.accessible_copy.specs.Proving.{log_of};
-ghost use Rattle.proof_search.specs.Searches.{AreSearchable};
+ghost use Rattle.accessible_copy.specs.Goals.{IsGoal};
+ghost use Rattle.accessible_copy.specs.Rounds.{IsAllQuiet, GoesOn};
+ghost use Rattle.proof_search.specs.Searches.{AreSearchable, IsSearch};
 ghost use Rattle.proof_search.specs.Branches.{IsQueryBranch, IsQueryOutcome, IsWithoutGoal, IsOutcome};
 
 use crate::outcome::{Outcome, QueryOutcome};
@@ -11,7 +14,7 @@ use crate::proving::{prove, replay};
 use crate::reading::extract;
 use crate::resting::rests_on;
 use access_schema::Schema;
-use accessible_copy::{Proof, goal};
+use accessible_copy::{Match, Proof, goal};
 use homomorphism::Store;
 use lists::{Copies, NoMemory, Seq, Texts};
 use meaning::types::{Branch, Firings, Queries, Query, Vals};
@@ -51,8 +54,7 @@ pub fn branches_for(
     }
 }
 
-/// The branch of the query's proof, where one of the queries has a match in it, even if the firings are spent. Where a second proof,
-/// with only the exposures that the match rests on, has a match too, its branch is taken.
+/// The branch of the query's proof, where one of the queries has a match in it, even if the firings are spent.
 fn branch_for(
     alloc: Global,
     schema: &Schema,
@@ -68,17 +70,67 @@ fn branch_for(
     requires firings { firings ≤ MOST_FIRINGS }
     ensures { IfOk result (IsQueryOutcome (meaning_of schema.now) known.now queries.now firings query.now) }
 {
-    let head = Seq::from_vec(frozen_values(alloc, query.head.as_slice())?);
     let (proof, quiet) = prove(alloc, schema, query, known, firings)?;
-    let Some(found) = goal(alloc, &proof, queries, &head)? else {
-        return without_goal(alloc, &proof, quiet, known, &head);
-    };
-    let kept = rests_on(alloc, schema, &proof, queries, &found)?;
-    if let Some(branch) = trimmed(alloc, schema, query, queries, known, &kept, firings)? {
-        return Ok(QueryOutcome::Branch(branch));
+    outcome_of(alloc, schema, query, queries, known, &proof, quiet, firings)
+}
+
+/// What a search of the query comes to, and whether nothing is active at its end.
+fn outcome_of(
+    alloc: Global,
+    schema: &Schema,
+    query: &Query,
+    queries: &Queries,
+    known: &Texts,
+    proof: &Proof,
+    quiet: bool,
+    firings: u32,
+) -> Result<QueryOutcome, NoMemory>
+    requires queries { AreSearchable (meaning_of schema.now) known.now queries.now }
+    requires few { length queries.now ≤ 2 ^ 32 }
+    requires among { Contains queries.now query.now }
+    requires known { (c : List ℕ) → Contains schema.now.constants c → Contains known.now c }
+    requires firings { firings ≤ MOST_FIRINGS }
+    requires search { IsSearch (meaning_of schema.now) firings (opening query.now) known.now proof.now }
+    requires quiet { quiet ≡ true → IsAllQuiet (meaning_of schema.now) proof.now }
+    requires spent { quiet ≡ false → (firings ≤ length proof.now.entries) × GoesOn (meaning_of schema.now) proof.now }
+    ensures { IfOk result (IsQueryOutcome (meaning_of schema.now) known.now queries.now firings query.now) }
+{
+    let head = Seq::from_vec(frozen_values(alloc, query.head.as_slice())?);
+    match goal(alloc, proof, queries, &head)? {
+        Some(found) => {
+            let branch = with_goal(alloc, schema, query, queries, known, proof, &found, firings)?;
+            Ok(QueryOutcome::Branch(branch))
+        }
+        None => without_goal(alloc, proof, quiet, known, &head),
     }
-    let branch = extract(alloc, schema, query, &proof)?;
-    Ok(QueryOutcome::Branch(branch))
+}
+
+/// The branch of a proof in which one of the queries has this match. Where a second proof, with only the exposures that the match rests
+/// on, has a match too, its branch is taken.
+fn with_goal(
+    alloc: Global,
+    schema: &Schema,
+    query: &Query,
+    queries: &Queries,
+    known: &Texts,
+    proof: &Proof,
+    found: &Match,
+    firings: u32,
+) -> Result<Branch, NoMemory>
+    requires queries { AreSearchable (meaning_of schema.now) known.now queries.now }
+    requires few { length queries.now ≤ 2 ^ 32 }
+    requires among { Contains queries.now query.now }
+    requires known { (c : List ℕ) → Contains schema.now.constants c → Contains known.now c }
+    requires firings { firings ≤ MOST_FIRINGS }
+    requires search { IsSearch (meaning_of schema.now) firings (opening query.now) known.now proof.now }
+    requires found { IsGoal queries.now proof.now.end.copy (frozen_head query.now) found.now.select found.now.assignment.vals }
+    ensures { IfOk result (IsQueryBranch (meaning_of schema.now) known.now queries.now query.now) }
+{
+    let kept = rests_on(alloc, schema, proof, queries, found)?;
+    match trimmed(alloc, schema, query, queries, known, &kept, firings)? {
+        Some(branch) => Ok(branch),
+        None => extract(alloc, schema, query, proof),
+    }
 }
 
 /// What a proof without a goal comes to: its pair where nothing is active, and otherwise its log.
