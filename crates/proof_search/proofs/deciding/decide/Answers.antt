@@ -54,8 +54,8 @@ returns-in-Stuck c =
     (λ constant there. subst (λ known. Contains known constant) same ((c.in_ok-known.ensures.members constant).1 (inl there)))
     (subst (λ known. AreSearchable schema known queries) same can) found.0 found.1 pair (subst (λ known. IsStuckPair schema known queries found.0 pair) same found.2))
 
-pub returns-in-Spent : goal.returns-in-Spent
-returns-in-Spent c =
+pub returns : goal.returns
+returns c =
     let schema = meaning_of c.args.schema.now in
     let queries = c.in_ok-queries.queries in
     let log = c.in-Spent.log in
