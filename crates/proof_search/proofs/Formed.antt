@@ -1,12 +1,13 @@
 -- The queries of a select can be searched, stand for its statement, and their branches make its plan.
 use Rattle.std.proofs.Common.{◌≡◌, ◌↔◌, ℕ, ◌+◌, ◌*◌, ◌<◌, ◌≤◌, max, zero, suc, List, [], ◌∷◌, length, sym, ap, ◌∙◌, subst, arith}
-use Rattle.std.specs.Prelude.{Contains, map}
+use Rattle.std.specs.Prelude.{Contains, slice_get}
 use Rattle.std.specs.List.{AllZip}
 use Rattle.std.proofs.lemmas.List.{length-append, length-map}
-use Rattle.lists.proofs.Members.{contains_here, contains_there}
+use Rattle.lists.proofs.Members.{contains_here, contains_there, contains_got}
 use Rattle.meaning.specs.declared.types.Atom.{Atom}
 use Rattle.meaning.specs.declared.types.Branch.{Branch}
 use Rattle.meaning.specs.declared.types.Fact.{Fact}
+use Rattle.meaning.specs.declared.types.Firing.{Firing}
 use Rattle.meaning.specs.declared.types.Plan.{Plan}
 use Rattle.meaning.specs.declared.types.Query.{Query}
 use Rattle.meaning.specs.declared.types.Select.{Select}
@@ -15,9 +16,11 @@ use Rattle.meaning.specs.declared.types.Term.{Term}
 use Rattle.meaning.specs.declared.types.Term.TheVariants.{Var, Const as Said}
 use Rattle.meaning.specs.Values.{Value, Row}
 use Rattle.meaning.specs.Instances.{IsInstance}
-use Rattle.meaning.specs.Matching.{AnswersQuery}
+use Rattle.meaning.specs.declared.types.Val.TheVariants.{Const, Label}
+use Rattle.meaning.specs.Claims.{Refutes}
+use Rattle.meaning.specs.Matching.{AnswersQuery, value_of}
 use Rattle.meaning.specs.Answers.{AnswersSelect}
-use Rattle.meaning.specs.Homomorphisms.{image, renamed}
+use Rattle.meaning.specs.Homomorphisms.{image}
 use Rattle.meaning.specs.Triggers.{terms_bound}
 use Rattle.meaning.specs.Runs.{frozen_head}
 use Rattle.meaning.specs.Conjunctive.{term_of, IsAtomFor, IsConjunctive, StandFor}
@@ -25,9 +28,7 @@ use Rattle.meaning.specs.Fitting.{QueryFits, QueryHasConstants}
 use Rattle.meaning.specs.Extract.{IsQueryRival}
 use Rattle.meaning_laws.proofs.Carrying.{occurs_below}
 use Rattle.meaning_laws.proofs.Closing.{plan_from_branches}
-use Rattle.meaning_laws.proofs.Kept.{run_refutes}
 use Rattle.meaning_laws.proofs.Monotone.{no_plan_lem}
-use Rattle.meaning_laws.proofs.Renaming.{naming_exists}
 use Rattle.access_schema.specs.declared.schema.Schema.{Schema}
 use Rattle.access_schema.specs.Meaning.{meaning_of}
 use Rattle.access_schema.specs.Invariant.{terms_of}
@@ -36,10 +37,12 @@ use Rattle.access_schema.proofs.Keeping.{well_formed, rules_fit}
 use Rattle.sql_conjunctive.specs.Form.{HaveLiterals, IsNumbered}
 use Rattle.rule_pass.specs.declared.pass.TheConstants.{MOST_FIRINGS}
 use Rattle.proof_search.specs.Searches.{AreSearchable}
-use Rattle.proof_search.specs.Branches.{IsQueryBranch, HasNoBranch}
-use Rattle.proof_search.specs.Branches.HasNoBranch.{stuck, spent as ran_out}
-use Rattle.proof_search.specs.Plans.{known_of, AreQueriesOf, IsPlanFor, HasFewSteps, NoPlanYet}
-use Rattle.proof_search.specs.Plans.NoPlanYet.{none, spent}
+use Rattle.no_plan_witness.specs.declared.refutation.Witness.{Witness}
+use Rattle.no_plan_witness.specs.Texts.{text_under}
+use Rattle.proof_search.specs.Branches.{IsQueryBranch, IsStuckPair, IsFirstSpent}
+use Rattle.proof_search.specs.Plans.{known_of, AreQueriesOf, IsPlanFor, HasFewSteps}
+use Rattle.proof_search.specs.Decisions.{IsRefutation, IsUndecided}
+use Rattle.no_plan_witness.proofs.Refuting.{witnesses_refute}
 use Rattle.proof_search.proofs.Turns.{only_is}
 use Rattle.proof_search.proofs.Shown.{zip_long}
 use Rattle.proof_search.proofs.Read.{schema_narrow}
@@ -180,25 +183,36 @@ module _ (schema : Schema) (statement : Statement) (select : Select) (queries : 
     steps = λ branch among. few branches queries all branch among;
   }
 
-  -- a query without a branch
-  pub unplanned : ((c : Value) → Contains schema.constants c → Contains (known_of schema statement) c) → AreSearchable (meaning_of schema) (known_of schema statement) queries → (query : Query) → Contains queries query →
-      HasNoBranch (meaning_of schema) (known_of schema statement) queries query → NoPlanYet schema statement
-  unplanned have can query among (stuck log end run is) =
+  -- a query that is stuck
+  pub refuted : ((c : Value) → Contains schema.constants c → Contains (known_of schema statement) c) → AreSearchable (meaning_of schema) (known_of schema statement) queries → (query : Query) → Contains queries query →
+      (pair : Witness) → IsStuckPair (meaning_of schema) (known_of schema statement) queries query pair → IsRefutation schema statement pair
+  refuted have can query among pair its =
       let known = known_of schema statement in
-      none (λ plan lawful equivalent.
-      let (h, naming) = naming_exists known in
-      no_plan_lem (meaning_of schema) known statement (renamed h end.base) (renamed h end.copy) (map (image h) (frozen_head query)) (well_formed schema)
-      (run_refutes (meaning_of schema) known statement queries query log end h (rules_fit schema known have) stand among (λ other there. (can other there).constants) (can query among).fits run is (naming end.next))
-      plan lawful equivalent)
-  unplanned have can query among (ran_out log end firing next count run without on) = spent (record {
-    select = select;
-    query = query;
-    log = log;
-    end = end;
-    of_statement = of_statement;
-    form = are.form query among;
-    count = count;
-    run = run;
-    no_goal = λ (goal, there, match). without (goal, subst (Contains queries) (only_is query goal there) among, match);
-    goes_on = (firing, next, on);
-  })
+      let refutes : Refutes (meaning_of schema) known statement pair.first pair.second pair.answer =
+      witnesses_refute (meaning_of schema) known statement queries query its.log its.end pair (rules_fit schema known have) stand among (λ other there. (can other there).constants) (can query among).fits its.run its.stuck its.of_end in
+      record {
+        refutes = refutes;
+        none = no_plan_lem (meaning_of schema) known statement pair.first pair.second pair.answer (well_formed schema) refutes;
+        wide = λ other there.
+            ap length its.of_end.answer ∙ length-map (frozen_head query) (image (text_under its.of_end.names)) ∙ length-map query.head (value_of Const Label) ∙ ap length (are.form query among).head ∙ length-map select.items (term_of query.atoms)
+            ∙ ap (λ (x : Select). length x.items) (only_is select other (subst (λ list. Contains list other) one there));
+      }
+
+  -- a query whose firings are spent
+  pub undecided_of : (firings : ℕ) (log : List Firing) → IsFirstSpent (meaning_of schema) (known_of schema statement) queries firings log → IsUndecided schema statement firings 0 log
+  undecided_of firings log its =
+      let among : Contains queries its.query = contains_got queries its.number its.query its.at in
+      record {
+        chosen = select;
+        queries = queries;
+        query = its.query;
+        end = its.spent.end;
+        of_statement = ap (λ list. slice_get list 0) one;
+        form = are.form its.query among;
+        stand = stand;
+        among = among;
+        count = its.spent.count;
+        run = its.spent.run;
+        no_goal = its.spent.no_goal;
+        goes_on = its.spent.goes_on;
+      }

@@ -1,3 +1,4 @@
 pub mod Searches
 pub mod Branches
 pub mod Plans
+pub mod Decisions

@@ -1,11 +1,10 @@
--- What makes a plan one for a statement, and why there is none yet.
-use Rattle.std.specs.Prelude.{◌≡◌, ◌≤◌, ◌↔◌, List, [], ◌∷◌, ◌++◌, Contains, length}
+-- What makes a plan one for a statement, and that it has none.
+use Rattle.std.specs.Prelude.{◌≡◌, ◌≤◌, ◌↔◌, List, Contains, length}
 use Rattle.meaning.specs.declared.types.Query.{Query}
 use Rattle.meaning.specs.declared.types.Branch.{Branch}
 use Rattle.meaning.specs.declared.types.Plan.{Plan}
 use Rattle.meaning.specs.declared.types.Select.{Select}
 use Rattle.meaning.specs.declared.types.Statement.{Statement}
-use Rattle.meaning.specs.declared.types.Firing.{Firing}
 use Rattle.meaning.specs.declared.types.Fact.{Fact}
 use Rattle.meaning.specs.Values.{Value, Row}
 use Rattle.meaning.specs.Instances.{IsInstance}
@@ -16,13 +15,11 @@ use Rattle.sql_conjunctive.specs.Form.{IsNumbered, HaveLiterals}
 use Rattle.meaning.specs.Plans.{IsLawful}
 use Rattle.meaning.specs.Claims.{IsEquivalent}
 use Rattle.meaning.specs.Conjunctive.{IsConjunctive}
-use Rattle.meaning.specs.Runs.{Proof, IsOrderedRun, HasGoal, opening, frozen_head}
 use Rattle.access_schema.specs.declared.schema.Schema.{Schema}
 use Rattle.access_schema.specs.Meaning.{meaning_of}
 use Rattle.access_schema.specs.Lists.{once_after}
 use Rattle.sql_select.specs.Known.{literals_in}
 use Rattle.rule_pass.specs.declared.pass.TheConstants.{MOST_FIRINGS}
-use Rattle.proof_search.specs.declared.branches.TheConstants.{FIRINGS}
 
 -- The known constants: those of the schema, which hold those of its rules, and those of the statement.
 abbrev pub known_of : Schema → Statement → List Value
@@ -55,22 +52,3 @@ pub record HasFewSteps (plan : Plan) : Type 0 where
 abbrev pub HasNoPlan : Schema → Statement → Type 0
 HasNoPlan schema statement =
     (plan : Plan) → IsLawful plan (meaning_of schema) (known_of schema statement) → IsEquivalent plan statement (meaning_of schema) → ⊥
-
--- The firings of a select's query are spent: an ordered run of just `FIRINGS` firings from its opening proof has no match of the
--- query with the frozen head, and a further firing is active.
-pub record IsSpent (schema : Schema) (statement : Statement) : Type 0 where
-  pub select : Select
-  pub query : Query
-  pub log : List Firing
-  pub end : Proof
-  pub of_statement : Contains statement.selects select
-  pub form : IsConjunctive (meaning_of schema) select query
-  pub count : length log ≡ FIRINGS
-  pub run : IsOrderedRun (meaning_of schema) (known_of schema statement) 0 (opening query) log end
-  pub no_goal : HasGoal (query ∷ []) end (frozen_head query) → ⊥
-  pub goes_on : (firing : Firing) × (next : Proof) × IsOrderedRun (meaning_of schema) (known_of schema statement) 0 (opening query) (log ++ firing ∷ []) next
-
--- Why there is no plan: no lawful plan is equivalent to the statement, or in this stage the firings are spent.
-pub data NoPlanYet (schema : Schema) (statement : Statement) : Type 0 where
-  none : HasNoPlan schema statement → NoPlanYet schema statement
-  spent : IsSpent schema statement → NoPlanYet schema statement

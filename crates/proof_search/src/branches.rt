@@ -1,75 +1,166 @@
 // The branches of queries.
-ghost use Rattle.std.specs.Prelude.{◌≡◌, ◌≤◌, ◌^◌, ℕ, List, IfOk, IfSome, IfNone, Contains, length};
-ghost use Rattle.std.specs.List.{AllZip};
-ghost use Rattle.meaning.specs.declared.types.Query.{Query};
+ghost use Rattle.std.specs.Prelude.{◌≡◌, ◌≤◌, ◌^◌, ℕ, true, false, List, IfOk, IfSome, Contains, length};
+ghost use Rattle.meaning.specs.Runs.{opening, frozen_head};
 ghost use Rattle.access_schema.specs.Meaning.{meaning_of};
-ghost use Rattle.proof_search.specs.Searches.{AreSearchable};
-ghost use Rattle.proof_search.specs.Branches.{IsQueryBranch, HasNoBranch};
+ghost use Rattle.rule_pass.specs.declared.pass.TheConstants.{MOST_FIRINGS};
+ghost use Rattle.accessible_copy.specs.Proving.{log_of};
+ghost use Rattle.accessible_copy.specs.Goals.{IsGoal};
+ghost use Rattle.accessible_copy.specs.Rounds.{IsAllQuiet, GoesOn};
+ghost use Rattle.proof_search.specs.Searches.{AreSearchable, IsSearch};
+ghost use Rattle.proof_search.specs.Branches.{IsQueryBranch, IsQueryOutcome, IsWithoutGoal, IsOutcome};
 
+use crate::outcome::{Outcome, QueryOutcome};
 use crate::proving::{prove, replay};
 use crate::reading::extract;
 use crate::resting::rests_on;
 use access_schema::Schema;
-use accessible_copy::goal;
+use accessible_copy::{Match, Proof, goal};
 use homomorphism::Store;
-use lists::{NoMemory, Seq, Texts};
-use meaning::types::{Branch, Branches, Queries, Query};
+use lists::{Copies, NoMemory, Seq, Texts};
+use meaning::types::{Branch, Firings, Queries, Query, Vals};
+use no_plan_witness::witness;
 use plan_extract::frozen_values;
 use std::alloc::Global;
 
-/// The most firings of a query's proof.
-pub const FIRINGS: u32 = 10_000;
-
-/// A branch for each of the queries, in order. None comes where one of them has none.
+/// A branch for each of the queries, in order, each read off a proof of at most `firings` firings.
+///
+/// Where a query is stuck, its pair comes at once. Where the firings of one are spent, the others are searched too, as one of them
+/// may be stuck; if none is, the log of the first comes.
 pub fn branches_for(
     alloc: Global,
     schema: &Schema,
     queries: &Queries,
     known: &Texts,
-) -> Result<Option<Branches>, NoMemory>
+    firings: u32,
+) -> Result<Outcome, NoMemory>
     requires queries { AreSearchable (meaning_of schema.now) known.now queries.now }
     requires few { length queries.now ≤ 2 ^ 32 }
     requires known { (c : List ℕ) → Contains schema.now.constants c → Contains known.now c }
-    ensures some { IfOk result (λ found. IfSome found (AllZip (IsQueryBranch (meaning_of schema.now) known.now queries.now) queries.now)) }
-    ensures none { IfOk result (λ found. IfNone found ((query : Query) × Contains queries.now query × HasNoBranch (meaning_of schema.now) known.now queries.now query)) }
+    requires firings { firings ≤ MOST_FIRINGS }
+    ensures { IfOk result (IsOutcome (meaning_of schema.now) known.now queries.now firings) }
 {
     let mut branches = Seq::new(alloc);
+    let mut spent = None;
     for query in queries.as_slice() {
-        match branch_for(alloc, schema, query, queries, known)? {
-            Some(branch) => branches.push(branch)?,
-            None => return Ok(None),
+        match branch_for(alloc, schema, query, queries, known, firings)? {
+            QueryOutcome::Branch(branch) => branches.push(branch)?,
+            QueryOutcome::Stuck(pair) => return Ok(Outcome::Stuck(pair)),
+            QueryOutcome::Spent(log) => spent = spent.or(Some(log)),
         }
     }
-    Ok(Some(branches))
+    match spent {
+        Some(log) => Ok(Outcome::Spent(log)),
+        None => Ok(Outcome::Branches(branches)),
+    }
 }
 
-/// The branch of the query's proof, where one of the queries has a match in it. Where a second proof, with only the exposures that
-/// the match rests on, has a match too, its branch is taken.
+/// The branch of the query's proof, where one of the queries has a match in it, even if the firings are spent.
 fn branch_for(
     alloc: Global,
     schema: &Schema,
     query: &Query,
     queries: &Queries,
     known: &Texts,
-) -> Result<Option<Branch>, NoMemory>
+    firings: u32,
+) -> Result<QueryOutcome, NoMemory>
     requires queries { AreSearchable (meaning_of schema.now) known.now queries.now }
     requires few { length queries.now ≤ 2 ^ 32 }
     requires among { Contains queries.now query.now }
     requires known { (c : List ℕ) → Contains schema.now.constants c → Contains known.now c }
-    ensures some { IfOk result (λ found. IfSome found (IsQueryBranch (meaning_of schema.now) known.now queries.now query.now)) }
-    ensures none { IfOk result (λ found. IfNone found (HasNoBranch (meaning_of schema.now) known.now queries.now query.now)) }
+    requires firings { firings ≤ MOST_FIRINGS }
+    ensures { IfOk result (IsQueryOutcome (meaning_of schema.now) known.now queries.now firings query.now) }
+{
+    let (proof, quiet) = prove(alloc, schema, query, known, firings)?;
+    outcome_of(alloc, schema, query, queries, known, &proof, quiet, firings)
+}
+
+/// What a search of the query comes to, and whether nothing is active at its end.
+fn outcome_of(
+    alloc: Global,
+    schema: &Schema,
+    query: &Query,
+    queries: &Queries,
+    known: &Texts,
+    proof: &Proof,
+    quiet: bool,
+    firings: u32,
+) -> Result<QueryOutcome, NoMemory>
+    requires queries { AreSearchable (meaning_of schema.now) known.now queries.now }
+    requires few { length queries.now ≤ 2 ^ 32 }
+    requires among { Contains queries.now query.now }
+    requires known { (c : List ℕ) → Contains schema.now.constants c → Contains known.now c }
+    requires firings { firings ≤ MOST_FIRINGS }
+    requires search { IsSearch (meaning_of schema.now) firings (opening query.now) known.now proof.now }
+    requires quiet { quiet ≡ true → IsAllQuiet (meaning_of schema.now) proof.now }
+    requires spent { quiet ≡ false → (firings ≤ length proof.now.entries) × GoesOn (meaning_of schema.now) proof.now }
+    ensures { IfOk result (IsQueryOutcome (meaning_of schema.now) known.now queries.now firings query.now) }
 {
     let head = Seq::from_vec(frozen_values(alloc, query.head.as_slice())?);
-    let (proof, _) = prove(alloc, schema, query, known, FIRINGS)?;
-    let Some(found) = goal(alloc, &proof, queries, &head)? else {
-        return Ok(None);
-    };
-    let kept = rests_on(alloc, schema, &proof, queries, &found)?;
-    if let Some(branch) = trimmed(alloc, schema, query, queries, known, &kept)? {
-        return Ok(Some(branch));
+    match goal(alloc, proof, queries, &head)? {
+        Some(found) => {
+            let branch = with_goal(alloc, schema, query, queries, known, proof, &found, firings)?;
+            Ok(QueryOutcome::Branch(branch))
+        }
+        None => without_goal(alloc, proof, quiet, known, &head),
     }
-    let branch = extract(alloc, schema, query, &proof)?;
-    Ok(Some(branch))
+}
+
+/// The branch of a proof in which one of the queries has this match. Where a second proof, with only the exposures that the match rests
+/// on, has a match too, its branch is taken.
+fn with_goal(
+    alloc: Global,
+    schema: &Schema,
+    query: &Query,
+    queries: &Queries,
+    known: &Texts,
+    proof: &Proof,
+    found: &Match,
+    firings: u32,
+) -> Result<Branch, NoMemory>
+    requires queries { AreSearchable (meaning_of schema.now) known.now queries.now }
+    requires few { length queries.now ≤ 2 ^ 32 }
+    requires among { Contains queries.now query.now }
+    requires known { (c : List ℕ) → Contains schema.now.constants c → Contains known.now c }
+    requires firings { firings ≤ MOST_FIRINGS }
+    requires search { IsSearch (meaning_of schema.now) firings (opening query.now) known.now proof.now }
+    requires found { IsGoal queries.now proof.now.end.copy (frozen_head query.now) found.now.select found.now.assignment.vals }
+    ensures { IfOk result (IsQueryBranch (meaning_of schema.now) known.now queries.now query.now) }
+{
+    let kept = rests_on(alloc, schema, proof, queries, found)?;
+    match trimmed(alloc, schema, query, queries, known, &kept, firings)? {
+        Some(branch) => Ok(branch),
+        None => extract(alloc, schema, query, proof),
+    }
+}
+
+/// What a proof without a goal comes to: its pair where nothing is active, and otherwise its log.
+fn without_goal(
+    alloc: Global,
+    proof: &Proof,
+    quiet: bool,
+    known: &Texts,
+    head: &Vals,
+) -> Result<QueryOutcome, NoMemory>
+    ensures { IfOk result (IsWithoutGoal known.now proof.now quiet head.now) }
+{
+    if quiet {
+        let pair = witness(alloc, proof, known, head)?;
+        Ok(QueryOutcome::Stuck(pair))
+    } else {
+        let log = copied_log(alloc, proof)?;
+        Ok(QueryOutcome::Spent(log))
+    }
+}
+
+/// A copy of the log of a proof.
+fn copied_log(alloc: Global, proof: &Proof) -> Result<Firings, NoMemory>
+    ensures { IfOk result (λ log. log ≡ log_of proof.now) }
+{
+    let mut log = Seq::new(alloc);
+    while let Some(firing) = proof.log(log.len()) {
+        log.push(firing.copy(alloc)?)?;
+    }
+    Ok(log)
 }
 
 /// The branch of a proof with exposures of these facts alone, where one of the queries has a match in it.
@@ -80,15 +171,17 @@ fn trimmed(
     queries: &Queries,
     known: &Texts,
     kept: &Store,
+    firings: u32,
 ) -> Result<Option<Branch>, NoMemory>
     requires queries { AreSearchable (meaning_of schema.now) known.now queries.now }
     requires few { length queries.now ≤ 2 ^ 32 }
     requires among { Contains queries.now query.now }
     requires known { (c : List ℕ) → Contains schema.now.constants c → Contains known.now c }
+    requires firings { firings ≤ MOST_FIRINGS }
     ensures { IfOk result (λ found. IfSome found (IsQueryBranch (meaning_of schema.now) known.now queries.now query.now)) }
 {
     let head = Seq::from_vec(frozen_values(alloc, query.head.as_slice())?);
-    let proof = replay(alloc, schema, query, known, kept, FIRINGS)?;
+    let proof = replay(alloc, schema, query, known, kept, firings)?;
     match goal(alloc, &proof, queries, &head)? {
         Some(_) => {
             let branch = extract(alloc, schema, query, &proof)?;

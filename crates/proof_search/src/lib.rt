@@ -1,17 +1,18 @@
-//! Plans for statements, read off proofs.
+//! Plans for statements, read off proofs, or refutations of every plan.
 //!
-//! Crates above use this: `plan_for` gives a plan that is lawful over the known constants and equivalent to the statement, or none
-//! where no lawful plan is, or where the firings of a proof are spent. Begin at `specs/Plans.antt` and `specs/Searches.antt`.
+//! Crates above use this: `decide` gives a plan that is lawful over the known constants and equivalent to the statement, or two
+//! instances that refute every plan, or the log of a proof whose firings are spent. Begin at `specs/Decisions.antt`.
 #![tactic(auto)]
 
 mod branches;
+mod deciding;
 mod exposing;
-mod plan;
+mod outcome;
 mod proving;
 mod reading;
 mod resting;
 
-pub use plan::plan_for;
+pub use deciding::decide;
 
 #[cfg(test)]
 mod tests;

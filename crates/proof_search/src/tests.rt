@@ -1,8 +1,9 @@
-// Plans for queries on small schemas, worked out by hand.
-use crate::plan_for;
+// Plans and refutations for queries on small schemas, worked out by hand.
+use crate::decide;
 use access_schema::{Part, Parts, Schema, are_named};
-use lists::{Seq, Text, Texts};
-use meaning::types::{Branch, Out, Place, Plan};
+use lists::{Row, Seq, Text, Texts};
+use meaning::types::{Branch, Firing, Instance, Out, Place, Plan};
+use no_plan_witness::{Decision, Witness};
 use sql_select::read_select;
 use std::alloc::{AllocError, Global};
 use std::test::Fail;
@@ -94,20 +95,94 @@ fn orders(alloc: Global, archived: bool) -> Result<Schema, AllocError> {
     built(alloc, parts)
 }
 
-/// The plan of a query over the schema, or `none`.
-fn planned(alloc: Global, schema: &Schema, query: &str) -> Result<String, AllocError> {
-    if query.len() > 1000 {
+/// What is decided of a query over the schema with so many firings: its plan, the two instances and the answer, or the firings.
+fn decided(
+    alloc: Global,
+    schema: &Schema,
+    query: &str,
+    firings: u32,
+) -> Result<String, AllocError> {
+    if query.len() > 1000 || firings > 100_000 {
         return Err(AllocError);
     }
     let Ok(statement) = read_select(alloc, query.as_bytes(), schema) else {
         return Err(AllocError);
     };
     let mut made = String::new(alloc);
-    match plan_for(alloc, schema, &statement)? {
-        Some(plan) => show(alloc, &mut made, &plan)?,
-        None => made.push_str("none")?,
+    match decide(alloc, schema, &statement, firings)? {
+        Decision::Plan(plan) => show(alloc, &mut made, &plan)?,
+        Decision::NoPlan(pair) => show_pair(alloc, &mut made, schema, &pair)?,
+        Decision::Undecided { select, log } => {
+            made.push_str(format!(in alloc; "undecided {select}")?.as_str())?;
+            for firing in log.as_slice() {
+                show_firing(alloc, &mut made, schema, firing)?;
+            }
+        }
     }
     Ok(made)
+}
+
+/// What is decided of a query with firings enough.
+fn planned(alloc: Global, schema: &Schema, query: &str) -> Result<String, AllocError> {
+    decided(alloc, schema, query, 100)
+}
+
+fn show_pair(
+    alloc: Global,
+    made: &mut String,
+    schema: &Schema,
+    pair: &Witness,
+) -> Result<(), AllocError> {
+    made.push_str("none")?;
+    show_facts(alloc, made, schema, &pair.first)?;
+    made.push_str("; but")?;
+    show_facts(alloc, made, schema, &pair.second)?;
+    made.push_str("; answer")?;
+    show_row(alloc, made, &pair.answer)
+}
+
+fn show_facts(
+    alloc: Global,
+    made: &mut String,
+    schema: &Schema,
+    facts: &Instance,
+) -> Result<(), AllocError> {
+    for fact in facts.as_slice() {
+        if let Some(relation) = schema.relations.get(fact.rel as usize) {
+            made.push_str(format!(in alloc; "; {}", relation.name.as_str())?.as_str())?;
+        }
+        show_row(alloc, made, &fact.row)?;
+    }
+    Ok(())
+}
+
+fn show_row(alloc: Global, made: &mut String, row: &Row) -> Result<(), AllocError> {
+    for text in row.as_slice() {
+        made.push_str(format!(in alloc; " '{}'", text.as_str())?.as_str())?;
+    }
+    Ok(())
+}
+
+fn show_firing(
+    alloc: Global,
+    made: &mut String,
+    schema: &Schema,
+    firing: &Firing,
+) -> Result<(), AllocError> {
+    match firing {
+        Firing::Base(trigger) => {
+            made.push_str(format!(in alloc; "; base {}", trigger.rule)?.as_str())?;
+        }
+        Firing::Copy(trigger) => {
+            made.push_str(format!(in alloc; "; copy {}", trigger.rule)?.as_str())?;
+        }
+        Firing::Expose { method, .. } => {
+            if let Some(method) = schema.methods.get(*method as usize) {
+                made.push_str(format!(in alloc; "; expose {}", method.name.as_str())?.as_str())?;
+            }
+        }
+    }
+    Ok(())
 }
 
 fn show(alloc: Global, made: &mut String, plan: &Plan) -> Result<(), AllocError> {
@@ -202,18 +277,38 @@ fn a_lookup_alone_gives_no_plan(rt: HostRuntime) -> Result<(), Fail> {
     let schema = small(alloc, false)?;
     assert_eq!(rt;
         planned(alloc, &schema, "SELECT DISTINCT a FROM r")?.as_str(),
-        "none"
+        "none; r '_1' '_2'; but; answer '_1'"
     );
     let schema = staff(alloc, false)?;
     assert_eq!(rt;
         planned(
             alloc,
             &schema,
-            "SELECT DISTINCT eid FROM profinfo WHERE lname = 'Smith'"
+            "SELECT DISTINCT eid, onum FROM profinfo WHERE lname = 'smith'"
         )?
         .as_str(),
-        "none"
+        "none; profinfo '_1' '_2' 'smith'; but; answer '_1' '_2'"
     );
+    Ok(())
+}
+
+#[test]
+fn firings_that_are_spent(rt: HostRuntime) -> Result<(), Fail> {
+    let alloc = rt.alloc();
+    let schema = staff(alloc, true)?;
+    let query = "SELECT DISTINCT eid, onum FROM profinfo WHERE lname = 'Smith'";
+    let cases = [
+        (0, "undecided 0"),
+        (1, "undecided 0; base 0"),
+        (2, "undecided 0; base 0; expose all_direct"),
+        (
+            3,
+            "2; all_direct new 'Smith'; prof_by_eid $0 new 'Smith'; output $0 $1",
+        ),
+    ];
+    for (firings, wanted) in cases {
+        assert_eq!(rt; decided(alloc, &schema, query, firings)?.as_str(), wanted);
+    }
     Ok(())
 }
 
@@ -260,7 +355,10 @@ fn an_answer_that_needs_a_rule(rt: HostRuntime) -> Result<(), Fail> {
         "1; all_list new; archive_of $0 new; output $1"
     );
     let schema = orders(alloc, false)?;
-    assert_eq!(rt; planned(alloc, &schema, query)?.as_str(), "none");
+    assert_eq!(rt;
+        planned(alloc, &schema, query)?.as_str(),
+        "none; archive '_1' '_2'; line '_1' '_2'; list '_1'; but; list '_1'; archive '_1' '_2'; answer '_2'"
+    );
     Ok(())
 }
 

@@ -1,6 +1,6 @@
 use Rattle.std.proofs.Common.{◌∙◌, ◌∷◌, ◌++◌, [], ap}
 use Rattle.proof_search.proofs.Formed.{no_queries, one_query}
-use Rattle.proof_search.proofs.plan.queries_of.Goals as goal
+use Rattle.proof_search.proofs.deciding.queries_of.Goals as goal
 
 pub returns-in-Never : goal.returns-in-Never
 returns-in-Never c = no_queries c.args.schema.now c.args.select.now c.new.result c.new.ensures (rw c.in-Never.is at c.in_ok-conjunctive.ensures.answers)

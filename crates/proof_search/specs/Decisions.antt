@@ -1,0 +1,48 @@
+-- What is decided of a statement: a plan, a refutation, or nothing within the firings.
+use Rattle.std.specs.Prelude.{◌≡◌, ℕ, List, [], ◌∷◌, ◌++◌, Contains, length, slice_get, Some}
+use Rattle.meaning.specs.declared.types.Query.{Query}
+use Rattle.meaning.specs.declared.types.Plan.{Plan}
+use Rattle.meaning.specs.declared.types.Select.{Select}
+use Rattle.meaning.specs.declared.types.Statement.{Statement}
+use Rattle.meaning.specs.declared.types.Firing.{Firing}
+use Rattle.meaning.specs.Claims.{Refutes}
+use Rattle.meaning.specs.Conjunctive.{IsConjunctive, StandFor}
+use Rattle.meaning.specs.Runs.{Proof, IsOrderedRun, HasGoal, opening, frozen_head}
+use Rattle.access_schema.specs.declared.schema.Schema.{Schema}
+use Rattle.access_schema.specs.Meaning.{meaning_of}
+use Rattle.no_plan_witness.specs.declared.refutation.Witness.{Witness}
+use Rattle.no_plan_witness.specs.declared.decision.Decision.{Decision}
+use Rattle.no_plan_witness.specs.declared.decision.Decision.TheVariants as decision
+use Rattle.proof_search.specs.Plans.{known_of, IsPlanFor, HasFewSteps, HasNoPlan}
+
+-- The pair refutes, so no lawful plan is equivalent to the statement; and the answer is as wide as each select.
+pub record IsRefutation (schema : Schema) (statement : Statement) (pair : Witness) : Type 0 where
+  pub refutes : Refutes (meaning_of schema) (known_of schema statement) statement pair.first pair.second pair.answer
+  pub none : HasNoPlan schema statement
+  pub wide : (select : Select) → Contains statement.selects select → length pair.answer ≡ length select.items
+
+-- The firings for the select with that number are spent. The log is an ordered run of just so many firings from the opening proof of
+-- the select's conjunctive form, which is one of queries that stand for the statement. None of these has a goal after the run, and a
+-- further firing is active.
+pub record IsUndecided (schema : Schema) (statement : Statement) (firings select : ℕ) (log : List Firing) : Type 0 where
+  pub chosen : Select
+  pub queries : List Query
+  pub query : Query
+  pub end : Proof
+  pub of_statement : slice_get statement.selects select ≡ Some chosen
+  pub form : IsConjunctive (meaning_of schema) chosen query
+  pub stand : StandFor (meaning_of schema) queries statement
+  pub among : Contains queries query
+  pub count : length log ≡ firings
+  pub run : IsOrderedRun (meaning_of schema) (known_of schema statement) 0 (opening query) log end
+  pub no_goal : HasGoal queries end (frozen_head query) → ⊥
+  pub goes_on : (firing : Firing) × (next : Proof)
+      × IsOrderedRun (meaning_of schema) (known_of schema statement) 0 (opening query) (log ++ firing ∷ []) next
+
+-- What is decided of a statement with so many firings for the proof of each select: a plan for it, a refutation of every plan, or
+-- nothing, as the firings are spent.
+pub data IsDecision (schema : Schema) (statement : Statement) (firings : ℕ) : Decision → Type 0 where
+  plan : (plan : Plan) → IsPlanFor schema statement plan → HasFewSteps plan → IsDecision schema statement firings (decision.Plan plan)
+  no_plan : (pair : Witness) → IsRefutation schema statement pair → IsDecision schema statement firings (decision.NoPlan pair)
+  undecided : (select : ℕ) (log : List Firing) → IsUndecided schema statement firings select log →
+      IsDecision schema statement firings (decision.Undecided select log)
