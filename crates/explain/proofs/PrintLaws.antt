@@ -128,7 +128,7 @@ row_is name row named =
 
 -- ---- facts that fit
 
-record IsReadable (relations : List Relation) (fact : Fact) : Type 0 where
+pub record IsReadable (relations : List Relation) (fact : Fact) : Type 0 where
   pub named : IsSome (name_of (slice_get relations fact.rel))
   pub wide : IsSome fact.row
   pub name_is : relation_text (slice_get relations fact.rel) ≡ printed_name (name_of (slice_get relations fact.rel))
@@ -137,7 +137,7 @@ some_left : {X : Type 0} (xs : List X) → 1 ≤ length xs → IsSome xs
 some_left [] l = absurd (omega arith)
 some_left (x ∷ xs) l = tt
 
-readable : (schema : Schema) (fact : Fact) → FitsRelation (meaning_of schema) fact.rel fact.row → IsReadable schema.relations fact
+pub readable : (schema : Schema) (fact : Fact) → FitsRelation (meaning_of schema) fact.rel fact.row → IsReadable schema.relations fact
 readable schema fact fits =
     let among = contains_got schema.relations fact.rel fits.relation fits.there in
     let named = is_some fits.relation.name (schema.valid.relations_are.named fits.relation among) in
