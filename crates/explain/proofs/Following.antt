@@ -119,7 +119,8 @@ module _ (schema : Schema) where
   answer_follows tokens more e =
       let a = bind_some (answer_at tokens) (λ (x : List (List ℕ) × List Lexeme). Some (Answered x.0)) more e in
       let f = answer_found tokens a.0.0 a.0.1 a.1 in
-      subst (Follows schema Opened tokens) (some_is (Answered a.0.0) more a.2) (record { form = answer_form a.0.0; forms_are = refl; of_form = f.0; sound = f.1 })
+      let made : Progress = Answered a.0.0 in
+      subst (Follows schema Opened tokens) {x = made} (some_is made more a.2) (record { form = answer_form a.0.0; forms_are = refl; of_form = f.0; sound = f.1 })
 
   begin_follows : (answer : List (List ℕ)) (tokens : List Lexeme) (more : Progress) → IsSound schema (Answered answer) → next_at schema (Answered answer) tokens ≡ Some more → Follows schema (Answered answer) tokens more
   begin_follows answer tokens more sound e =
@@ -140,7 +141,8 @@ module _ (schema : Schema) where
   first_follows answer first tokens false more lone sound e =
       let a = bind_some (fact_at schema.relations tokens) (λ (x : Fact × List Lexeme). Some (First answer (first ++ x.0 ∷ []))) more e in
       let f = fact_found schema tokens a.0.0 a.0.1 a.1 in
-      subst (Follows schema (First answer first) tokens) (some_is (First answer (first ++ a.0.0 ∷ [])) more a.2)
+      let made : Progress = First answer (first ++ a.0.0 ∷ []) in
+      subst (Follows schema (First answer first) tokens) {x = made} (some_is made more a.2)
       (record {
         form = fact_form schema.relations a.0.0;
         forms_are = ap (λ (fs : List (List Slot)). opening_form ∷ answer_form answer ∷ word_form first_word ∷ fs) (map-append (fact_form schema.relations) first (a.0.0 ∷ []));
@@ -162,7 +164,8 @@ module _ (schema : Schema) where
   second_follows answer first second tokens false more lone sound e =
       let a = bind_some (fact_at schema.relations tokens) (λ (x : Fact × List Lexeme). Some (Second answer first (second ++ x.0 ∷ []))) more e in
       let f = fact_found schema tokens a.0.0 a.0.1 a.1 in
-      subst (Follows schema (Second answer first second) tokens) (some_is (Second answer first (second ++ a.0.0 ∷ [])) more a.2)
+      let made : Progress = Second answer first (second ++ a.0.0 ∷ []) in
+      subst (Follows schema (Second answer first second) tokens) {x = made} (some_is made more a.2)
       (record {
         form = fact_form schema.relations a.0.0;
         forms_are = ap (λ (fs : List (List Slot)). opening_form ∷ answer_form answer ∷ word_form first_word ∷ (facts_forms schema.relations first second_word ++ fs)) (map-append (fact_form schema.relations) second (a.0.0 ∷ []))

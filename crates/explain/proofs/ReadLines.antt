@@ -74,7 +74,7 @@ answer_found ls answer rest e =
     let f = values_found a.0 o.0.0 o.0.1 o.1 in
     let inner = subst (λ (m : List Lexeme). Takes a.0 (list_form value_form o.0.0) m) last.0 f.1 in
     let whole = Takes-append ls (Key (codes "answer") ∷ []) (list_form value_form o.0.0) a.0 [] (word_found (codes "answer") ls a.0 a.1) inner in
-    subst (λ (y : List (List ℕ) × List Lexeme). IsOfForm ls (answer_form y.0) × (y.0 ≢ [])) (some_is made (answer, rest) r.2) (whole, not_nil o.0.0 f.0)
+    subst (λ (y : List (List ℕ) × List Lexeme). IsOfForm ls (answer_form y.0) × (y.0 ≢ [])) {x = made} (some_is made (answer, rest) r.2) (whole, not_nil o.0.0 f.0)
 
 pub answer_again : (ls : List Lexeme) (answer : List (List ℕ)) → answer ≢ [] → IsOfForm ls (answer_form answer) → answer_at ls ≡ Some (answer, [])
 unfolding answer_at
@@ -96,6 +96,12 @@ record IsRowRead (schema : Schema) (n : List ℕ) (ls : List Lexeme) (fact : Fac
   pub made : IsMade schema n fact.row fact
   pub takes : Takes ls (behind_name fact.row) []
 
+row_made : (schema : Schema) (n : List ℕ) (row : List (List ℕ)) (ls : List Lexeme) (fact : Fact) → IsMade schema n row fact → Takes ls (behind_name row) [] → IsRowRead schema n ls fact
+row_made schema n row ls fact made whole = record {
+  made = record { name_is = made.name_is; row_is = refl; fits = made.fits };
+  takes = subst (λ (row : List (List ℕ)). Takes ls (behind_name row) []) (sym made.row_is) whole;
+}
+
 row_found : (schema : Schema) (n : List ℕ) (ls : List Lexeme) (fact : Fact) (rest : List Lexeme) → row_tail schema.relations n ls ≡ Some (fact, rest) → IsRowRead schema n ls fact
 row_found schema n ls fact rest e =
     let i = bind_some (symbol_at (codes "(") ls) (λ (i : List Lexeme). values_at i >>= λ p. symbol_at (codes ")") p.1 >>= λ c. end_at c >>= λ r. fact_of schema.relations n p.0 >>= λ f. Some (f, r)) (fact, rest) e in
@@ -107,13 +113,11 @@ row_found schema n ls fact rest e =
     let found : Fact × List Lexeme = (f.0, r.0) in
     let made = fact_made schema n p.0.0 f.0 f.1 in
     let v = values_found i.0 p.0.0 p.0.1 p.1 in
-    let closed = subst (λ (m : List Lexeme). Takes p.0.1 (Mark (codes ")") ∷ []) m) last.0 (symbol_found (codes ")") p.0.1 c.0 c.1) in
+    let after : List Lexeme = c.0 in
+    let closed = subst (λ (m : List Lexeme). Takes p.0.1 (Mark (codes ")") ∷ []) m) {x = after} last.0 (symbol_found (codes ")") p.0.1 c.0 c.1) in
     let inner = Takes-append i.0 (list_form value_form p.0.0) (Mark (codes ")") ∷ []) p.0.1 [] v.1 closed in
     let whole = Takes-append ls (Mark (codes "(") ∷ []) (list_form value_form p.0.0 ++ Mark (codes ")") ∷ []) i.0 [] (symbol_found (codes "(") ls i.0 i.1) inner in
-    subst (λ (y : Fact × List Lexeme). IsRowRead schema n ls y.0) (some_is found (fact, rest) f.2) (record {
-      made = record { name_is = made.name_is; row_is = refl; fits = made.fits };
-      takes = subst (λ (row : List (List ℕ)). Takes ls (behind_name row) []) (sym made.row_is) whole;
-    })
+    subst (λ (y : Fact × List Lexeme). IsRowRead schema n ls y.0) {x = found} (some_is found (fact, rest) f.2) (row_made schema n p.0.0 ls f.0 made whole)
 
 pub fact_found : (schema : Schema) (ls : List Lexeme) (fact : Fact) (rest : List Lexeme) → fact_at schema.relations ls ≡ Some (fact, rest) → IsOfForm ls (fact_form schema.relations fact) × FitsRelation (meaning_of schema) fact.rel fact.row
 unfolding fact_at

@@ -39,7 +39,7 @@ pub fn next(
     ensures { GivesNext result (next_at schema.now done line.now) }
 {
     match done {
-        Progress::Opening => open(line),
+        Progress::Opening => opened(line),
         Progress::Opened => Ok(Progress::Answered(answer(alloc, line)?)),
         Progress::Answered(answer) => begin_first(alloc, answer, line),
         Progress::First { answer, first } => in_first(alloc, schema, answer, first, line),
@@ -123,7 +123,7 @@ fn is_lone(line: &[Lexeme], text: &[u8]) -> bool
 }
 
 // no plan
-fn open(line: &[Lexeme]) -> Result<Progress, Misfit>
+fn opened(line: &[Lexeme]) -> Result<Progress, Misfit>
     ensures { GivesNext result (opened_at line.now) }
 {
     opening(line)?;
