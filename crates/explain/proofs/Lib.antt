@@ -3,3 +3,7 @@ pub mod Limits
 pub mod Joining
 pub mod Labels
 pub mod PrintLaws
+pub mod Relations
+pub mod ReadLines
+pub mod Following
+pub mod TextLaws

@@ -21,7 +21,7 @@ use Rattle.access_schema.specs.Meaning.{meaning_of}
 use Rattle.plan_form.specs.Grammar.{IsOfForm, behind_tokens, written}
 use Rattle.plan_form.proofs.ReadLines.{is_some}
 use Rattle.no_plan_witness.specs.declared.refutation.Witness.{Witness}
-use Rattle.explain.specs.Printing.{relation_text, fact_text, witness_text, IsListing, IsPrintedWitness}
+use Rattle.explain.specs.Printing.{relation_text, fact_text, pair_text, IsListing, IsPrintedWitness}
 use Rattle.explain.specs.Grammar.{word_form, opening_form, answer_form, row_form, name_of, fact_form, facts_forms, witness_forms, FitsSchema, SaysWitness, IsReadAs}
 
 -- ---- the pieces of a refutation
@@ -128,7 +128,7 @@ row_is name row named =
 
 -- ---- facts that fit
 
-record IsReadable (relations : List Relation) (fact : Fact) : Type 0 where
+pub record IsReadable (relations : List Relation) (fact : Fact) : Type 0 where
   pub named : IsSome (name_of (slice_get relations fact.rel))
   pub wide : IsSome fact.row
   pub name_is : relation_text (slice_get relations fact.rel) ≡ printed_name (name_of (slice_get relations fact.rel))
@@ -137,7 +137,7 @@ some_left : {X : Type 0} (xs : List X) → 1 ≤ length xs → IsSome xs
 some_left [] l = absurd (omega arith)
 some_left (x ∷ xs) l = tt
 
-readable : (schema : Schema) (fact : Fact) → FitsRelation (meaning_of schema) fact.rel fact.row → IsReadable schema.relations fact
+pub readable : (schema : Schema) (fact : Fact) → FitsRelation (meaning_of schema) fact.rel fact.row → IsReadable schema.relations fact
 readable schema fact fits =
     let among = contains_got schema.relations fact.rel fits.relation fits.there in
     let named = is_some fits.relation.name (schema.valid.relations_are.named fits.relation among) in
@@ -240,8 +240,8 @@ joined a l b f c g d =
     sym (append_assoc a l (b ++ (f ++ (c ++ (g ++ d))))) ∙ sym (append_assoc (a ++ l) b (f ++ (c ++ (g ++ d)))) ∙ sym (append_assoc (a ++ l ++ b) f (c ++ (g ++ d)))
     ∙ sym (append_assoc (a ++ l ++ b ++ f) c (g ++ d)) ∙ sym (append_assoc (a ++ l ++ b ++ f ++ c) g d)
 
-pair_text : (relations : List Relation) (pair : Witness) → AllByRecursion (IsReadable relations) pair.first → AllByRecursion (IsReadable relations) pair.second → IsSome pair.answer → lines_text (witness_lines relations pair) ≡ witness_text relations pair
-pair_text relations pair first second some =
+pair_is_text : (relations : List Relation) (pair : Witness) → AllByRecursion (IsReadable relations) pair.first → AllByRecursion (IsReadable relations) pair.second → IsSome pair.answer → lines_text (witness_lines relations pair) ≡ pair_text relations pair
+pair_is_text relations pair first second some =
     let front = flat_map (fact_text relations) pair.first in
     let back = flat_map (fact_text relations) pair.second in
     let answer = listed printed_value pair.answer in
@@ -256,7 +256,7 @@ pair_text relations pair first second some =
 
 -- ---- refutations
 
-says : (schema : Schema) (pair : Witness) → FitsSchema schema pair → SaysWitness schema (witness_text schema.relations pair) pair
+says : (schema : Schema) (pair : Witness) → FitsSchema schema pair → SaysWitness schema (pair_text schema.relations pair) pair
 says schema pair fits =
     let first = all_readable schema pair.first fits.first in
     let second = all_readable schema pair.second fits.second in
@@ -264,7 +264,7 @@ says schema pair fits =
     let lines = witness_lines schema.relations pair in
     let forms = witness_forms schema.relations pair in
     let are = pair_are schema.relations pair first second some in
-    subst (λ (text : List ℕ). SaysWitness schema text pair) (pair_text schema.relations pair first second some) (numbered 1 lines, printed_lines lines (all_printed lines forms are), (fits, all_fit 1 lines forms are))
+    subst (λ (text : List ℕ). SaysWitness schema text pair) (pair_is_text schema.relations pair first second some) (numbered 1 lines, printed_lines lines (all_printed lines forms are), (fits, all_fit 1 lines forms are))
 
 moved : (schema : Schema) (facts listing : List Fact) → IsListing facts listing → IsInstance (meaning_of schema) facts → IsInstance (meaning_of schema) listing
 moved schema facts listing is fit fact among = fit fact ((is.same fact).0 among)

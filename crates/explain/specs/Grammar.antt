@@ -1,10 +1,12 @@
 -- The grammar of refutations: the form of each line, and the pair that a text says.
-use Rattle.std.specs.Prelude.{◌≡◌, ◌≢◌, ◌++◌, ℕ, codes, map, Option, None, Some, List, [], ◌∷◌, slice_get}
+use Rattle.std.specs.Prelude.{◌≡◌, ◌≢◌, ◌⊎◌, ◌++◌, ℕ, codes, map, Option, None, Some, Result, Ok, Err, List, [], ◌∷◌, length, slice_get}
 use Rattle.std.specs.List.{AllZip}
 use Rattle.std.specs.Str.{IsUtf8}
 use Rattle.pq_text.specs.declared.lexeme.Lexeme.{Lexeme}
 use Rattle.pq_text.specs.declared.lexeme.Line.{Line}
-use Rattle.pq_text.specs.Lines.{AreLines}
+use Rattle.pq_text.specs.declared.lexeme.TextLines.{TextLines}
+use Rattle.pq_text.specs.Utf8.{IsFirstBad}
+use Rattle.pq_text.specs.Lines.{AreLines, number_at}
 use Rattle.pq_text.specs.Forms.{Slot, Key, Mark, Name, list_form, value_form}
 use Rattle.meaning.specs.declared.types.Relation.{Relation}
 use Rattle.meaning.specs.declared.types.Fact.{Fact}
@@ -13,6 +15,8 @@ use Rattle.access_schema.specs.declared.schema.Schema.{Schema}
 use Rattle.access_schema.specs.Meaning.{meaning_of}
 use Rattle.plan_form.specs.Grammar.{IsOfForm, written}
 use Rattle.no_plan_witness.specs.declared.refutation.Witness.{Witness}
+use Rattle.explain.specs.declared.fault.WitnessReadFault.{WitnessReadFault}
+use Rattle.explain.specs.declared.fault.WitnessReadFault.TheVariants.{NoMemory, NotUtf8, Line as LineFault}
 
 -- ---- lines
 
@@ -83,3 +87,42 @@ pub record IsReadAs (schema : Schema) (text : List ℕ) (pair : Witness) : Type 
   pub read : Witness
   pub says : SaysWitness schema text read
   pub same : HasSameFacts pair read
+
+-- ---- the first line that does not fit
+
+-- Further lines behind these make a pair.
+abbrev pub BeginWitness : Schema → List (List Lexeme) → Type 0
+BeginWitness schema lines = (more : List (List Lexeme)) × (pair : Witness) × AreWitnessLines schema (lines ++ more) pair
+
+-- The lines before it begin a pair, and with the line of this number they begin none.
+pub record HasMisfit (schema : Schema) (lines : List Line) (number : ℕ) : Type 0 where
+  pub before : List Line
+  pub line : Line
+  pub after : List Line
+  pub whole : lines ≡ before ++ line ∷ after
+  pub number_is : line.number ≡ number
+  pub begins : BeginWitness schema (written before)
+  pub none : BeginWitness schema (written (before ++ line ∷ [])) → ⊥
+
+-- Behind lines that begin a pair comes the line with a lexical fault; or the text ends before the line end, and the line
+-- that would come next is one more than the line feeds.
+abbrev pub Stops : Schema → List ℕ → TextLines → Option ℕ → ℕ → Type 0
+Stops schema text told (Some broken) number = number ≡ broken
+Stops schema text told None number = ((pair : Witness) → AreWitnessLines schema (written told.whole) pair → ⊥) × (number ≡ number_at text (length text))
+
+-- The first line that does not fit, or the end that comes too early.
+abbrev pub IsFirstMisfit : Schema → List ℕ → ℕ → Type 0
+IsFirstMisfit schema text number =
+    (told : TextLines) × AreLines text told × (HasMisfit schema told.whole number ⊎ (BeginWitness schema (written told.whole) × Stops schema text told told.broken number))
+
+-- Bytes that are no text have the offset of the first byte that begins no character, and a text has its first line that does not fit.
+abbrev pub IsWitnessReadFault : Schema → List ℕ → WitnessReadFault → Type 0
+IsWitnessReadFault schema bytes NoMemory = Unit {0}
+IsWitnessReadFault schema bytes (NotUtf8 offset) = IsFirstBad bytes offset
+IsWitnessReadFault schema bytes (LineFault number) = IsUtf8 bytes × IsFirstMisfit schema bytes number
+
+-- The answer is this pair, unless memory runs out.
+abbrev pub OkOrNoMemory : Witness → Result Witness WitnessReadFault → Type 0
+OkOrNoMemory pair (Ok found) = found ≡ pair
+OkOrNoMemory pair (Err NoMemory) = Unit {0}
+OkOrNoMemory pair (Err _) = ⊥

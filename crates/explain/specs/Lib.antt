@@ -1,3 +1,4 @@
 pub mod Printing
 pub mod Lent
 pub mod Grammar
+pub mod Reading

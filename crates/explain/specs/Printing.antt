@@ -36,9 +36,9 @@ relation_text (Some relation) = printed_name relation.name
 abbrev pub fact_text : List Relation → Fact → List ℕ
 fact_text relations fact = relation_text (slice_get relations fact.rel) ++ codes "(" ++ listed printed_value fact.row ++ codes ")\n"
 
--- the text of a refutation: the answer, and the facts of both instances
-abbrev pub witness_text : List Relation → Witness → List ℕ
-witness_text relations pair =
+-- the text of a pair: the answer, and the facts of both instances as they stand
+abbrev pub pair_text : List Relation → Witness → List ℕ
+pair_text relations pair =
     codes "no plan\nanswer " ++ listed printed_value pair.answer ++ codes "\nfirst\n" ++ flat_map (fact_text relations) pair.first
     ++ codes "second\n" ++ flat_map (fact_text relations) pair.second ++ codes "end\n"
 
@@ -61,7 +61,7 @@ pub record IsOrdered (pair ordered : Witness) : Type 0 where
 pub record IsPrintedWitness (schema : Schema) (pair : Witness) (text : List ℕ) : Type 0 where
   pub ordered : Witness
   pub is_ordered : IsOrdered pair ordered
-  pub text_is : text ≡ witness_text schema.relations ordered
+  pub text_is : text ≡ pair_text schema.relations ordered
 
 -- ---- firings
 

@@ -5,15 +5,20 @@
 #![tactic(auto)]
 
 mod decision;
+mod fault;
 mod firings;
 mod laws;
 mod listing;
+mod progress;
 mod push;
+mod read;
 mod refutation;
 
 pub use decision::decision_text;
+pub use fault::WitnessReadFault;
 pub use firings::undecided_text;
 pub use laws::printed_refutations_are_read;
+pub use read::read_witness;
 pub use refutation::witness_text;
 
 #[cfg(test)]

@@ -4,7 +4,7 @@ ghost use Rattle.std.specs.Str.{IsUtf8};
 ghost use Rattle.pq_text.specs.Utf8.{KeepsUtf8};
 ghost use Rattle.explain.specs.Grammar.{FitsSchema, IsReadAs};
 ghost use Rattle.explain.specs.Lent.{lent_fact, lent_pair};
-ghost use Rattle.explain.specs.Printing.{relation_text, fact_text, witness_text, IsPrintedWitness};
+ghost use Rattle.explain.specs.Printing.{relation_text, fact_text, pair_text, IsPrintedWitness};
 
 use crate::listing::ascending;
 use crate::push::{push_str, push_values};
@@ -44,7 +44,7 @@ fn push_refutation(
     first: &[(u32, &Row)],
     second: &[(u32, &Row)],
 ) -> Result<(), NoMemory>
-    ensures text { OnOk result (out.new.items ≡ out.old.items ++ witness_text schema.now.relations (lent_pair first.now second.now answer.now)) }
+    ensures text { OnOk result (out.new.items ≡ out.old.items ++ pair_text schema.now.relations (lent_pair first.now second.now answer.now)) }
     ensures utf8 { OnOk result (KeepsUtf8 out.old.items out.new.items) }
 {
     push_str(out, "no plan\nanswer ")?;

@@ -1,3 +1,5 @@
+ghost use Rattle.std.specs.Prelude.{◌<◌, length};
+
 use super::*;
 use access_schema::{BuildFault, NamedAtom, NamedAtoms, NamedTerm, Part, Parts, Schema, are_named};
 use lists::{NoMemory, Seq, Text, Texts};
@@ -217,5 +219,91 @@ fn other_decisions_have_their_texts(rt: HostRuntime) -> Result<(), Fail> {
         decision_text(rt.alloc(), &undecided, &schema)?.as_slice(),
         b"undecided after 0 firings\nselect 2\nend\n".as_slice()
     );
+    Ok(())
+}
+
+// ---- refutations read
+
+// The line that is told of a text, or 0 for what is read.
+fn told_line(alloc: Global, text: &[u8], schema: &Schema) -> u32
+    requires { length text.now < 1000 }
+{
+    match read_witness(alloc, text, schema) {
+        Ok(_) => 0,
+        Err(WitnessReadFault::Line { line }) => line,
+        Err(_) => 1000,
+    }
+}
+
+#[test]
+fn the_first_line_that_does_not_fit_is_told(rt: HostRuntime) -> Result<(), Fail> {
+    let schema = staff(rt.alloc())?;
+    let table = [
+        ("", 1),
+        ("no plan\nanswer '1'\nfirst\nq('1')\n", 4),
+        ("no plan\nanswer '1'\nfirst\nsecond\n", 5),
+        ("no plan\nanswer '1'\nfirst\nsecond\nend", 0),
+        ("no plan x\nanswer '1'\nfirst\nsecond\nend\n", 1),
+        ("no plan\nanswer\nfirst\nsecond\nend\n", 2),
+        ("no plan\nanswer '1'\nsecond\nend\n", 3),
+        (
+            "no plan\nanswer '1'\nfirst\n\"Udirect\"('1')\nsecond\nend\n",
+            4,
+        ),
+        (
+            "no plan\nanswer '1'\nfirst\nudirect('1', 'a')\nsecond\nend\n",
+            4,
+        ),
+        ("no plan\nanswer '1'\nfirst\nend\n", 4),
+        (
+            "no plan\nanswer '1'\nfirst\nsecond\n\"Udirect\"('1', '2') x\nend\n",
+            5,
+        ),
+        (
+            "no plan\nanswer '1\n'\nfirst\nsecond\nend\n# behind\n\nend\n",
+            9,
+        ),
+        ("no plan\nanswer '1'\nfirst\nsecond\nend\n%", 6),
+    ];
+    for (text, line) in table {
+        if text.len() < 1000 {
+            assert_eq!(rt;
+                told_line(rt.alloc(), text.as_bytes(), &schema),
+                line,
+                "{text}"
+            );
+        }
+    }
+    Ok(())
+}
+
+#[test]
+fn a_refutation_is_read_and_printed_again(rt: HostRuntime) -> Result<(), Fail> {
+    let schema = staff(rt.alloc())?;
+    let text = b"# a refutation\nNO Plan\nanswer 7 , 'it''s'\n\nfirst
+\"Udirect\" ( '9', 'b' )\nPROFINFO(1, 2, 3)\n\"Udirect\"('9', 'b') # again\nsecond\n\tend"
+        .as_slice();
+    if text.len() > 1000 {
+        return Ok(());
+    }
+    let pair = read_witness(rt.alloc(), text, &schema)?;
+    assert_eq!(rt; pair.first.len(), 3);
+    assert_eq!(rt;
+        witness_text(rt.alloc(), &pair, &schema)?.as_slice(),
+        b"no plan\nanswer '7', 'it''s'\nfirst\nprofinfo('1', '2', '3')\n\"Udirect\"('9', 'b')\nsecond\nend\n".as_slice()
+    );
+    Ok(())
+}
+
+#[test]
+fn bytes_that_are_no_text_are_told_first(rt: HostRuntime) -> Result<(), Fail> {
+    let schema = staff(rt.alloc())?;
+    let bytes = b"plan\n\xff".as_slice();
+    if bytes.len() < 1000 {
+        assert_eq!(rt;
+            read_witness(rt.alloc(), bytes, &schema).err(),
+            Some(WitnessReadFault::NotUtf8 { offset: 5 })
+        );
+    }
     Ok(())
 }

@@ -4,7 +4,7 @@ use Rattle.std.proofs.lemmas.Str.{IsUtf8-nil}
 use Rattle.meaning.specs.declared.types.Fact.{Fact}
 use Rattle.no_plan_witness.specs.declared.refutation.Witness.{Witness}
 use Rattle.explain.specs.Lent.{lent_fact, lent_pair}
-use Rattle.explain.specs.Printing.{witness_text, IsListing}
+use Rattle.explain.specs.Printing.{pair_text, IsListing}
 use Rattle.explain.proofs.PrintLaws.{printed_again}
 use Rattle.explain.proofs.refutation.witness_text.Goals as goal
 
@@ -13,7 +13,7 @@ returns-clause-text c =
     let first = c.in_ok-first.first.items in
     let second = c.in_ok-second.second.items in
     let ordered : Witness = lent_pair first second c.args.pair.now.answer in
-    let written : c.push_refutation.new.out.items ≡ witness_text c.args.schema.now.relations ordered =
+    let written : c.push_refutation.new.out.items ≡ pair_text c.args.schema.now.relations ordered =
     rw (c.new-out.ensures.items, c.as_slice-3.ensures.value, c.as_slice-4.ensures.value, c.as_slice-answer.ensures) at c.in_ok-push_refutation.ensures.text in
     record {
       ordered = ordered;

@@ -1,0 +1,226 @@
+-- A text is read as a pair exactly where it says that pair, and otherwise its first line that does not fit is told.
+use Rattle.std.proofs.Common.{◌≡◌, ℕ, List, [], ◌∷◌, ◌++◌, length, Option, None, Some, Result, Ok, Err, refl, sym, ap, subst, ◌∙◌, append_assoc, inl, inr, ◌⊎◌}
+use Rattle.std.specs.Prelude.{IfOk, IfErr}
+use Rattle.pq_text.specs.declared.lexeme.Lexeme.{Lexeme}
+use Rattle.pq_text.specs.declared.lexeme.Line.{Line}
+use Rattle.pq_text.specs.declared.lexeme.TextLines.{TextLines}
+use Rattle.pq_text.specs.Lexemes.{◌>>=◌}
+use Rattle.pq_text.specs.Lines.{AreLines, number_at}
+use Rattle.pq_text.proofs.Lexing.{lines_one}
+use Rattle.pq_text.proofs.FirstBad.{utf8_clash}
+use Rattle.access_schema.specs.declared.schema.Schema.{Schema}
+use Rattle.plan_form.specs.Grammar.{behind_tokens, written}
+use Rattle.no_plan_witness.specs.declared.refutation.Witness.{Witness}
+use Rattle.explain.specs.declared.fault.WitnessReadFault.{WitnessReadFault}
+use Rattle.explain.specs.declared.fault.WitnessReadFault.TheVariants as faults
+use Rattle.explain.specs.declared.progress.Progress.{Progress}
+use Rattle.explain.specs.declared.progress.Progress.TheVariants.{Opening, Opened, Answered, First, Second, Ended}
+use Rattle.explain.specs.Grammar.{AreWitnessLines, SaysWitness, IsWitnessText, BeginWitness, HasMisfit, Stops, IsFirstMisfit, IsWitnessReadFault, OkOrNoMemory}
+use Rattle.explain.specs.Reading.{next_at, next_progress, progress_from, witness_of, ProgressGives, HasLineFault}
+use Rattle.explain.proofs.Following.{AreRead, read_from, read-append, lines_found, witness_again, read_begin, begin_read, ended_are}
+
+-- ---- lines that have tokens
+
+behind-append : (tokens : List Lexeme) (xs ys : List (List Lexeme)) → behind_tokens tokens (xs ++ ys) ≡ behind_tokens tokens xs ++ ys
+behind-append [] xs ys = refl
+behind-append (t ∷ ts) xs ys = refl
+
+written-append : (xs ys : List Line) → written (xs ++ ys) ≡ written xs ++ written ys
+written-append [] ys = refl
+written-append (x ∷ xs) ys = ap (behind_tokens x.tokens) (written-append xs ys) ∙ behind-append x.tokens (written xs) (written ys)
+
+-- ---- all lines are read
+
+abbrev good : Progress → Result Progress ℕ
+good p = Ok p
+
+abbrev bad : ℕ → Result Progress ℕ
+bad n = Err n
+
+good_is : (a b : Progress) → good a ≡ good b → a ≡ b
+good_is a b e = cc
+
+bad_is : (a b : ℕ) → bad a ≡ bad b → a ≡ b
+bad_is a b e = cc
+
+module _ (schema : Schema) where
+  line_read : (go : Progress → Result Progress ℕ) (number : ℕ) (done last : Progress) (tokens : List Lexeme) (others : List (List Lexeme)) →
+      ((more : Progress) → go more ≡ good last → read_from schema more others ≡ Some last) → next_progress go number done tokens (next_at schema done tokens) ≡ good last → read_from schema done (behind_tokens tokens others) ≡ Some last
+  line_read go number done last [] others again e = again done e
+  line_read go number done last (t ∷ ts) others again e = step (next_at schema done (t ∷ ts)) e
+    where
+      step : (o : Option Progress) → next_progress go number done (t ∷ ts) o ≡ good last → (o >>= λ more. read_from schema more others) ≡ Some last
+      step None e = absurd cc
+      step (Some more) e = again more e
+
+  all_read : (lines : List Line) (done last : Progress) → progress_from schema done lines ≡ good last → read_from schema done (written lines) ≡ Some last
+  all_read [] done last e = ap (λ (p : Progress). Some p) (good_is done last e)
+  all_read (line ∷ lines) done last e = line_read (λ more. progress_from schema more lines) line.number done last line.tokens (written lines) (λ more h. all_read lines more last h) e
+
+  are_read : (lines : List Line) (last : Progress) → progress_from schema Opening lines ≡ good last → AreRead schema Opening (written lines) last
+  are_read lines last e = lines_found schema (written lines) Opening last tt (all_read lines Opening last e)
+  -- ---- a line does not fit
+
+record Halts (schema : Schema) (done : Progress) (lines : List Line) (number : ℕ) : Type 0 where
+  pub front : List Line
+  pub line : Line
+  pub behind : List Line
+  pub whole : lines ≡ front ++ line ∷ behind
+  pub number_is : line.number ≡ number
+  pub last : Progress
+  pub read : read_from schema done (written front) ≡ Some last
+  pub none : read_from schema last (behind_tokens line.tokens []) ≡ None
+
+module _ (schema : Schema) where
+  line_halts : (line : Line) (lines : List Line) (go : Progress → Result Progress ℕ) (number : ℕ) (done : Progress) (tokens : List Lexeme) → line.tokens ≡ tokens →
+      ((more : Progress) → go more ≡ bad number → Halts schema more lines number) → next_progress go line.number done tokens (next_at schema done tokens) ≡ bad number → Halts schema done (line ∷ lines) number
+  line_halts line lines go number done [] is again e =
+      let r = again done e in
+      record {
+        front = line ∷ r.front;
+        line = r.line;
+        behind = r.behind;
+        whole = ap (λ (ls : List Line). line ∷ ls) r.whole;
+        number_is = r.number_is;
+        last = r.last;
+        read = subst (λ (ts : List Lexeme). read_from schema done (behind_tokens ts (written r.front)) ≡ Some r.last) (sym is) r.read;
+        none = r.none;
+      }
+  line_halts line lines go number done (t ∷ ts) is again e = step (next_at schema done (t ∷ ts)) refl e
+    where
+      step : (o : Option Progress) → next_at schema done (t ∷ ts) ≡ o → next_progress go line.number done (t ∷ ts) o ≡ bad number → Halts schema done (line ∷ lines) number
+      step None at e =
+          record {
+            front = [];
+            line = line;
+            behind = lines;
+            whole = refl;
+            number_is = bad_is line.number number e;
+            last = done;
+            read = refl;
+            none = subst (λ (us : List Lexeme). read_from schema done (behind_tokens us []) ≡ None) (sym is) (ap (λ (o : Option Progress). o >>= λ more. read_from schema more []) at);
+          }
+      step (Some more) at e =
+          let r = again more e in
+          record {
+            front = line ∷ r.front;
+            line = r.line;
+            behind = r.behind;
+            whole = ap (λ (ls : List Line). line ∷ ls) r.whole;
+            number_is = r.number_is;
+            last = r.last;
+            read = subst (λ (us : List Lexeme). read_from schema done (behind_tokens us (written r.front)) ≡ Some r.last) (sym is) (ap (λ (o : Option Progress). o >>= λ more. read_from schema more (written r.front)) at ∙ r.read);
+            none = r.none;
+          }
+
+  lines_halt : (lines : List Line) (number : ℕ) (done : Progress) → progress_from schema done lines ≡ bad number → Halts schema done lines number
+  lines_halt [] number done e = absurd cc
+  lines_halt (line ∷ lines) number done e = line_halts line lines (λ more. progress_from schema more lines) number done line.tokens refl (λ more h. lines_halt lines number more h) e
+
+  none_never : (x : Progress) → None ≡ Some x → ⊥
+  none_never x e = cc
+
+  has_misfit : (lines : List Line) (number : ℕ) → progress_from schema Opening lines ≡ bad number → HasMisfit schema lines number
+  has_misfit lines number e =
+      let r = lines_halt lines number Opening e in
+      record {
+        before = r.front;
+        line = r.line;
+        after = r.behind;
+        whole = r.whole;
+        number_is = r.number_is;
+        begins = read_begin schema (written r.front) r.last (lines_found schema (written r.front) Opening r.last tt r.read);
+        none = λ begins.
+            let other = begin_read schema (written (r.front ++ r.line ∷ [])) begins in
+            let stops : read_from schema Opening (written (r.front ++ r.line ∷ [])) ≡ None =
+            ap (read_from schema Opening) (written-append r.front (r.line ∷ [])) ∙ read-append schema Opening (written r.front) (behind_tokens r.line.tokens [])
+            ∙ ap (λ (o : Option Progress). o >>= λ more. read_from schema more (behind_tokens r.line.tokens [])) r.read ∙ r.none in
+            none_never other.0 (sym stops ∙ other.1);
+      }
+
+  -- ---- texts
+
+  ended_is : (last : Progress) (pair : Witness) → witness_of last ≡ Some pair → last ≡ Ended pair
+  ended_is Opening pair e = absurd cc
+  ended_is Opened pair e = absurd cc
+  ended_is (Answered answer) pair e = absurd cc
+  ended_is (First answer first) pair e = absurd cc
+  ended_is (Second answer first second) pair e = absurd cc
+  ended_is (Ended other) pair e = cc
+
+  pub text_read : (text : List ℕ) (told : TextLines) (last : Progress) (pair : Witness) → AreLines text told → told.broken ≡ None → progress_from schema Opening told.whole ≡ good last → witness_of last ≡ Some pair → SaysWitness schema text pair
+  text_read text told last pair lines whole e ends =
+      let P : Option ℕ → TextLines = λ b. record { whole = told.whole; broken = b } in
+      let read = e ∙ ap good (ended_is last pair ends) in
+      (told.whole, subst (λ (b : Option ℕ). AreLines text (P b)) whole lines, ended_are schema (written told.whole) pair (are_read schema told.whole (Ended pair) read))
+
+  pub text_broken : (text : List ℕ) (told : TextLines) (last : Progress) (number : ℕ) → AreLines text told → told.broken ≡ Some number → progress_from schema Opening told.whole ≡ good last → IsFirstMisfit schema text number
+  text_broken text told last number lines broken e =
+      (told, lines, inr (read_begin schema (written told.whole) last (are_read schema told.whole last e), subst (λ (b : Option ℕ). Stops schema text told b number) (sym broken) refl))
+
+  pub text_early : (text : List ℕ) (told : TextLines) (last : Progress) (number : ℕ) → AreLines text told → told.broken ≡ None → progress_from schema Opening told.whole ≡ good last → witness_of last ≡ None →
+      number ≡ number_at text (length text) → IsFirstMisfit schema text number
+  text_early text told last number lines whole e early is =
+      let never : (pair : Witness) → AreWitnessLines schema (written told.whole) pair → ⊥ = λ pair are. none_pair pair (sym early ∙ ap witness_of (some_same last (Ended pair) (sym (all_read schema told.whole Opening last e) ∙ witness_again schema pair (written told.whole) are))) in
+      (told, lines, inr (read_begin schema (written told.whole) last (are_read schema told.whole last e), subst (λ (b : Option ℕ). Stops schema text told b number) (sym whole) (never, is)))
+    where
+      some_same : (a b : Progress) → Some a ≡ Some b → a ≡ b
+      some_same a b e = cc
+
+      none_pair : (pair : Witness) → None ≡ Some pair → ⊥
+      none_pair pair e = cc
+
+  pub text_misfit : (text : List ℕ) (told : TextLines) (number : ℕ) → AreLines text told → progress_from schema Opening told.whole ≡ bad number → IsFirstMisfit schema text number
+  text_misfit text told number lines e = (told, lines, inl (has_misfit told.whole number e))
+
+  pub fault_is : (text : List ℕ) (told : TextLines) (fault : WitnessReadFault) → AreLines text told → ProgressGives (Err fault) (progress_from schema Opening told.whole) → HasLineFault schema text fault
+  fault_is text told faults.NoMemory lines e = tt
+  fault_is text told (faults.NotUtf8 offset) lines e = e
+  fault_is text told (faults.Line number) lines e = text_misfit text told number lines e
+
+  -- ---- one answer
+
+  pairs_same : (a b : Witness) → Some (Ended a) ≡ Some (Ended b) → a ≡ b
+  pairs_same a b e = cc
+
+  pub pair_one : (text : List ℕ) (a b : Witness) → SaysWitness schema text a → SaysWitness schema text b → a ≡ b
+  pair_one text a b p q =
+      let P : List Line → TextLines = λ ls. record { whole = ls; broken = None } in
+      let same = ap (λ (t : TextLines). t.whole) (lines_one text (P p.0) (P q.0) p.1 q.1) in
+      let here = subst (λ (ls : List Line). AreWitnessLines schema (written ls) a) same p.2 in
+      pairs_same a b (sym (witness_again schema a (written q.0) here) ∙ witness_again schema b (written q.0) q.2)
+
+  misfit_never : (lines : List Line) (number : ℕ) (pair : Witness) → HasMisfit schema lines number → AreWitnessLines schema (written lines) pair → ⊥
+  misfit_never lines number pair m are =
+      let front = m.before ++ m.line ∷ [] in
+      let split : lines ≡ front ++ m.after = m.whole ∙ sym (append_assoc m.before (m.line ∷ []) m.after) in
+      let apart : written lines ≡ written front ++ written m.after = ap written split ∙ written-append front m.after in
+      m.none (written m.after, pair, subst (λ (ls : List (List Lexeme)). AreWitnessLines schema ls pair) apart are)
+
+  stops_never : (text : List ℕ) (told : TextLines) (b : Option ℕ) (number : ℕ) (pair : Witness) → b ≡ None → Stops schema text told b number → AreWitnessLines schema (written told.whole) pair → ⊥
+  stops_never text told (Some n) number pair e s are = cc
+  stops_never text told None number pair e s are = s.0 pair are
+
+  first_never : (text : List ℕ) (number : ℕ) (pair : Witness) (told other : TextLines) → told ≡ other → other.broken ≡ None → AreWitnessLines schema (written other.whole) pair →
+      (HasMisfit schema told.whole number ⊎ (BeginWitness schema (written told.whole) × Stops schema text told told.broken number)) → ⊥
+  first_never text number pair told other same whole are (inl m) = misfit_never told.whole number pair m (subst (λ (t : TextLines). AreWitnessLines schema (written t.whole) pair) (sym same) are)
+  first_never text number pair told other same whole are (inr s) =
+      stops_never text told told.broken number pair (ap (λ (t : TextLines). t.broken) same ∙ whole) s.1 (subst (λ (t : TextLines). AreWitnessLines schema (written t.whole) pair) (sym same) are)
+
+  -- the text of a refutation has no first line that does not fit
+  misfit_clash : (text : List ℕ) (number : ℕ) (pair : Witness) → IsFirstMisfit schema text number → SaysWitness schema text pair → ⊥
+  misfit_clash text number pair fault is =
+      let other : TextLines = record { whole = is.0; broken = None } in
+      first_never text number pair fault.0 other (lines_one text fault.0 other fault.1 is.1) refl is.2 fault.2
+
+  pub text_only : (text : List ℕ) (r : Result Witness WitnessReadFault) → IfOk r (λ pair. IsWitnessText schema text pair) → IfErr r (λ fault. HasLineFault schema text fault) → (pair : Witness) → IsWitnessText schema text pair → OkOrNoMemory pair r
+  text_only text (Ok found) read fault pair is = pair_one text found pair read.1 is.1
+  text_only text (Err faults.NoMemory) read fault pair is = tt
+  text_only text (Err (faults.NotUtf8 offset)) read fault pair is = absurd fault
+  text_only text (Err (faults.Line number)) read fault pair is = misfit_clash text number pair fault is.1
+
+  -- The text of a refutation has no fault.
+  pub no_fault : (bytes : List ℕ) (pair : Witness) (fault : WitnessReadFault) → IsWitnessText schema bytes pair → IsWitnessReadFault schema bytes fault → fault ≡ faults.NoMemory
+  no_fault bytes pair faults.NoMemory is has = refl
+  no_fault bytes pair (faults.NotUtf8 offset) is has = absurd (utf8_clash bytes offset has is.0)
+  no_fault bytes pair (faults.Line number) is has = absurd (misfit_clash bytes number pair has.1 is.1)
