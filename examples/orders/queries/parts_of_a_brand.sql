@@ -1,0 +1,2 @@
+-- the parts of the brand Nordic, also those that nobody offers
+SELECT DISTINCT name FROM part WHERE brand = 'Nordic'

@@ -1,0 +1,1 @@
+SELECT DISTINCT p.eid, p.onum FROM profinfo p, udirect d WHERE d.eid = p.eid AND p.lname = 'smith'

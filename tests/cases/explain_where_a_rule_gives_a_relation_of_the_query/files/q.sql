@@ -1,0 +1,1 @@
+SELECT DISTINCT r.a, r.b FROM r, s WHERE s.a = r.a

@@ -1,0 +1,1 @@
+SELECT DISTINCT t1.a, t2.a, t3.a, t4.a, t5.a, t6.a, t7.a, t8.a, t9.a, t10.a FROM r AS t1, r AS t2, r AS t3, r AS t4, r AS t5, r AS t6, r AS t7, r AS t8, r AS t9, r AS t10

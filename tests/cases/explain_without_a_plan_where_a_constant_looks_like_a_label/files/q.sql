@@ -1,0 +1,1 @@
+SELECT DISTINCT eid FROM profinfo WHERE lname = '_1'

@@ -1,0 +1,1 @@
+SELECT DISTINCT x.a FROM r AS x, r AS y WHERE x.a = y.a AND x.b = y.b

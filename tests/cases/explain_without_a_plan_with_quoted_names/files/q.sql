@@ -1,0 +1,1 @@
+SELECT DISTINCT t.a FROM "Two words" AS t, _x WHERE t."b""c" = 'it''s' AND _x.a = ''

@@ -1,0 +1,1 @@
+SELECT DISTINCT t4.c, s.a FROM r AS t1, r AS t2, r AS t3, r AS t4, s WHERE s.a = t1.a

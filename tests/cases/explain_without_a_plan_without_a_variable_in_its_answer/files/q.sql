@@ -1,0 +1,1 @@
+SELECT DISTINCT 'it''s', 1 FROM r WHERE b = 'x'

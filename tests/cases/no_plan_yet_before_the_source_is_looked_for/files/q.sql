@@ -1,1 +1,0 @@
-SELECT DISTINCT a FROM r WHERE b = 'y'

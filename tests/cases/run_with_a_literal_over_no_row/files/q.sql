@@ -1,0 +1,1 @@
+SELECT DISTINCT 'yes' FROM r
