@@ -131,7 +131,7 @@ fn words_that_are_no_command_are_not_understood(rt: HostRuntime) -> Result<(), F
 #[test]
 fn each_refusal_has_its_status_and_its_line(rt: HostRuntime) -> Result<(), Fail> {
     let xlsx: &[u8] = b"relation r(a, b)\nmethod all_r on r() cost 1\nsource r xlsx 'r.csv'\n";
-    let cases: [(&[u8], &[u8], &[u8], u8, bool, &[u8]); 9] = [
+    let cases: [(&[u8], &[u8], &[u8], u8, bool, &[u8]); 8] = [
         (
             b"relation r(a, b)\nrelation\n",
             QUERY,
@@ -155,14 +155,6 @@ fn each_refusal_has_its_status_and_its_line(rt: HostRuntime) -> Result<(), Fail>
             4,
             false,
             b"query: unknown name at byte 16\n",
-        ),
-        (
-            b"relation r(a, b)\nsource r csv 'r.csv'\n",
-            QUERY,
-            DATA,
-            4,
-            false,
-            b"query: no plan yet\n",
         ),
         (
             b"relation r(a, b)\nmethod all_r on r() cost 1\n",
@@ -206,6 +198,39 @@ fn each_refusal_has_its_status_and_its_line(rt: HostRuntime) -> Result<(), Fail>
         let plan: &[u8] = if planned { PLAN } else { b"" };
         assert_eq!(rt; got.err.strip_prefix(plan), Some(line));
     }
+    Ok(())
+}
+
+#[test]
+fn a_decision_is_explained_and_told_before_a_run(rt: HostRuntime) -> Result<(), Fail> {
+    let closed: &[u8] = b"relation r(a, b)\nsource r csv 'r.csv'\n";
+    let none: &[u8] = b"no plan\nanswer '_2'\nfirst\nr('_1', '_2')\nsecond\nend\n";
+    let spent: &[u8] = b"undecided after 0 firings\nselect 1\nend\n";
+    let cases: [(&[u8], &str, u8, &[u8]); 3] = [
+        (SCHEMA, "--firings=1", 0, PLAN),
+        (closed, "--firings=1", 1, none),
+        (SCHEMA, "--firings=0", 2, spent),
+    ];
+    for (schema, budget, code, text) in cases {
+        let files: [(&str, &[u8]); 3] = [("s", schema), ("q", QUERY), ("r.csv", DATA)];
+        let shown = outcome_of(rt.alloc(), &["explain", budget, "s", "q"], &files, &[], &[])?;
+        assert_eq!(rt; shown.code, code);
+        assert_eq!(rt; shown.out.as_slice(), text);
+        assert_eq!(rt; shown.err.len(), 0);
+        let ran = outcome_of(rt.alloc(), &["run", "s", budget, "q"], &files, &[], &[])?;
+        assert_eq!(rt; ran.code, code);
+        assert_eq!(rt; ran.err.as_slice(), text);
+        assert_eq!(rt; ran.out.is_empty(), code != 0);
+    }
+    Ok(())
+}
+
+#[test]
+fn help_names_the_commands(rt: HostRuntime) -> Result<(), Fail> {
+    let got = outcome_of(rt.alloc(), &["help"], &[], &[], &[])?;
+    assert_eq!(rt; got.code, 0);
+    assert_eq!(rt; got.err.len(), 0);
+    assert!(rt; got.out.starts_with(b"usage: pdq COMMAND\n"));
     Ok(())
 }
 
