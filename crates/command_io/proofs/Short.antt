@@ -1,5 +1,5 @@
 -- A plan with few steps is short enough to be executed.
-use Rattle.std.proofs.Common.{◌≡◌, ◌≤◌, List, [], ◌∷◌, length, inl, inr, subst, arith}
+use Rattle.std.proofs.Common.{◌≤◌, List, [], ◌∷◌, length, inl, inr, subst, arith}
 use Rattle.std.specs.Prelude.{Contains}
 use Rattle.std.specs.List.{AllByRecursion}
 use Rattle.lists.proofs.Members.{contains_cases}

@@ -1,10 +1,10 @@
 -- What the words of a command set, and what its ends rest on.
-use Rattle.std.proofs.Common.{◌≡◌, ◌≤◌, ℕ, List, [], ◌∷◌, None, Result, arith}
+use Rattle.std.proofs.Common.{◌≤◌, ℕ, List, None, Result, arith}
 use Rattle.rule_pass.specs.declared.pass.TheConstants.{MOST_FIRINGS}
 use Rattle.command_words.specs.Splits.{Item, IsSet}
 use Rattle.command_words.specs.Splits.IsSet.{Once, Absent}
 use Rattle.command_words.specs.declared.table.OptionName.TheVariants.{Firings}
-use Rattle.command_words.specs.Words.{Command, IsCommand}
+use Rattle.command_words.specs.Words.{IsCommand}
 use Rattle.command_words.specs.Words.Command.{Explain, Run}
 use Rattle.command_io.specs.declared.stop.Stop.{Stop}
 use Rattle.command_io.specs.declared.outcome.Outcome.{Outcome}

@@ -44,20 +44,20 @@ pub fn run_words<F: Files, S: Source + Send + Drop, O: Sink, E: Sink>(
         None => status(&say(err, b"words: not understood\n", Stop::Words)),
         Some(Command::Help) => ended(print_usage(alloc, out, err)),
         Some(Command::Schema { schema }) => ended(print_schema(alloc, schema, files, out, err)),
-        Some(Command::Explain {
-            schema,
-            query,
-            firings,
-        }) => ended(explain_query(
-            alloc, schema, query, firings, files, out, err,
-        )),
-        Some(Command::Run {
-            schema,
-            query,
-            firings,
-        }) => ended(run_query(
-            alloc, schema, query, firings, files, lanes, out, err,
-        )),
+        Some(
+            Command::Explain {
+                schema,
+                query,
+                firings,
+            },
+        ) => ended(explain_query(alloc, schema, query, firings, files, out, err)),
+        Some(
+            Command::Run {
+                schema,
+                query,
+                firings,
+            },
+        ) => ended(run_query(alloc, schema, query, firings, files, lanes, out, err)),
         Some(Command::Exec { schema, plan }) => {
             ended(exec_plan(alloc, schema, plan, files, lanes, out, err))
         }

@@ -1,5 +1,5 @@
 -- A decision is right, and its text shows it.
-use Rattle.std.proofs.Common.{◌≡◌, ◌≢◌, ◌≤◌, ℕ, List, [], ◌∷◌, length, refl, sym, ap, ◌∙◌, subst, arith}
+use Rattle.std.proofs.Common.{◌≡◌, ◌≢◌, ℕ, List, [], ◌∷◌, length, refl, sym, ap, ◌∙◌, subst, arith}
 use Rattle.std.specs.Prelude.{Contains}
 use Rattle.std.specs.Str.{IsUtf8}
 use Rattle.lists.proofs.Members.{contains_here}
@@ -17,7 +17,7 @@ use Rattle.plan_form.specs.Printing.{plan_text}
 use Rattle.plan_form.proofs.PrintLaws.{printed_again as plan_again}
 use Rattle.no_plan_witness.specs.declared.refutation.Witness.{Witness}
 use Rattle.no_plan_witness.specs.declared.decision.Decision.{Decision}
-use Rattle.no_plan_witness.specs.declared.decision.Decision.TheVariants.{Plan, NoPlan, Undecided}
+use Rattle.no_plan_witness.specs.declared.decision.Decision.TheVariants.{NoPlan}
 use Rattle.explain.specs.Printing.{IsDecisionText}
 use Rattle.explain.specs.Grammar.{FitsSchema, IsReadAs}
 use Rattle.explain.proofs.PrintLaws.{printed_again}

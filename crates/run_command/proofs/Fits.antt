@@ -18,7 +18,7 @@ use Rattle.meaning.specs.Plans.{made, AreLawfulPlaces, IsLawfulOut, IsLawfulStep
 use Rattle.access_schema.specs.declared.schema.Schema.{Schema}
 use Rattle.access_schema.specs.Meaning.{meaning_of}
 use Rattle.sql_select.specs.Statements.{StatementFits}
-use Rattle.plan_form.specs.Fitting.{IsWritablePlace, IsWritableOut, IsWritableStep, IsWritableBranch, HasFewSteps, PlanFits}
+use Rattle.plan_form.specs.Fitting.{IsWritablePlace, IsWritableOut, IsWritableStep, IsWritableBranch, PlanFits}
 use Rattle.proof_search.specs.Plans.{IsPlanFor, HasFewSteps as HasFewPlanned, known_of}
 
 -- what holds of each member holds of all, and the other way round

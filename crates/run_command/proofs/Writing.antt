@@ -1,5 +1,5 @@
 -- What a sink took of the text of a decision.
-use Rattle.std.proofs.Common.{◌≡◌, ℕ, List, Option, Result, Ok, Err, inr}
+use Rattle.std.proofs.Common.{ℕ, List, Option, Result, Ok, Err, inr}
 use Rattle.std.specs.Prelude.{OnOk, OnErr}
 use Rattle.std.specs.Str.{IsUtf8}
 use Rattle.access_schema.specs.declared.schema.Schema.{Schema}

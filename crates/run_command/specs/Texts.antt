@@ -1,5 +1,4 @@
 -- Why the texts of a statement are not read.
-use Rattle.std.specs.Prelude.{ℕ, List, []}
 use Rattle.access_schema.specs.declared.schema.Schema.{Schema}
 use Rattle.source_trait.specs.Causes.{Rose}
 use Rattle.command_io.specs.declared.stop.Stop.{Stop}

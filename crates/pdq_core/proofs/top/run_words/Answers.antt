@@ -38,7 +38,7 @@ returns-in-Some-Schema-clause-lanes g c = LanesStay-refl g.S.Source.seen c.args.
 pub returns-in-Some-Explain-clause-run : goal.returns-in-Some-Explain-clause-run
 returns-in-Some-Explain-clause-run g c =
     let is : IsCommand c.args.words.now (Explain c.in-Some-Explain.schema.now c.in-Some-Explain.query.now c.in-Some-Explain.firings) =
-        rw c.in-Some-Explain.field-0-is at c.in-Some-Explain.ensures.some in
+    rw c.in-Some-Explain.field-0-is at c.in-Some-Explain.ensures.some in
     rw c.ended-in-Some-Explain.ensures (explain c.in-Some-Explain.schema.now c.in-Some-Explain.query.now c.in-Some-Explain.firings c.explain_query.result is c.explain_query.ensures.ends refl)
 
 pub returns-in-Some-Explain-clause-lanes : goal.returns-in-Some-Explain-clause-lanes
@@ -52,12 +52,15 @@ explain_query-requires g c =
 pub returns-in-Some-Run-clause-run : goal.returns-in-Some-Run-clause-run
 returns-in-Some-Run-clause-run g c =
     let is : IsCommand c.args.words.now (Run c.in-Some-Run.schema.now c.in-Some-Run.query.now c.in-Some-Run.firings) =
-        rw c.in-Some-Run.field-0-is at c.in-Some-Run.ensures.some in
+    rw c.in-Some-Run.field-0-is at c.in-Some-Run.ensures.some in
     rw c.ended-in-Some-Run.ensures (run c.in-Some-Run.schema.now c.in-Some-Run.query.now c.in-Some-Run.firings c.run_query.result is c.run_query.ensures.ends)
 
 pub run_query-requires : goal.run_query-requires
-run_query-requires g c = (c.type_bounds.send-S, few_run c.args.words.now c.in-Some-Run.schema.now c.in-Some-Run.query.now c.in-Some-Run.firings
-    (rw c.in-Some-Run.field-0-is at c.in-Some-Run.ensures.some))
+run_query-requires g c = (
+  c.type_bounds.send-S,
+  few_run c.args.words.now c.in-Some-Run.schema.now c.in-Some-Run.query.now c.in-Some-Run.firings
+      (rw c.in-Some-Run.field-0-is at c.in-Some-Run.ensures.some),
+)
 
 pub returns-in-Some-Exec-clause-run : goal.returns-in-Some-Exec-clause-run
 returns-in-Some-Exec-clause-run g c =
