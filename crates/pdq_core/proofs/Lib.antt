@@ -1,1 +1,5 @@
 pub mod Ways
+pub mod CompleteTexts
+pub mod CompleteSources
+pub mod CompleteSchema
+pub mod CompleteVerify
