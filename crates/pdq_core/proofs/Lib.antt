@@ -1,5 +1,10 @@
 pub mod Ways
 pub mod CompleteTexts
 pub mod CompleteSources
+pub mod CompleteExecution
 pub mod CompleteSchema
+pub mod CompleteExplain
+pub mod CompleteRun
+pub mod CompleteExec
 pub mod CompleteVerify
+pub mod Complete
