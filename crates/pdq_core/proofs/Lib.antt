@@ -8,3 +8,4 @@ pub mod CompleteRun
 pub mod CompleteExec
 pub mod CompleteVerify
 pub mod Complete
+pub mod Statuses

@@ -6,6 +6,7 @@ ghost use Rattle.command_io.specs.Moments.{Moment};
 ghost use Rattle.command_words.specs.Words.{Command, IsCommand};
 ghost use Rattle.pdq_core.specs.Runs.{Runs};
 ghost use Rattle.pdq_core.specs.Complete.{NoneRose, IsSupplied, IsAnswered};
+ghost use Rattle.pdq_core.specs.Statuses.{SaysOf};
 
 use command_words::words_are_one_command;
 use source_trait::Source;
@@ -16,6 +17,15 @@ pub fn runs_without_faults_are_answered<S: Source>()
     ensures { (words : List (List ℕ)) (command : Command) (before after : Moment) (old new : List (Lane S)) (status : Status) →
         Runs S.seen words before after old new status → IsCommand words command → NoneRose before after →
         IsSupplied S.seen command before after old new → IsAnswered status }
+{
+    words_are_one_command();
+}
+
+/// The status of `explain` and of `run` is right. `Done` says that some lawful plan is equivalent to the statement, `No` that
+/// none is, and `Undecided` that there is a longer ordered run than the firings given.
+pub fn statuses_are_right<S: Source>()
+    ensures { (words : List (List ℕ)) (command : Command) (before after : Moment) (old new : List (Lane S)) (status : Status) →
+        Runs S.seen words before after old new status → IsCommand words command → SaysOf command before.files status }
 {
     words_are_one_command();
 }
