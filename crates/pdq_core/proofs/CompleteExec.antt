@@ -45,5 +45,5 @@ module _ {S : Type 0} (seen : S → Seen) where
       let names : Names = record { schema = name; query = []; plan = its; relations = other.relations } in
       let may_run : MayRun other another = subst (λ (s : Schema). MayRun s another) schemas (subst (λ (p : Plan). MayRun schema p) plans may) in
       let executable : CanExecute seen other another old new =
-          subst (λ (s : Schema). CanExecute seen s another old new) schemas (subst (λ (p : Plan). CanExecute seen schema p old new) plans can) in
+      subst (λ (s : Schema). CanExecute seen s another old new) schemas (subst (λ (p : Plan). CanExecute seen schema p old new) plans can) in
       plan_answered other another names before after old new result calm may_run executable ends

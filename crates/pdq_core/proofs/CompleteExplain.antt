@@ -24,7 +24,7 @@ module _ (names : Names) (before after : Moment) (calm : NoneRose before after) 
   texts_answered given query_given end (no_schema its why) = stop_answered its (schema_stop before.files names.schema _ calm.files schema given) why
   texts_answered given query_given end (no_statement other its is why) =
       let query : QueryIsGiven before.files names.query other statement =
-          subst (λ (s : Schema). QueryIsGiven before.files names.query s statement) (same_schema before.files names.schema schema other given is) query_given in
+      subst (λ (s : Schema). QueryIsGiven before.files names.query s statement) (same_schema before.files names.schema schema other given is) query_given in
       stop_answered its (query_stop before.files names.query _ calm.files other statement query) why
 
 decision_answered : (schema : Schema) (statement : Statement) (firings : ℕ) (names : Names) (before after : Moment) (result : Result Outcome Stop) → NoneRose before after →

@@ -71,6 +71,6 @@ run_answered {S = S} seen name query firings before after old new result calm sc
     let statements = same_statement before.files query other statement its query_is are in
     let names : Names = record { schema = name; query = query; plan = []; relations = other.relations } in
     let able : (plan : Plan) → IsPlanned other its plan → IsPrinted plan before after → CanExecute seen other plan old new =
-        subst (λ (t : Statement). (plan : Plan) → IsPlanned other t plan → IsPrinted plan before after → CanExecute seen other plan old new) statements
-        (subst (λ (s : Schema). (plan : Plan) → IsPlanned s statement plan → IsPrinted plan before after → CanExecute seen s plan old new) schemas can) in
+    subst (λ (t : Statement). (plan : Plan) → IsPlanned other t plan → IsPrinted plan before after → CanExecute seen other plan old new) statements
+    (subst (λ (s : Schema). (plan : Plan) → IsPlanned s statement plan → IsPrinted plan before after → CanExecute seen s plan old new) schemas can) in
     statement_answered seen other its names before after old new calm able firings result ends

@@ -73,7 +73,7 @@ module _ {S : Type 0} (seen : S → Seen) where
     none_refused rels middle rel fault are needed apart order one =
         let moved = StepsOn-source middle new (λ s t. AttachGives (seen s) (seen t) rel one.relation.columns one.line.locator (Err fault)) one.line.kind one.steps in
         let fine : IfSome (offered_now (seen moved.before) rel one.relation.columns one.line.locator) IsOk =
-            serve.offers rels middle are order rel needed one.relation one.line moved.before one.relation_is one.line_is moved.was in
+        serve.offers rels middle are order rel needed one.relation one.line moved.before one.relation_is one.line_is moved.was in
         let gives : AttachGives (seen moved.before) (seen moved.after) rel one.relation.columns one.line.locator (Err fault) = moved.steps in
         none_rose middle one.line.kind moved.before moved.after (order_stays seen schema rels old middle order) moved.was moved.now
         (refused_for fault (offered_now (seen moved.before) rel one.relation.columns one.line.locator) (Rose (seen moved.before).faults (seen moved.after).faults) apart fine gives.cause)

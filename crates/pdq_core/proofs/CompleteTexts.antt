@@ -37,7 +37,7 @@ same_text : {P Q : List ℕ → Type 0} (told : Option Contents) (name : List �
     (text : List ℕ) × P text × Q text
 same_text {P = P} {Q = Q} told name limit given is =
     let at : IfSome (Some given.files) (λ (files : Contents). bytes_of files name ≡ Some is.bytes) =
-        subst (λ (t : Option Contents). IfSome t (λ (files : Contents). bytes_of files name ≡ Some is.bytes)) given.are_told is.of_file in
+    subst (λ (t : Option Contents). IfSome t (λ (files : Contents). bytes_of files name ≡ Some is.bytes)) given.are_told is.of_file in
     let e : is.bytes ≡ given.bytes = some_injective is.bytes given.bytes (sym at ∙ given.there) in
     (without_mark given.bytes, given.holds, subst (λ (bytes : List ℕ). Q (without_mark bytes)) e is.holds)
 
@@ -73,7 +73,7 @@ module _ (told : Option Contents) (name : List ℕ) (rose : Type 0) (calm : rose
       cc
   no_cause limit given file.TooLarge cause =
       let long : IsSomeAnd (bytes_of given.files name) (λ bytes. limit < length bytes) =
-          subst (λ (t : Option Contents). MatchOption t rose (λ files. IsSomeAnd (bytes_of files name) (λ bytes. limit < length bytes))) given.are_told cause in
+      subst (λ (t : Option Contents). MatchOption t rose (λ files. IsSomeAnd (bytes_of files name) (λ bytes. limit < length bytes))) given.are_told cause in
       let longer : limit < length given.bytes = subst (λ (o : Option (List ℕ)). IsSomeAnd o (λ bytes. limit < length bytes)) given.there long in
       let within = given.within in
       omega (arith, longer, within)

@@ -60,7 +60,7 @@ module _ {S : Type 0} (seen : S → Seen) where
           let moved = StepsOn-source breaks.middle new (λ s t. CallGives (seen s) (seen t) rel [] [] (Err call.Failed)) one.line.kind one.steps in
           let gives : CallGives (seen moved.before) (seen moved.after) rel [] [] (Err call.Failed) = moved.steps in
           let stay : KindsStay seen old breaks.middle =
-              KindsStay-trans seen old middle breaks.middle (order_stays seen schema rels old middle order) (asks_stay (take breaks.n rels) breaks.facts middle breaks.middle breaks.asked) in
+          KindsStay-trans seen old middle breaks.middle (order_stays seen schema rels old middle order) (asks_stay (take breaks.n rels) breaks.facts middle breaks.middle breaks.asked) in
           absurd (none_rose seen schema (RulesName schema) old new serve breaks.middle one.line.kind moved.before moved.after stay moved.was moved.now (gives.failed refl))
       verify_stop result (verified found finds) = tt
 
@@ -70,7 +70,7 @@ module _ {S : Type 0} (seen : S → Seen) where
   verify_answered name before after old new result calm schema given serve (no_schema end why quiet same) = stop_answered end (schema_stop before.files name _ calm.files schema given) why
   verify_answered name before after old new result calm schema given serve (stopped its why end is verifies same told quiet) =
       let serves : Serve seen its (RulesName its) (used old) (used new) =
-          subst (λ (s : Schema). Serve seen s (RulesName s) (used old) (used new)) (same_schema before.files name schema its given is) serve in
+      subst (λ (s : Schema). Serve seen s (RulesName s) (used old) (used new)) (same_schema before.files name schema its given is) serve in
       let memory : why ≡ stop.Memory = verify_stop its (used old) (used new) serves (Err why) verifies in
       stop_answered end (λ its_end e. e ∙ memory) told
   verify_answered name before after old new result calm schema given serve (cut its found end is verifies same took told) = stop_answered end (result_stop _ calm.out) told
