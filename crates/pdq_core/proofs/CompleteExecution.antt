@@ -46,13 +46,13 @@ module _ {S : Type 0} where
       call_stop cap branch step h =
           let fails = h.fails in
           let stay : KindsStay seen old fails.before =
-          KindsStay-trans seen old h.middle fails.before (order_stays seen schema h.attaches.rels old h.middle h.attaches.order) fails.asks_earlier.stay in
+              KindsStay-trans seen old h.middle fails.before (order_stays seen schema h.attaches.rels old h.middle h.attaches.order) fails.asks_earlier.stay in
           none_rose seen schema (IsAccessed schema plan) old new serve fails.before fails.line.kind fails.rose.before fails.rose.after stay fails.rose.was fails.rose.now fails.rose.steps
 
       cap_stop : (cap made wanted : ℕ) → HoldWithin seen schema plan cap new → CapStops seen schema plan cap made wanted old new → ⊥
       cap_stop cap made wanted within h =
           let before = h.asked within.instance within.held in
-          let fits = within.fits before.branch before.step before.earlier before.now before.round in
+          let fits = within.within before.branch before.step before.earlier before.now before.round in
           let over = h.over in
           let is = before.made_is in
           let most = before.wanted_is in

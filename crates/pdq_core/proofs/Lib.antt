@@ -9,3 +9,4 @@ pub mod CompleteExec
 pub mod CompleteVerify
 pub mod Complete
 pub mod Statuses
+pub mod CompleteOffers

@@ -1,5 +1,5 @@
 -- What a run without faults is given, command by command, and the statuses with which it ends.
-use Rattle.std.specs.Prelude.{◌≡◌, ◌≤◌, ◌<◌, ◌+◌, ◌++◌, ℕ, List, Contains, Option, None, Some, IfSome, IsSome, IsOk, length, slice_get}
+use Rattle.std.specs.Prelude.{◌≡◌, ◌≤◌, ◌<◌, ◌+◌, ◌++◌, ℕ, List, Contains, Bool, false, Option, None, Some, IfSome, IsSome, IsOk, Ok, length, slice_get}
 use Rattle.meaning.specs.declared.types.Fact.{Fact}
 use Rattle.meaning.specs.declared.types.Plan.{Plan}
 use Rattle.meaning.specs.declared.types.Relation.{Relation}
@@ -12,16 +12,16 @@ use Rattle.tgd_reader.specs.SchemaText.{IsSchemaText}
 use Rattle.sql_select.specs.Statements.{IsStatementText}
 use Rattle.plan_form.specs.Grammar.{IsPlanText}
 use Rattle.plan_form.specs.Printing.{plan_text}
-use Rattle.source_trait.specs.Asking.{Seen, offered_now}
+use Rattle.source_trait.specs.Asking.{RowList, Seen, offered_now, facts_of}
 use Rattle.source_trait.specs.Causes.{Rose}
-use Rattle.source_trait.specs.Lanes.{source_of}
+use Rattle.source_trait.specs.Lanes.{source_of, AtKind}
 use Rattle.source_trait.specs.Outside.{bytes_of}
 use Rattle.source_trait.specs.declared.lanes.Kind.{Kind}
 use Rattle.source_trait.specs.declared.lanes.Lane.{Lane}
 use Rattle.middleware.specs.PlanSources.{line_for, IsAccessed}
 use Rattle.middleware.specs.Attaching.{AttachesInOrder, AllAttached}
 use Rattle.middleware.specs.Asked.{IsRoundAt}
-use Rattle.middleware.specs.Held.{HoldPlan}
+use Rattle.middleware.specs.Held.{HoldPlan, SameFacts}
 use Rattle.command_io.specs.declared.delivery.TheConstants.{CALLS}
 use Rattle.command_io.specs.declared.exit_status.Status.{Status}
 use Rattle.command_io.specs.declared.exit_status.Status.TheVariants as is
@@ -77,6 +77,11 @@ OffersRows {S} seen schema kinds rel = (relation : Relation) (line : SourceLine)
     slice_get schema.relations rel ≡ Some relation → line_for rel schema.sources ≡ Some line → source_of kinds line.kind ≡ Some source →
     IfSome (offered_now (seen source) rel relation.columns line.locator) IsOk
 
+-- No count of faults of a source of the lane rose.
+abbrev pub NoSourceRose : {S : Type 0} → (S → Seen) → List (Kind S) → List (Kind S) → Type 0
+NoSourceRose {S} seen old new = (kind : List ℕ) (before after : S) → source_of old kind ≡ Some before → source_of new kind ≡ Some after →
+    Rose (seen before).faults (seen after).faults → ⊥
+
 -- The sources of the used lane, from before a command to after it, serve the relations that it needs.
 pub record Serve {S : Type 0} (seen : S → Seen) (schema : Schema) (IsNeeded : ℕ → Type 0) (old new : List (Kind S)) : Type 0 where
   -- each of the relations has a source line, of a kind that the lane has
@@ -85,16 +90,18 @@ pub record Serve {S : Type 0} (seen : S → Seen) (schema : Schema) (IsNeeded : 
   -- whichever of them are attached before it, what is offered of each is rows
   pub offers : (rels : List ℕ) (middle : List (Kind S)) → ((other : ℕ) → Contains rels other → IsNeeded other) →
       AttachesInOrder seen schema rels old middle → (rel : ℕ) → IsNeeded rel → OffersRows seen schema middle rel
-  -- no count of faults of a source rose
-  pub faults : (kind : List ℕ) (before after : S) → source_of old kind ≡ Some before → source_of new kind ≡ Some after →
-      Rose (seen before).faults (seen after).faults → ⊥
+  pub faults : NoSourceRose seen old new
 
--- The sources hold some instance, and no round of the plan on it passes the cap on requests.
+-- No round of the plan on the instance passes the cap on requests.
+abbrev pub KeepsCap : Schema → Plan → List Fact → ℕ → Type 0
+KeepsCap schema plan instance cap = (branch step : ℕ) (earlier now : List Request) → IsRoundAt (meaning_of schema) plan instance branch step earlier now →
+    length earlier + length now ≤ cap
+
+-- The sources hold some instance, on which no round of the plan passes the cap.
 pub record HoldWithin {S : Type 0} (seen : S → Seen) (schema : Schema) (plan : Plan) (cap : ℕ) (kinds : List (Kind S)) : Type 0 where
   pub instance : List Fact
   pub held : HoldPlan seen schema plan kinds instance
-  pub fits : (branch step : ℕ) (earlier now : List Request) → IsRoundAt (meaning_of schema) plan instance branch step earlier now →
-      length earlier + length now ≤ cap
+  pub within : KeepsCap schema plan instance cap
 
 -- There is a lane, its sources serve the plan's relations, and where all of these came to be attached, no round passes the cap.
 pub record CanExecute {S : Type 0} (seen : S → Seen) (schema : Schema) (plan : Plan) (old new : List (Lane S)) : Type 0 where
@@ -102,11 +109,28 @@ pub record CanExecute {S : Type 0} (seen : S → Seen) (schema : Schema) (plan :
   pub serve : Serve seen schema (IsAccessed schema plan) (used old) (used new)
   pub within : AllAttached seen schema plan (used old) (used new) → HoldWithin seen schema plan CALLS (used new)
 
--- What standard error took, where that is told, begins with the plan's text.
-abbrev pub IsPrinted : Plan → Moment → Moment → Type 0
-IsPrinted plan before after = (rest : List ℕ) × TookAll before.err after.err (plan_text plan ++ rest)
+-- ---- sources that tell
+
+-- A source tells what it holds, and its offer of the relation, which are just the rows of the instance.
+pub record OffersFacts (seen : Seen) (rel : ℕ) (columns : List (List ℕ)) (locator : List ℕ) (instance : List Fact) : Type 0 where
+  pub rows : RowList
+  pub tells : IsSome seen.held
+  pub offered : seen.offer rel columns locator ≡ Some (Ok rows)
+  pub same : SameFacts rel (facts_of rel rows) instance
+
+-- The sources of a lane offer the instance as far as these relations go, and never pass a limit on all attached data.
+pub record OfferInstance {S : Type 0} (seen : S → Seen) (schema : Schema) (IsNeeded : ℕ → Type 0) (kinds : List (Kind S)) (instance : List Fact) : Type 0 where
+  pub lines : (rel : ℕ) → IsNeeded rel → IsSome (line_for rel schema.sources)
+  pub kinds_are : (rel : ℕ) (line : SourceLine) → IsNeeded rel → line_for rel schema.sources ≡ Some line → IsSome (source_of kinds line.kind)
+  pub limitless : (source : S) (rel : ℕ) (locator : List ℕ) → (seen source).passes rel locator ≡ false
+  pub facts : (rel : ℕ) (relation : Relation) (line : SourceLine) → IsNeeded rel → slice_get schema.relations rel ≡ Some relation → line_for rel schema.sources ≡ Some line →
+      AtKind kinds line.kind (λ source. OffersFacts (seen source) rel relation.columns line.locator instance)
 
 -- ---- commands
+
+-- What standard error took begins with the plan's text, where that is told.
+abbrev pub IsPrinted : Plan → Moment → Moment → Type 0
+IsPrinted plan before after = (rest : List ℕ) × TookAll before.err after.err (plan_text plan ++ rest)
 
 -- The texts that the words name are given, a plan that is named may run, and the sources serve what the command needs: the relations
 -- of the plan that is executed, which for `run` is the one that was printed; or those that the rules name.
