@@ -28,17 +28,17 @@ module _ {S : Type 0} (seen : S → Seen) (words : List (List ℕ)) (command : C
       let (schema, given) = its (Print name) also in
       schema_answered name before after result calm schema given ends
   answered status calm (explain name query firings result also ends same) =
-      let (schema, statement, given, query_given) = its (Explain name query firings) also in
-      explain_answered name query firings before after result calm schema statement given query_given ends
+      let given = its (Explain name query firings) also in
+      explain_answered name query firings before after result calm given.schema given.statement given.schema_given given.query_given ends
   answered status calm (run name query firings result also ends) =
-      let (schema, statement, given, query_given, can) = its (Run name query firings) also in
-      run_answered seen name query firings before after old new result calm schema statement given query_given can ends
+      let given = its (Run name query firings) also in
+      run_answered seen name query firings before after old new result calm given.texts.schema given.texts.statement given.texts.schema_given given.texts.query_given given.execution ends
   answered status calm (exec name plan result also ends) =
-      let (schema, its_plan, given, plan_given, may, can) = its (Exec name plan) also in
-      exec_answered seen name plan before after old new result calm schema its_plan given plan_given may can ends
+      let given = its (Exec name plan) also in
+      exec_answered seen name plan before after old new result calm given.schema given.plan given.schema_given given.plan_given given.lawful given.execution ends
   answered status calm (verify name result also ends) =
-      let (schema, given, serve) = its (Verify name) also in
-      verify_answered seen name before after old new result calm schema given serve ends
+      let given = its (Verify name) also in
+      verify_answered seen name before after old new result calm given.schema given.schema_given given.serve ends
 
 pub whole : {S : Type 0} (seen : S → Seen) → ((words : List (List ℕ)) (command other : Command) → IsCommand words command → IsCommand words other → command ≡ other) → (words : List (List ℕ)) (command : Command) (before after : Moment) (old new : List (Lane S)) (status : Status) →
     Runs seen words before after old new status → IsCommand words command → NoneRose before after → IsSupplied seen command before after old new → IsAnswered status

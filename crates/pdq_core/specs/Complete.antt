@@ -132,18 +132,38 @@ pub record OfferInstance {S : Type 0} (seen : S → Seen) (schema : Schema) (IsN
 abbrev pub IsPrinted : Plan → Moment → Moment → Type 0
 IsPrinted plan before after = (rest : List ℕ) × TookAll before.err after.err (plan_text plan ++ rest)
 
--- The texts that the words name are given, a plan that is named may run, and the sources serve what the command needs: the relations
--- of the plan that is executed, which for `run` is the one that was printed; or those that the rules name.
+-- The texts of a schema and of a statement over it are given.
+pub record TextsAreGiven (told : Option Contents) (name query : List ℕ) : Type 0 where
+  pub schema : Schema
+  pub statement : Statement
+  pub schema_given : SchemaIsGiven told name schema
+  pub query_given : QueryIsGiven told query schema statement
+
+-- For `run`: the texts are given, and the plan for the statement that was printed can be executed.
+pub record RunIsSupplied {S : Type 0} (seen : S → Seen) (name query : List ℕ) (before after : Moment) (old new : List (Lane S)) : Type 0 where
+  pub texts : TextsAreGiven before.files name query
+  pub execution : (plan : Plan) → IsPlanned texts.schema texts.statement plan → IsPrinted plan before after → CanExecute seen texts.schema plan old new
+
+-- For `exec`: the texts are given, and the plan is lawful and can be executed.
+pub record ExecIsSupplied {S : Type 0} (seen : S → Seen) (name its : List ℕ) (told : Option Contents) (old new : List (Lane S)) : Type 0 where
+  pub schema : Schema
+  pub plan : Plan
+  pub schema_given : SchemaIsGiven told name schema
+  pub plan_given : PlanIsGiven told its plan
+  pub lawful : MayRun schema plan
+  pub execution : CanExecute seen schema plan old new
+
+-- For `verify`: the text is given, and the sources serve the relations that the rules name.
+pub record VerifyIsSupplied {S : Type 0} (seen : S → Seen) (name : List ℕ) (told : Option Contents) (old new : List (Lane S)) : Type 0 where
+  pub schema : Schema
+  pub schema_given : SchemaIsGiven told name schema
+  pub serve : Serve seen schema (RulesName schema) (used old) (used new)
+
+-- What a command needs is supplied.
 abbrev pub IsSupplied : {S : Type 0} → (S → Seen) → Command → Moment → Moment → List (Lane S) → List (Lane S) → Type 0
 IsSupplied seen Help before after old new = Unit {0}
 IsSupplied seen (Print name) before after old new = (schema : Schema) × SchemaIsGiven before.files name schema
-IsSupplied seen (Explain name query firings) before after old new =
-    (schema : Schema) × (statement : Statement) × SchemaIsGiven before.files name schema × QueryIsGiven before.files query schema statement
-IsSupplied seen (Run name query firings) before after old new =
-    (schema : Schema) × (statement : Statement) × SchemaIsGiven before.files name schema × QueryIsGiven before.files query schema statement
-    × ((plan : Plan) → IsPlanned schema statement plan → IsPrinted plan before after → CanExecute seen schema plan old new)
-IsSupplied seen (Exec name plan) before after old new =
-    (schema : Schema) × (its : Plan) × SchemaIsGiven before.files name schema × PlanIsGiven before.files plan its
-    × MayRun schema its × CanExecute seen schema its old new
-IsSupplied seen (Verify name) before after old new =
-    (schema : Schema) × SchemaIsGiven before.files name schema × Serve seen schema (RulesName schema) (used old) (used new)
+IsSupplied seen (Explain name query firings) before after old new = TextsAreGiven before.files name query
+IsSupplied seen (Run name query firings) before after old new = RunIsSupplied seen name query before after old new
+IsSupplied seen (Exec name plan) before after old new = ExecIsSupplied seen name plan before.files old new
+IsSupplied seen (Verify name) before after old new = VerifyIsSupplied seen name before.files old new
