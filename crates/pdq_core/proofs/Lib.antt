@@ -1,1 +1,12 @@
 pub mod Ways
+pub mod CompleteTexts
+pub mod CompleteSources
+pub mod CompleteExecution
+pub mod CompleteSchema
+pub mod CompleteExplain
+pub mod CompleteRun
+pub mod CompleteExec
+pub mod CompleteVerify
+pub mod Complete
+pub mod Statuses
+pub mod CompleteOffers

@@ -1,2 +1,4 @@
 pub mod Help
 pub mod Runs
+pub mod Complete
+pub mod Statuses

@@ -5,6 +5,7 @@
 #![tactic(auto)]
 
 mod help;
+pub mod laws;
 mod top;
 
 pub use command_io::Status;

@@ -1,0 +1,45 @@
+-- A run without faults is answered.
+use Rattle.std.proofs.Common.{◌≡◌, ℕ, List, sym, subst}
+use Rattle.source_trait.specs.Asking.{Seen}
+use Rattle.source_trait.specs.declared.lanes.Lane.{Lane}
+use Rattle.command_io.specs.declared.exit_status.Status.{Status}
+use Rattle.command_io.specs.Moments.{Moment}
+use Rattle.command_words.specs.Words.{Command, IsCommand}
+use Rattle.command_words.specs.Words.Command.{Help, Schema as Print, Explain, Run, Exec, Verify}
+use Rattle.pdq_core.specs.Runs.{Runs}
+use Rattle.pdq_core.specs.Runs.Runs.{no_command, help, schema as print_schema, explain, run, exec, verify}
+use Rattle.pdq_core.specs.Complete.{IsAnswered, NoneRose, IsSupplied}
+use Rattle.pdq_core.proofs.CompleteSchema.{help_answered, schema_answered}
+use Rattle.pdq_core.proofs.CompleteExplain.{explain_answered}
+use Rattle.pdq_core.proofs.CompleteRun.{run_answered}
+use Rattle.pdq_core.proofs.CompleteExec.{exec_answered}
+use Rattle.pdq_core.proofs.CompleteVerify.{verify_answered}
+
+module _ {S : Type 0} (seen : S → Seen) (words : List (List ℕ)) (command : Command) (before after : Moment) (old new : List (Lane S)) (one : (other : Command) → IsCommand words command → IsCommand words other → command ≡ other) (is : IsCommand words command)
+    (supplied : IsSupplied seen command before after old new) where
+  -- what is supplied for the command that the words are
+  its : (other : Command) → IsCommand words other → IsSupplied seen other before after old new
+  its other also = subst (λ (c : Command). IsSupplied seen c before after old new) (one other is also) supplied
+
+  pub answered : (status : Status) → NoneRose before after → Runs seen words before after old new status → IsAnswered status
+  answered status calm (no_command end none why quiet same) = absurd (none command is)
+  answered status calm (help result also ends same) = help_answered before after result calm ends
+  answered status calm (print_schema name result also ends same) =
+      let (schema, given) = its (Print name) also in
+      schema_answered name before after result calm schema given ends
+  answered status calm (explain name query firings result also ends same) =
+      let given = its (Explain name query firings) also in
+      explain_answered name query firings before after result calm given.schema given.statement given.schema_given given.query_given ends
+  answered status calm (run name query firings result also ends) =
+      let given = its (Run name query firings) also in
+      run_answered seen name query firings before after old new result calm given.texts.schema given.texts.statement given.texts.schema_given given.texts.query_given given.execution ends
+  answered status calm (exec name plan result also ends) =
+      let given = its (Exec name plan) also in
+      exec_answered seen name plan before after old new result calm given.schema given.plan given.schema_given given.plan_given given.lawful given.execution ends
+  answered status calm (verify name result also ends) =
+      let given = its (Verify name) also in
+      verify_answered seen name before after old new result calm given.schema given.schema_given given.serve ends
+
+pub whole : {S : Type 0} (seen : S → Seen) → ((words : List (List ℕ)) (command other : Command) → IsCommand words command → IsCommand words other → command ≡ other) → (words : List (List ℕ)) (command : Command) (before after : Moment) (old new : List (Lane S)) (status : Status) →
+    Runs seen words before after old new status → IsCommand words command → NoneRose before after → IsSupplied seen command before after old new → IsAnswered status
+whole seen one words command before after old new status runs is calm supplied = answered seen words command before after old new (one words command) is supplied status calm runs

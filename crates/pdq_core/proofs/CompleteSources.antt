@@ -1,0 +1,79 @@
+-- Sources that serve refuse no attach and fail no request.
+use Rattle.std.proofs.Common.{◌≡◌, ◌≢◌, ◌≤◌, ℕ, zero, suc, Bool, true, false, cond, List, [], ◌∷◌, take, Option, None, Some, Result, Ok, Err, refl, sym, ◌∙◌, ap, subst, inl, inr, arith}
+use Rattle.std.specs.Prelude.{Contains, IfSome, IsOk, MatchOption}
+use Rattle.std.specs.Cmp.Lexicographic.{pointwise}
+use Rattle.std.proofs.Common.{nat_eq}
+use Rattle.lists.proofs.Members.{some_injective, contains_here, contains_there, contains_cases}
+use Rattle.access_schema.specs.declared.schema.Schema.{Schema}
+use Rattle.source_trait.specs.Asking.{RowList, Seen, AttachGives, AttachCause, offered_now}
+use Rattle.source_trait.specs.Causes.{Rose}
+use Rattle.source_trait.specs.Lanes.{source_of, SourceSteps, KindsStay}
+use Rattle.source_trait.specs.declared.source.AttachFault.{AttachFault}
+use Rattle.source_trait.specs.declared.source.AttachFault.TheVariants as attach
+use Rattle.source_trait.specs.declared.lanes.Kind.{Kind}
+use Rattle.source_trait.proofs.LaneSteps.{StepsOn-source}
+use Rattle.middleware.specs.Attaching.{AttachesOne, AttachesInOrder}
+use Rattle.middleware.proofs.Attached.{order_stays}
+use Rattle.command_io.proofs.Later.{rose_between}
+use Rattle.pdq_core.specs.Complete.{Serve}
+
+-- what is in a first part of a list is in the list
+pub in_first : (n : ℕ) (xs : List ℕ) (x : ℕ) → Contains (take n xs) x → Contains xs x
+in_first zero xs x c = absurd (omega arith)
+in_first (suc n) [] x c = c
+in_first (suc n) (y ∷ ys) x c = elim (contains_cases y (take n ys) x c) [
+  | inl same ↦ subst (λ (z : ℕ). Contains (y ∷ ys) z) same (contains_here y ys)
+  | inr more ↦ contains_there y ys x (in_first n ys x more)
+]
+
+told_fault : (fault : AttachFault) (offer : Option (Result RowList AttachFault)) (rose : Type 0) → IfSome offer IsOk → MatchOption offer rose (λ o. o ≡ Err fault) → rose
+told_fault fault None rose fine cause = cause
+told_fault fault (Some o) rose fine cause = absurd (cc)
+
+-- where rows are offered, only a count that rose is a cause to refuse them, but for want of memory
+refused_for : (fault : AttachFault) (offer : Option (Result RowList AttachFault)) (rose : Type 0) → fault ≢ attach.NoMemory → IfSome offer IsOk → AttachCause fault offer rose → rose
+refused_for attach.NoMemory offer rose apart fine cause = absurd (apart refl)
+refused_for attach.Failed offer rose apart fine cause = cause
+refused_for attach.Missing offer rose apart fine cause = told_fault attach.Missing offer rose fine cause
+refused_for (attach.BadHeader column) offer rose apart fine cause = told_fault (attach.BadHeader column) offer rose fine cause
+refused_for (attach.BadRow number) offer rose apart fine cause = told_fault (attach.BadRow number) offer rose fine cause
+refused_for (attach.NotUtf8 number) offer rose apart fine cause = told_fault (attach.NotUtf8 number) offer rose fine cause
+refused_for attach.TooLarge offer rose apart fine cause = told_fault attach.TooLarge offer rose fine cause
+
+module _ {S : Type 0} (seen : S → Seen) where
+  -- a source after kinds stayed was there before, with no more faults
+  stays_back : (old new : List (Kind S)) → KindsStay seen old new → (kind : List ℕ) (after : S) → source_of new kind ≡ Some after →
+      (before : S) × (source_of old kind ≡ Some before) × ((seen before).faults ≤ (seen after).faults)
+  stays_back [] [] stay kind after now = absurd (cc)
+  stays_back [] (y ∷ ys) stay kind after now = absurd stay
+  stays_back (x ∷ xs) [] stay kind after now = absurd stay
+  stays_back (x ∷ xs) (y ∷ ys) stay kind after now =
+      let same : pointwise nat_eq y.name kind ≡ pointwise nat_eq x.name kind = ap (λ (name : List ℕ). pointwise nat_eq name kind) stay.0.name in
+      go (pointwise nat_eq x.name kind) (stays_back xs ys stay.1 kind after) (subst (λ (b : Bool). cond b (Some y.object) (source_of ys kind) ≡ Some after) same now)
+    where
+      go : (b : Bool) → (source_of ys kind ≡ Some after → (before : S) × (source_of xs kind ≡ Some before) × ((seen before).faults ≤ (seen after).faults)) →
+          cond b (Some y.object) (source_of ys kind) ≡ Some after →
+          (before : S) × (cond b (Some x.object) (source_of xs kind) ≡ Some before) × ((seen before).faults ≤ (seen after).faults)
+      go true later now =
+          let e : y.object ≡ after = some_injective y.object after now in
+          (x.object, refl, subst (λ (s : S). (seen x.object).faults ≤ (seen s).faults) e stay.0.later)
+      go false later now = later now
+
+  module _ (schema : Schema) (IsNeeded : ℕ → Type 0) (old new : List (Kind S)) (serve : Serve seen schema IsNeeded old new) where
+    -- no count rose since the kinds began to stay
+    pub none_rose : (middle : List (Kind S)) (kind : List ℕ) (before after : S) → KindsStay seen old middle → source_of middle kind ≡ Some before → source_of new kind ≡ Some after →
+        Rose (seen before).faults (seen after).faults → ⊥
+    none_rose middle kind before after stay was now rose =
+        let (first, began, fewer) = stays_back old middle stay kind before was in
+        serve.faults kind first after began now (rose_between (seen first).faults (seen before).faults (seen after).faults (seen after).faults fewer (omega arith) rose)
+
+    -- no attach of a relation that is needed is refused
+    pub none_refused : (rels : List ℕ) (middle : List (Kind S)) (rel : ℕ) (fault : AttachFault) → ((other : ℕ) → Contains rels other → IsNeeded other) → IsNeeded rel → fault ≢ attach.NoMemory →
+        AttachesInOrder seen schema rels old middle → AttachesOne seen schema rel (Err fault) middle new → ⊥
+    none_refused rels middle rel fault are needed apart order one =
+        let moved = StepsOn-source middle new (λ s t. AttachGives (seen s) (seen t) rel one.relation.columns one.line.locator (Err fault)) one.line.kind one.steps in
+        let fine : IfSome (offered_now (seen moved.before) rel one.relation.columns one.line.locator) IsOk =
+        serve.offers rels middle are order rel needed one.relation one.line moved.before one.relation_is one.line_is moved.was in
+        let gives : AttachGives (seen moved.before) (seen moved.after) rel one.relation.columns one.line.locator (Err fault) = moved.steps in
+        none_rose middle one.line.kind moved.before moved.after (order_stays seen schema rels old middle order) moved.was moved.now
+        (refused_for fault (offered_now (seen moved.before) rel one.relation.columns one.line.locator) (Rose (seen moved.before).faults (seen moved.after).faults) apart fine gives.cause)

@@ -1,0 +1,136 @@
+-- The status of a run says what was decided of the statement.
+use Rattle.std.proofs.Common.{◌≡◌, ◌+◌, ◌<◌, ◌++◌, ℕ, List, [], ◌∷◌, length, length-append, Option, Result, refl, sym, ◌∙◌, ap, subst, arith}
+use Rattle.std.specs.Prelude.{Contains}
+use Rattle.lists.proofs.Members.{contains_got}
+use Rattle.meaning.specs.declared.types.Firing.{Firing}
+use Rattle.meaning.specs.declared.types.Plan.{Plan}
+use Rattle.meaning.specs.declared.types.Statement.{Statement}
+use Rattle.access_schema.specs.declared.schema.Schema.{Schema}
+use Rattle.proof_search.specs.Plans.{HasNoPlan}
+use Rattle.proof_search.specs.Decisions.{IsUndecided}
+use Rattle.source_trait.specs.Asking.{Seen}
+use Rattle.source_trait.specs.declared.files.FileFault.TheVariants as file
+use Rattle.source_trait.specs.declared.source.AttachFault.{AttachFault}
+use Rattle.source_trait.specs.declared.source.AttachFault.TheVariants as attach
+use Rattle.source_trait.specs.declared.lanes.Lane.{Lane}
+use Rattle.middleware.specs.declared.fault.RunFault.TheVariants as fault
+use Rattle.command_io.specs.declared.exit_status.Status.{Status}
+use Rattle.command_io.specs.declared.stop.Stop.{Stop}
+use Rattle.command_io.specs.declared.stop.Stop.TheVariants as stop
+use Rattle.command_io.specs.declared.outcome.Outcome.{Outcome}
+use Rattle.command_io.specs.Status.{status_of}
+use Rattle.command_io.specs.Inputs.{Contents, SchemaIsRead, QueryIsRead}
+use Rattle.command_io.specs.Moments.{Moment}
+use Rattle.command_io.specs.FaultLines.{Names}
+use Rattle.command_words.specs.Words.{Command, IsCommand}
+use Rattle.command_words.specs.Words.Command.{Help, Schema as Print, Explain, Run, Exec, Verify}
+use Rattle.run_command.specs.Deciding.{Shows, IsPlanned, IsRefuted}
+use Rattle.run_command.specs.Deciding.Shows.{plan as shows_plan, no_plan as shows_none, undecided as shows_log}
+use Rattle.run_command.specs.Explained.{DecisionEnds, ExplainEnds}
+use Rattle.run_command.specs.Explained.DecisionEnds.{no_decision as nothing_shown, cut as shown_part, shown}
+use Rattle.run_command.specs.Explained.ExplainEnds.{refused as not_explained, read as explained}
+use Rattle.run_command.specs.Ends.{StatementEnds, RunEnds}
+use Rattle.run_command.specs.Ends.StatementEnds.{no_decision, untold, refuted, undecided, stopped, no_text, cut, done}
+use Rattle.run_command.specs.Ends.RunEnds.{refused, read}
+use Rattle.pdq_core.specs.Runs.{Runs, ended}
+use Rattle.pdq_core.specs.Runs.Runs.{no_command, help, schema as print_schema, explain, run, exec, verify}
+use Rattle.pdq_core.specs.Statuses.{HasPlan, RunsOn, ReadAs, Says, SaysOf}
+
+-- the spent firings can be gone on with
+longer : (schema : Schema) (statement : Statement) (firings select : ℕ) (log : List Firing) → IsUndecided schema statement firings select log → RunsOn firings schema statement
+longer schema statement firings select log is =
+    let (firing, next, more) = is.goes_on in
+    let count = is.count in
+    let one_more = length-append log (firing ∷ []) in
+    record {
+      select = is.chosen;
+      query = is.query;
+      log = log ++ firing ∷ [];
+      end = next;
+      of_statement = contains_got statement.selects select is.chosen is.of_statement;
+      form = is.form;
+      run = more;
+      long = omega (arith, count, one_more);
+    }
+
+has_plan : (schema : Schema) (statement : Statement) (plan : Plan) → IsPlanned schema statement plan → HasPlan schema statement
+has_plan schema statement plan planned = (plan, planned.is.lawful, planned.is.equivalent)
+
+module _ (told : Option Contents) (name query : List ℕ) (firings : ℕ) where
+  attach_says : (rel : ℕ) (why : AttachFault) → Says (status_of (stop.Run (fault.Attach rel why))) told name query firings
+  attach_says rel attach.Missing = tt
+  attach_says rel attach.Failed = tt
+  attach_says rel (attach.BadHeader column) = tt
+  attach_says rel (attach.BadRow number) = tt
+  attach_says rel (attach.NotUtf8 number) = tt
+  attach_says rel attach.TooLarge = tt
+  attach_says rel attach.NoMemory = tt
+
+  -- the status of a stop says nothing of the statement
+  stop_says : (end : Stop) → Says (status_of end) told name query firings
+  stop_says stop.Memory = tt
+  stop_says stop.Words = tt
+  stop_says (stop.File input file.Missing) = tt
+  stop_says (stop.File input file.TooLarge) = tt
+  stop_says (stop.File input file.Failed) = tt
+  stop_says (stop.File input file.NoMemory) = tt
+  stop_says (stop.Schema why) = tt
+  stop_says (stop.Query why) = tt
+  stop_says (stop.Plan why) = tt
+  stop_says stop.DecisionWrite = tt
+  stop_says (stop.Illegal why) = tt
+  stop_says (stop.Run fault.NoMemory) = tt
+  stop_says (stop.Run (fault.NoSource rel)) = tt
+  stop_says (stop.Run (fault.UnknownKind rel)) = tt
+  stop_says (stop.Run (fault.Attach rel why)) = attach_says rel why
+  stop_says (stop.Run (fault.CallFailed branch step)) = tt
+  stop_says (stop.Run (fault.OverCalls made wanted cap)) = tt
+  stop_says (stop.WholeFailed rel) = tt
+  stop_says stop.ResultWrite = tt
+
+  module _ (schema : Schema) (statement : Statement) (is : SchemaIsRead told name schema) (are : QueryIsRead told query schema statement) where
+    read_as : (P : Schema → Statement → Type 0) → P schema statement → ReadAs told name query P
+    read_as P so = record { schema = schema; statement = statement; schema_is = is; statement_is = are; so = so }
+
+    explained_says : (names : Names) (before after : Moment) (result : Result Outcome Stop) → DecisionEnds schema statement firings names before after result →
+        Says (ended result) told name query firings
+    explained_says names before after result (nothing_shown end why quiet) = stop_says end
+    explained_says names before after result (shown_part decision end decided took why) = stop_says end
+    explained_says names before after result (shown text outcome (shows_plan plan planned text_is) took quiet) = read_as HasPlan (has_plan schema statement plan planned)
+    explained_says names before after result (shown text outcome (shows_none refutes) took quiet) = read_as HasNoPlan refutes.refutes.none
+    explained_says names before after result (shown text outcome (shows_log select log spent text_is) took quiet) =
+        read_as (RunsOn firings) (longer schema statement firings select log spent)
+
+    run_says : {S : Type 0} (seen : S → Seen) (names : Names) (before after : Moment) (old new : List (Lane S)) (result : Result Outcome Stop) →
+        StatementEnds seen schema statement firings names before after old new result → Says (ended result) told name query firings
+    run_says seen names before after old new result (no_decision end why quiet same) = stop_says end
+    run_says seen names before after old new result (untold decision middle count end decided took why quiet same) = stop_says end
+    run_says seen names before after old new result (refuted text refutes took quiet same) = read_as HasNoPlan refutes.refutes.none
+    run_says seen names before after old new result (undecided select log spent took quiet same) = read_as (RunsOn firings) (longer schema statement firings select log spent)
+    run_says seen names before after old new result (stopped plan middle count why end planned took executes line quiet) = stop_says end
+    run_says seen names before after old new result (no_text plan middle count given end planned took executes line quiet) = stop_says end
+    run_says seen names before after old new result (cut plan middle count given text end planned took executes result_is part line) = stop_says end
+    run_says seen names before after old new result (done plan given text planned took executes result_is whole) = read_as HasPlan (has_plan schema statement plan planned)
+
+module _ {S : Type 0} (seen : S → Seen) (words : List (List ℕ)) (command : Command) (before after : Moment) (old new : List (Lane S)) (one : (other : Command) → IsCommand words command → IsCommand words other → command ≡ other) (is : IsCommand words command) where
+  its : (other : Command) (status : Status) → IsCommand words other → SaysOf other before.files status → SaysOf command before.files status
+  its other status also says = subst (λ (c : Command). SaysOf c before.files status) (sym (one other is also)) says
+
+  pub says : (status : Status) → Runs seen words before after old new status → SaysOf command before.files status
+  says status (no_command end none why quiet same) = absurd (none command is)
+  says status (help result also ends same) = its Help (ended result) also tt
+  says status (print_schema name result also ends same) = its (Print name) (ended result) also tt
+  says status (explain name query firings result also (not_explained end why quiet) same) = its (Explain name query firings) (status_of end) also (stop_says before.files name query firings end)
+  says status (explain name query firings result also (explained schema statement same_result schema_is statement_is ends) same) =
+      its (Explain name query firings) (ended result) also
+      (explained_says before.files name query firings schema statement schema_is statement_is (record { schema = name; query = query; plan = []; relations = schema.relations }) before after result ends)
+  says status (run name query firings result also (refused end why quiet same)) = its (Run name query firings) (status_of end) also (stop_says before.files name query firings end)
+  says status (run name query firings result also (read schema statement same_result schema_is statement_is ends)) =
+      its (Run name query firings) (ended result) also
+      (run_says before.files name query firings schema statement schema_is statement_is seen (record { schema = name; query = query; plan = []; relations = schema.relations }) before after old new result ends)
+  says status (exec name plan result also ends) = its (Exec name plan) (ended result) also tt
+  says status (verify name result also ends) = its (Verify name) (ended result) also tt
+
+pub whole : {S : Type 0} (seen : S → Seen) → ((words : List (List ℕ)) (command other : Command) → IsCommand words command → IsCommand words other → command ≡ other) → (words : List (List ℕ)) (command : Command) (before after : Moment) (old new : List (Lane S)) (status : Status) →
+    Runs seen words before after old new status → IsCommand words command → SaysOf command before.files status
+whole seen one words command before after old new status runs is = says seen words command before after old new (one words command) is status runs

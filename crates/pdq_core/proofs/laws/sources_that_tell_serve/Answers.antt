@@ -1,0 +1,10 @@
+use Rattle.verify_command.specs.RuleRelations.{RulesName}
+use Rattle.verify_command.specs.Verifying.{used}
+use Rattle.pdq_core.proofs.CompleteOffers.{offers_serve, offers_execute}
+use Rattle.pdq_core.proofs.laws.sources_that_tell_serve.Goals as goal
+
+pub returns-clause-plan : goal.returns-clause-plan
+returns-clause-plan g c = λ schema. offers_execute g.S.Source.seen schema
+
+pub returns-clause-rules : goal.returns-clause-rules
+returns-clause-rules g c = λ schema old new. offers_serve g.S.Source.seen schema (RulesName schema) (used old) (used new)

@@ -1,0 +1,169 @@
+-- What a run without faults is given, command by command, and the statuses with which it ends.
+use Rattle.std.specs.Prelude.{◌≡◌, ◌≤◌, ◌<◌, ◌+◌, ◌++◌, ℕ, List, Contains, Bool, false, Option, None, Some, IfSome, IsSome, IsOk, Ok, length, slice_get}
+use Rattle.meaning.specs.declared.types.Fact.{Fact}
+use Rattle.meaning.specs.declared.types.Plan.{Plan}
+use Rattle.meaning.specs.declared.types.Relation.{Relation}
+use Rattle.meaning.specs.declared.types.Request.{Request}
+use Rattle.meaning.specs.declared.types.Statement.{Statement}
+use Rattle.access_schema.specs.declared.schema.Schema.{Schema}
+use Rattle.access_schema.specs.declared.schema.SourceLine.{SourceLine}
+use Rattle.access_schema.specs.Meaning.{meaning_of}
+use Rattle.tgd_reader.specs.SchemaText.{IsSchemaText}
+use Rattle.sql_select.specs.Statements.{IsStatementText}
+use Rattle.plan_form.specs.Grammar.{IsPlanText}
+use Rattle.plan_form.specs.Printing.{plan_text}
+use Rattle.source_trait.specs.Asking.{RowList, Seen, offered_now, facts_of}
+use Rattle.source_trait.specs.Causes.{Rose}
+use Rattle.source_trait.specs.Lanes.{source_of, AtKind}
+use Rattle.source_trait.specs.Outside.{bytes_of}
+use Rattle.source_trait.specs.declared.lanes.Kind.{Kind}
+use Rattle.source_trait.specs.declared.lanes.Lane.{Lane}
+use Rattle.middleware.specs.PlanSources.{line_for, IsAccessed}
+use Rattle.middleware.specs.Attaching.{AttachesInOrder, AllAttached}
+use Rattle.middleware.specs.Asked.{IsRoundAt}
+use Rattle.middleware.specs.Held.{HoldPlan, SameFacts}
+use Rattle.command_io.specs.declared.delivery.TheConstants.{CALLS}
+use Rattle.command_io.specs.declared.exit_status.Status.{Status}
+use Rattle.command_io.specs.declared.exit_status.Status.TheVariants as is
+use Rattle.command_io.specs.declared.inputs.TheConstants.{SCHEMA_LIMIT, QUERY_LIMIT, PLAN_LIMIT}
+use Rattle.command_io.specs.Inputs.{Contents, without_mark}
+use Rattle.command_io.specs.Moments.{Moment}
+use Rattle.command_io.specs.Writing.{TookAll}
+use Rattle.command_words.specs.Words.{Command}
+use Rattle.command_words.specs.Words.Command.{Help, Schema as Print, Explain, Run, Exec, Verify}
+use Rattle.run_command.specs.Deciding.{IsPlanned}
+use Rattle.exec_command.specs.Ends.{MayRun}
+use Rattle.verify_command.specs.RuleRelations.{RulesName}
+use Rattle.verify_command.specs.Verifying.{used}
+
+-- The command was answered, or memory was wanted.
+pub data IsAnswered : Status → Type 0 where
+  done : IsAnswered is.Done
+  no : IsAnswered is.No
+  undecided : IsAnswered is.Undecided
+  no_memory : IsAnswered is.Memory
+
+-- No count of faults rose, of the files or of an output.
+pub record NoneRose (before after : Moment) : Type 0 where
+  pub files : Rose before.file_faults after.file_faults → ⊥
+  pub out : Rose before.out_faults after.out_faults → ⊥
+  pub err : Rose before.err_faults after.err_faults → ⊥
+
+-- ---- texts
+
+-- The files are told, one has this name and is within the limit, and its text has the fact.
+pub record IsGiven (told : Option Contents) (name : List ℕ) (limit : ℕ) (P : List ℕ → Type 0) : Type 0 where
+  pub files : Contents
+  pub bytes : List ℕ
+  pub are_told : told ≡ Some files
+  pub there : bytes_of files name ≡ Some bytes
+  pub within : length bytes ≤ limit
+  pub holds : P (without_mark bytes)
+
+abbrev pub SchemaIsGiven : Option Contents → List ℕ → Schema → Type 0
+SchemaIsGiven told name schema = IsGiven told name SCHEMA_LIMIT (λ text. IsSchemaText text schema)
+
+abbrev pub QueryIsGiven : Option Contents → List ℕ → Schema → Statement → Type 0
+QueryIsGiven told name schema statement = IsGiven told name QUERY_LIMIT (λ text. IsStatementText schema text statement)
+
+abbrev pub PlanIsGiven : Option Contents → List ℕ → Plan → Type 0
+PlanIsGiven told name plan = IsGiven told name PLAN_LIMIT (λ text. IsPlanText text plan)
+
+-- ---- sources
+
+-- What the source of the relation's line now offers to attach is rows, where that is told.
+abbrev pub OffersRows : {S : Type 0} → (S → Seen) → Schema → List (Kind S) → ℕ → Type 0
+OffersRows {S} seen schema kinds rel = (relation : Relation) (line : SourceLine) (source : S) →
+    slice_get schema.relations rel ≡ Some relation → line_for rel schema.sources ≡ Some line → source_of kinds line.kind ≡ Some source →
+    IfSome (offered_now (seen source) rel relation.columns line.locator) IsOk
+
+-- No count of faults of a source of the lane rose.
+abbrev pub NoSourceRose : {S : Type 0} → (S → Seen) → List (Kind S) → List (Kind S) → Type 0
+NoSourceRose {S} seen old new = (kind : List ℕ) (before after : S) → source_of old kind ≡ Some before → source_of new kind ≡ Some after →
+    Rose (seen before).faults (seen after).faults → ⊥
+
+-- The sources of the used lane, from before a command to after it, serve the relations that it needs.
+pub record Serve {S : Type 0} (seen : S → Seen) (schema : Schema) (IsNeeded : ℕ → Type 0) (old new : List (Kind S)) : Type 0 where
+  -- each of the relations has a source line, of a kind that the lane has
+  pub lines : (rel : ℕ) → IsNeeded rel → IsSome (line_for rel schema.sources)
+  pub kinds : (rel : ℕ) (line : SourceLine) → IsNeeded rel → line_for rel schema.sources ≡ Some line → IsSome (source_of old line.kind)
+  -- whichever of them are attached before it, what is offered of each is rows
+  pub offers : (rels : List ℕ) (middle : List (Kind S)) → ((other : ℕ) → Contains rels other → IsNeeded other) →
+      AttachesInOrder seen schema rels old middle → (rel : ℕ) → IsNeeded rel → OffersRows seen schema middle rel
+  pub faults : NoSourceRose seen old new
+
+-- No round of the plan on the instance passes the cap on requests.
+abbrev pub KeepsCap : Schema → Plan → List Fact → ℕ → Type 0
+KeepsCap schema plan instance cap = (branch step : ℕ) (earlier now : List Request) → IsRoundAt (meaning_of schema) plan instance branch step earlier now →
+    length earlier + length now ≤ cap
+
+-- The sources hold some instance, on which no round of the plan passes the cap.
+pub record HoldWithin {S : Type 0} (seen : S → Seen) (schema : Schema) (plan : Plan) (cap : ℕ) (kinds : List (Kind S)) : Type 0 where
+  pub instance : List Fact
+  pub held : HoldPlan seen schema plan kinds instance
+  pub within : KeepsCap schema plan instance cap
+
+-- There is a lane, its sources serve the plan's relations, and where all of these came to be attached, no round passes the cap.
+pub record CanExecute {S : Type 0} (seen : S → Seen) (schema : Schema) (plan : Plan) (old new : List (Lane S)) : Type 0 where
+  pub lane : 0 < length old
+  pub serve : Serve seen schema (IsAccessed schema plan) (used old) (used new)
+  pub within : AllAttached seen schema plan (used old) (used new) → HoldWithin seen schema plan CALLS (used new)
+
+-- ---- sources that tell
+
+-- A source tells what it holds, and its offer of the relation, which are just the rows of the instance.
+pub record OffersFacts (seen : Seen) (rel : ℕ) (columns : List (List ℕ)) (locator : List ℕ) (instance : List Fact) : Type 0 where
+  pub rows : RowList
+  pub tells : IsSome seen.held
+  pub offered : seen.offer rel columns locator ≡ Some (Ok rows)
+  pub same : SameFacts rel (facts_of rel rows) instance
+
+-- The sources of a lane offer the instance as far as these relations go, and never pass a limit on all attached data.
+pub record OfferInstance {S : Type 0} (seen : S → Seen) (schema : Schema) (IsNeeded : ℕ → Type 0) (kinds : List (Kind S)) (instance : List Fact) : Type 0 where
+  pub lines : (rel : ℕ) → IsNeeded rel → IsSome (line_for rel schema.sources)
+  pub kinds_are : (rel : ℕ) (line : SourceLine) → IsNeeded rel → line_for rel schema.sources ≡ Some line → IsSome (source_of kinds line.kind)
+  pub limitless : (source : S) (rel : ℕ) (locator : List ℕ) → (seen source).passes rel locator ≡ false
+  pub facts : (rel : ℕ) (relation : Relation) (line : SourceLine) → IsNeeded rel → slice_get schema.relations rel ≡ Some relation → line_for rel schema.sources ≡ Some line →
+      AtKind kinds line.kind (λ source. OffersFacts (seen source) rel relation.columns line.locator instance)
+
+-- ---- commands
+
+-- What standard error took begins with the plan's text, where that is told.
+abbrev pub IsPrinted : Plan → Moment → Moment → Type 0
+IsPrinted plan before after = (rest : List ℕ) × TookAll before.err after.err (plan_text plan ++ rest)
+
+-- The texts of a schema and of a statement over it are given.
+pub record TextsAreGiven (told : Option Contents) (name query : List ℕ) : Type 0 where
+  pub schema : Schema
+  pub statement : Statement
+  pub schema_given : SchemaIsGiven told name schema
+  pub query_given : QueryIsGiven told query schema statement
+
+-- For `run`: the texts are given, and the plan for the statement that was printed can be executed.
+pub record RunIsSupplied {S : Type 0} (seen : S → Seen) (name query : List ℕ) (before after : Moment) (old new : List (Lane S)) : Type 0 where
+  pub texts : TextsAreGiven before.files name query
+  pub execution : (plan : Plan) → IsPlanned texts.schema texts.statement plan → IsPrinted plan before after → CanExecute seen texts.schema plan old new
+
+-- For `exec`: the texts are given, and the plan is lawful and can be executed.
+pub record ExecIsSupplied {S : Type 0} (seen : S → Seen) (name its : List ℕ) (told : Option Contents) (old new : List (Lane S)) : Type 0 where
+  pub schema : Schema
+  pub plan : Plan
+  pub schema_given : SchemaIsGiven told name schema
+  pub plan_given : PlanIsGiven told its plan
+  pub lawful : MayRun schema plan
+  pub execution : CanExecute seen schema plan old new
+
+-- For `verify`: the text is given, and the sources serve the relations that the rules name.
+pub record VerifyIsSupplied {S : Type 0} (seen : S → Seen) (name : List ℕ) (told : Option Contents) (old new : List (Lane S)) : Type 0 where
+  pub schema : Schema
+  pub schema_given : SchemaIsGiven told name schema
+  pub serve : Serve seen schema (RulesName schema) (used old) (used new)
+
+-- What a command needs is supplied.
+abbrev pub IsSupplied : {S : Type 0} → (S → Seen) → Command → Moment → Moment → List (Lane S) → List (Lane S) → Type 0
+IsSupplied seen Help before after old new = Unit {0}
+IsSupplied seen (Print name) before after old new = (schema : Schema) × SchemaIsGiven before.files name schema
+IsSupplied seen (Explain name query firings) before after old new = TextsAreGiven before.files name query
+IsSupplied seen (Run name query firings) before after old new = RunIsSupplied seen name query before after old new
+IsSupplied seen (Exec name plan) before after old new = ExecIsSupplied seen name plan before.files old new
+IsSupplied seen (Verify name) before after old new = VerifyIsSupplied seen name before.files old new

@@ -1,0 +1,49 @@
+// What runs of the program promise: laws on the definitions alone, as functions that do nothing.
+ghost use Rattle.std.specs.Prelude.{◌<◌, ℕ, List, length};
+ghost use Rattle.meaning.specs.declared.types.Fact.{Fact};
+ghost use Rattle.meaning.specs.declared.types.Plan.{Plan};
+ghost use Rattle.access_schema.specs.declared.schema.Schema.{Schema};
+ghost use Rattle.source_trait.specs.declared.lanes.Lane.{Lane};
+ghost use Rattle.middleware.specs.PlanSources.{IsAccessed};
+ghost use Rattle.command_io.specs.declared.delivery.TheConstants.{CALLS};
+ghost use Rattle.command_io.specs.declared.exit_status.Status.{Status};
+ghost use Rattle.command_io.specs.Moments.{Moment};
+ghost use Rattle.command_words.specs.Words.{Command, IsCommand};
+ghost use Rattle.verify_command.specs.RuleRelations.{RulesName};
+ghost use Rattle.verify_command.specs.Verifying.{used};
+ghost use Rattle.pdq_core.specs.Runs.{Runs};
+ghost use Rattle.pdq_core.specs.Complete.{NoneRose, NoSourceRose, OfferInstance, KeepsCap, Serve, CanExecute, IsSupplied, IsAnswered};
+ghost use Rattle.pdq_core.specs.Statuses.{SaysOf};
+
+use command_words::words_are_one_command;
+use source_trait::Source;
+
+/// A run without faults is answered. Where the words are a command, what it needs is supplied and no count of faults of the
+/// files and the outputs rose, the status is `Done`, `No` or `Undecided`, or memory was wanted.
+pub fn runs_without_faults_are_answered<S: Source>()
+    ensures { (words : List (List ℕ)) (command : Command) (before after : Moment) (old new : List (Lane S)) (status : Status) →
+        Runs S.seen words before after old new status → IsCommand words command → NoneRose before after →
+        IsSupplied S.seen command before after old new → IsAnswered status }
+{
+    words_are_one_command();
+}
+
+/// What the law above needs of sources can be given. Where those of the used lane tell what they hold, pass no limit, offer an
+/// instance and do not fail, they serve; and a plan can be executed if no round of it on the instance passes the cap.
+pub fn sources_that_tell_serve<S: Source>()
+    ensures plan { (schema : Schema) (plan : Plan) (old new : List (Lane S)) (instance : List Fact) → 0 < length old →
+        OfferInstance S.seen schema (IsAccessed schema plan) (used old) instance → NoSourceRose S.seen (used old) (used new) →
+        KeepsCap schema plan instance CALLS → CanExecute S.seen schema plan old new }
+    ensures rules { (schema : Schema) (old new : List (Lane S)) (instance : List Fact) →
+        OfferInstance S.seen schema (RulesName schema) (used old) instance → NoSourceRose S.seen (used old) (used new) →
+        Serve S.seen schema (RulesName schema) (used old) (used new) }
+{}
+
+/// The status of `explain` and of `run` is right. `Done` says that some lawful plan is equivalent to the statement, `No` that
+/// none is, and `Undecided` that there is a longer ordered run than the firings given.
+pub fn statuses_are_right<S: Source>()
+    ensures { (words : List (List ℕ)) (command : Command) (before after : Moment) (old new : List (Lane S)) (status : Status) →
+        Runs S.seen words before after old new status → IsCommand words command → SaysOf command before.files status }
+{
+    words_are_one_command();
+}
