@@ -1,11 +1,11 @@
 -- A run without faults is answered.
-use Rattle.std.proofs.Common.{◌≡◌, ℕ, List, sym, subst}
+use Rattle.std.proofs.Common.{◌≡◌, ℕ, List, subst}
 use Rattle.source_trait.specs.Asking.{Seen}
 use Rattle.source_trait.specs.declared.lanes.Lane.{Lane}
 use Rattle.command_io.specs.declared.exit_status.Status.{Status}
 use Rattle.command_io.specs.Moments.{Moment}
 use Rattle.command_words.specs.Words.{Command, IsCommand}
-use Rattle.command_words.specs.Words.Command.{Help, Schema as Print, Explain, Run, Exec, Verify}
+use Rattle.command_words.specs.Words.Command.{Schema as Print, Explain, Run, Exec, Verify}
 use Rattle.pdq_core.specs.Runs.{Runs}
 use Rattle.pdq_core.specs.Runs.Runs.{no_command, help, schema as print_schema, explain, run, exec, verify}
 use Rattle.pdq_core.specs.Complete.{IsAnswered, NoneRose, IsSupplied}

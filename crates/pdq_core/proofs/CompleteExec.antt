@@ -1,5 +1,5 @@
 -- The command `exec` is answered.
-use Rattle.std.proofs.Common.{◌≡◌, ◌∙◌, ℕ, List, [], Result, Err, refl, sym, subst}
+use Rattle.std.proofs.Common.{◌≡◌, ◌∙◌, ℕ, List, [], Result, refl, subst}
 use Rattle.meaning.specs.declared.types.Plan.{Plan}
 use Rattle.access_schema.specs.declared.schema.Schema.{Schema}
 use Rattle.source_trait.specs.Asking.{Seen}

@@ -1,5 +1,5 @@
 -- An execution is stopped by nothing but want of memory, where sources serve and the cap is kept.
-use Rattle.std.proofs.Common.{◌≡◌, ◌<◌, ◌≤◌, ◌+◌, ℕ, List, [], ◌∷◌, length, Option, None, Some, Result, Ok, Err, refl, sym, ◌∙◌, subst, arith}
+use Rattle.std.proofs.Common.{◌≡◌, ◌<◌, ℕ, List, [], ◌∷◌, length, Option, None, Err, refl, arith}
 use Rattle.std.specs.Prelude.{IsSome}
 use Rattle.meaning.specs.declared.types.Plan.{Plan}
 use Rattle.access_schema.specs.declared.schema.Schema.{Schema}
@@ -46,7 +46,7 @@ module _ {S : Type 0} where
       call_stop cap branch step h =
           let fails = h.fails in
           let stay : KindsStay seen old fails.before =
-              KindsStay-trans seen old h.middle fails.before (order_stays seen schema h.attaches.rels old h.middle h.attaches.order) fails.asks_earlier.stay in
+          KindsStay-trans seen old h.middle fails.before (order_stays seen schema h.attaches.rels old h.middle h.attaches.order) fails.asks_earlier.stay in
           none_rose seen schema (IsAccessed schema plan) old new serve fails.before fails.line.kind fails.rose.before fails.rose.after stay fails.rose.was fails.rose.now fails.rose.steps
 
       cap_stop : (cap made wanted : ℕ) → HoldWithin seen schema plan cap new → CapStops seen schema plan cap made wanted old new → ⊥

@@ -1,5 +1,5 @@
 -- The command `explain` is answered.
-use Rattle.std.proofs.Common.{◌≡◌, ℕ, List, [], Result, subst}
+use Rattle.std.proofs.Common.{ℕ, List, [], Result, subst}
 use Rattle.meaning.specs.declared.types.Statement.{Statement}
 use Rattle.access_schema.specs.declared.schema.Schema.{Schema}
 use Rattle.command_io.specs.declared.stop.Stop.{Stop}

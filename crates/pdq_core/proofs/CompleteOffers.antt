@@ -1,25 +1,22 @@
 -- Sources that tell and offer an instance serve, and hold it once they are attached.
-use Rattle.std.proofs.Common.{◌≡◌, ◌⊎◌, inl, inr, ◌<◌, ℕ, List, [], ◌∷◌, length, map, Option, None, Some, Result, Ok, Err, Bool, true, false, cond, ◌&&◌, nat_eq, refl, sym, ◌∙◌, ap, subst, arith}
-use Rattle.std.specs.Prelude.{Contains, IfSome, IsSome, IsSomeAnd, IsOk, option_map, if◌then◌else◌, ◌↔◌}
-use Rattle.std.specs.Option.{is_some}
+use Rattle.std.proofs.Common.{◌≡◌, inl, inr, ◌<◌, ℕ, List, [], ◌∷◌, length, map, Option, None, Some, Result, Ok, Err, Bool, true, false, cond, ◌&&◌, nat_eq, refl, sym, ◌∙◌, ap, subst, arith}
+use Rattle.std.specs.Prelude.{Contains, IfSome, IsSome, IsSomeAnd, IsOk, option_map, if◌then◌else◌}
 use Rattle.std.specs.List.{filter}
 use Rattle.std.proofs.lemmas.Bool.Decides.{nat_tests}
 use Rattle.lists.proofs.Members.{contains_here, contains_there, contains_cases, contains_map, contains_mapped}
 use Rattle.meaning.specs.declared.types.Fact.{Fact}
 use Rattle.meaning.specs.declared.types.Plan.{Plan}
-use Rattle.meaning.specs.declared.types.Relation.{Relation}
 use Rattle.access_schema.specs.declared.schema.Schema.{Schema}
-use Rattle.access_schema.specs.declared.schema.SourceLine.{SourceLine}
-use Rattle.source_trait.specs.Asking.{RowList, Seen, AttachGives, offered_now, facts_of, pick}
+use Rattle.source_trait.specs.Asking.{RowList, Seen, AttachGives, facts_of, pick}
 use Rattle.source_trait.specs.Lanes.{source_of, AtKind}
 use Rattle.source_trait.specs.declared.source.AttachFault.{AttachFault}
 use Rattle.source_trait.specs.declared.source.AttachFault.TheVariants.{TooLarge}
 use Rattle.source_trait.specs.declared.lanes.Kind.{Kind}
 use Rattle.source_trait.specs.declared.lanes.Lane.{Lane}
 use Rattle.source_trait.proofs.LaneSteps.{StepsOn-keeps, AtKind-map}
-use Rattle.middleware.specs.PlanSources.{IsAccessed, IsPlanSource}
-use Rattle.middleware.specs.Attaching.{AttachesOne, AttachesInOrder, AllAttached, TellsSame}
-use Rattle.middleware.specs.Held.{SameFacts, HoldsRelation, HoldPlan}
+use Rattle.middleware.specs.PlanSources.{IsAccessed}
+use Rattle.middleware.specs.Attaching.{AttachesInOrder, AllAttached, TellsSame}
+use Rattle.middleware.specs.Held.{SameFacts, HoldPlan}
 use Rattle.command_io.specs.declared.delivery.TheConstants.{CALLS}
 use Rattle.verify_command.specs.Verifying.{used}
 use Rattle.pdq_core.specs.Complete.{NoSourceRose, Serve, KeepsCap, CanExecute, OffersFacts, OfferInstance}
@@ -129,7 +126,7 @@ module _ {S : Type 0} (seen : S → Seen) (schema : Schema) where
     kinds = offer.kinds_are;
     offers = λ rels middle are order rel needed relation line source relation_is line_is found.
         let these : AtKind old line.kind (OffersThese rel relation.columns line.locator) =
-            AtKind-map line.kind old _ (OffersThese rel relation.columns line.locator) (λ s o. (o.rows, o.offered)) (offer.facts rel relation line needed relation_is line_is) in
+        AtKind-map line.kind old _ (OffersThese rel relation.columns line.locator) (λ s o. (o.rows, o.offered)) (offer.facts rel relation line needed relation_is line_is) in
         let later = order_keeps (OffersThese rel relation.columns line.locator) (offer_stays rel relation.columns line.locator) rels old middle order line.kind these in
         let (rows, is) = at_source (OffersThese rel relation.columns line.locator) (source_of middle line.kind) source found later in
         rows_offered ((seen source).offer rel relation.columns line.locator) ((seen source).passes rel line.locator) rows is (offer.limitless source rel line.locator);
@@ -150,13 +147,13 @@ module _ {S : Type 0} (seen : S → Seen) (schema : Schema) where
       let facts = offer.facts rel relation line is_source.accessed is_source.relation_is is_source.line_is in
       let each = attached.each rel relation line is_source in
       let first : OffersFacts (seen each.before) rel relation.columns line.locator instance =
-          at_source (λ s. OffersFacts (seen s) rel relation.columns line.locator instance) (source_of old line.kind) each.before each.was facts in
+      at_source (λ s. OffersFacts (seen s) rel relation.columns line.locator instance) (source_of old line.kind) each.before each.was facts in
       let told_old : AtKind old line.kind Tells = AtKind-map line.kind old _ Tells (λ s o. o.tells) facts in
       let told_middle = order_keeps Tells tells_stay attached.attaches.rels old attached.middle attached.attaches.order line.kind told_old in
       let told_new = asked_tells (source_of attached.middle line.kind) (source_of new line.kind) (attached.asks.tells line.kind) told_middle in
       let told : IsSome (seen each.after).held = at_source Tells (source_of new line.kind) each.after each.now told_new in
       let rows_are : IfSome (seen each.after).held (λ held. given first.rows ≡ given (pick held rel [] [])) =
-          subst (λ (o : Option (Result RowList AttachFault)). IfSome o (λ its. IfSome (seen each.after).held (λ held. its ≡ given (pick held rel [] [])))) first.offered each.held in
+      subst (λ (o : Option (Result RowList AttachFault)). IfSome o (λ its. IfSome (seen each.after).held (λ held. its ≡ given (pick held rel [] [])))) first.offered each.held in
       subst (λ (o : Option S). IsSomeAnd o (λ s. IsSomeAnd (seen s).held (λ held. SameFacts rel held instance))) (sym each.now)
       (taken rel instance first.rows (seen each.after).held told rows_are first.same)
 

@@ -1,13 +1,12 @@
 -- Sources that serve refuse no attach and fail no request.
-use Rattle.std.proofs.Common.{◌≡◌, ◌≢◌, ◌≤◌, ℕ, zero, suc, Bool, true, false, cond, List, [], ◌∷◌, take, Option, None, Some, Result, Ok, Err, refl, sym, ◌∙◌, ap, subst, inl, inr, arith}
+use Rattle.std.proofs.Common.{◌≡◌, ◌≢◌, ◌≤◌, ℕ, zero, suc, Bool, true, false, cond, List, [], ◌∷◌, take, Option, None, Some, Result, Err, refl, ap, subst, inl, inr, nat_eq, arith}
 use Rattle.std.specs.Prelude.{Contains, IfSome, IsOk, MatchOption}
 use Rattle.std.specs.Cmp.Lexicographic.{pointwise}
-use Rattle.std.proofs.Common.{nat_eq}
 use Rattle.lists.proofs.Members.{some_injective, contains_here, contains_there, contains_cases}
 use Rattle.access_schema.specs.declared.schema.Schema.{Schema}
 use Rattle.source_trait.specs.Asking.{RowList, Seen, AttachGives, AttachCause, offered_now}
 use Rattle.source_trait.specs.Causes.{Rose}
-use Rattle.source_trait.specs.Lanes.{source_of, SourceSteps, KindsStay}
+use Rattle.source_trait.specs.Lanes.{source_of, KindsStay}
 use Rattle.source_trait.specs.declared.source.AttachFault.{AttachFault}
 use Rattle.source_trait.specs.declared.source.AttachFault.TheVariants as attach
 use Rattle.source_trait.specs.declared.lanes.Kind.{Kind}

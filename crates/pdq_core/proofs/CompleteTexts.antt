@@ -1,5 +1,5 @@
 -- Texts that are given are read, and what is left to stop a command is want of memory.
-use Rattle.std.proofs.Common.{◌≡◌, ◌≢◌, ◌<◌, ℕ, List, length, Option, None, Some, Ok, refl, sym, ◌∙◌, subst, inl, inr, arith}
+use Rattle.std.proofs.Common.{◌≡◌, ◌<◌, ℕ, List, length, Option, None, Some, Ok, refl, sym, ◌∙◌, subst, inl, inr, arith}
 use Rattle.std.specs.Prelude.{IfSome, IsSomeAnd, MatchOption}
 use Rattle.lists.proofs.Members.{some_injective}
 use Rattle.meaning.specs.declared.types.Plan.{Plan}
@@ -7,7 +7,6 @@ use Rattle.meaning.specs.declared.types.Statement.{Statement}
 use Rattle.access_schema.specs.declared.schema.Schema.{Schema}
 use Rattle.tgd_reader.specs.SchemaText.{IsSchemaText}
 use Rattle.tgd_reader.proofs.Exactly.{read_only, no_fault as schema_fault}
-use Rattle.sql_select.specs.Statements.{IsStatementText}
 use Rattle.sql_select.proofs.Unique.{one_statement, no_fault as query_fault}
 use Rattle.plan_form.specs.Grammar.{IsPlanText}
 use Rattle.plan_form.proofs.TextLaws.{text_only, no_fault as plan_fault}

@@ -1,6 +1,6 @@
 -- The command `verify` is answered.
 use Rattle.std.proofs.Common.{◌≡◌, ℕ, List, [], ◌∷◌, take, Option, None, Some, Result, Ok, Err, refl, sym, ◌∙◌, subst}
-use Rattle.std.specs.Prelude.{Contains, IfErr, IsErrOf}
+use Rattle.std.specs.Prelude.{IfErr}
 use Rattle.lists.proofs.Members.{contains_got}
 use Rattle.meaning.specs.declared.types.Fact.{Fact}
 use Rattle.access_schema.specs.declared.schema.Schema.{Schema}

@@ -1,6 +1,5 @@
 -- The status of a run says what was decided of the statement.
-use Rattle.std.proofs.Common.{◌≡◌, ◌+◌, ◌<◌, ◌++◌, ℕ, List, [], ◌∷◌, length, length-append, Option, Result, refl, sym, ◌∙◌, ap, subst, arith}
-use Rattle.std.specs.Prelude.{Contains}
+use Rattle.std.proofs.Common.{◌≡◌, ◌++◌, ℕ, List, [], ◌∷◌, length-append, Option, Result, sym, subst, arith}
 use Rattle.lists.proofs.Members.{contains_got}
 use Rattle.meaning.specs.declared.types.Firing.{Firing}
 use Rattle.meaning.specs.declared.types.Plan.{Plan}
@@ -24,12 +23,12 @@ use Rattle.command_io.specs.Moments.{Moment}
 use Rattle.command_io.specs.FaultLines.{Names}
 use Rattle.command_words.specs.Words.{Command, IsCommand}
 use Rattle.command_words.specs.Words.Command.{Help, Schema as Print, Explain, Run, Exec, Verify}
-use Rattle.run_command.specs.Deciding.{Shows, IsPlanned, IsRefuted}
+use Rattle.run_command.specs.Deciding.{IsPlanned}
 use Rattle.run_command.specs.Deciding.Shows.{plan as shows_plan, no_plan as shows_none, undecided as shows_log}
-use Rattle.run_command.specs.Explained.{DecisionEnds, ExplainEnds}
+use Rattle.run_command.specs.Explained.{DecisionEnds}
 use Rattle.run_command.specs.Explained.DecisionEnds.{no_decision as nothing_shown, cut as shown_part, shown}
 use Rattle.run_command.specs.Explained.ExplainEnds.{refused as not_explained, read as explained}
-use Rattle.run_command.specs.Ends.{StatementEnds, RunEnds}
+use Rattle.run_command.specs.Ends.{StatementEnds}
 use Rattle.run_command.specs.Ends.StatementEnds.{no_decision, untold, refuted, undecided, stopped, no_text, cut, done}
 use Rattle.run_command.specs.Ends.RunEnds.{refused, read}
 use Rattle.pdq_core.specs.Runs.{Runs, ended}

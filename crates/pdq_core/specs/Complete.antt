@@ -1,5 +1,5 @@
 -- What a run without faults is given, command by command, and the statuses with which it ends.
-use Rattle.std.specs.Prelude.{◌≡◌, ◌≤◌, ◌<◌, ◌+◌, ◌++◌, ℕ, List, Contains, Bool, false, Option, None, Some, IfSome, IsSome, IsOk, Ok, length, slice_get}
+use Rattle.std.specs.Prelude.{◌≡◌, ◌≤◌, ◌<◌, ◌+◌, ◌++◌, ℕ, List, Contains, false, Option, Some, IfSome, IsSome, IsOk, Ok, length, slice_get}
 use Rattle.meaning.specs.declared.types.Fact.{Fact}
 use Rattle.meaning.specs.declared.types.Plan.{Plan}
 use Rattle.meaning.specs.declared.types.Relation.{Relation}
