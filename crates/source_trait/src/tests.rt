@@ -1,12 +1,14 @@
 // The forms in memory through their traits, and sources on a lane.
-ghost use Rattle.std.specs.Prelude.{◌≡◌, ◌<◌, ◌^◌, IfOk, length};
+ghost use Rattle.std.specs.Prelude.{◌≡◌, ◌<◌, ◌≤◌, ◌^◌, IfOk, IsSome, length};
+ghost use Rattle.source_trait.specs.Lanes.{names_of, place_from};
 
 use crate::{
     AttachFault, Boxed, CallFault, FileFault, Files, Kind, Lane, MemoryFiles, MemorySink,
-    MemorySource, NamedFile, Sink, SinkFault, Source, Table, attach_on, call_on, locators_differ,
-    names_differ,
+    MemorySource, NamedFile, Sink, SinkFault, Source, Table, Tables, attach_on, call_on,
+    locators_differ, names_differ,
 };
-use lists::{Copies, Numbers, Places, Row, Seq, Text, Texts};
+use lists::{Numbers, Places, Row, Seq, Text, Texts};
+use row_text::PackedRows;
 use std::alloc::{AllocError, Global};
 use std::test::Fail;
 
@@ -35,22 +37,47 @@ fn file(alloc: Global, name: &str, bytes: &[u8]) -> Result<NamedFile, AllocError
     })
 }
 
+/// Whether the next read answers these bytes or this fault.
+fn reads(
+    alloc: Global,
+    files: &mut MemoryFiles,
+    name: &str,
+    limit: u64,
+    wanted: Result<&[u8], FileFault>,
+) -> Result<bool, AllocError> {
+    let name = Text::from_str(alloc, name)?;
+    match (files.read(alloc, &name, limit), wanted) {
+        (Ok(bytes), Ok(wanted)) => Ok(bytes.as_slice() == wanted),
+        (Err(fault), Err(wanted)) => Ok(fault == wanted),
+        _ => Ok(false),
+    }
+}
+
+/// Files in memory, of which the reads with these numbers fail.
+fn memory_files(
+    alloc: Global,
+    listed: &[(&str, &[u8])],
+    failing: &[u64],
+) -> Result<MemoryFiles, Fail> {
+    let mut files = Seq::new(alloc);
+    for (name, bytes) in listed {
+        files.push(file(alloc, name, bytes)?)?;
+    }
+    if !names_differ(&files) {
+        return Err(Fail::from("two files have one name"));
+    }
+    Ok(MemoryFiles::new(alloc, files, numbers(alloc, failing)?))
+}
+
 #[test]
 fn a_read_gives_the_file_or_its_fault(rt: HostRuntime) -> Result<(), Fail> {
     let alloc = rt.alloc();
-    let mut files = Seq::new(alloc);
-    files.push(file(alloc, "a", b"xyz")?)?;
-    files.push(file(alloc, "b", b"")?)?;
-    assert!(rt; names_differ(&files));
-    let mut files = MemoryFiles::new(alloc, files, numbers(alloc, &[4])?);
-    let a = Text::from_str(alloc, "a")?;
-    let b = Text::from_str(alloc, "b")?;
-    let c = Text::from_str(alloc, "c")?;
-    assert_eq!(rt; files.read(alloc, &a, 3)?.as_slice(), b"xyz".as_slice());
-    assert_eq!(rt; files.read(alloc, &a, 2).err(), Some(FileFault::TooLarge));
-    assert_eq!(rt; files.read(alloc, &c, 9).err(), Some(FileFault::Missing));
-    assert_eq!(rt; files.read(alloc, &b, 0).err(), Some(FileFault::Failed));
-    assert_eq!(rt; files.read(alloc, &b, 0)?.len(), 0);
+    let mut files = memory_files(alloc, &[("a", b"xyz"), ("b", b"")], &[4])?;
+    assert!(rt; reads(alloc, &mut files, "a", 3, Ok(b"xyz"))?);
+    assert!(rt; reads(alloc, &mut files, "a", 2, Err(FileFault::TooLarge))?);
+    assert!(rt; reads(alloc, &mut files, "c", 9, Err(FileFault::Missing))?);
+    assert!(rt; reads(alloc, &mut files, "b", 0, Err(FileFault::Failed))?);
+    assert!(rt; reads(alloc, &mut files, "b", 0, Ok(b""))?);
     Ok(())
 }
 
@@ -106,42 +133,118 @@ fn people(alloc: Global) -> Result<Seq<Table>, AllocError> {
     Ok(tables)
 }
 
+/// The tables as a source, of which the attaches and the calls with these numbers fail.
+fn source(
+    alloc: Global,
+    tables: Tables,
+    attaches: &[u64],
+    calls: &[u64],
+) -> Result<MemorySource, Fail> {
+    if !locators_differ(&tables) {
+        return Err(Fail::from("two tables have one locator"));
+    }
+    let attaches = numbers(alloc, attaches)?;
+    let calls = numbers(alloc, calls)?;
+    Ok(MemorySource::new(alloc, tables, attaches, calls))
+}
+
+/// Attaches the relation with these columns from the locator, and gives the fault, if there is one.
+fn attach_fault(
+    alloc: Global,
+    source: &mut MemorySource,
+    rel: u32,
+    columns: &[&str],
+    locator: &str,
+) -> Result<Option<AttachFault>, AllocError> {
+    let columns = row(alloc, columns)?;
+    let locator = Text::from_str(alloc, locator)?;
+    Ok(source.attach(alloc, rel, &columns, &locator).err())
+}
+
+/// Asks for the rows that have the values at the positions.
+fn ask(
+    alloc: Global,
+    source: &mut MemorySource,
+    rel: u32,
+    positions: &[u32],
+    values: &[&str],
+) -> Result<Result<PackedRows, CallFault>, AllocError> {
+    let positions = places(alloc, positions)?;
+    let values = row(alloc, values)?;
+    Ok(source.call(alloc, rel, &positions, &values))
+}
+
+/// Whether the rows are these, in this order.
+fn are(rows: &PackedRows, wanted: &[&[&str]]) -> bool {
+    if rows.len() != wanted.len() {
+        return false;
+    }
+    for number in 0..wanted.len() {
+        if !rows.at(number).is(wanted[number]) {
+            return false;
+        }
+    }
+    true
+}
+
 #[test]
 fn a_source_answers_requests_on_attached_relations(rt: HostRuntime) -> Result<(), Fail> {
     let alloc = rt.alloc();
-    let tables = people(alloc)?;
-    assert!(rt; locators_differ(&tables));
-    let mut source = MemorySource::new(alloc, tables, numbers(alloc, &[4])?, numbers(alloc, &[2])?);
-    let columns = row(alloc, &["name", "dept"])?;
-    let there = Text::from_str(alloc, "people")?;
-    let short = Text::from_str(alloc, "short")?;
-    let nowhere = Text::from_str(alloc, "nowhere")?;
-    assert_eq!(rt;
-        source.attach(alloc, 1, &columns, &nowhere).err(),
-        Some(AttachFault::Missing)
-    );
-    assert_eq!(rt;
-        source.attach(alloc, 1, &columns, &short).err(),
-        Some(AttachFault::BadRow { number: 2 })
-    );
-    source.attach(alloc, 7, &columns, &there)?;
-    let at = places(alloc, &[1])?;
-    let ops = row(alloc, &["ops"])?;
-    let rows = source.call(alloc, 7, &at, &ops)?;
-    assert_eq!(rt; rows.len(), 2);
-    assert!(rt; rows.at(0).is(&["ann", "ops"]));
-    assert!(rt; rows.at(1).is(&["cid", "ops"]));
-    assert_eq!(rt;
-        source.call(alloc, 7, &at, &ops).err(),
-        Some(CallFault::Failed)
-    );
+    let mut source = source(alloc, people(alloc)?, &[4], &[2])?;
+    for (rel, locator, fault) in [
+        (1, "nowhere", Some(AttachFault::Missing)),
+        (1, "short", Some(AttachFault::BadRow { number: 2 })),
+        (7, "people", None),
+    ] {
+        let found = attach_fault(alloc, &mut source, rel, &["name", "dept"], locator)?;
+        assert_eq!(rt; found, fault, "{locator}");
+    }
+    let rows = ask(alloc, &mut source, 7, &[1], &["ops"])??;
+    assert!(rt; are(&rows, &[&["ann", "ops"], &["cid", "ops"]]));
+    let fault = ask(alloc, &mut source, 7, &[1], &["ops"])?.err();
+    assert_eq!(rt; fault, Some(CallFault::Failed));
     assert_eq!(rt; source.told().map(|asked| asked.len()), Some(2));
-    assert_eq!(rt;
-        source.attach(alloc, 7, &columns, &there).err(),
-        Some(AttachFault::Failed)
-    );
-    assert_eq!(rt; source.call(alloc, 7, &at, &ops)?.len(), 0);
+    let fault = attach_fault(alloc, &mut source, 7, &["name", "dept"], "people")?;
+    assert_eq!(rt; fault, Some(AttachFault::Failed));
+    assert_eq!(rt; ask(alloc, &mut source, 7, &[1], &["ops"])??.len(), 0);
     Ok(())
+}
+
+/// A kind under this name.
+fn kind(alloc: Global, name: &str, object: MemorySource) -> Result<Kind<Boxed>, AllocError> {
+    Ok(Kind {
+        name: Text::from_str(alloc, name)?,
+        object: Boxed {
+            object: Box::new(alloc, object)?,
+        },
+    })
+}
+
+/// Two kinds of one name, of which the second has no tables.
+fn two_kinds(alloc: Global) -> Result<Lane<Boxed>, Fail> {
+    let mut kinds = Vec::new(alloc);
+    kinds.push(kind(alloc, "csv", source(alloc, people(alloc)?, &[], &[])?)?)?;
+    kinds.push(kind(alloc, "csv", source(alloc, Seq::new(alloc), &[], &[])?)?)?;
+    Ok(Lane::new(kinds))
+}
+
+/// How many rows the first source of the name gives, after a relation was attached there.
+fn count_on<S: Source + Send + Drop>(
+    alloc: Global,
+    lane: &mut Lane<S>,
+    name: &Text,
+    columns: &Texts,
+    locator: &Text,
+) -> Result<usize, Fail>
+    requires there { IsSome (place_from 0 name.now (names_of lane.old.kinds.items)) }
+    requires some { 1 ≤ length columns.now }
+    requires few { length columns.now ≤ 64 }
+{
+    attach_on(alloc, lane, name, 7, columns, locator)?;
+    let positions = places(alloc, &[])?;
+    let values = row(alloc, &[])?;
+    let rows = call_on(alloc, lane, name, 7, &positions, &values)?;
+    Ok(rows.len())
 }
 
 #[test]
@@ -151,38 +254,10 @@ fn the_first_kind_of_a_name_is_asked(rt: HostRuntime) -> Result<(), Fail> {
     let web = Text::from_str(alloc, "web")?;
     let columns = row(alloc, &["name", "dept"])?;
     let there = Text::from_str(alloc, "people")?;
-    let tables = people(alloc)?;
-    assert!(rt; locators_differ(&tables));
-    let first = MemorySource::new(alloc, tables, numbers(alloc, &[])?, numbers(alloc, &[])?);
-    let none = Seq::new(alloc);
-    let second = MemorySource::new(alloc, none, numbers(alloc, &[])?, numbers(alloc, &[])?);
-    let kinds = vec![in alloc;
-        Kind {
-            name: csv.copy(alloc)?,
-            object: Boxed {
-                object: Box::new(alloc, first)?
-            }
-        },
-        Kind {
-            name: csv.copy(alloc)?,
-            object: Boxed {
-                object: Box::new(alloc, second)?
-            }
-        },
-    ]?;
-    let mut lane = Lane::new(kinds);
+    let mut lane = two_kinds(alloc)?;
     assert!(rt; !lane.has_kind(&web));
     assert!(rt; lane.has_kind(&csv));
-    attach_on(alloc, &mut lane, &csv, 7, &columns, &there)?;
-    let rows = call_on(
-        alloc,
-        &mut lane,
-        &csv,
-        7,
-        &places(alloc, &[])?,
-        &row(alloc, &[])?,
-    )?;
-    assert_eq!(rt; rows.len(), 3);
+    assert_eq!(rt; count_on(alloc, &mut lane, &csv, &columns, &there)?, 3);
     Ok(())
 }
 
@@ -205,42 +280,45 @@ fn letters(alloc: Global) -> Result<Seq<Table>, AllocError> {
     Ok(tables)
 }
 
+/// The letters, of which the relation 1 is the many and 2 the few.
+fn attached_letters(alloc: Global) -> Result<MemorySource, Fail> {
+    let mut source = source(alloc, letters(alloc)?, &[], &[])?;
+    for (rel, locator) in [(1, "many"), (2, "few")] {
+        if attach_fault(alloc, &mut source, rel, &["number", "letter"], locator)?.is_some() {
+            return Err(Fail::from("a table is not attached"));
+        }
+    }
+    Ok(source)
+}
+
+/// Relations, positions and values there, and how many rows have them.
+const ASKED: [(u32, &[u32], &[&str], usize); 13] = [
+    (1, &[0], &["1"], 4),
+    (1, &[0], &["2"], 2),
+    (1, &[0], &["12"], 1),
+    (1, &[0], &["3"], 0),
+    (1, &[0], &[""], 1),
+    (1, &[1], &["a"], 4),
+    (1, &[1], &["2"], 1),
+    (1, &[0, 1], &["1", "a"], 2),
+    (1, &[0, 1], &["12", ""], 1),
+    (1, &[0, 1], &["", "12"], 0),
+    (2, &[0], &["1"], 1),
+    (2, &[1], &["a"], 1),
+    (2, &[], &[], 2),
+];
+
 #[test]
 fn an_index_answers_each_row_that_has_the_values(rt: HostRuntime) -> Result<(), Fail> {
     let alloc = rt.alloc();
-    let tables = letters(alloc)?;
-    assert!(rt; locators_differ(&tables));
-    let mut source = MemorySource::new(alloc, tables, Seq::new(alloc), Seq::new(alloc));
-    let columns = row(alloc, &["number", "letter"])?;
-    let many = Text::from_str(alloc, "many")?;
-    let few = Text::from_str(alloc, "few")?;
-    source.attach(alloc, 1, &columns, &many)?;
-    source.attach(alloc, 2, &columns, &few)?;
-    let asked: [(u32, &[u32], &[&str], usize); 13] = [
-        (1, &[0], &["1"], 4),
-        (1, &[0], &["2"], 2),
-        (1, &[0], &["12"], 1),
-        (1, &[0], &["3"], 0),
-        (1, &[0], &[""], 1),
-        (1, &[1], &["a"], 4),
-        (1, &[1], &["2"], 1),
-        (1, &[0, 1], &["1", "a"], 2),
-        (1, &[0, 1], &["12", ""], 1),
-        (1, &[0, 1], &["", "12"], 0),
-        (2, &[0], &["1"], 1),
-        (2, &[1], &["a"], 1),
-        (2, &[], &[], 2),
-    ];
-    for (rel, positions, values, count) in asked {
-        let positions = places(alloc, positions)?;
-        let rows = source.call(alloc, rel, &positions, &row(alloc, values)?)?;
-        assert_eq!(rt; rows.len(), count, "{rel} {positions:?} {values:?}");
+    let mut source = attached_letters(alloc)?;
+    for (rel, positions, values, count) in &ASKED {
+        let rows = ask(alloc, &mut source, *rel, positions, values)??;
+        assert_eq!(rt; rows.len(), *count, "{rel} {positions:?} {values:?}");
     }
-    source.attach(alloc, 1, &columns, &few)?;
-    let first = places(alloc, &[0])?;
-    let one = row(alloc, &["1"])?;
-    let rows = source.call(alloc, 1, &first, &one)?;
-    assert_eq!(rt; rows.len(), 1);
-    assert!(rt; rows.at(0).is(&["1", "c"]));
+    let fault = attach_fault(alloc, &mut source, 1, &["number", "letter"], "few")?;
+    assert_eq!(rt; fault, None);
+    let rows = ask(alloc, &mut source, 1, &[0], &["1"])??;
+    assert!(rt; are(&rows, &[&["1", "c"]]));
     Ok(())
 }
