@@ -1,10 +1,12 @@
 // Small graphs, whose paths are counted by hand; each call that takes memory answers with ample memory.
+ghost use Rattle.std.specs.Prelude.{◌<◌};
+
 use crate::{
-    Assignment, Assigns, Bindings, Freezing, Store, all_matches, body_matches, first_match,
-    first_unmet, ground_under, is_covered, is_met, is_numbered, row_under, variables_width,
+    Assigns, Bindings, Freezing, Store, all_matches, body_matches, first_match, first_unmet,
+    ground_under, is_covered, is_met, is_numbered, row_under, variables_width,
 };
-use lists::{Copies, Exact, Row, Seq, Text};
-use meaning::types::{Atom, Atoms, Fact, Ground, Instance, Rule, Term, Trigger, Val};
+use lists::{Exact, Row, Seq, Text};
+use meaning::types::{Atom, Atoms, Fact, Ground, Instance, Rule, Term, Trigger, Val, Vals};
 use std::alloc::{AllocError, Global};
 use std::test::Fail;
 
@@ -14,11 +16,19 @@ const EDGE: u32 = 0;
 /// The relation of marks.
 const MARK: u32 = 1;
 
+/// A value: `_0`, `_1`, `_5`, `_6` and `_7` are the labels of these numbers, and everything else is a text.
 fn known(alloc: Global, text: &str) -> Result<Val, AllocError> {
-    Ok(Val::Const(Text::from_str(alloc, text)?))
+    match text {
+        "_0" => Ok(Val::Label(0)),
+        "_1" => Ok(Val::Label(1)),
+        "_5" => Ok(Val::Label(5)),
+        "_6" => Ok(Val::Label(6)),
+        "_7" => Ok(Val::Label(7)),
+        _ => Ok(Val::Const(Text::from_str(alloc, text)?)),
+    }
 }
 
-/// A labelled fact of texts.
+/// A labelled fact of these values.
 fn ground(alloc: Global, rel: u32, texts: &[&str]) -> Result<Ground, AllocError> {
     let mut vals = Seq::new(alloc);
     for text in texts {
@@ -74,17 +84,42 @@ fn bindings(alloc: Global, texts: &[&str]) -> Result<Bindings, AllocError> {
     Ok(fixed)
 }
 
+fn grounds(alloc: Global, list: &[(u32, &[&str])]) -> Result<Seq<Ground>, AllocError> {
+    let mut made = Seq::new(alloc);
+    for (rel, texts) in list {
+        made.push(ground(alloc, *rel, texts)?)?;
+    }
+    Ok(made)
+}
+
+/// Adds the fact, and says whether it was not there.
+fn insert(alloc: Global, store: &mut Store, rel: u32, texts: &[&str]) -> Result<bool, AllocError> {
+    let fact = ground(alloc, rel, texts)?;
+    Ok(store.insert(alloc, fact)?)
+}
+
+fn add_all(alloc: Global, store: &mut Store, list: &[(u32, &[&str])]) -> Result<(), AllocError> {
+    let news = grounds(alloc, list)?;
+    store.add_all(alloc, news.as_slice())?;
+    Ok(())
+}
+
+fn contains(alloc: Global, store: &Store, rel: u32, texts: &[&str]) -> Result<bool, AllocError> {
+    let fact = ground(alloc, rel, texts)?;
+    Ok(store.contains(&fact))
+}
+
 /// The edges a to b, b to c, c to a, and a to itself.
 fn circle(alloc: Global) -> Result<Store, AllocError> {
     let mut store = Store::new(alloc);
     for texts in [["a", "b"], ["b", "c"], ["c", "a"], ["a", "a"]] {
-        store.insert(alloc, ground(alloc, EDGE, &texts)?)?;
+        let _ = insert(alloc, &mut store, EDGE, &texts)?;
     }
     Ok(store)
 }
 
-fn has_values(alloc: Global, found: &Assignment, texts: &[&str]) -> Result<bool, AllocError> {
-    Ok(found.vals.same(&ground(alloc, EDGE, texts)?.vals))
+fn has_values(alloc: Global, found: &Vals, texts: &[&str]) -> Result<bool, AllocError> {
+    Ok(found.same(&ground(alloc, EDGE, texts)?.vals))
 }
 
 #[test]
@@ -92,230 +127,301 @@ fn a_store_has_each_fact_once(rt: HostRuntime) -> Result<(), Fail> {
     let alloc = rt.alloc();
     let mut store = Store::new(alloc);
     assert!(rt; store.is_empty());
-    let edge = ground(alloc, EDGE, &["a", "b"])?;
-    assert!(rt; store.insert(alloc, edge.copy(alloc)?)?);
-    assert!(rt; !store.insert(alloc, edge.copy(alloc)?)?);
-    let news = [
-        ground(alloc, MARK, &["a", "b"])?,
-        edge.copy(alloc)?,
-        ground(alloc, MARK, &["a", "b"])?,
+    assert!(rt; insert(alloc, &mut store, EDGE, &["a", "b"])?);
+    assert!(rt; !insert(alloc, &mut store, EDGE, &["a", "b"])?);
+    let news: [(u32, &[&str]); 3] = [
+        (MARK, &["a", "b"]),
+        (EDGE, &["a", "b"]),
+        (MARK, &["a", "b"]),
     ];
-    store.add_all(alloc, &news)?;
+    add_all(alloc, &mut store, &news)?;
     assert_eq!(rt; store.len(), 2);
-    assert!(rt; store.contains(&edge));
-    assert!(rt; !store.contains(&ground(alloc, EDGE, &["b", "a"])?));
+    assert!(rt; contains(alloc, &store, EDGE, &["a", "b"])?);
+    assert!(rt; !contains(alloc, &store, EDGE, &["b", "a"])?);
     assert_eq!(rt; store.get(0).map(|fact| fact.rel), Some(EDGE));
     assert_eq!(rt; store.get(1).map(|fact| fact.rel), Some(MARK));
     assert!(rt; store.get(2).is_none());
     Ok(())
 }
 
-/// How many edges go out from a node, and how many paths of two edges there are.
-fn paths(alloc: Global, store: &Store, from: &str) -> Result<Option<(usize, usize)>, AllocError> {
-    let one = atoms(alloc, &[(EDGE, &["x", "y"])])?;
-    let two = atoms(alloc, &[(EDGE, &["x", "y"]), (EDGE, &["y", "z"])])?;
-    let fixed = bindings(alloc, &[from, ""])?;
-    let free = bindings(alloc, &["", "", ""])?;
-    if variables_width(one.as_slice()) > fixed.len() || !is_covered(&one, &fixed) {
+/// How many assignments agree with the given values and make the atoms facts, where the search for the first one finds
+/// one just if there are any.
+fn count(
+    alloc: Global,
+    store: &Store,
+    list: &[(u32, &[&str])],
+    given: &[&str],
+) -> Result<Option<usize>, AllocError> {
+    let atoms = atoms(alloc, list)?;
+    let fixed = bindings(alloc, given)?;
+    if variables_width(atoms.as_slice()) > fixed.len() || !is_covered(&atoms, &fixed) {
         return Ok(None);
     }
-    if variables_width(two.as_slice()) > free.len() || !is_covered(&two, &free) {
+    let found = all_matches(alloc, &atoms, store, &fixed)?.len();
+    if first_match(alloc, &atoms, store, &fixed)?.is_some() != (found > 0) {
         return Ok(None);
     }
-    let out = all_matches(alloc, &one, store, &fixed)?.len();
-    if first_match(alloc, &one, store, &fixed)?.is_some() != (out > 0) {
-        return Ok(None);
+    Ok(Some(found))
+}
+
+/// An edge.
+const ONE: &[(u32, &[&str])] = &[(EDGE, &["x", "y"])];
+
+/// A path of two edges.
+const TWO: &[(u32, &[&str])] = &[(EDGE, &["x", "y"]), (EDGE, &["y", "z"])];
+
+/// Whether so many edges go out from a node, and there are so many paths of two edges.
+fn are_paths(
+    alloc: Global,
+    store: &Store,
+    from: &str,
+    out: usize,
+    paths: usize,
+) -> Result<bool, AllocError> {
+    if count(alloc, store, ONE, &[from, ""])? != Some(out) {
+        return Ok(false);
     }
-    Ok(Some((out, all_matches(alloc, &two, store, &free)?.len())))
+    Ok(count(alloc, store, TWO, &["", "", ""])? == Some(paths))
 }
 
 #[test]
 fn a_dropped_fact_is_not_found_until_it_is_back(rt: HostRuntime) -> Result<(), Fail> {
     let alloc = rt.alloc();
     let mut store = circle(alloc)?;
-    assert_eq!(rt; paths(alloc, &store, "a")?, Some((2, 6)));
+    assert!(rt; are_paths(alloc, &store, "a", 2, 6)?);
     store.truncate(2);
     assert_eq!(rt; store.len(), 2);
-    assert!(rt; store.contains(&ground(alloc, EDGE, &["a", "b"])?));
-    assert!(rt; !store.contains(&ground(alloc, EDGE, &["c", "a"])?));
-    assert_eq!(rt; paths(alloc, &store, "a")?, Some((1, 1)));
-    assert_eq!(rt; paths(alloc, &store, "c")?, Some((0, 1)));
-    assert!(rt; store.insert(alloc, ground(alloc, EDGE, &["c", "a"])?)?);
-    assert!(rt; !store.insert(alloc, ground(alloc, EDGE, &["b", "c"])?)?);
-    assert_eq!(rt; paths(alloc, &store, "c")?, Some((1, 3)));
+    assert!(rt; contains(alloc, &store, EDGE, &["a", "b"])?);
+    assert!(rt; !contains(alloc, &store, EDGE, &["c", "a"])?);
+    assert!(rt; are_paths(alloc, &store, "a", 1, 1)?);
+    assert!(rt; are_paths(alloc, &store, "c", 0, 1)?);
+    assert!(rt; insert(alloc, &mut store, EDGE, &["c", "a"])?);
+    assert!(rt; !insert(alloc, &mut store, EDGE, &["b", "c"])?);
+    assert!(rt; are_paths(alloc, &store, "c", 1, 3)?);
     store.truncate(9);
     assert_eq!(rt; store.len(), 3);
     store.truncate(0);
     assert!(rt; store.is_empty());
-    assert_eq!(rt; paths(alloc, &store, "a")?, Some((0, 0)));
+    assert!(rt; are_paths(alloc, &store, "a", 0, 0)?);
     Ok(())
+}
+
+/// Facts of one value each.
+fn instance(alloc: Global, list: &[(u32, &str)]) -> Result<Instance, AllocError> {
+    let mut instance = Instance::new(alloc);
+    for (rel, text) in list {
+        let row = row(alloc, &[*text])?;
+        instance.push(Fact { rel: *rel, row })?;
+    }
+    Ok(instance)
 }
 
 #[test]
 fn an_instance_is_a_store_of_its_facts(rt: HostRuntime) -> Result<(), Fail> {
     let alloc = rt.alloc();
-    let mut instance = Instance::new(alloc);
-    for (rel, text) in [(MARK, "b"), (EDGE, "b"), (MARK, "a"), (MARK, "b")] {
-        let mut row = Seq::new(alloc);
-        row.push(Text::from_str(alloc, text)?)?;
-        instance.push(Fact { rel, row })?;
-    }
+    let instance = instance(alloc, &[(MARK, "b"), (EDGE, "b"), (MARK, "a"), (MARK, "b")])?;
     let store = Store::of_instance(alloc, &instance)?;
     assert_eq!(rt; store.len(), 3);
     for (rel, text) in [(EDGE, "b"), (MARK, "a"), (MARK, "b")] {
-        assert!(rt;
-            store.contains(&ground(alloc, rel, &[text])?),
-            "{rel} {text}"
-        );
+        assert!(rt; contains(alloc, &store, rel, &[text])?, "{rel} {text}");
     }
     Ok(())
 }
+
+/// Atoms, given values, and how many matches in the circle there are.
+const COUNTED: [(&[(u32, &[&str])], &[&str], usize); 9] = [
+    (&[(EDGE, &["x", "y"]), (EDGE, &["x", "y"])], &["", ""], 4),
+    (TWO, &["", "", ""], 6),
+    (TWO, &["b", "", ""], 1),
+    (TWO, &["", "", "a"], 3),
+    (TWO, &["a", "b", "a"], 0),
+    (TWO, &["d", "", ""], 0),
+    (&[(EDGE, &["x", "x"]), (EDGE, &["x", "x"])], &[""], 1),
+    (&[(EDGE, &["x", "c"]), (EDGE, &["x", "c"])], &[""], 1),
+    (&[(EDGE, &["x", "y"]), (MARK, &["x", "y"])], &["", ""], 0),
+];
 
 #[test]
 fn matches_are_the_paths(rt: HostRuntime) -> Result<(), Fail> {
     let alloc = rt.alloc();
     let store = circle(alloc)?;
-    let edge: &[&str] = &["x", "y"];
-    let next: &[&str] = &["y", "z"];
-    let turn: &[&str] = &["x", "x"];
-    let to_c: &[&str] = &["x", "c"];
-    let one: &[&str] = &[""];
-    let two: &[&str] = &["", ""];
-    let three: &[&str] = &["", "", ""];
-    for (list, given, count) in [
-        ([(EDGE, edge), (EDGE, edge)], two, 4),
-        ([(EDGE, edge), (EDGE, next)], three, 6),
-        ([(EDGE, edge), (EDGE, next)], &["b", "", ""], 1),
-        ([(EDGE, edge), (EDGE, next)], &["", "", "a"], 3),
-        ([(EDGE, edge), (EDGE, next)], &["a", "b", "a"], 0),
-        ([(EDGE, edge), (EDGE, next)], &["d", "", ""], 0),
-        ([(EDGE, turn), (EDGE, turn)], one, 1),
-        ([(EDGE, to_c), (EDGE, to_c)], one, 1),
-        ([(EDGE, edge), (MARK, edge)], two, 0),
-    ] {
-        let atoms = atoms(alloc, &list)?;
-        let fixed = bindings(alloc, given)?;
-        assert!(rt; variables_width(atoms.as_slice()) <= fixed.len());
-        assert!(rt; is_covered(&atoms, &fixed));
-        let found = all_matches(alloc, &atoms, &store, &fixed)?;
-        assert_eq!(rt; found.len(), count);
-        let first = first_match(alloc, &atoms, &store, &fixed)?;
-        assert_eq!(rt; first.is_some(), count > 0);
+    for (list, given, wanted) in &COUNTED {
+        assert_eq!(rt;
+            count(alloc, &store, list, given)?,
+            Some(*wanted),
+            "{given:?}"
+        );
     }
     Ok(())
+}
+
+/// Whether the first match of the atoms that agrees with the given values has these values.
+fn finds(
+    alloc: Global,
+    store: &Store,
+    list: &[(u32, &[&str])],
+    given: &[&str],
+    wanted: &[&str],
+) -> Result<bool, AllocError> {
+    let atoms = atoms(alloc, list)?;
+    let fixed = bindings(alloc, given)?;
+    if variables_width(atoms.as_slice()) > fixed.len() {
+        return Ok(false);
+    }
+    match first_match(alloc, &atoms, store, &fixed)? {
+        Some(found) => has_values(alloc, &found.vals, wanted),
+        None => Ok(false),
+    }
 }
 
 #[test]
 fn a_match_gives_the_values(rt: HostRuntime) -> Result<(), Fail> {
     let alloc = rt.alloc();
     let store = circle(alloc)?;
-    let list: [(u32, &[&str]); 2] = [(EDGE, &["x", "y"]), (EDGE, &["y", "z"])];
-    let atoms = atoms(alloc, &list)?;
-    let fixed = bindings(alloc, &["b", "", ""])?;
-    assert!(rt; variables_width(atoms.as_slice()) <= fixed.len());
-    match first_match(alloc, &atoms, &store, &fixed)? {
-        Some(found) => assert!(rt; has_values(alloc, &found, &["b", "c", "a"])?),
-        None => assert!(rt; false),
-    }
+    assert!(rt; finds(alloc, &store, TWO, &["b", "", ""], &["b", "c", "a"])?);
+    let atoms = atoms(alloc, TWO)?;
     let wide = bindings(alloc, &["", "", "", ""])?;
     assert!(rt; !is_covered(&atoms, &wide));
     Ok(())
 }
 
-/// Each edge goes on: where there is an edge from x to y, there is one from y to some z.
-fn goes_on(alloc: Global) -> Result<Rule, AllocError> {
+/// The rule of one atom on each side.
+fn rule(alloc: Global, body: &[&str], head: &[&str]) -> Result<Rule, AllocError> {
     Ok(Rule {
         line: 1,
-        body: atoms(alloc, &[(EDGE, &["x", "y"])])?,
-        head: atoms(alloc, &[(EDGE, &["y", "z"])])?,
+        body: atoms(alloc, &[(EDGE, body)])?,
+        head: atoms(alloc, &[(EDGE, head)])?,
     })
+}
+
+/// Each edge goes on: where there is an edge from x to y, there is one from y to some z.
+fn goes_on(alloc: Global) -> Result<Rule, AllocError> {
+    rule(alloc, &["x", "y"], &["y", "z"])
+}
+
+/// The values of the first match of the body at which the rule that each edge goes on is unmet.
+fn unmet(alloc: Global, store: &Store) -> Result<Option<Vals>, Fail> {
+    let rule = goes_on(alloc)?;
+    if !is_numbered(&rule) {
+        return Err(Fail::from("the rule is not numbered"));
+    }
+    match first_unmet(alloc, &rule, store)? {
+        Some(found) => Ok(Some(found.vals)),
+        None => Ok(None),
+    }
+}
+
+fn is_unmet_at(alloc: Global, store: &Store, texts: &[&str]) -> Result<bool, Fail> {
+    match unmet(alloc, store)? {
+        Some(found) => Ok(has_values(alloc, &found, texts)?),
+        None => Ok(false),
+    }
+}
+
+/// How many matches the body of the rule that each edge goes on has.
+fn count_of_body(alloc: Global, store: &Store) -> Result<usize, Fail> {
+    let rule = goes_on(alloc)?;
+    if !is_numbered(&rule) {
+        return Err(Fail::from("the rule is not numbered"));
+    }
+    Ok(body_matches(alloc, &rule, store)?.len())
 }
 
 #[test]
 fn a_rule_is_unmet_where_an_edge_ends(rt: HostRuntime) -> Result<(), Fail> {
     let alloc = rt.alloc();
-    let rule = goes_on(alloc)?;
-    assert!(rt; is_numbered(&rule));
     let mut store = circle(alloc)?;
-    assert!(rt; first_unmet(alloc, &rule, &store)?.is_none());
-    store.insert(alloc, ground(alloc, EDGE, &["c", "d"])?)?;
-    assert_eq!(rt; body_matches(alloc, &rule, &store)?.len(), 5);
-    match first_unmet(alloc, &rule, &store)? {
-        Some(found) => {
-            assert!(rt; has_values(alloc, &found, &["c", "d"])?);
-        }
-        None => assert!(rt; false),
-    }
-    let mut end = ground(alloc, EDGE, &["d"])?;
-    end.vals.push(Val::Label(0))?;
-    store.insert(alloc, end)?;
-    match first_unmet(alloc, &rule, &store)? {
-        Some(found) => {
-            let mut last = ground(alloc, EDGE, &["d"])?;
-            last.vals.push(Val::Label(0))?;
-            assert!(rt; found.vals.same(&last.vals));
-        }
-        None => assert!(rt; false),
-    }
+    assert!(rt; unmet(alloc, &store)?.is_none());
+    assert!(rt; insert(alloc, &mut store, EDGE, &["c", "d"])?);
+    assert_eq!(rt; count_of_body(alloc, &store)?, 5);
+    assert!(rt; is_unmet_at(alloc, &store, &["c", "d"])?);
+    assert!(rt; insert(alloc, &mut store, EDGE, &["d", "_0"])?);
+    assert!(rt; is_unmet_at(alloc, &store, &["d", "_0"])?);
     Ok(())
+}
+
+/// Whether the rule that each edge goes on is met at these values of its body.
+fn met(alloc: Global, store: &Store, texts: &[&str]) -> Result<bool, Fail> {
+    let rule = goes_on(alloc)?;
+    if !is_numbered(&rule) {
+        return Err(Fail::from("the rule is not numbered"));
+    }
+    let values = ground(alloc, EDGE, texts)?.vals;
+    if values.len() != variables_width(rule.body.as_slice()) {
+        return Err(Fail::from("the values are not those of the body"));
+    }
+    Ok(is_met(alloc, &rule, store, values.as_slice())?)
 }
 
 #[test]
 fn a_match_is_met_or_not(rt: HostRuntime) -> Result<(), Fail> {
     let alloc = rt.alloc();
-    let rule = goes_on(alloc)?;
-    assert!(rt; is_numbered(&rule));
-    let width = variables_width(rule.body.as_slice());
     let store = circle(alloc)?;
-    for (texts, met) in [(["a", "b"], true), (["a", "d"], false)] {
-        let values = ground(alloc, EDGE, &texts)?.vals;
-        assert!(rt; values.len() == width);
-        assert_eq!(rt; is_met(alloc, &rule, &store, values.as_slice())?, met);
-    }
-    let turned = Rule {
-        line: 1,
-        body: atoms(alloc, &[(EDGE, &["y", "y"])])?,
-        head: atoms(alloc, &[(EDGE, &["y", "x"])])?,
-    };
+    assert!(rt; met(alloc, &store, &["a", "b"])?);
+    assert!(rt; !met(alloc, &store, &["a", "d"])?);
+    let turned = rule(alloc, &["y", "y"], &["y", "x"])?;
     assert!(rt; !is_numbered(&turned));
     Ok(())
+}
+
+/// Whether the trigger of the value a, with labels from 5 on, gives the variable this value.
+fn assigns(alloc: Global, variable: u32, wanted: &str) -> Result<bool, AllocError>
+    requires { variable < 3 }
+{
+    let values = ground(alloc, EDGE, &["a"])?.vals;
+    let trigger = Trigger {
+        rule: 0,
+        values,
+        fresh: 5,
+    };
+    let wanted = known(alloc, wanted)?;
+    Ok(trigger.value(alloc, variable)?.same(&wanted))
+}
+
+/// Whether the frozen atoms are these facts.
+fn freeze(
+    alloc: Global,
+    list: &[(u32, &[&str])],
+    wanted: &[(u32, &[&str])],
+) -> Result<bool, AllocError> {
+    let body = atoms(alloc, list)?;
+    let wanted = grounds(alloc, wanted)?;
+    let facts = Seq::from_vec(ground_under(alloc, body.as_slice(), &Freezing)?);
+    Ok(facts.same(&wanted))
 }
 
 #[test]
 fn atoms_are_facts_of_values_and_labels(rt: HostRuntime) -> Result<(), Fail> {
     let alloc = rt.alloc();
-    let trigger = Trigger {
-        rule: 0,
-        values: ground(alloc, EDGE, &["a"])?.vals,
-        fresh: 5,
-    };
-    assert!(rt; trigger.value(alloc, 0)?.same(&known(alloc, "a")?));
-    assert!(rt; trigger.value(alloc, 1)?.same(&Val::Label(5)));
-    assert!(rt; trigger.value(alloc, 2)?.same(&Val::Label(6)));
-    let body = atoms(alloc, &[(EDGE, &["y", "a"]), (MARK, &["x"])])?;
-    let facts = ground_under(alloc, body.as_slice(), &Freezing)?;
-    let [edge, mark] = facts.as_slice() else {
-        return Err(Fail::from("there are not two facts"));
-    };
-    assert_eq!(rt; edge.rel, EDGE);
-    let mut ends = Seq::new(alloc);
-    ends.push(Val::Label(1))?;
-    ends.push(known(alloc, "a")?)?;
-    assert!(rt; edge.vals.same(&ends));
-    assert_eq!(rt; mark.rel, MARK);
-    assert_eq!(rt; mark.vals.len(), 1);
+    assert!(rt; assigns(alloc, 0, "a")?);
+    assert!(rt; assigns(alloc, 1, "_5")?);
+    assert!(rt; assigns(alloc, 2, "_6")?);
+    let body: [(u32, &[&str]); 2] = [(EDGE, &["y", "a"]), (MARK, &["x"])];
+    let facts: [(u32, &[&str]); 2] = [(EDGE, &["_1", "a"]), (MARK, &["_0"])];
+    assert!(rt; freeze(alloc, &body, &facts)?);
     Ok(())
+}
+
+/// Whether the terms have these texts under the values.
+fn is_row(
+    alloc: Global,
+    terms: &[&str],
+    values: &[&str],
+    wanted: &[&str],
+) -> Result<bool, AllocError> {
+    let terms = atom(alloc, EDGE, terms)?.terms;
+    let values = ground(alloc, EDGE, values)?.vals;
+    let wanted = row(alloc, wanted)?;
+    let found = row_under(alloc, terms.as_slice(), values.as_slice())?;
+    Ok(found.same(&wanted))
 }
 
 #[test]
 fn a_row_has_the_texts_of_the_values(rt: HostRuntime) -> Result<(), Fail> {
     let alloc = rt.alloc();
-    let terms = atom(alloc, EDGE, &["y", "c", "x", "z", "x"])?.terms;
-    let mut values = ground(alloc, EDGE, &["a", "b"])?.vals;
-    let found = row_under(alloc, terms.as_slice(), values.as_slice())?;
-    assert!(rt; found.same(&row(alloc, &["b", "c", "a", "", "a"])?));
-    values.push(Val::Label(7))?;
-    let found = row_under(alloc, terms.as_slice(), values.as_slice())?;
-    assert!(rt; found.same(&row(alloc, &["b", "c", "a", "", "a"])?));
+    let terms = ["y", "c", "x", "z", "x"];
+    let wanted = ["b", "c", "a", "", "a"];
+    assert!(rt; is_row(alloc, &terms, &["a", "b"], &wanted)?);
+    assert!(rt; is_row(alloc, &terms, &["a", "b", "_7"], &wanted)?);
     Ok(())
 }
