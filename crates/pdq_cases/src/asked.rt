@@ -20,6 +20,9 @@ const STAFF: &[u8] =
 const SMITHS: &[u8] =
     b"plan 2\nbranch\naccess all_direct(new, 'smith')\naccess prof_by_eid($0, new, 'smith')\noutput $0, $1\nend\n";
 
+/// The query whose plan that is.
+const ROOMS_OF_SMITHS: &[u8] = b"SELECT DISTINCT eid, onum FROM profinfo WHERE lname = 'smith'";
+
 /// The directory has two rows of the number 3.
 const DIRECTORY: [&[&str]; 4] = [
     &["3", "smith"],
@@ -120,7 +123,7 @@ struct Outcome {
     as_expected: bool,
 }
 
-// A run over the staff schema in the file `s` and a plan in the file `p`.
+// A run over the staff schema in the file `s` and a plan or a query in the file `p`.
 fn outcome_of(
     alloc: Global,
     listed: &[&str],
@@ -163,6 +166,38 @@ fn a_plan_of_two_steps_asks_each_request_once(rt: HostRuntime) -> Result<(), Fai
         got.as_expected,
         "the whole directory, and then each number once, ascending"
     );
+    Ok(())
+}
+
+#[test]
+fn a_planned_query_asks_each_request_once(rt: HostRuntime) -> Result<(), Fail> {
+    let alloc = rt.alloc();
+    let source = source(alloc, &PROFILES, &[])?;
+    let asked: [Asked<'_>; 3] = [(UDIRECT, &[]), (PROFINFO, &["1"]), (PROFINFO, &["3"])];
+    let got = outcome_of(alloc, &["run", "s", "p"], ROOMS_OF_SMITHS, source, &asked)?;
+    assert_eq!(rt; got.code, 0);
+    assert_eq!(rt; got.out.as_slice(), b"eid,onum\n1,101\n3,103\n".as_slice());
+    assert_eq!(rt; got.err.as_slice(), SMITHS);
+    assert!(rt;
+        got.as_expected,
+        "the whole directory, and then each number once, ascending"
+    );
+    Ok(())
+}
+
+#[test]
+fn a_planned_query_stops_at_the_request_that_fails(rt: HostRuntime) -> Result<(), Fail> {
+    let alloc = rt.alloc();
+    let source = source(alloc, &PROFILES, &[2])?;
+    let asked: [Asked<'_>; 2] = [(UDIRECT, &[]), (PROFINFO, &["1"])];
+    let got = outcome_of(alloc, &["run", "s", "p"], ROOMS_OF_SMITHS, source, &asked)?;
+    assert_eq!(rt; got.code, 5);
+    assert_eq!(rt; got.out.len(), 0);
+    assert_eq!(rt;
+        got.err.strip_prefix(SMITHS),
+        Some(b"call failed in branch 1 step 2\n".as_slice())
+    );
+    assert!(rt; got.as_expected, "nothing is asked behind it");
     Ok(())
 }
 
