@@ -38,7 +38,7 @@ decided_right schema statement firings decision fits (none_found select log is) 
 
 -- a plan whose text is UTF-8 is read again
 pub planned : (schema : Schema) (statement : Statement) (of : PlanOf) → IsPlanFor schema statement of → PlanFits of → IsUtf8 (plan_text of) → IsPlanned schema statement of
-planned schema statement of is fits utf8 = record { is = is; reads = (utf8, plan_again of fits.writable) }
+planned schema statement of is fits utf8 = record { is = is; fits = fits; reads = (utf8, plan_again of fits.writable) }
 
 -- an answer that is as wide as each select is not empty
 some_answer : (schema : Schema) (statement : Statement) (answer : List Value) → StatementFits schema statement →

@@ -19,9 +19,10 @@ use Rattle.command_io.specs.declared.outcome.Outcome.{Outcome}
 use Rattle.command_io.specs.declared.outcome.Outcome.TheVariants as outcome
 use Rattle.command_io.specs.Writing.{TookAll, TookPart}
 
--- The plan is one for the statement, and its text reads as it.
+-- The plan is one for the statement and within the limits of plan texts, and its text reads as it.
 pub record IsPlanned (schema : Schema) (statement : Statement) (plan : PlanOf) : Type 0 where
   pub is : IsPlanFor schema statement plan
+  pub fits : PlanFits plan
   pub reads : IsPlanText (plan_text plan) plan
 
 -- A decision is right: a plan is one for the statement and can be written, a pair refutes, and a log is one of spent firings.
