@@ -1,5 +1,5 @@
 // A proof, and what it lends.
-ghost use Rattle.std.specs.Prelude.{◌≡◌, ◌≤◌, [], IfOk, IfSome, IfNone, slice_get, option_copied, None, Some};
+ghost use Rattle.std.specs.Prelude.{◌≡◌, ◌≤◌, ◌↔◌, [], IsTrue, IfOk, IfSome, IfNone, Contains, slice_get, option_copied, None, Some};
 ghost use Rattle.meaning.specs.Triggers.{bound};
 ghost use Rattle.meaning.specs.Runs.{opening};
 ghost use Rattle.access_schema.specs.Meaning.{meaning_of};
@@ -102,6 +102,34 @@ impl Proof {
         ensures { option_copied result ≡ slice_get (known_values self.now.constants self.now.end.exposed) number }
     {
         self.known.value(number)
+    }
+
+    /// Whether the fact is a base fact, found by an index. Takes no memory.
+    pub fn has_base(&self, fact: &Ground) -> bool
+        ensures { IsTrue result ↔ Contains self.now.end.base fact.now }
+    {
+        self.base.store().contains(fact)
+    }
+
+    /// Whether the fact is exposed, found by an index. Takes no memory.
+    pub fn has_exposed(&self, fact: &Ground) -> bool
+        ensures { IsTrue result ↔ Contains self.now.end.exposed fact.now }
+    {
+        self.known.has(fact)
+    }
+
+    /// Whether the fact is a copy fact, found by an index. Takes no memory.
+    pub fn has_copy(&self, fact: &Ground) -> bool
+        ensures { IsTrue result ↔ Contains self.now.end.copy fact.now }
+    {
+        self.copy.store().contains(fact)
+    }
+
+    /// Whether the value is known, found by a look at the place where it stood first. Takes no memory.
+    pub fn knows(&self, val: &Val) -> bool
+        ensures { IsTrue result ↔ Contains (known_values self.now.constants self.now.end.exposed) val.now }
+    {
+        self.known.knows(val)
     }
 
     /// The firing with this number. Takes no memory.
