@@ -1,0 +1,11 @@
+//! The least cost of a set of numbered facts with a goal, by moves that add a fact each.
+//!
+//! Crates above use this: a `Space` says which moves are possible and which sets have a goal, and `cheapest` searches it.
+//! Begin at `specs/Walks.antt` and `src/space.rt`.
+#![tactic(auto)]
+
+mod node;
+mod space;
+
+pub use node::Node;
+pub use space::{End, Move, Space, Visit};
