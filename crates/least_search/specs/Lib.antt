@@ -1,3 +1,6 @@
 pub mod Walks
 pub mod Ends
 pub mod Costs
+pub mod Frontier
+pub mod Packing
+pub mod Queues

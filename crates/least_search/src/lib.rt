@@ -4,8 +4,13 @@
 //! Begin at `specs/Walks.antt` and `src/space.rt`.
 #![tactic(auto)]
 
+mod looked;
+mod marks;
 mod node;
+mod search;
 mod space;
+mod waiting;
 
 pub use node::Node;
+pub use search::{Ended, Outcome, cheapest};
 pub use space::{End, Move, Space, Visit};

@@ -1,7 +1,8 @@
 // Sets of facts, each with a path of moves that leads to it.
-ghost use Rattle.std.specs.Prelude.{◌≡◌, ◌+◌, ◌<◌, ◌^◌, ◌++◌, ◌∷◌, [], Bool, List, ℕ, true, length, slice_set};
+ghost use Rattle.std.specs.Prelude.{◌≡◌, ◌+◌, ◌<◌, ◌^◌, [], length};
 ghost use Rattle.std.specs.Result.{IfOk};
 ghost use Rattle.least_search.specs.Walks.{no_facts};
+ghost use Rattle.least_search.specs.Frontier.{IsChild};
 
 use crate::space::Move;
 use lists::NoMemory;
@@ -37,9 +38,7 @@ impl Node {
     pub fn with(&self, alloc: Global, step: Move) -> Result<Self, NoMemory>
         requires sum { self.now.cost + step.cost < 2 ^ 64 }
         requires inside { step.fact < length self.now.set.items }
-        ensures path { IfOk result (λ node. node.path.items ≡ self.now.path.items ++ step ∷ []) }
-        ensures set { IfOk result (λ node. node.set.items ≡ slice_set self.now.set.items step.fact true) }
-        ensures cost { IfOk result (λ node. node.cost ≡ self.now.cost + step.cost) }
+        ensures { IfOk result (λ child. IsChild self.now step child) }
     {
         let mut path = Vec::from_slice(alloc, &self.path)?;
         path.push(step)?;
