@@ -4,3 +4,4 @@ pub mod Costs
 pub mod Frontier
 pub mod Packing
 pub mod Queues
+pub mod Markets

@@ -14,3 +14,6 @@ mod waiting;
 pub use node::Node;
 pub use search::{Ended, Outcome, cheapest};
 pub use space::{End, Move, Space, Visit};
+
+#[cfg(test)]
+mod tests;
