@@ -13,8 +13,9 @@ use Rattle.meaning.specs.Search.{AreDistinct}
 use Rattle.meaning.specs.Triggers.{ground}
 use Rattle.meaning.specs.Runs.{IsKnownValue}
 use Rattle.meaning.specs.Extract.{Exposure, exposed_facts, Exposes, IsExposing, exposures_cost, HasGoalFrom, HasGoalAfter}
-use Rattle.exposure_search.specs.declared.moves.Move.{Move}
-use Rattle.exposure_search.specs.Walks.{IsWalk, walk_cost, no_facts, IsSpace, IsLeast}
+use Rattle.least_search.specs.declared.space.Move.{Move}
+use Rattle.least_search.specs.Walks.{IsWalk, walk_cost, no_facts, IsSpace, with_fact}
+use Rattle.least_search.specs.Costs.{IsLeastCost}
 use Rattle.exposure_search.specs.Tries.{picked, IsOpen, IsTry}
 use Rattle.exposure_search.proofs.Sets.{AreSame, turned, got_contained, got_once, picked_at, picked_back, same_more, none_same, none_length, within_got, truth}
 
@@ -108,7 +109,7 @@ goal_same schema queries head next first second same has copy end run quiet =
 
 -- a cost that is least over walks is least over exposures: the premise of the law on the least branch
 pub least_exposing : (schema : SchemaParts) (constants : List (List ℕ)) (base : List Ground) (queries : List Query) (head : List Val) (next best : ℕ) → AreDistinct base →
-    IsLeast (length base) (IsOpen schema constants base) (λ set. HasGoalFrom schema queries head next (picked base set)) best →
+    IsLeastCost (length base) (IsOpen schema constants base) (λ set. HasGoalFrom schema queries head next (picked base set)) best →
     (exposures : List Exposure) → IsExposing schema constants base [] exposures → HasGoalAfter schema queries head next exposures → best ≤ exposures_cost exposures
 least_exposing schema constants base queries head next best once least exposures exposing goal =
     let (moves, end, walk, cost, ends) = exposing_walk schema constants base once exposures [] (no_facts (length base)) (none_length (length base)) (none_same base) exposing in

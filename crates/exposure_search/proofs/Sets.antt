@@ -5,7 +5,7 @@ use Rattle.std.proofs.lemmas.List.Elements.{Contains-append_left, Contains-push,
 use Rattle.lists.proofs.Members.{contains_here, contains_there, contains_cases, contains_got, some_injective}
 use Rattle.meaning.specs.declared.types.Ground.{Ground}
 use Rattle.meaning.specs.Search.{AreDistinct}
-use Rattle.exposure_search.specs.Walks.{no_facts, IsWithin}
+use Rattle.least_search.specs.Walks.{no_facts, IsSubset}
 use Rattle.exposure_search.specs.Tries.{picked}
 
 -- the same facts
@@ -77,7 +77,7 @@ pub none_length : (n : ℕ) → length (no_facts n) ≡ n
 none_length zero = refl
 none_length (suc n) = ap suc (none_length n)
 
-pub within_got : (s t : List Bool) (k : ℕ) → IsWithin s t → slice_get s k ≡ Some true → slice_get t k ≡ Some true
+pub within_got : (s t : List Bool) (k : ℕ) → IsSubset s t → slice_get s k ≡ Some true → slice_get t k ≡ Some true
 within_got [] t k w e = absurd (cc)
 within_got (b ∷ s) [] k w e = absurd w
 within_got (b ∷ s) (c ∷ t) zero w e = let h : b ≡ true = some_injective b true e in ap (λ z. Some z) (w.0 h)

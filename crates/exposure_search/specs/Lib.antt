@@ -1,2 +1,5 @@
-pub mod Walks
 pub mod Tries
+pub mod Making
+pub mod Exploring
+pub mod Visiting
+pub mod Spaces

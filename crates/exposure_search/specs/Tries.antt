@@ -1,15 +1,19 @@
 -- Exposures as moves between sets of base facts, each by its number.
-use Rattle.std.specs.Prelude.{◌≡◌, ℕ, ◌+◌, List, [], ◌∷◌, Bool, true, false, slice_get, length, Some}
+use Rattle.std.specs.Prelude.{◌≡◌, ℕ, ◌+◌, List, [], ◌∷◌, Contains, Bool, true, false, slice_get, length, Some}
 use Rattle.meaning.specs.declared.types.SchemaParts.{SchemaParts}
 use Rattle.meaning.specs.declared.types.Ground.{Ground}
 use Rattle.meaning.specs.declared.types.Trigger.{Trigger}
 use Rattle.meaning.specs.declared.types.Firing.{Firing}
+use Rattle.meaning.specs.declared.types.Query.{Query}
 use Rattle.meaning.specs.declared.types.Firing.TheVariants.{Base, Copy, Expose}
+use Rattle.meaning.specs.declared.types.Val.{Val}
+use Rattle.meaning.specs.declared.types.Val.TheVariants.{Const}
 use Rattle.meaning.specs.Values.{Value}
-use Rattle.meaning.specs.Triggers.{State}
+use Rattle.meaning.specs.Matching.{GroundsOf, IsQueryAnswer}
+use Rattle.meaning.specs.Triggers.{State, IsFiringRun}
 use Rattle.meaning.specs.Runs.{IsBaseRun}
 use Rattle.meaning.specs.Extract.{Exposure, exposed_facts, Exposes, IsExposing}
-use Rattle.exposure_search.specs.declared.moves.Move.{Move}
+use Rattle.least_search.specs.declared.space.Move.{Move}
 
 -- The base facts that a set marks.
 abbrev pub picked : List Ground → List Bool → List Ground
@@ -41,6 +45,16 @@ pub record IsTry (schema : SchemaParts) (constants : List Value) (base : State) 
   pub copies : IsBaseRun schema.rules (record { facts = exposed_facts made; next = base.next }) copy end
   pub firings_are : firings ≡ fired + length made + length copy
   pub exposures_are : exposures ≡ length made
+
+-- Some run of firings from the facts has a match of one of the queries with this head.
+pub record HasMatchFrom (schema : SchemaParts) (queries : List Query) (head : List Val) (next : ℕ)
+    (facts : List Ground) : Type 0 where
+  pub copy : List Trigger
+  pub end : State
+  pub goal : Query
+  pub run : IsFiringRun schema.rules (record { facts = facts; next = next }) copy end
+  pub among : Contains queries goal
+  pub answer : IsQueryAnswer Const (GroundsOf end.facts) goal head
 
 -- How many exposures a log has.
 abbrev pub exposures_in : List Firing → ℕ
