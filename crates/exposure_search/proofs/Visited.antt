@@ -1,6 +1,6 @@
 -- Visits, said of the proof before them.
 use Rattle.std.proofs.Common.{◌≡◌, ◌⊎◌, ℕ, ◌+◌, ◌≤◌, List, ◌++◌, length, take, true, sym, ap, ◌∙◌, subst, arith, Bool}
-use Rattle.std.specs.Prelude.{Contains}
+use Rattle.std.specs.Prelude.{Contains, IfOk, Result, Ok, Err}
 use Rattle.meaning.specs.declared.types.SchemaParts.{SchemaParts}
 use Rattle.meaning.specs.declared.types.Query.{Query}
 use Rattle.meaning.specs.declared.types.Val.{Val}
@@ -12,13 +12,14 @@ use Rattle.accessible_copy.specs.declared.settling.Round.TheVariants.{Quiet, Don
 use Rattle.accessible_copy.specs.Proving.{Proving, IsProofOf}
 use Rattle.accessible_copy.specs.Settling.{Settles}
 use Rattle.least_search.specs.declared.space.Move.{Move}
+use Rattle.least_search.specs.declared.space.Visit.{Visit}
 use Rattle.least_search.specs.declared.space.End.{End}
 use Rattle.least_search.specs.declared.space.End.TheVariants as end
 use Rattle.least_search.specs.Walks.{IsWalk, no_facts}
 use Rattle.least_search.specs.Ends.{GoesOn}
 use Rattle.exposure_search.specs.Tries.{IsOpen}
 use Rattle.exposure_search.specs.Making.{OnlyExposes, SameBase, all_made, IsActiveMove, IsServed}
-use Rattle.exposure_search.specs.Exploring.{exploring_of, HasGoalAt, HasRunBeyond}
+use Rattle.exposure_search.specs.Exploring.{Exploring, exploring_of, CanExpose, HasGoalAt, HasTry, HasRunBeyond}
 use Rattle.exposure_search.specs.Visiting.{IsVisitEnd, AreMovesAt, IsReached}
 use Rattle.exposure_search.proofs.Logs.{goes_back, same_on, settled_long}
 use Rattle.exposure_search.proofs.Steps.{walk_same}
@@ -64,3 +65,21 @@ module _ (schema : SchemaParts) (queries : List Query) (head : List Val) (budget
 
     pub no_shorter : (firings : ℕ) → firings ≡ length gone.entries → firings ≤ length settled.entries
     no_shorter firings all = let long = settled_long schema gone settled settles in omega arith
+
+-- ---- the clauses of a visit
+
+pub visit_none : {E : Type 0} (space : Exploring) (path : List Move) (set : List Bool) (r : Result Visit E) → IfOk r (λ visit. IsVisitEnd space path set visit.end visit.fired) → IfOk r (λ visit. visit.end ≡ end.NoGoal → HasGoalAt space set → ⊥)
+visit_none space path set (Ok visit) is = is.none
+visit_none space path set (Err e) is = tt
+
+pub visit_run : {E : Type 0} (space : Exploring) (path : List Move) (set : List Bool) (r : Result Visit E) → IfOk r (λ visit. IsVisitEnd space path set visit.end visit.fired) → IfOk r (λ visit. (firings : ℕ) × HasTry space firings (length path) × (visit.fired ≤ firings))
+visit_run space path set (Ok visit) is = is.run
+visit_run space path set (Err e) is = tt
+
+pub visit_possible : {E : Type 0} (space : Exploring) (set : List Bool) (r : Result Visit E) → IfOk r (λ visit. AreMovesAt space set visit.end visit.moves.items) → IfOk r (λ visit. (move : Move) → Contains visit.moves.items move → CanExpose space set move)
+visit_possible space set (Ok visit) are = are.possible
+visit_possible space set (Err e) are = tt
+
+pub visit_complete : {E : Type 0} (space : Exploring) (set : List Bool) (r : Result Visit E) → IfOk r (λ visit. AreMovesAt space set visit.end visit.moves.items) → IfOk r (λ visit. GoesOn visit.end → (move : Move) → CanExpose space set move → IsServed visit.moves.items move)
+visit_complete space set (Ok visit) are = are.complete
+visit_complete space set (Err e) are = tt
