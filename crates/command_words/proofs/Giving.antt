@@ -54,18 +54,19 @@ give_positional items word arguments after words same give = record {
     kept : (option : OptionName) → given_number option arguments ≡ given_number option after
     kept Firings = sym same
 
-long : (xs ys : List (List ℕ)) (word : List ℕ) → length xs ≡ 2 → length (xs ++ word ∷ ys) ≤ 2 → ⊥
+long : (xs ys : List (List ℕ)) (word : List ℕ) → length xs ≡ 3 → length (xs ++ word ∷ ys) ≤ 3 → ⊥
 long [] ys word e le = absurd (omega arith)
 long (a ∷ []) ys word e le = absurd (omega arith)
 long (a ∷ b ∷ []) ys word e le = absurd (omega arith)
-long (a ∷ b ∷ c ∷ xs) ys word e le = absurd (omega arith)
+long (a ∷ b ∷ c ∷ []) ys word e le = absurd (omega arith)
+long (a ∷ b ∷ c ∷ d ∷ xs) ys word e le = absurd (omega arith)
 
--- a third positional
-pub third_positional : (items rest : List Item) (word : List ℕ) (arguments : Arguments) → length (words_of arguments.positionals) ≡ 2 → Give items arguments → MayBe (items ++ Positional word ∷ rest) → ⊥
-third_positional items rest word arguments two give may =
+-- a fourth positional
+pub fourth_positional : (items rest : List Item) (word : List ℕ) (arguments : Arguments) → length (words_of arguments.positionals) ≡ 3 → Give items arguments → MayBe (items ++ Positional word ∷ rest) → ⊥
+fourth_positional items rest word arguments three give may =
     let all = positionals_append items (Positional word ∷ rest) in
-    let some : length (positionals_of items) ≡ 2 = ap length give.in_order ∙ two in
-    long (positionals_of items) (positionals_of rest) word some (subst (λ (ws : List (List ℕ)). length ws ≤ 2) all may.few)
+    let some : length (positionals_of items) ≡ 3 = ap length give.in_order ∙ three in
+    long (positionals_of items) (positionals_of rest) word some (subst (λ (ws : List (List ℕ)). length ws ≤ 3) all may.few)
 
 -- ---- one more option
 

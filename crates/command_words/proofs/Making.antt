@@ -6,7 +6,7 @@ use Rattle.std.specs.Fmt.{decimal}
 use Rattle.std.proofs.lemmas.Fmt.{decimal_injective}
 use Rattle.command_words.specs.Table.{command_word, takes, limit, default_number}
 use Rattle.command_words.specs.Splits.{Item, Splits, positionals_of, IsSet, Once, Absent}
-use Rattle.command_words.specs.Words.{Command, Help, Schema, Explain, Run, Exec, Verify, Setting, Asks, firings, IsCommand, seen_as}
+use Rattle.command_words.specs.Words.{Command, Help, Schema, Explain, Run, Exec, Check, Verify, Setting, Asks, firings, IsCommand, seen_as}
 use Rattle.command_words.specs.Arguments.{words_of, given_number, number_of, IsGiven, AreArguments, MayBe, made}
 use Rattle.command_words.specs.declared.command.Command.{Command as Coded}
 use Rattle.command_words.specs.declared.table.CommandName.{CommandName}
@@ -21,7 +21,7 @@ named_by : List ℕ → CommandName
 named_by word =
     if pointwise nat_eq word (codes "help") then name.Help else (if pointwise nat_eq word (codes "schema") then name.Schema else
     (if pointwise nat_eq word (codes "explain") then name.Explain else (if pointwise nat_eq word (codes "run") then name.Run else
-    (if pointwise nat_eq word (codes "exec") then name.Exec else name.Verify))))
+    (if pointwise nat_eq word (codes "exec") then name.Exec else (if pointwise nat_eq word (codes "check") then name.Check else name.Verify)))))
 
 its_own : (which : CommandName) → named_by (command_word which) ≡ which
 unfolding named_by
@@ -30,6 +30,7 @@ its_own name.Schema = refl
 its_own name.Explain = refl
 its_own name.Run = refl
 its_own name.Exec = refl
+its_own name.Check = refl
 its_own name.Verify = refl
 
 same_command : (one other : CommandName) → command_word one ≡ command_word other → one ≡ other
@@ -69,6 +70,7 @@ makes words (Schema schema) asks = unset words name.Schema (schema ∷ []) (Sche
 makes words (Explain schema query n) asks = made_of words name.Explain (schema ∷ query ∷ []) (firings n) n (Explain schema query n) asks asks.are_set.0 refl
 makes words (Run schema query n) asks = made_of words name.Run (schema ∷ query ∷ []) (firings n) n (Run schema query n) asks asks.are_set.0 refl
 makes words (Exec schema plan) asks = unset words name.Exec (schema ∷ plan ∷ []) (Exec schema plan) refl refl asks
+makes words (Check schema query plan n) asks = made_of words name.Check (schema ∷ query ∷ plan ∷ []) (firings n) n (Check schema query plan n) asks asks.are_set.0 refl
 makes words (Verify schema) asks = unset words name.Verify (schema ∷ []) (Verify schema) refl refl asks
 
 -- ---- the other way round
@@ -97,6 +99,11 @@ asked words behind which items n positionals command first splits set order is =
     go name.Exec (a ∷ []) first splits order is = absurd cc
     go name.Exec (a ∷ b ∷ []) first splits order is = named (Exec a b) (cc) (record { behind = behind; items = items; first = first; splits = splits; in_order = order; are_set = tt })
     go name.Exec (a ∷ b ∷ c ∷ ps) first splits order is = absurd cc
+    go name.Check [] first splits order is = absurd cc
+    go name.Check (a ∷ []) first splits order is = absurd cc
+    go name.Check (a ∷ b ∷ []) first splits order is = absurd cc
+    go name.Check (a ∷ b ∷ c ∷ []) first splits order is = named (Check a b c n) (cc) (record { behind = behind; items = items; first = first; splits = splits; in_order = order; are_set = (set, tt) })
+    go name.Check (a ∷ b ∷ c ∷ d ∷ ps) first splits order is = absurd cc
     go name.Verify [] first splits order is = absurd cc
     go name.Verify (a ∷ []) first splits order is = named (Verify a) (cc) (record { behind = behind; items = items; first = first; splits = splits; in_order = order; are_set = tt })
     go name.Verify (a ∷ b ∷ ps) first splits order is = absurd cc
@@ -149,16 +156,18 @@ is_command words behind word which arguments (Some command) all is are e =
     asked words behind which are.items (number_of Firings arguments) (words_of arguments.positionals) (seen_as command) (all ∙ ap (λ (w : List ℕ). w ∷ behind) is) are.splits
     (set_number Firings are.items (given_number Firings arguments) (are.give.are_given Firings)) are.give.in_order (sym e)
 
-few_positionals : (which : CommandName) (positionals : List (List ℕ)) (n : ℕ) (command : Command) → made which positionals n ≡ Some command → length positionals ≤ 2
+few_positionals : (which : CommandName) (positionals : List (List ℕ)) (n : ℕ) (command : Command) → made which positionals n ≡ Some command → length positionals ≤ 3
 few_positionals which [] n command is = omega arith
 few_positionals which (a ∷ []) n command is = omega arith
 few_positionals which (a ∷ b ∷ []) n command is = omega arith
-few_positionals name.Help (a ∷ b ∷ c ∷ ps) n command is = absurd cc
-few_positionals name.Schema (a ∷ b ∷ c ∷ ps) n command is = absurd cc
-few_positionals name.Explain (a ∷ b ∷ c ∷ ps) n command is = absurd cc
-few_positionals name.Run (a ∷ b ∷ c ∷ ps) n command is = absurd cc
-few_positionals name.Exec (a ∷ b ∷ c ∷ ps) n command is = absurd cc
-few_positionals name.Verify (a ∷ b ∷ c ∷ ps) n command is = absurd cc
+few_positionals which (a ∷ b ∷ c ∷ []) n command is = omega arith
+few_positionals name.Help (a ∷ b ∷ c ∷ d ∷ ps) n command is = absurd cc
+few_positionals name.Schema (a ∷ b ∷ c ∷ d ∷ ps) n command is = absurd cc
+few_positionals name.Explain (a ∷ b ∷ c ∷ d ∷ ps) n command is = absurd cc
+few_positionals name.Run (a ∷ b ∷ c ∷ d ∷ ps) n command is = absurd cc
+few_positionals name.Exec (a ∷ b ∷ c ∷ d ∷ ps) n command is = absurd cc
+few_positionals name.Check (a ∷ b ∷ c ∷ d ∷ ps) n command is = absurd cc
+few_positionals name.Verify (a ∷ b ∷ c ∷ d ∷ ps) n command is = absurd cc
 
 -- the command's word says which command it is
 module _ (words behind : List (List ℕ)) (word : List ℕ) (which : CommandName) (all : words ≡ word ∷ behind) (is : word ≡ command_word which) where

@@ -1,9 +1,9 @@
--- What the words behind a command's name give: at most two positionals, and a number or none for each option.
+-- What the words behind a command's name give: at most three positionals, and a number or none for each option.
 use Rattle.std.specs.Prelude.{◌≡◌, ◌≤◌, ℕ, List, [], ◌∷◌, length, Option, None, Some, unwrap_or}
 use Rattle.std.specs.Fmt.{decimal}
 use Rattle.command_words.specs.Table.{limit, default_number}
 use Rattle.command_words.specs.Splits.{Item, Splits, positionals_of, texts_of, IsSet}
-use Rattle.command_words.specs.Words.{Command, Help, Schema, Explain, Run, Exec, Verify}
+use Rattle.command_words.specs.Words.{Command, Help, Schema, Explain, Run, Exec, Check, Verify}
 use Rattle.command_words.specs.declared.table.CommandName.{CommandName}
 use Rattle.command_words.specs.declared.table.CommandName.TheVariants as name
 use Rattle.command_words.specs.declared.table.OptionName.{OptionName}
@@ -16,6 +16,7 @@ abbrev pub words_of : Positionals → List (List ℕ)
 words_of some.Zero = []
 words_of (some.One first) = first.now ∷ []
 words_of (some.Two first second) = first.now ∷ second.now ∷ []
+words_of (some.Three first second third) = first.now ∷ second.now ∷ third.now ∷ []
 
 abbrev pub given_number : OptionName → Arguments → Option ℕ
 given_number Firings arguments = arguments.firings
@@ -40,9 +41,9 @@ pub record AreArguments (name : CommandName) (words : List (List ℕ)) (argument
   pub splits : Splits name words items
   pub give : Give items arguments
 
--- A command may have these items: there are at most two positionals, and each option has a number.
+-- A command may have these items: there are at most three positionals, and each option has a number.
 pub record MayBe (items : List Item) : Type 0 where
-  pub few : length (positionals_of items) ≤ 2
+  pub few : length (positionals_of items) ≤ 3
   pub settable : (option : OptionName) → (n : ℕ) × IsSet option items n
 
 -- The command with these positionals and this number of firings.
@@ -52,5 +53,6 @@ made name.Schema (schema ∷ []) n = Some (Schema schema)
 made name.Explain (schema ∷ query ∷ []) n = Some (Explain schema query n)
 made name.Run (schema ∷ query ∷ []) n = Some (Run schema query n)
 made name.Exec (schema ∷ plan ∷ []) n = Some (Exec schema plan)
+made name.Check (schema ∷ query ∷ plan ∷ []) n = Some (Check schema query plan n)
 made name.Verify (schema ∷ []) n = Some (Verify schema)
 made _ _ _ = None

@@ -16,6 +16,7 @@ pub data Command : Type 0 where
   Explain : List ℕ → List ℕ → ℕ → Command
   Run : List ℕ → List ℕ → ℕ → Command
   Exec : List ℕ → List ℕ → Command
+  Check : List ℕ → List ℕ → List ℕ → ℕ → Command
   Verify : List ℕ → Command
 
 -- an option with its number
@@ -48,6 +49,7 @@ IsCommand words (Schema schema) = Asks words name.Schema (schema ∷ []) []
 IsCommand words (Explain schema query n) = Asks words name.Explain (schema ∷ query ∷ []) (firings n)
 IsCommand words (Run schema query n) = Asks words name.Run (schema ∷ query ∷ []) (firings n)
 IsCommand words (Exec schema plan) = Asks words name.Exec (schema ∷ plan ∷ []) []
+IsCommand words (Check schema query plan n) = Asks words name.Check (schema ∷ query ∷ plan ∷ []) (firings n)
 IsCommand words (Verify schema) = Asks words name.Verify (schema ∷ []) []
 
 abbrev pub seen_as : Coded → Command
@@ -56,4 +58,5 @@ seen_as (code.Schema schema) = Schema schema.now
 seen_as (code.Explain schema query n) = Explain schema.now query.now n
 seen_as (code.Run schema query n) = Run schema.now query.now n
 seen_as (code.Exec schema plan) = Exec schema.now plan.now
+seen_as (code.Check schema query plan n) = Check schema.now query.now plan.now n
 seen_as (code.Verify schema) = Verify schema.now

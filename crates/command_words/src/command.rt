@@ -29,6 +29,12 @@ pub enum Command<'a> {
         schema: &'a Text,
         plan: &'a Text,
     },
+    Check {
+        schema: &'a Text,
+        query: &'a Text,
+        plan: &'a Text,
+        firings: u32,
+    },
     Verify {
         schema: &'a Text,
     },
@@ -66,6 +72,12 @@ fn command_with<'a>(name: CommandName, arguments: Arguments<'a>) -> Option<Comma
             firings,
         }),
         (CommandName::Exec, Positionals::Two(schema, plan)) => Some(Command::Exec { schema, plan }),
+        (CommandName::Check, Positionals::Three(schema, query, plan)) => Some(Command::Check {
+            schema,
+            query,
+            plan,
+            firings,
+        }),
         (CommandName::Verify, Positionals::One(schema)) => Some(Command::Verify { schema }),
         _ => None,
     }

@@ -10,12 +10,13 @@ use crate::number::number_up_to;
 use crate::table::{CommandName, OptionName};
 use lists::Text;
 
-/// Positionals, in their order. No command has more than two.
+/// Positionals, in their order. No command has more than three.
 #[derive(Clone, Copy)]
 pub enum Positionals<'a> {
     Zero,
     One(&'a Text),
     Two(&'a Text, &'a Text),
+    Three(&'a Text, &'a Text, &'a Text),
 }
 
 /// The positionals, and the number of each option that is given.
@@ -46,12 +47,13 @@ pub fn read_arguments<'a>(name: CommandName, words: &'a [Text]) -> Option<Argume
 impl<'a> Positionals<'a> {
     // One more positional.
     fn with(self, word: &'a Text) -> Option<Positionals<'a>>
-        ensures { MatchOption result (length (words_of self.entry) ≡ 2) (λ more. words_of more ≡ words_of self.entry ++ word.now ∷ []) }
+        ensures { MatchOption result (length (words_of self.entry) ≡ 3) (λ more. words_of more ≡ words_of self.entry ++ word.now ∷ []) }
     {
         match self {
             Positionals::Zero => Some(Positionals::One(word)),
             Positionals::One(first) => Some(Positionals::Two(first, word)),
-            Positionals::Two(_, _) => None,
+            Positionals::Two(first, second) => Some(Positionals::Three(first, second, word)),
+            Positionals::Three(_, _, _) => None,
         }
     }
 }

@@ -12,6 +12,7 @@ pub enum CommandName {
     Explain,
     Run,
     Exec,
+    Check,
     Verify,
 }
 
@@ -31,6 +32,7 @@ pub fn command_named(word: &str) -> Option<CommandName>
         "explain" => Some(CommandName::Explain),
         "run" => Some(CommandName::Run),
         "exec" => Some(CommandName::Exec),
+        "check" => Some(CommandName::Check),
         "verify" => Some(CommandName::Verify),
         _ => None,
     }
@@ -52,7 +54,8 @@ impl CommandName {
         ensures { result ≡ takes self option }
     {
         match (self, option) {
-            (CommandName::Explain | CommandName::Run, OptionName::Firings) => true,
+            (CommandName::Explain | CommandName::Run | CommandName::Check, OptionName::Firings) =>
+                true,
             _ => false,
         }
     }

@@ -36,6 +36,21 @@ fn shown(alloc: Global, command: Option<Command<'_>>) -> Result<String, AllocErr
         Some(Command::Exec { schema, plan }) => {
             format!(in alloc; "exec {} {}", schema.as_str(), plan.as_str())
         }
+        Some(
+            Command::Check {
+                schema,
+                query,
+                plan,
+                firings,
+            },
+        ) => {
+            format!(in alloc;
+                "check {} {} {} {firings}",
+                schema.as_str(),
+                query.as_str(),
+                plan.as_str()
+            )
+        }
         Some(Command::Verify { schema }) => format!(in alloc; "verify {}", schema.as_str()),
     }
 }
@@ -62,6 +77,8 @@ fn words_that_are_commands(rt: HostRuntime) -> Result<(), Fail> {
         ("run --firings=1 s q", "run s q 1"),
         ("run s --firings 100000 q", "run s q 100000"),
         ("explain --firings 0 s q", "explain s q 0"),
+        ("check s q p", "check s q p 10000"),
+        ("check s --firings=0 q p", "check s q p 0"),
         ("run help run", "run help run 10000"),
         ("run s=1 q", "run s=1 q 10000"),
     ];
@@ -88,6 +105,9 @@ fn words_that_are_none(rt: HostRuntime) -> Result<(), Fail> {
         "run -- s q",
         "schema s --firings 1",
         "exec s p --firings=1",
+        "check s q",
+        "check s q p r",
+        "check s q p --firings 1 --firings 1",
         "run s q --workers 9",
         "run s q --firing 1",
         "run s q --firings",
@@ -147,6 +167,6 @@ fn blanks_stand_in_no_number(rt: HostRuntime) -> Result<(), Fail> {
 #[test]
 fn usage_has_a_line_for_each_command(rt: HostRuntime) {
     let lines =
-        b"usage: pdq COMMAND\n  help\n  schema SCHEMA\n  explain SCHEMA QUERY [--firings N]\n  run SCHEMA QUERY [--firings N]\n  exec SCHEMA PLAN\n  verify SCHEMA\n";
+        b"usage: pdq COMMAND\n  help\n  schema SCHEMA\n  explain SCHEMA QUERY [--firings N]\n  run SCHEMA QUERY [--firings N]\n  exec SCHEMA PLAN\n  check SCHEMA QUERY PLAN [--firings N]\n  verify SCHEMA\n";
     assert_eq!(rt; usage_text(), lines.as_slice());
 }

@@ -2,14 +2,14 @@ use Rattle.std.proofs.Common.{◌++◌, ◌∷◌, [], sym, ap, subst, ℕ, refl
 use Rattle.command_words.specs.Splits.{item_of}
 use Rattle.command_words.specs.Arguments.{Give, MayBe}
 use Rattle.command_words.specs.declared.item.Item.{Item as Lent}
-use Rattle.command_words.proofs.Giving.{third_positional, give_positional, no_number, with_option, without_option, none_at}
+use Rattle.command_words.proofs.Giving.{fourth_positional, give_positional, no_number, with_option, without_option, none_at}
 use Rattle.command_words.proofs.given.Arguments.with.Goals as goal
 
 pub returns-in_err-with-in-Positional-clause-none :
     goal.returns-in_err-with-in-Positional-clause-none
 returns-in_err-with-in-Positional-clause-none c =
     none_at c.from_residual.result c.from_residual.ensures
-    (λ items rest give may. third_positional items rest c.in-Positional.word.now c.args.self c.in_err-with-in-Positional.ensures give
+    (λ items rest give may. fourth_positional items rest c.in-Positional.word.now c.args.self c.in_err-with-in-Positional.ensures give
     (subst (λ (i : Lent). MayBe (items ++ item_of i ∷ rest)) c.in-Positional.is may))
 
 pub returns-in_err-number_up_to-in-Given-clause-none :
