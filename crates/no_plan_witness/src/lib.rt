@@ -21,6 +21,7 @@ pub use decision::{Chosen, ChosenList, Decision};
 pub use fault::{Which, WitnessFault};
 pub use find_witness::witness;
 pub use judge_witness::check_witness;
+pub use naming::Naming;
 pub use refutation::Witness;
 
 #[cfg(test)]

@@ -1,0 +1,128 @@
+-- What the trials of both sides say of the plan.
+use Rattle.std.proofs.Common.{◌≡◌, ◌↔◌, ℕ, List, ◌++◌, sym, ap, ◌∙◌, subst}
+use Rattle.std.specs.Prelude.{Contains, slice_get, Option, Some, None}
+use Rattle.std.specs.List.{AllZip}
+use Rattle.meaning.specs.declared.types.SchemaParts.{SchemaParts}
+use Rattle.meaning.specs.declared.types.Fact.{Fact}
+use Rattle.meaning.specs.declared.types.Query.{Query}
+use Rattle.meaning.specs.declared.types.Branch.{Branch}
+use Rattle.meaning.specs.declared.types.Plan.{Plan}
+use Rattle.meaning.specs.declared.types.Select.{Select}
+use Rattle.meaning.specs.declared.types.Statement.{Statement}
+use Rattle.meaning.specs.Values.{Value, Row}
+use Rattle.meaning.specs.Instances.{IsInstance}
+use Rattle.meaning.specs.Answers.{Answers, AnswersSelect}
+use Rattle.meaning.specs.Plans.{IsLawful, IsLawfulBranch}
+use Rattle.meaning.specs.Rows.{IsRow, IsBranchRow}
+use Rattle.meaning_laws.proofs.Judging.{rows_are_answers}
+use Rattle.access_schema.specs.declared.schema.Schema.{Schema}
+use Rattle.access_schema.specs.Meaning.{meaning_of}
+use Rattle.access_schema.proofs.Keeping.{well_formed}
+use Rattle.plan_check.specs.declared.verdict.Verdict.{Verdict}
+use Rattle.plan_check.specs.declared.trial.Tried.{Tried}
+use Rattle.plan_check.specs.declared.trial.Tried.TheVariants as all
+use Rattle.plan_check.specs.Forms.{IsSelectForm, IsBranchForm}
+use Rattle.plan_check.specs.Trials.{AnswersForm, AnswersSome, AreTried}
+use Rattle.plan_check.specs.Verdicts.{known_of, IsLegalOver, IsVerdict, verdict_of, IsConclusion}
+use Rattle.plan_check.specs.Verdicts.IsConclusion.{same, lost, added, select_spent, branch_spent}
+use Rattle.plan_check.specs.Verdicts.IsVerdict.{equivalent, loses, adds, undecided}
+use Rattle.plan_check.specs.declared.verdict.Side.TheVariants as side
+use Rattle.plan_check.proofs.Zips.{zip_left, zip_right, zip_at}
+
+-- ---- trials of both sides
+
+pub lost_at_once : (schema : SchemaParts) (selects branches : List (Option Query)) (firings : ℕ) (facts : List Fact) (row : Row) →
+    AreTried schema selects branches firings (all.Separated facts row) → (verdict : Verdict) → verdict ≡ verdict_of (all.Separated facts row) all.Contained → IsConclusion schema selects branches firings verdict
+lost_at_once schema selects branches firings facts row (query, among, is) verdict e =
+    subst (IsConclusion schema selects branches firings) (sym e)
+    (lost facts row (record { model = is.model; answered = (Some query, among, is.answered); not_others = is.not_others }))
+
+pub concluded : (schema : SchemaParts) (selects branches : List (Option Query)) (firings : ℕ) (first second : Tried) → AreTried schema selects branches firings first →
+    AreTried schema branches selects firings second → IsConclusion schema selects branches firings (verdict_of first second)
+concluded schema selects branches firings (all.Separated facts row) second (query, among, is) other =
+    lost facts row (record { model = is.model; answered = (Some query, among, is.answered); not_others = is.not_others })
+concluded schema selects branches firings all.Contained (all.Separated facts row) one (query, among, is) =
+    added facts row (record { model = is.model; answered = (Some query, among, is.answered); not_others = is.not_others })
+concluded schema selects branches firings all.Contained all.Contained one other = same one other
+concluded schema selects branches firings all.Contained (all.Spent number log) one (query, at, spent) = branch_spent number query log at spent
+concluded schema selects branches firings (all.Spent number log) (all.Separated facts row) one (query, among, is) =
+    added facts row (record { model = is.model; answered = (Some query, among, is.answered); not_others = is.not_others })
+concluded schema selects branches firings (all.Spent number log) all.Contained (query, at, spent) other = select_spent number query log at spent
+concluded schema selects branches firings (all.Spent number log) (all.Spent another its) (query, at, spent) other = select_spent number query log at spent
+
+-- ---- answers and rows
+
+module _ (schema : Schema) (statement : Statement) (selects : List (Option Query)) (are : AllZip (IsSelectForm schema) statement.selects selects) where
+  form_answers : (select : Select) (form : Option Query) → IsSelectForm schema select form → (facts : List Fact) → IsInstance (meaning_of schema) facts → (row : Row) →
+      AnswersForm form facts row → AnswersSelect select facts row
+  form_answers select None is facts instance row answer = absurd answer
+  form_answers select (Some query) is facts instance row answer = (is.answers facts instance row).0 answer
+
+  answers_form : (select : Select) (form : Option Query) → IsSelectForm schema select form → (facts : List Fact) → IsInstance (meaning_of schema) facts → (row : Row) →
+      AnswersSelect select facts row → AnswersForm form facts row
+  answers_form select None is facts instance row answer = is facts instance row answer
+  answers_form select (Some query) is facts instance row answer = (is.answers facts instance row).1 answer
+
+  pub some_answers : (facts : List Fact) → IsInstance (meaning_of schema) facts → (row : Row) → AnswersSome selects facts row → Answers statement facts row
+  some_answers facts instance row (form, among, answer) =
+      let (select, there, is) = zip_right (IsSelectForm schema) statement.selects selects form are among in
+      (select, there, form_answers select form is facts instance row answer)
+
+  pub answers_some : (facts : List Fact) → IsInstance (meaning_of schema) facts → (row : Row) → Answers statement facts row → AnswersSome selects facts row
+  answers_some facts instance row (select, among, answer) =
+      let (form, there, is) = zip_left (IsSelectForm schema) statement.selects selects select are among in
+      (form, there, answers_form select form is facts instance row answer)
+
+module _ (schema : Schema) (known : List Value) (plan : Plan) (lawful : IsLawful plan (meaning_of schema) known) (branches : List (Option Query))
+    (are : AllZip (IsBranchForm (meaning_of schema)) plan.branches branches) where
+  form_rows : (branch : Branch) (form : Option Query) → IsLawfulBranch (meaning_of schema) known branch → IsBranchForm (meaning_of schema) branch form → (facts : List Fact) (row : Row) →
+      AnswersForm form facts row → IsBranchRow (meaning_of schema) branch facts row
+  form_rows branch None its is facts row answer = absurd answer
+  form_rows branch (Some query) its is facts row answer = (rows_are_answers (meaning_of schema) known branch query facts row (well_formed schema) its is).1 answer
+
+  rows_form : (branch : Branch) (form : Option Query) → IsLawfulBranch (meaning_of schema) known branch → IsBranchForm (meaning_of schema) branch form → (facts : List Fact) (row : Row) →
+      IsBranchRow (meaning_of schema) branch facts row → AnswersForm form facts row
+  rows_form branch None its is facts row answer = is
+  rows_form branch (Some query) its is facts row answer = (rows_are_answers (meaning_of schema) known branch query facts row (well_formed schema) its is).0 answer
+
+  pub some_rows : (facts : List Fact) (row : Row) → AnswersSome branches facts row → IsRow (meaning_of schema) plan facts row
+  some_rows facts row (form, among, answer) =
+      let (branch, there, is) = zip_right (IsBranchForm (meaning_of schema)) plan.branches branches form are among in
+      (branch, there, form_rows branch form (lawful branch there).1 is facts row answer)
+
+  pub rows_some : (facts : List Fact) (row : Row) → IsRow (meaning_of schema) plan facts row → AnswersSome branches facts row
+  rows_some facts row (branch, among, answer) =
+      let (form, there, is) = zip_left (IsBranchForm (meaning_of schema)) plan.branches branches branch are among in
+      (form, there, rows_form branch form (lawful branch among).1 is facts row answer)
+
+-- ---- the verdict
+
+
+pub verdict_is : (schema : Schema) (statement : Statement) (plan : Plan) (firings : ℕ) (selects branches : List (Option Query)) →
+    IsLegalOver schema statement plan (known_of schema statement) → AllZip (IsSelectForm schema) statement.selects selects → AllZip (IsBranchForm (meaning_of schema)) plan.branches branches →
+    (verdict : Verdict) → IsConclusion (meaning_of schema) selects branches firings verdict → IsVerdict schema statement plan firings verdict
+verdict_is schema statement plan firings selects branches legal forms queries _ (same there back) =
+    equivalent legal (record {
+      sound = λ facts row model rows. some_answers schema statement selects forms facts model.fits row
+          (back facts row model.meets (rows_some schema (known_of schema statement) plan legal.lawful branches queries facts row rows));
+      complete = λ facts row model answers. some_rows schema (known_of schema statement) plan legal.lawful branches queries facts row
+          (there facts row model.meets (answers_some schema statement selects forms facts model.fits row answers));
+    })
+verdict_is schema statement plan firings selects branches legal forms queries _ (lost facts row is) =
+    loses facts row legal (record {
+      model = is.model;
+      answered = some_answers schema statement selects forms facts is.model.fits row is.answered;
+      no_row = λ rows. is.not_others (rows_some schema (known_of schema statement) plan legal.lawful branches queries facts row rows);
+    })
+verdict_is schema statement plan firings selects branches legal forms queries _ (added facts row is) =
+    adds facts row legal (record {
+      model = is.model;
+      a_row = some_rows schema (known_of schema statement) plan legal.lawful branches queries facts row is.answered;
+      not_answered = λ answers. is.not_others (answers_some schema statement selects forms facts is.model.fits row answers);
+    })
+verdict_is schema statement plan firings selects branches legal forms queries _ (select_spent number query log at spent) =
+    let (select, there, is) = zip_at (IsSelectForm schema) statement.selects selects number (Some query) forms at in
+    undecided (side.Select number) log legal (record { select = select; query = query; queries = branches; at = there; form = is.form; are = queries; spent = spent })
+verdict_is schema statement plan firings selects branches legal forms queries _ (branch_spent number query log at spent) =
+    let (branch, there, is) = zip_at (IsBranchForm (meaning_of schema)) plan.branches branches number (Some query) queries at in
+    undecided (side.Branch number) log legal (record { branch = branch; query = query; queries = selects; at = there; form = is; are = forms; spent = spent })

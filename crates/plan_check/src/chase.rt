@@ -1,0 +1,72 @@
+// The chase of a frozen query, and the instance that its end is.
+ghost use Rattle.std.specs.Prelude.{◌≡◌, ◌≤◌, IfOk, map};
+ghost use Rattle.meaning.specs.Homomorphisms.{image, renamed};
+ghost use Rattle.meaning.specs.Triggers.{bound};
+ghost use Rattle.access_schema.specs.Meaning.{meaning_of};
+ghost use Rattle.rule_pass.specs.declared.pass.TheConstants.{MOST_FIRINGS, HIGHEST_FIRST_LABEL};
+ghost use Rattle.plan_check.specs.Trials.{IsChase, IsNamedEnd};
+
+use access_schema::Schema;
+use homomorphism::Store;
+use lists::{Copies, NoMemory, Row, Seq, Texts};
+use meaning::types::{Ground, Instance, Query, Triggers, Val};
+use no_plan_witness::Naming;
+use plan_extract::frozen_facts;
+use rule_pass::laws::schema_rules_are_orderly;
+use rule_pass::{State, Stopped, run_rules};
+use std::alloc::Global;
+
+/// The end of a chase, its log, and how it stopped.
+#[derive(Drop)]
+pub struct Chase {
+    pub state: State,
+    pub log: Triggers,
+    pub stopped: Stopped,
+}
+
+/// Fires the rules on the frozen atoms of the query, with a budget.
+pub fn chase_query(
+    alloc: Global,
+    schema: &Schema,
+    query: &Query,
+    firings: u32,
+) -> Result<Chase, NoMemory>
+    requires counted { bound query.now.atoms ≤ query.now.variables }
+    requires few { query.now.variables ≤ HIGHEST_FIRST_LABEL }
+    requires firings { firings ≤ MOST_FIRINGS }
+    ensures { IfOk result (IsChase (meaning_of schema.now) query.now firings) }
+{
+    schema_rules_are_orderly();
+    let facts = Seq::from_vec(frozen_facts(alloc, query.atoms.as_slice())?);
+    let mut state = State::start(alloc, &facts, query.variables)?;
+    let mut log = Triggers::new(alloc);
+    let stopped = run_rules(alloc, &mut state, &schema.rules, firings, &mut log)?;
+    Ok(Chase { state, log, stopped })
+}
+
+/// The facts of the store as an instance, and the head as a row, with texts in place of the labels: in ascending order, each label takes
+/// the next of `_1`, `_2`, `_3` and so on that is not a known constant.
+pub fn named_end(
+    alloc: Global,
+    store: &Store,
+    head: &[Val],
+    known: &Texts,
+) -> Result<(Instance, Row), NoMemory>
+    ensures { IfOk result (λ named. IsNamedEnd known.now store.now head.now named.0 named.1) }
+{
+    let facts = copied_facts(alloc, store)?;
+    let naming = Naming::new(alloc, facts.as_slice(), &[], known)?;
+    let instance = naming.instance(alloc, facts.as_slice())?;
+    let row = naming.row(alloc, head)?;
+    Ok((instance, row))
+}
+
+fn copied_facts(alloc: Global, store: &Store) -> Result<Vec<Ground>, NoMemory>
+    ensures { IfOk result (λ facts. facts.items ≡ store.now) }
+{
+    let mut facts = Vec::new(alloc);
+    while let Some(fact) = store.get(facts.len()) {
+        facts.push(fact.copy(alloc)?)?;
+    }
+    Ok(facts)
+}
