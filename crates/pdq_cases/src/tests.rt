@@ -17,7 +17,8 @@ const QUERY: &[u8] = b"SELECT DISTINCT b FROM r";
 
 const DATA: &[u8] = b"a,b\n1,y\n2,x\n3,y\n";
 
-const PLAN: &[u8] = b"plan 1\nbranch\naccess all_r(new, new)\noutput $1\nend\n";
+const PLAN: &[u8] =
+    b"# select 1 cost 1 least\nplan 1\nbranch\naccess all_r(new, new)\noutput $1\nend\n";
 
 pub fn numbers(alloc: Global, listed: &[u64]) -> Result<Numbers, AllocError> {
     let mut numbers = Seq::new(alloc);
@@ -208,8 +209,11 @@ fn a_decision_is_explained_and_told_before_a_run(rt: HostRuntime) -> Result<(), 
     let closed: &[u8] = b"relation r(a, b)\nsource r csv 'r.csv'\n";
     let none: &[u8] = b"no plan\nanswer '_2'\nfirst\nr('_1', '_2')\nsecond\nend\n";
     let spent: &[u8] = b"undecided after 0 firings\nselect 1\nend\n";
-    let cases: [(&[u8], &str, u8, &[u8]); 3] = [
+    let units: &[u8] =
+        b"# select 1 cost 1 search spent after 0\nplan 1\nbranch\naccess all_r(new, new)\noutput $1\nend\n";
+    let cases: [(&[u8], &str, u8, &[u8]); 4] = [
         (SCHEMA, "--firings=1", 0, PLAN),
+        (SCHEMA, "--search=0", 0, units),
         (closed, "--firings=1", 1, none),
         (SCHEMA, "--firings=0", 2, spent),
     ];
