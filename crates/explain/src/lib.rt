@@ -13,6 +13,7 @@ mod progress;
 mod push;
 mod read;
 mod refutation;
+mod verdict;
 
 pub use decision::decision_text;
 pub use fault::WitnessReadFault;
@@ -20,6 +21,7 @@ pub use firings::undecided_text;
 pub use laws::printed_refutations_are_read;
 pub use read::read_witness;
 pub use refutation::witness_text;
+pub use verdict::verdict_text;
 
 #[cfg(test)]
 mod tests;
