@@ -1,5 +1,6 @@
 pub mod Lists
 pub mod Placing
+pub mod MethodLists
 pub mod Writing
 pub mod Opening
 pub mod Undoing

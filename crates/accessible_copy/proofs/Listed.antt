@@ -1,7 +1,6 @@
 -- Lists of active exposures, exposure by exposure.
-use Rattle.std.proofs.Common.{◌≡◌, ◌↔◌, ℕ, zero, suc, ◌+◌, ◌<◌, List, [], ◌∷◌, ◌++◌, length, map, take, slice_index_or, IsTrue, sym, ap, ◌∙◌, subst, inl, inr, ⊎_elim, arith}
+use Rattle.std.proofs.Common.{◌≡◌, ◌↔◌, ℕ, zero, suc, ◌+◌, ◌<◌, List, [], ◌∷◌, ◌++◌, length, map, take, slice_index_or, IsTrue, refl, sym, ap, ◌∙◌, subst, inl, inr, ⊎_elim, arith}
 use Rattle.std.specs.Prelude.{Contains, Some, slice_index, slice_get, flat_map, Decides, Bool, true, false, if◌then◌else◌}
-use Rattle.std.proofs.lemmas.Bool.{cases_lt}
 use Rattle.std.proofs.lemmas.List.Elements.{Contains-append_left, Contains-append_right, Contains-append_cases, Contains-push, Contains-push_cases}
 use Rattle.lists.proofs.Members.{contains_here, contains_there, contains_cases, contains_map, contains_mapped, some_injective}
 use Rattle.meaning.specs.declared.types.SchemaParts.{SchemaParts}
@@ -17,13 +16,14 @@ use Rattle.std.specs.List.{list_any}
 use Rattle.meaning.specs.Triggers.{ground, assigned}
 use Rattle.meaning.specs.Search.{AreDistinct}
 use Rattle.meaning.specs.Runs.{Proof, Fires, part_of, IsKnownValue}
-use Rattle.std.proofs.lemmas.Option.{slice_get-get_or, slice_get_within}
+use Rattle.std.proofs.lemmas.Option.{slice_get-get_or}
 use Rattle.std.proofs.lemmas.List.{take_more}
-use Rattle.homomorphism.proofs.Members.{distinct_append, distinct_push, contains_none}
+use Rattle.homomorphism.proofs.Members.{distinct_append, distinct_push, distinct_take, contains_none}
 use Rattle.accessible_copy.specs.declared.entry.Entry.{Entry}
 use Rattle.accessible_copy.specs.Known.{known_values}
 use Rattle.accessible_copy.specs.Proving.{Proving, IsWritten, IsProofOf}
-use Rattle.accessible_copy.specs.Listing.{CanFire, AreExposures, AreExposuresOf, IsInput, AreInputs, CanExpose}
+use Rattle.accessible_copy.specs.Methods.{methods_of, IsMethodIndex}
+use Rattle.accessible_copy.specs.Listing.{CanFire, AreExposures, AreExposuresOf, IsInput, AreInputs}
 
 -- known values
 values_of : (facts : List Ground) (value : Val) → Contains (flat_map (λ (fact : Ground). fact.vals) facts) value → (fact : Ground) × Contains facts fact × Contains fact.vals value
@@ -72,50 +72,84 @@ pub fact_is : (m n : ℕ) (f g : Ground) → Expose m f ≡ Expose n g → f ≡
 fact_is m n f g e = cc
 
 module _ (schema : SchemaParts) (proof : Proving) (fact : Ground) where
-  pub of_none : AreExposuresOf schema proof fact 0 []
-  of_none = record { each = λ firing c. absurd (contains_none firing c); all = λ number l can. absurd (omega arith); once = tt }
+  pub of_none : AreExposuresOf schema proof fact [] []
+  of_none = record { each = λ firing c. absurd (contains_none firing c); all = λ number c can. absurd (contains_none number c); once = tt }
 
-  pub of_exposed : (count : ℕ) → Contains proof.end.exposed fact → AreExposuresOf schema proof fact count []
-  of_exposed count there = record { each = λ firing c. absurd (contains_none firing c); all = λ number l (method, can). absurd (can.new there); once = tt }
+  pub of_exposed : (numbers : List ℕ) → Contains proof.end.exposed fact → AreExposuresOf schema proof fact numbers []
+  of_exposed numbers there = record { each = λ firing c. absurd (contains_none firing c); all = λ number c (method, can). absurd (can.new there); once = tt }
 
-  pub of_more : (count : ℕ) (found : List Firing) → AreExposuresOf schema proof fact count found → CanFire schema proof count fact → AreExposuresOf schema proof fact (count + 1) (found ++ Expose count fact ∷ [])
-  of_more count found are can = record {
-    each = λ firing c. ⊎_elim (λ h. let (number, e, l, is) = are.each firing h in (number, e, omega arith, is)) (λ same. (count, sym same, omega arith, can)) (Contains-push_cases found (Expose count fact) firing c);
-    all = λ number l is. ⊎_elim (λ low. Contains-append_left found (Expose count fact ∷ []) (Expose number fact) (are.all number low is))
-        (λ high. let same : number ≡ count = omega arith in subst (λ n. Contains (found ++ Expose count fact ∷ []) (Expose n fact)) (sym same) (Contains-push found (Expose count fact))) (cases_lt number count);
-    once = distinct_push found (Expose count fact) are.once (λ c. let (number, e, l, is) = are.each (Expose count fact) c in let same = number_is count number fact fact e in omega arith);
-  }
+  module _ (numbers : List ℕ) (one : ℕ) (found : List Firing) (are : AreExposuresOf schema proof fact numbers found) where
+    earlier : (number : ℕ) → Contains numbers number → Contains (numbers ++ one ∷ []) number
+    earlier number c = Contains-append_left numbers (one ∷ []) number c
 
-  pub of_less : (count : ℕ) (found : List Firing) → AreExposuresOf schema proof fact count found → (CanFire schema proof count fact → ⊥) → AreExposuresOf schema proof fact (count + 1) found
-  of_less count found are cannot = record {
-    each = λ firing c. let (number, e, l, is) = are.each firing c in (number, e, omega arith, is);
-    all = λ number l is. ⊎_elim (λ low. are.all number low is) (λ high. let same : number ≡ count = omega arith in absurd (cannot (subst (λ n. CanFire schema proof n fact) same is))) (cases_lt number count);
-    once = are.once;
-  }
+    pub of_more : (Contains numbers one → ⊥) → CanFire schema proof one fact → AreExposuresOf schema proof fact (numbers ++ one ∷ []) (found ++ Expose one fact ∷ [])
+    of_more new can = record {
+      each = λ firing c. ⊎_elim (λ h. let (number, e, among, is) = are.each firing h in (number, e, earlier number among, is)) (λ same. (one, sym same, Contains-push numbers one, can)) (Contains-push_cases found (Expose one fact) firing c);
+      all = λ number c is. ⊎_elim (λ h. Contains-append_left found (Expose one fact ∷ []) (Expose number fact) (are.all number h is))
+          (λ same. subst (λ n. Contains (found ++ Expose one fact ∷ []) (Expose n fact)) same (Contains-push found (Expose one fact))) (Contains-push_cases numbers one number c);
+      once = distinct_push found (Expose one fact) are.once (λ c. let (number, e, among, is) = are.each (Expose one fact) c in new (subst (λ n. Contains numbers n) (sym (number_is one number fact fact e)) among));
+    }
 
--- a method whose exposure is active
-pub can_fire : (schema : SchemaParts) (proof : Proving) (number : ℕ) (fact : Ground) (method : Method) → Contains proof.end.base fact → slice_get schema.methods number ≡ Some method → CanExpose proof fact method → CanFire schema proof number fact
-can_fire schema proof number fact method of_base named can = (method, record { of_base = of_base; new = can.new; named = named; of_relation = can.of_relation; inputs = can.inputs })
+    pub of_less : (CanFire schema proof one fact → ⊥) → AreExposuresOf schema proof fact (numbers ++ one ∷ []) found
+    of_less cannot = record {
+      each = λ firing c. let (number, e, among, is) = are.each firing c in (number, e, earlier number among, is);
+      all = λ number c is. ⊎_elim (λ h. are.all number h is) (λ same. absurd (cannot (subst (λ n. CanFire schema proof n fact) (sym same) is))) (Contains-push_cases numbers one number c);
+      once = are.once;
+    }
 
-pub can_expose : (schema : SchemaParts) (proof : Proving) (number : ℕ) (fact : Ground) (method : Method) → slice_get schema.methods number ≡ Some method → CanFire schema proof number fact → CanExpose proof fact method
-can_expose schema proof number fact method named (other, is) =
+distinct_last : {X : Type 0} (xs : List X) (x : X) → AreDistinct (xs ++ x ∷ []) → Contains xs x → ⊥
+distinct_last [] x are c = contains_none x c
+distinct_last (y ∷ xs) x (new, are) c = ⊎_elim (λ same. new (subst (Contains (xs ++ x ∷ [])) (sym same) (Contains-push xs x))) (λ h. distinct_last xs x are h) (contains_cases y xs x c)
+
+pub take_got : {X : Type 0} (xs : List X) (n : ℕ) (x : X) → slice_get xs n ≡ Some x → take (n + 1) xs ≡ take n xs ++ x ∷ []
+take_got [] n x e = absurd (cc)
+take_got (y ∷ xs) zero x e = ap (λ z. z ∷ []) (some_injective y x e)
+take_got (y ∷ xs) (suc n) x e = let s : suc n + 1 ≡ suc (n + 1) = omega arith in rw s (ap (λ z. y ∷ z) (take_got xs n x e))
+
+-- one of distinct members does not stand before itself
+pub not_before : (xs : List ℕ) (k x : ℕ) → AreDistinct xs → slice_get xs k ≡ Some x → Contains (take k xs) x → ⊥
+not_before xs k x once got = distinct_last (take k xs) x (subst AreDistinct (take_got xs k x got) (distinct_take xs (k + 1) once))
+
+-- a method of the fact's relation whose inputs are known
+can_fire : (schema : SchemaParts) (proof : Proving) (number : ℕ) (fact : Ground) (method : Method) → Contains proof.end.base fact → (Contains proof.end.exposed fact → ⊥) → slice_get schema.methods number ≡ Some method → method.rel ≡ fact.rel
+    → AreInputs (known_values proof.constants proof.end.exposed) method.inputs fact.vals → CanFire schema proof number fact
+can_fire schema proof number fact method of_base new named rel are = (
+  method,
+  record {
+    of_base = of_base;
+    new = new;
+    named = named;
+    of_relation = rel;
+    inputs = inputs_to proof.constants proof.end.exposed method.inputs fact.vals are;
+  },
+)
+
+fire_inputs : (schema : SchemaParts) (proof : Proving) (number : ℕ) (fact : Ground) (method : Method) → slice_get schema.methods number ≡ Some method → CanFire schema proof number fact → AreInputs (known_values proof.constants proof.end.exposed) method.inputs fact.vals
+fire_inputs schema proof number fact method named (other, is) =
     let same : other ≡ method = some_injective other method (sym is.named ∙ named) in
-    subst (CanExpose proof fact) same (record { of_relation = is.of_relation; new = is.new; inputs = is.inputs })
+    subst (λ (m : Method). AreInputs (known_values proof.constants proof.end.exposed) m.inputs fact.vals) same (inputs_from proof.constants proof.end.exposed other.inputs fact.vals is.inputs)
+
+-- so a test of the inputs tells whether the exposure is active
+pub fires : (schema : SchemaParts) (proof : Proving) (number : ℕ) (fact : Ground) (method : Method) → Contains proof.end.base fact → (Contains proof.end.exposed fact → ⊥)
+    → (named : (m : Method) × (slice_get schema.methods number ≡ Some m) × (m.rel ≡ fact.rel)) → slice_get schema.methods number ≡ Some method → (b : Bool) (values : List Val) (inputs : List ℕ) (vals : List Val)
+    → values ≡ known_values proof.constants proof.end.exposed → inputs ≡ method.inputs → vals ≡ fact.vals → (IsTrue b ↔ AreInputs values inputs vals) → IsTrue b ↔ CanFire schema proof number fact
+fires schema proof number fact method of_base new (m, at, of_relation) named b values inputs vals v i a iff =
+    let same : m ≡ method = some_injective m method (sym at ∙ named) in
+    let rel : method.rel ≡ fact.rel = subst (λ (k : Method). k.rel ≡ fact.rel) same of_relation in (
+      (λ yes. can_fire schema proof number fact method of_base new named rel (rw (← v, ← i, ← a) (iff.0 yes))),
+      (λ can. iff.1 (rw (v, i, a) (fire_inputs schema proof number fact method named can))),
+    )
 
 -- one fact more
-distinct_last : (facts : List Ground) (fact : Ground) → AreDistinct (facts ++ fact ∷ []) → Contains facts fact → ⊥
-distinct_last [] fact are c = contains_none fact c
-distinct_last (first ∷ facts) fact (new, are) c = ⊎_elim (λ same. new (subst (λ f. Contains (facts ++ fact ∷ []) f) (sym same) (Contains-push facts fact))) (λ h. distinct_last facts fact are h) (contains_cases first facts fact c)
-
 module _ (schema : SchemaParts) (proof : Proving) where
   pub from_none : AreExposures schema proof [] []
   from_none = record { each = λ firing c. absurd (contains_none firing c); all = λ number fact c can. absurd (contains_none fact c); once = tt }
 
-  pub from_more : (facts : List Ground) (fact : Ground) (found more : List Firing) → AreDistinct (facts ++ fact ∷ []) → AreExposures schema proof facts found → AreExposuresOf schema proof fact (length schema.methods) more
-      → ((number : ℕ) → CanFire schema proof number fact → number < length schema.methods) → AreExposures schema proof (facts ++ fact ∷ []) (found ++ more)
-  from_more facts fact found more once are of below = record {
+  pub from_more : (facts : List Ground) (fact : Ground) (found more : List Firing) (numbers : List ℕ) → AreDistinct (facts ++ fact ∷ []) → AreExposures schema proof facts found → AreExposuresOf schema proof fact numbers more
+      → ((number : ℕ) → CanFire schema proof number fact → Contains numbers number) → AreExposures schema proof (facts ++ fact ∷ []) (found ++ more)
+  from_more facts fact found more numbers once are of below = record {
     each = λ firing c. ⊎_elim (λ h. let (number, other, e, among, is) = are.each firing h in (number, other, e, Contains-append_left facts (fact ∷ []) other among, is))
-        (λ h. let (number, e, l, is) = of.each firing h in (number, fact, e, Contains-push facts fact, is)) (Contains-append_cases found more firing c);
+        (λ h. let (number, e, among, is) = of.each firing h in (number, fact, e, Contains-push facts fact, is)) (Contains-append_cases found more firing c);
     all = λ number other c can. ⊎_elim (λ h. Contains-append_left found more (Expose number other) (are.all number other h can))
         (λ same. subst (λ f. Contains (found ++ more) (Expose number f)) same (let can' = subst (CanFire schema proof number) (sym same) can in Contains-append_right found more (Expose number fact) (of.all number (below number can') can')))
         (Contains-push_cases facts fact other c);
@@ -155,24 +189,18 @@ at_index [] n l = absurd (omega arith)
 at_index (x ∷ xs) zero l = contains_here x xs
 at_index (x ∷ xs) (suc n) l = contains_there x xs (slice_index xs n) (at_index xs n (omega arith))
 
+pub at_got : (xs : List ℕ) (n : ℕ) → n < length xs → slice_get xs n ≡ Some (slice_index xs n)
+at_got [] n l = absurd (omega arith)
+at_got (x ∷ xs) zero l = refl
+at_got (x ∷ xs) (suc n) l = at_got xs n (omega arith)
+
 pub inputs_more : (values vals : List Val) (inputs : List ℕ) (n : ℕ) → n < length inputs → AreInputs values (take n inputs) vals → IsInput values vals (slice_index inputs n) → AreInputs values (take (n + 1) inputs) vals
 inputs_more values vals inputs n l before is q among =
     ⊎_elim (λ h. before q h) (λ same. subst (IsInput values vals) same is) (Contains-push_cases (take n inputs) (slice_index inputs n) q (subst (λ z. Contains z q) (take_more inputs n 0 l) among))
 
-pub can_is : (proof : Proving) (fact : Ground) (method : Method) → method.rel ≡ fact.rel → (Contains proof.end.exposed fact → ⊥) → (b : Bool) (values : List Val) (inputs : List ℕ) (vals : List Val)
-    → values ≡ known_values proof.constants proof.end.exposed → inputs ≡ method.inputs → vals ≡ fact.vals → (IsTrue b ↔ AreInputs values inputs vals) → IsTrue b ↔ CanExpose proof fact method
-can_is proof fact method rel new b values inputs vals v i a iff = (
-  (λ yes. record { of_relation = rel; new = new; inputs = inputs_to proof.constants proof.end.exposed method.inputs fact.vals (rw (← v, ← i, ← a) (iff.0 yes)) }),
-  (λ can. iff.1 (rw (v, i, a) (inputs_from proof.constants proof.end.exposed method.inputs fact.vals can.inputs))),
-)
-
 pub got_here : {X : Type 0} (xs : List X) (n : ℕ) (x : X) → n < length xs → x ≡ slice_index_or xs n x → slice_get xs n ≡ Some x
 got_here xs n x l e = slice_get-get_or xs n x l ∙ ap (λ z. Some z) (sym e)
 
-pub take_got : {X : Type 0} (xs : List X) (n : ℕ) (x : X) → slice_get xs n ≡ Some x → take (n + 1) xs ≡ take n xs ++ x ∷ []
-take_got [] n x e = absurd (cc)
-take_got (y ∷ xs) zero x e = ap (λ z. z ∷ []) (some_injective y x e)
-take_got (y ∷ xs) (suc n) x e = let s : suc n + 1 ≡ suc (n + 1) = omega arith in rw s (ap (λ z. y ∷ z) (take_got xs n x e))
-
-pub fire_within : (schema : SchemaParts) (proof : Proving) (number : ℕ) (fact : Ground) → CanFire schema proof number fact → number < length schema.methods
-fire_within schema proof number fact (method, is) = slice_get_within schema.methods number method is.named
+-- the index has each method by which the fact can be exposed
+pub fire_listed : (schema : SchemaParts) (index : List (List ℕ)) (proof : Proving) (number : ℕ) (fact : Ground) → IsMethodIndex schema.methods index → CanFire schema proof number fact → Contains (methods_of index fact.rel) number
+fire_listed schema index proof number fact are (method, is) = subst (λ r. Contains (methods_of index r) number) is.of_relation (are.all number method is.named)

@@ -4,6 +4,7 @@ pub mod Written
 pub mod Proving
 pub mod Settling
 pub mod Exposing
+pub mod Methods
 pub mod Listing
 pub mod Goals
 pub mod Rounds

@@ -1,5 +1,5 @@
 -- The exposures that are active in a proof.
-use Rattle.std.specs.Prelude.{◌≡◌, ℕ, ◌<◌, List, Contains, slice_get, Some}
+use Rattle.std.specs.Prelude.{◌≡◌, ℕ, List, Contains, slice_get, Some}
 use Rattle.meaning.specs.declared.types.SchemaParts.{SchemaParts}
 use Rattle.meaning.specs.declared.types.Method.{Method}
 use Rattle.meaning.specs.declared.types.Ground.{Ground}
@@ -7,7 +7,7 @@ use Rattle.meaning.specs.declared.types.Val.{Val}
 use Rattle.meaning.specs.declared.types.Firing.{Firing}
 use Rattle.meaning.specs.declared.types.Firing.TheVariants.{Expose}
 use Rattle.meaning.specs.Search.{AreDistinct}
-use Rattle.meaning.specs.Runs.{IsKnownValue, IsActiveExposure}
+use Rattle.meaning.specs.Runs.{IsActiveExposure}
 use Rattle.accessible_copy.specs.Proving.{Proving}
 
 -- Some method of that number makes the exposure of the fact active.
@@ -22,11 +22,11 @@ pub record AreExposures (schema : SchemaParts) (proof : Proving) (facts : List G
       Contains found (Expose number fact)
   pub once : AreDistinct found
 
--- The firings are exactly the active exposures of the fact by methods with numbers below the count, each once.
-pub record AreExposuresOf (schema : SchemaParts) (proof : Proving) (fact : Ground) (count : ℕ) (found : List Firing) : Type 0 where
+-- The firings are exactly the active exposures of the fact by methods with these numbers, each once.
+pub record AreExposuresOf (schema : SchemaParts) (proof : Proving) (fact : Ground) (numbers : List ℕ) (found : List Firing) : Type 0 where
   pub each : (firing : Firing) → Contains found firing →
-      (number : ℕ) × (firing ≡ Expose number fact) × (number < count) × CanFire schema proof number fact
-  pub all : (number : ℕ) → number < count → CanFire schema proof number fact → Contains found (Expose number fact)
+      (number : ℕ) × (firing ≡ Expose number fact) × Contains numbers number × CanFire schema proof number fact
+  pub all : (number : ℕ) → Contains numbers number → CanFire schema proof number fact → Contains found (Expose number fact)
   pub once : AreDistinct found
 
 -- The place has a value, which is one of these.
@@ -36,10 +36,3 @@ IsInput values vals place = (value : Val) × (slice_get vals place ≡ Some valu
 -- Each input place has a value, which is one of these.
 abbrev pub AreInputs : List Val → List ℕ → List Val → Type 0
 AreInputs values inputs vals = (place : ℕ) → Contains inputs place → IsInput values vals place
-
--- The method can expose the fact, which is not exposed.
-pub record CanExpose (proof : Proving) (fact : Ground) (method : Method) : Type 0 where
-  pub of_relation : method.rel ≡ fact.rel
-  pub new : Contains proof.end.exposed fact → ⊥
-  pub inputs : (p : ℕ) → Contains method.inputs p →
-      (value : Val) × (slice_get fact.vals p ≡ Some value) × IsKnownValue proof.constants proof.end.exposed value

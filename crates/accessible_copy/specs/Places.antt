@@ -1,9 +1,22 @@
--- Where labels stand among values.
-use Rattle.std.specs.Prelude.{◌≡◌, ℕ, ◌<◌, List, Contains, take, slice_get, slice_index, Some}
+-- Where values stand first.
+use Rattle.std.specs.Prelude.{◌≡◌, ℕ, ◌<◌, List, Contains, take, slice_get, slice_index, unwrap_or, Some}
+use Rattle.std.specs.declared.cmp.Ordering.{Ordering}
+use Rattle.std.specs.Ordering.{nat_cmp}
+use Rattle.std.specs.Cmp.Lexicographic.{slice_cmp}
+use Rattle.std.specs.BTreeMap.{get}
 use Rattle.meaning.specs.declared.types.Val.{Val}
-use Rattle.meaning.specs.declared.types.Val.TheVariants.{Label}
+use Rattle.meaning.specs.declared.types.Val.TheVariants.{Const, Label}
+use Rattle.accessible_copy.specs.declared.first_places.FirstPlaces.{FirstPlaces}
 
--- Each label of the values has, by its number, the place at which it stands first.
-abbrev pub AreFirstPlaces : List Val → List ℕ → Type 0
-AreFirstPlaces values places = (n k : ℕ) → Contains (take n values) (Label k) →
-    (slice_index places k < n) × (slice_get values (slice_index places k) ≡ Some (Label k))
+-- texts by their bytes
+abbrev pub text_cmp : List ℕ → List ℕ → Ordering
+text_cmp = slice_cmp nat_cmp
+
+-- The place that was set for a value, or 0.
+abbrev pub place_in : FirstPlaces → Val → ℕ
+place_in places (Const text) = unwrap_or (get text_cmp places.constants text) 0
+place_in places (Label label) = slice_index places.labels.items label
+
+-- Each of the values has the place at which it stands first.
+abbrev pub AreFirstPlaces : List Val → (Val → ℕ) → Type 0
+AreFirstPlaces values place = (n : ℕ) (v : Val) → Contains (take n values) v → (place v < n) × (slice_get values (place v) ≡ Some v)

@@ -129,7 +129,7 @@ fn constant_values(alloc: Global, constants: &Texts) -> Result<Values, NoMemory>
 {
     let mut values = Values::new(alloc);
     for text in constants.as_slice() {
-        values.push(Val::Const(text.copy(alloc)?))?;
+        values.push(alloc, Val::Const(text.copy(alloc)?))?;
     }
     Ok(values)
 }

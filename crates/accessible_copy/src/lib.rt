@@ -5,6 +5,7 @@
 
 mod entry;
 mod exposing;
+mod first_places;
 mod goals;
 mod going;
 mod history;
@@ -12,6 +13,7 @@ mod known;
 pub mod laws;
 mod listing;
 mod marks;
+mod method_index;
 mod proof;
 mod rounds;
 mod settling;
@@ -21,8 +23,9 @@ pub use entry::{Entry, Exposed, Mark, Sizes};
 pub use exposing::expose;
 pub use goals::{Match, goal};
 pub use going::goes_on;
-pub use listing::exposures;
+pub use listing::{exposures, indexed_exposures};
 pub use marks::{mark, undo};
+pub use method_index::MethodIndex;
 pub use proof::Proof;
 pub use rounds::round;
 pub use settling::{Round, settle};

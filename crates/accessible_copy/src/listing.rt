@@ -1,15 +1,19 @@
 // The exposures that are active.
-ghost use Rattle.std.specs.Prelude.{◌≡◌, ◌↔◌, ◌<◌, ◌≤◌, IsTrue, IfOk, Contains, length, take};
+ghost use Rattle.std.specs.Prelude.{◌≡◌, ◌↔◌, ℕ, IsTrue, IfOk, Contains, slice_get, Some};
+ghost use Rattle.meaning.specs.declared.types.Method.{Method as TheMethod};
+ghost use Rattle.meaning.specs.Search.{AreDistinct};
 ghost use Rattle.access_schema.specs.Meaning.{meaning_of};
 ghost use Rattle.accessible_copy.specs.Proving.{IsProofOf};
 ghost use Rattle.accessible_copy.specs.Known.{known_values, facts_of};
-ghost use Rattle.accessible_copy.specs.Listing.{AreExposures, AreExposuresOf, CanExpose, AreInputs, IsInput};
+ghost use Rattle.accessible_copy.specs.Methods.{IsMethodIndex};
+ghost use Rattle.accessible_copy.specs.Listing.{CanFire, AreExposures, AreExposuresOf, AreInputs, IsInput};
 
 use crate::known::Known;
+use crate::method_index::MethodIndex;
 use crate::proof::Proof;
 use access_schema::Schema;
 use lists::{Copies, NoMemory, Seq};
-use meaning::types::{Firing, Firings, Ground, Method, Val};
+use meaning::types::{Firing, Firings, Ground, Val};
 use std::alloc::Global;
 
 /// Exactly the exposures that are active, each fact with each method, each once.
@@ -17,35 +21,54 @@ pub fn exposures(alloc: Global, proof: &Proof, schema: &Schema) -> Result<Firing
     requires { IsProofOf (meaning_of schema.now) proof.now }
     ensures { IfOk result (λ found. AreExposures (meaning_of schema.now) proof.now proof.now.end.base found) }
 {
+    let methods = MethodIndex::of(alloc, schema)?;
+    indexed_exposures(alloc, proof, schema, &methods)
+}
+
+/// The same, with the index of the schema's methods at hand: each base fact that is not exposed is tried with the methods of
+/// its relation alone.
+pub fn indexed_exposures(
+    alloc: Global,
+    proof: &Proof,
+    schema: &Schema,
+    methods: &MethodIndex,
+) -> Result<Firings, NoMemory>
+    requires run { IsProofOf (meaning_of schema.now) proof.now }
+    requires methods { IsMethodIndex schema.now.methods methods.now }
+    ensures { IfOk result (λ found. AreExposures (meaning_of schema.now) proof.now proof.now.end.base found) }
+{
     let mut found = Vec::new(alloc);
     for number in 0..proof.base.store().len() {
         if let Some(fact) = proof.base(number) {
-            let mut more = exposures_of(alloc, proof, schema, fact)?;
+            let mut more = exposures_of(alloc, proof, schema, methods.numbers(fact.rel), fact)?;
             found.append(&mut more)?;
         }
     }
     Ok(Seq::from_vec(found))
 }
 
-/// The exposures of a base fact, each method once.
+/// The exposures of a base fact by these methods, each once.
 fn exposures_of(
     alloc: Global,
     proof: &Proof,
     schema: &Schema,
+    numbers: &[u32],
     fact: &Ground,
 ) -> Result<Vec<Firing>, NoMemory>
-    requires { Contains proof.now.end.base fact.now }
-    ensures { IfOk result (λ found. AreExposuresOf (meaning_of schema.now) proof.now fact.now (length schema.now.methods) found.items) }
+    requires base { Contains proof.now.end.base fact.now }
+    requires once { AreDistinct numbers.now }
+    requires named { (number : ℕ) → Contains numbers.now number →
+        (method : TheMethod) × (slice_get schema.now.methods number ≡ Some method) × (method.rel ≡ fact.now.rel) }
+    ensures { IfOk result (λ found. AreExposuresOf (meaning_of schema.now) proof.now fact.now numbers.now found.items) }
 {
     let mut found = Vec::new(alloc);
-    if proof.known.has(fact) {
+    if numbers.is_empty() || proof.known.has(fact) {
         return Ok(found);
     }
-    let methods = schema.methods.as_slice();
-    for number in 0..methods.len() {
-        if can_expose(proof, &methods[number], fact) {
+    for number in numbers {
+        if can_expose(proof, schema, *number, fact) {
             found.push(Firing::Expose {
-                method: number as u32,
+                method: *number,
                 fact: fact.copy(alloc)?,
             })?;
         }
@@ -53,15 +76,17 @@ fn exposures_of(
     Ok(found)
 }
 
-/// Whether the method can expose the fact, which is not exposed.
-fn can_expose(proof: &Proof, method: &Method, fact: &Ground) -> bool
-    requires { Contains proof.now.end.exposed fact.now → ⊥ }
-    ensures { IsTrue result ↔ CanExpose proof.now fact.now method.now }
+/// Whether the method, which is one of the fact's relation, can expose the fact, which is not exposed.
+fn can_expose(proof: &Proof, schema: &Schema, number: u32, fact: &Ground) -> bool
+    requires base { Contains proof.now.end.base fact.now }
+    requires new { Contains proof.now.end.exposed fact.now → ⊥ }
+    requires named { (method : TheMethod) × (slice_get schema.now.methods number ≡ Some method) × (method.rel ≡ fact.now.rel) }
+    ensures { IsTrue result ↔ CanFire (meaning_of schema.now) proof.now number fact.now }
 {
-    if method.rel != fact.rel {
-        return false;
+    match schema.methods.get(number as usize) {
+        Some(method) => are_inputs(&proof.known, method.inputs.as_slice(), fact.vals.as_slice()),
+        None => false,
     }
-    are_inputs(&proof.known, method.inputs.as_slice(), fact.vals.as_slice())
 }
 
 /// Whether each input place has a value, which is known.

@@ -1,5 +1,5 @@
 // A proof, and what it lends.
-ghost use Rattle.std.specs.Prelude.{◌≡◌, ◌≤◌, [], IfOk, IfSome, IfNone, slice_get, option_copied, None, Some};
+ghost use Rattle.std.specs.Prelude.{◌≡◌, ◌≤◌, ◌↔◌, [], IsTrue, IfOk, IfSome, IfNone, Contains, slice_get, option_copied, None, Some};
 ghost use Rattle.meaning.specs.Triggers.{bound};
 ghost use Rattle.meaning.specs.Runs.{opening};
 ghost use Rattle.access_schema.specs.Meaning.{meaning_of};
@@ -104,6 +104,34 @@ impl Proof {
         self.known.value(number)
     }
 
+    /// Whether the fact is a base fact, found by an index. Takes no memory.
+    pub fn has_base(&self, fact: &Ground) -> bool
+        ensures { IsTrue result ↔ Contains self.now.end.base fact.now }
+    {
+        self.base.store().contains(fact)
+    }
+
+    /// Whether the fact is exposed, found by an index. Takes no memory.
+    pub fn has_exposed(&self, fact: &Ground) -> bool
+        ensures { IsTrue result ↔ Contains self.now.end.exposed fact.now }
+    {
+        self.known.has(fact)
+    }
+
+    /// Whether the fact is a copy fact, found by an index. Takes no memory.
+    pub fn has_copy(&self, fact: &Ground) -> bool
+        ensures { IsTrue result ↔ Contains self.now.end.copy fact.now }
+    {
+        self.copy.store().contains(fact)
+    }
+
+    /// Whether the value is known, found by a look at the place where it stood first. Takes no memory.
+    pub fn knows(&self, val: &Val) -> bool
+        ensures { IsTrue result ↔ Contains (known_values self.now.constants self.now.end.exposed) val.now }
+    {
+        self.known.knows(val)
+    }
+
     /// The firing with this number. Takes no memory.
     pub fn log(&self, number: usize) -> Option<&Firing>
         ensures { option_copied result ≡ slice_get (log_of self.now) number }
@@ -114,8 +142,15 @@ impl Proof {
         }
     }
 
+    /// The firing with this number, and the sizes of the state before it. Takes no memory.
+    pub fn entry(&self, number: usize) -> Option<&Entry>
+        ensures { option_copied result ≡ slice_get self.now.entries number }
+    {
+        self.history.get(number)
+    }
+
     /// The sizes of the state. Takes no memory.
-    pub(crate) fn sizes(&self) -> Sizes
+    pub fn sizes(&self) -> Sizes
         ensures { result ≡ sizes_of self.now.constants self.now.end }
     {
         Sizes {

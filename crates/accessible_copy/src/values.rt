@@ -1,7 +1,7 @@
-// Values in order, which know where each label stands first.
-ghost use Rattle.std.specs.Prelude.{◌≡◌, ◌↔◌, ◌<◌, ◌∷◌, [], ◌++◌, ℕ, IsTrue, Contains, OnOk, OnErr, length, take, slice_index, slice_get, Some};
-ghost use Rattle.meaning.specs.declared.types.Val.TheVariants.{Label};
+// Values in order, which know where each stands first.
+ghost use Rattle.std.specs.Prelude.{◌≡◌, ◌↔◌, ◌∷◌, [], ◌++◌, IsTrue, Contains, OnOk, OnErr, length, take, slice_get, Some};
 
+use crate::first_places::FirstPlaces;
 use lists::{Copies, Exact, NoMemory};
 use meaning::types::Val;
 use std::alloc::Global;
@@ -9,24 +9,24 @@ use std::marker::Model;
 
 /// Values in order, with repetitions. Contracts see their list.
 ///
-/// `places` has, by the number of a label, the place at which the label stands first. Of a label that does not stand here it
-/// may have any place, so that values are dropped without a look at it.
+/// `places` has the place at which a value stands first. Of a value that does not stand here it may have any place, so that
+/// values are dropped without a look at it.
 #[derive(Drop)]
 pub struct Values {
     list: Vec<Val>,
-    places: Vec<usize>,
+    places: FirstPlaces,
 }
 
 impl Model for Values {
     ghost use Rattle.std.specs.Prelude.{List};
     ghost use Rattle.meaning.specs.declared.types.Val.{Val};
-    ghost use Rattle.accessible_copy.specs.Places.{AreFirstPlaces};
+    ghost use Rattle.accessible_copy.specs.Places.{AreFirstPlaces, place_in};
 
     ghost Value = { List Val };
 
     ghost view = { λ v. v.list.items };
 
-    ghost invariant = { λ v. AreFirstPlaces v.list.items v.places.items };
+    ghost invariant = { λ v. AreFirstPlaces v.list.items (place_in v.places) };
 }
 
 impl Values {
@@ -36,7 +36,7 @@ impl Values {
     {
         Values {
             list: Vec::new(alloc),
-            places: Vec::new(alloc),
+            places: FirstPlaces::new(alloc),
         }
     }
 
@@ -54,47 +54,23 @@ impl Values {
         self.list.as_slice()
     }
 
-    /// Whether the value stands here: a label is found by its number, and a constant is looked for in order. Takes no memory.
+    /// Whether the value stands here, found by a look at the place where it stood first. Takes no memory.
     pub fn contains(&self, val: &Val) -> bool
         ensures { IsTrue result ↔ Contains self.now val.now }
     {
-        match val {
-            Val::Label(label) => self.has_label(*label),
-            Val::Const(_) => is_among(self.list.as_slice(), val),
-        }
-    }
-
-    fn has_label(&self, label: u32) -> bool
-        ensures { IsTrue result ↔ Contains self.now (Label label) }
-    {
-        let place = place_of(self.places.as_slice(), label);
-        is_label_at(self.list.as_slice(), place, label)
+        is_at(self.list.as_slice(), self.places.get(val), val)
     }
 
     /// One more value. Where memory is refused, nothing changes.
-    pub fn push(&mut self, val: Val) -> Result<(), NoMemory>
+    pub fn push(&mut self, alloc: Global, val: Val) -> Result<(), NoMemory>
         ensures pushed { OnOk result (self.new ≡ self.old ++ val ∷ []) }
         ensures refused { OnErr result (self.new ≡ self.old) }
     {
-        if let Val::Label(label) = &val {
-            return self.push_label(*label);
+        if !self.contains(&val) {
+            let count = self.list.len();
+            self.places.set(alloc, &val, count)?;
         }
         self.list.push(val)?;
-        Ok(())
-    }
-
-    fn push_label(&mut self, label: u32) -> Result<(), NoMemory>
-        ensures pushed { OnOk result (self.new ≡ self.old ++ Label label ∷ []) }
-        ensures refused { OnErr result (self.new ≡ self.old) }
-    {
-        if self.has_label(label) {
-            self.list.push(Val::Label(label))?;
-            return Ok(());
-        }
-        let count = self.list.len();
-        grow(&mut self.places, label as usize)?;
-        self.places[label as usize] = count;
-        self.list.push(Val::Label(label))?;
         Ok(())
     }
 
@@ -119,7 +95,7 @@ impl Values {
         ensures front { take (length self.old) self.new ≡ self.old }
     {
         for val in vals {
-            self.push(val.copy(alloc)?)?;
+            self.push(alloc, val.copy(alloc)?)?;
         }
         Ok(())
     }
@@ -132,47 +108,12 @@ impl Values {
     }
 }
 
-/// The place of the label, or 0 where there is none.
-fn place_of(places: &[usize], label: u32) -> usize
-    ensures { result ≡ slice_index places.now label }
-{
-    match places.get(label as usize) {
-        Some(place) => *place,
-        None => 0,
-    }
-}
-
-/// Whether the label stands at the place.
-fn is_label_at(values: &[Val], place: usize, label: u32) -> bool
-    ensures { IsTrue result ↔ (slice_get values.now place ≡ Some (Label label)) }
+/// Whether the value stands at the place.
+fn is_at(values: &[Val], place: usize, val: &Val) -> bool
+    ensures { IsTrue result ↔ (slice_get values.now place ≡ Some val.now) }
 {
     match values.get(place) {
-        Some(val) => val.same(&Val::Label(label)),
+        Some(found) => found.same(val),
         None => false,
     }
-}
-
-/// Makes the list longer by zeros until it has the index.
-fn grow(places: &mut Vec<usize>, index: usize) -> Result<(), NoMemory>
-    ensures stays { (k : ℕ) → slice_index places.new.items k ≡ slice_index places.old.items k }
-    ensures long { OnOk result (index < length places.new.items) }
-{
-    while places.len() <= index {
-        places.push(0)?;
-    }
-    Ok(())
-}
-
-/// Whether the value is one of these.
-fn is_among(values: &[Val], val: &Val) -> bool
-    ensures { IsTrue result ↔ Contains values.now val.now }
-{
-    let mut left = values;
-    while let [first, rest @ ..] = left {
-        if first.same(val) {
-            return true;
-        }
-        left = rest;
-    }
-    false
 }

@@ -24,6 +24,7 @@ pub enum Positionals<'a> {
 pub struct Arguments<'a> {
     pub positionals: Positionals<'a>,
     pub firings: Option<u32>,
+    pub search: Option<u32>,
 }
 
 /// The arguments that the words behind a command's name give; none where they can be no command's.
@@ -34,6 +35,7 @@ pub fn read_arguments<'a>(name: CommandName, words: &'a [Text]) -> Option<Argume
     let mut arguments = Arguments {
         positionals: Positionals::Zero,
         firings: None,
+        search: None,
     };
     let mut left = words;
     while !left.is_empty() {
@@ -63,10 +65,17 @@ impl<'a> Arguments<'a> {
     pub fn number_of(self, option: OptionName) -> u32
         ensures { result ≡ number_of option self.entry }
     {
-        let given = match option {
+        self.given_number(option).unwrap_or(option.default_number())
+    }
+
+    // The number that is given for an option.
+    fn given_number(self, option: OptionName) -> Option<u32>
+        ensures { result ≡ given_number option self.entry }
+    {
+        match option {
             OptionName::Firings => self.firings,
-        };
-        given.unwrap_or(option.default_number())
+            OptionName::Search => self.search,
+        }
     }
 
     // One more item; none where no command has such items.
@@ -77,7 +86,7 @@ impl<'a> Arguments<'a> {
         match item {
             Item::Positional(word) => Some(Arguments {
                 positionals: self.positionals.with(word)?,
-                firings: self.firings,
+                ..self
             }),
             Item::Given(option, text) => self.with_number(
                 option,
@@ -93,10 +102,14 @@ impl<'a> Arguments<'a> {
         ensures numbers { IfSome result (λ more. (other : options.OptionName) →
             given_number other more ≡ (if same_option other option then Some number else given_number other self.entry)) }
     {
-        match (option, self.firings) {
+        match (option, self.given_number(option)) {
             (OptionName::Firings, None) => Some(Arguments {
-                positionals: self.positionals,
                 firings: Some(number),
+                ..self
+            }),
+            (OptionName::Search, None) => Some(Arguments {
+                search: Some(number),
+                ..self
             }),
             _ => None,
         }

@@ -20,6 +20,7 @@ pub enum CommandName {
 #[derive(Clone, Copy)]
 pub enum OptionName {
     Firings,
+    Search,
 }
 
 /// The command with this word.
@@ -44,6 +45,7 @@ pub fn option_named(word: &[u8]) -> Option<OptionName>
 {
     match word {
         b"firings" => Some(OptionName::Firings),
+        b"search" => Some(OptionName::Search),
         _ => None,
     }
 }
@@ -56,6 +58,7 @@ impl CommandName {
         match (self, option) {
             (CommandName::Explain | CommandName::Run | CommandName::Check, OptionName::Firings) =>
                 true,
+            (CommandName::Explain | CommandName::Run, OptionName::Search) => true,
             _ => false,
         }
     }
@@ -68,6 +71,7 @@ impl OptionName {
     {
         match self {
             OptionName::Firings => 100_000,
+            OptionName::Search => 1_000_000,
         }
     }
 
@@ -76,7 +80,7 @@ impl OptionName {
         ensures { result ≡ default_number self }
     {
         match self {
-            OptionName::Firings => 10_000,
+            OptionName::Firings | OptionName::Search => 10_000,
         }
     }
 }

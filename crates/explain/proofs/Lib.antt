@@ -8,3 +8,5 @@ pub mod Relations
 pub mod ReadLines
 pub mod Following
 pub mod TextLaws
+pub mod Comments
+pub mod Entries

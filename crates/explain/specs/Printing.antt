@@ -11,6 +11,7 @@ use Rattle.meaning.specs.declared.types.Relation.{Relation}
 use Rattle.meaning.specs.declared.types.Method.{Method}
 use Rattle.meaning.specs.declared.types.Rule.{Rule}
 use Rattle.meaning.specs.declared.types.Fact.{Fact}
+use Rattle.meaning.specs.declared.types.Plan.{Plan as PlanOf}
 use Rattle.meaning.specs.declared.types.Val.{Val}
 use Rattle.meaning.specs.declared.types.Val.TheVariants.{Const, Label}
 use Rattle.meaning.specs.declared.types.Ground.{Ground}
@@ -22,6 +23,10 @@ use Rattle.meaning.specs.Triggers.{bound}
 use Rattle.access_schema.specs.declared.schema.Schema.{Schema}
 use Rattle.plan_form.specs.Printing.{plan_text}
 use Rattle.no_plan_witness.specs.declared.refutation.Witness.{Witness}
+use Rattle.access_cost.specs.declared.least.Least.{Least}
+use Rattle.access_cost.specs.declared.least.Least.TheVariants.{Shown, SearchSpent, FiringsSpent}
+use Rattle.no_plan_witness.specs.declared.decision.Chosen.{Chosen}
+use Rattle.no_plan_witness.specs.declared.decision.Chosen.TheVariants.{NoRow, Branch}
 use Rattle.no_plan_witness.specs.declared.decision.Decision.{Decision}
 use Rattle.no_plan_witness.specs.declared.decision.Decision.TheVariants.{Plan, NoPlan, Undecided}
 
@@ -112,10 +117,36 @@ opening_text count select = codes "undecided after " ++ decimal count ++ codes "
 abbrev pub undecided_text : Schema → ℕ → List Firing → List ℕ
 undecided_text schema select log = opening_text (length log) select ++ flat_map (firing_text schema.rules schema.methods) log ++ codes "end\n"
 
+-- ---- plans
+
+-- what is said of the cost of a branch
+abbrev pub least_text : Least → List ℕ
+least_text Shown = codes "least"
+least_text (SearchSpent units) = codes "search spent after " ++ decimal units
+least_text (FiringsSpent firings) = codes "firings spent after " ++ decimal firings
+
+-- what is said of a select
+abbrev pub entry_text : Chosen → List ℕ
+entry_text NoRow = codes " no row"
+entry_text (Branch cost least) = codes " cost " ++ decimal cost ++ codes " " ++ least_text least
+
+-- the comment line of a select, by its number counted from 1
+abbrev pub entry_line : ℕ → Chosen → List ℕ
+entry_line number entry = codes "# select " ++ decimal number ++ entry_text entry ++ codes "\n"
+
+-- the comment lines of selects, from a number on
+abbrev pub entry_lines : ℕ → List Chosen → List ℕ
+entry_lines number [] = []
+entry_lines number (entry ∷ entries) = entry_line number entry ++ entry_lines (number + 1) entries
+
+-- the text of a plan behind a comment line for each select
+abbrev pub planned_text : List Chosen → PlanOf → List ℕ
+planned_text entries plan = entry_lines 1 entries ++ plan_text plan
+
 -- ---- decisions
 
--- The text is that of the plan, of the refutation, or of the firings that were spent.
+-- The text is that of the plan and of what was chosen, of the refutation, or of the firings that were spent.
 abbrev pub IsDecisionText : Schema → Decision → List ℕ → Type 0
-IsDecisionText schema (Plan plan) text = text ≡ plan_text plan
+IsDecisionText schema (Plan plan entries) text = text ≡ planned_text entries plan
 IsDecisionText schema (NoPlan pair) text = IsPrintedWitness schema pair text
 IsDecisionText schema (Undecided select log) text = text ≡ undecided_text schema select log

@@ -1,9 +1,10 @@
 //! The printed texts of decisions, and refutations read back.
 //!
-//! Crates above use this: the text of a decision is exactly that of its plan, its refutation or its firings, and a printed
-//! refutation is read again with the same answer and the same facts. Begin at `specs/Printing.antt` and `specs/Grammar.antt`.
+//! Crates above use this: the text of a decision is exactly that of its plan, behind a comment line for each select, its
+//! refutation or its firings. A printed plan is read again as that plan, and a printed refutation with the same answer and facts. Begin at `specs/Printing.antt` and `specs/Grammar.antt`.
 #![tactic(auto)]
 
+mod chosen;
 mod decision;
 mod fault;
 mod firings;
@@ -18,7 +19,7 @@ mod verdict;
 pub use decision::decision_text;
 pub use fault::WitnessReadFault;
 pub use firings::undecided_text;
-pub use laws::printed_refutations_are_read;
+pub use laws::{printed_plans_say_the_plan, printed_refutations_are_read};
 pub use read::read_witness;
 pub use refutation::witness_text;
 pub use verdict::verdict_text;

@@ -1,10 +1,11 @@
 ghost use Rattle.std.specs.Prelude.{◌<◌, length};
 
 use super::*;
+use access_cost::Least;
 use access_schema::{BuildFault, NamedAtom, NamedAtoms, NamedTerm, Part, Parts, Schema, are_named};
-use lists::{NoMemory, Seq, Text, Texts};
+use lists::{Bytes, NoMemory, Seq, Text, Texts};
 use meaning::types::{Fact, Firing, Firings, Ground, Instance, Plan, Trigger, Val, Vals};
-use no_plan_witness::{Decision, Witness};
+use no_plan_witness::{Chosen, Decision, Witness};
 use std::alloc::Global;
 use std::test::*;
 
@@ -200,17 +201,56 @@ end
     Ok(())
 }
 
-#[test]
-fn other_decisions_have_their_texts(rt: HostRuntime) -> Result<(), Fail> {
-    let schema = staff(rt.alloc())?;
+// The text of a plan without branches and one column, with these entries.
+fn planned(alloc: Global, entries: &[Chosen], schema: &Schema) -> Result<Bytes, NoMemory> {
+    let mut selects = Seq::new(alloc);
+    for entry in entries {
+        selects.push(*entry)?;
+    }
     let plan = Plan {
         width: 1,
-        branches: Seq::new(rt.alloc()),
+        branches: Seq::new(alloc),
     };
+    decision_text(alloc, &Decision::Plan { plan, selects }, schema)
+}
+
+#[test]
+fn a_plan_is_told_behind_what_was_chosen(rt: HostRuntime) -> Result<(), Fail> {
+    let schema = staff(rt.alloc())?;
+    let spent = Least::SearchSpent { units: 10_000 };
+    let long = Least::FiringsSpent { firings: 3 };
+    let entries = [
+        Chosen::NoRow,
+        Chosen::Branch {
+            cost: 7,
+            least: Least::Shown,
+        },
+        Chosen::Branch {
+            cost: 0,
+            least: spent,
+        },
+        Chosen::Branch {
+            cost: 100_000_000_000,
+            least: long,
+        },
+    ];
     assert_eq!(rt;
-        decision_text(rt.alloc(), &Decision::Plan(plan), &schema)?.as_slice(),
-        b"plan 1\nend\n".as_slice()
+        planned(rt.alloc(), &entries, &schema)?.as_slice(),
+        b"# select 1 no row
+# select 2 cost 7 least
+# select 3 cost 0 search spent after 10000
+# select 4 cost 100000000000 firings spent after 3
+plan 1
+end
+"
+            .as_slice()
     );
+    Ok(())
+}
+
+#[test]
+fn spent_firings_have_their_text(rt: HostRuntime) -> Result<(), Fail> {
+    let schema = staff(rt.alloc())?;
     let undecided = Decision::Undecided {
         select: 1,
         log: Firings::new(rt.alloc()),

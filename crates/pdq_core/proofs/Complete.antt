@@ -27,12 +27,12 @@ module _ {S : Type 0} (seen : S → Seen) (words : List (List ℕ)) (command : C
   answered status calm (print_schema name result also ends same) =
       let (schema, given) = its (Print name) also in
       schema_answered name before after result calm schema given ends
-  answered status calm (explain name query firings result also ends same) =
-      let given = its (Explain name query firings) also in
-      explain_answered name query firings before after result calm given.schema given.statement given.schema_given given.query_given ends
-  answered status calm (run name query firings result also ends) =
-      let given = its (Run name query firings) also in
-      run_answered seen name query firings before after old new result calm given.texts.schema given.texts.statement given.texts.schema_given given.texts.query_given given.execution ends
+  answered status calm (explain name query firings search result also ends same) =
+      let given = its (Explain name query firings search) also in
+      explain_answered name query firings search before after result calm given.schema given.statement given.schema_given given.query_given ends
+  answered status calm (run name query firings search result also ends) =
+      let given = its (Run name query firings search) also in
+      run_answered seen name query firings search before after old new result calm given.texts.schema given.texts.statement given.texts.schema_given given.texts.query_given given.execution ends
   answered status calm (exec name plan result also ends) =
       let given = its (Exec name plan) also in
       exec_answered seen name plan before after old new result calm given.schema given.plan given.schema_given given.plan_given given.lawful given.execution ends

@@ -27,18 +27,18 @@ module _ (names : Names) (before after : Moment) (calm : NoneRose before after) 
       subst (λ (s : Schema). QueryIsGiven before.files names.query s statement) (same_schema before.files names.schema schema other given is) query_given in
       stop_answered its (query_stop before.files names.query _ calm.files other statement query) why
 
-decision_answered : (schema : Schema) (statement : Statement) (firings : ℕ) (names : Names) (before after : Moment) (result : Result Outcome Stop) → NoneRose before after →
-    DecisionEnds schema statement firings names before after result → IsAnswered (ended result)
-decision_answered schema statement firings names before after result calm (no_decision end why quiet) = stop_answered end (λ given e. e) why
-decision_answered schema statement firings names before after result calm (cut decision end is took why) = stop_answered end (result_stop _ calm.out) why
-decision_answered schema statement firings names before after result calm (shown text outcome.Done shows took quiet) = done
-decision_answered schema statement firings names before after result calm (shown text outcome.No shows took quiet) = no
-decision_answered schema statement firings names before after result calm (shown text outcome.Undecided shows took quiet) = undecided
+decision_answered : (schema : Schema) (statement : Statement) (firings search : ℕ) (names : Names) (before after : Moment) (result : Result Outcome Stop) → NoneRose before after →
+    DecisionEnds schema statement firings search names before after result → IsAnswered (ended result)
+decision_answered schema statement firings search names before after result calm (no_decision end why quiet) = stop_answered end (λ given e. e) why
+decision_answered schema statement firings search names before after result calm (cut decision end is took why) = stop_answered end (result_stop _ calm.out) why
+decision_answered schema statement firings search names before after result calm (shown text outcome.Done shows took quiet) = done
+decision_answered schema statement firings search names before after result calm (shown text outcome.No shows took quiet) = no
+decision_answered schema statement firings search names before after result calm (shown text outcome.Undecided shows took quiet) = undecided
 
-pub explain_answered : (name query : List ℕ) (firings : ℕ) (before after : Moment) (result : Result Outcome Stop) → NoneRose before after →
+pub explain_answered : (name query : List ℕ) (firings search : ℕ) (before after : Moment) (result : Result Outcome Stop) → NoneRose before after →
     (schema : Schema) (statement : Statement) → SchemaIsGiven before.files name schema → QueryIsGiven before.files query schema statement →
-    ExplainEnds name query firings before after result → IsAnswered (ended result)
-explain_answered name query firings before after result calm schema statement given query_given (refused end why quiet) =
+    ExplainEnds name query firings search before after result → IsAnswered (ended result)
+explain_answered name query firings search before after result calm schema statement given query_given (refused end why quiet) =
     texts_answered (record { schema = name; query = query; plan = []; relations = [] }) before after calm schema statement given query_given end why
-explain_answered name query firings before after result calm schema statement given query_given (read other its same_result is are ends) =
-    decision_answered other its firings (record { schema = name; query = query; plan = []; relations = other.relations }) before after result calm ends
+explain_answered name query firings search before after result calm schema statement given query_given (read other its same_result is are ends) =
+    decision_answered other its firings search (record { schema = name; query = query; plan = []; relations = other.relations }) before after result calm ends

@@ -3,7 +3,8 @@ use Rattle.std.proofs.Common.{◌≡◌, ◌∙◌, ◌++◌, ℕ, List, [], Opt
 use Rattle.meaning.specs.declared.types.Statement.{Statement}
 use Rattle.meaning.specs.declared.types.Plan.{Plan}
 use Rattle.access_schema.specs.declared.schema.Schema.{Schema}
-use Rattle.plan_form.specs.Printing.{plan_text}
+use Rattle.no_plan_witness.specs.declared.decision.Chosen.{Chosen}
+use Rattle.explain.specs.Printing.{planned_text}
 use Rattle.source_trait.specs.Asking.{Seen}
 use Rattle.source_trait.specs.declared.lanes.Lane.{Lane}
 use Rattle.command_io.specs.declared.stop.Stop.{Stop}
@@ -28,48 +29,48 @@ use Rattle.pdq_core.proofs.CompleteExecution.{execution_stop}
 use Rattle.pdq_core.proofs.CompleteExplain.{texts_answered}
 
 -- the plan was printed before the line of what stopped its execution
-printed : (plan : Plan) (before after : Moment) (middle : Option (List ℕ)) (rose : Type 0) (line : List ℕ) → (rose → ⊥) → TookAll before.err middle (plan_text plan) →
-    TookLine middle after.err rose line → IsPrinted plan before after
-printed plan before after middle rose line calm first (inl whole) = (line, goes_on before.err middle after.err (plan_text plan) line (plan_text plan ++ line) refl first whole)
-printed plan before after middle rose line calm first (inr (h, part)) = absurd (calm h)
+printed : (plan : Plan) (entries : List Chosen) (before after : Moment) (middle : Option (List ℕ)) (rose : Type 0) (line : List ℕ) → (rose → ⊥) → TookAll before.err middle (planned_text entries plan) →
+    TookLine middle after.err rose line → IsPrinted entries plan before after
+printed plan entries before after middle rose line calm first (inl whole) = (line, goes_on before.err middle after.err (planned_text entries plan) line (planned_text entries plan ++ line) refl first whole)
+printed plan entries before after middle rose line calm first (inr (h, part)) = absurd (calm h)
 
-module _ {S : Type 0} (seen : S → Seen) (schema : Schema) (statement : Statement) (names : Names) (before after : Moment) (old new : List (Lane S)) (calm : NoneRose before after)
-    (can : (plan : Plan) → IsPlanned schema statement plan → IsPrinted plan before after → CanExecute seen schema plan old new) where
-  stopped_answered : (plan : Plan) (middle : Option (List ℕ)) (rose : Type 0) (given end : Stop) → (rose → ⊥) → TookAll before.err middle (plan_text plan) →
-      (CanExecute seen schema plan old new → given ≡ stop.Memory) → IsPlanned schema statement plan →
+module _ {S : Type 0} (seen : S → Seen) (schema : Schema) (statement : Statement) (names : Names) (before after : Moment) (old new : List (Lane S)) (calm : NoneRose before after) (firings search : ℕ)
+    (can : (plan : Plan) (entries : List Chosen) → IsPlanned schema statement firings search plan entries → IsPrinted entries plan before after → CanExecute seen schema plan old new) where
+  stopped_answered : (plan : Plan) (entries : List Chosen) (middle : Option (List ℕ)) (rose : Type 0) (given end : Stop) → (rose → ⊥) → TookAll before.err middle (planned_text entries plan) →
+      (CanExecute seen schema plan old new → given ≡ stop.Memory) → IsPlanned schema statement firings search plan entries →
       StopsFor (λ its. its ≡ given) names middle after.err rose end → IsAnswered (status_of end)
-  stopped_answered plan middle rose given end none took memory planned told =
+  stopped_answered plan entries middle rose given end none took memory planned told =
       let is : end ≡ stop.Memory = elim told.tells [
-        | inl stays ↦ stays.0 ∙ told.cause ∙ memory (can plan planned (printed plan before after middle rose (fault_line names told.given) none took stays.1))
+        | inl stays ↦ stays.0 ∙ told.cause ∙ memory (can plan entries planned (printed plan entries before after middle rose (fault_line names told.given) none took stays.1))
         | inr wanted ↦ wanted.0
       ] in
       subst (λ (s : Stop). IsAnswered (status_of s)) (sym is) no_memory
 
-  statement_answered : (firings : ℕ) (result : Result Outcome Stop) → StatementEnds seen schema statement firings names before after old new result → IsAnswered (ended result)
-  statement_answered firings result (no_decision end why quiet same) = stop_answered end (λ given e. e) why
-  statement_answered firings result (untold decision middle count end is took why quiet same) =
+  statement_answered : (result : Result Outcome Stop) → StatementEnds seen schema statement firings search names before after old new result → IsAnswered (ended result)
+  statement_answered result (no_decision end why quiet same) = stop_answered end (λ given e. e) why
+  statement_answered result (untold decision middle count end is took why quiet same) =
       stop_answered end (decision_stop _ (λ h. calm.err (rose_between before.err_faults before.err_faults count.faults after.err_faults (omega arith) count.ended h))) why
-  statement_answered firings result (refuted text is took quiet same) = no
-  statement_answered firings result (spent select log is took quiet same) = undecided
-  statement_answered firings result (stopped plan middle count why end planned took executes told quiet) =
-      stopped_answered plan middle _ _ end (λ h. calm.err (rose_between before.err_faults count.faults after.err_faults after.err_faults count.begun (omega arith) h)) took
+  statement_answered result (refuted text is took quiet same) = no
+  statement_answered result (spent select log is took quiet same) = undecided
+  statement_answered result (stopped plan entries middle count why end planned took executes told quiet) =
+      stopped_answered plan entries middle _ _ end (λ h. calm.err (rose_between before.err_faults count.faults after.err_faults after.err_faults count.begun (omega arith) h)) took
       (λ able. execution_stop seen schema plan old new able why executes) planned told
-  statement_answered firings result (no_text plan middle count run end planned took executes told quiet) = stop_answered end (λ given e. e) told
-  statement_answered firings result (cut plan middle count run text end planned took executes is part told) = stop_answered end (result_stop _ calm.out) told
-  statement_answered firings result (executed plan run text planned took executes is whole) = done
+  statement_answered result (no_text plan entries middle count run end planned took executes told quiet) = stop_answered end (λ given e. e) told
+  statement_answered result (cut plan entries middle count run text end planned took executes is part told) = stop_answered end (result_stop _ calm.out) told
+  statement_answered result (executed plan entries run text planned took executes is whole) = done
 
-pub run_answered : {S : Type 0} (seen : S → Seen) (name query : List ℕ) (firings : ℕ) (before after : Moment) (old new : List (Lane S)) (result : Result Outcome Stop) → NoneRose before after →
+pub run_answered : {S : Type 0} (seen : S → Seen) (name query : List ℕ) (firings search : ℕ) (before after : Moment) (old new : List (Lane S)) (result : Result Outcome Stop) → NoneRose before after →
     (schema : Schema) (statement : Statement) → SchemaIsGiven before.files name schema → QueryIsGiven before.files query schema statement →
-    ((plan : Plan) → IsPlanned schema statement plan → IsPrinted plan before after → CanExecute seen schema plan old new) →
-    RunEnds seen name query firings before after old new result → IsAnswered (ended result)
-run_answered seen name query firings before after old new result calm schema statement given query_given can (refused end why quiet same) =
+    ((plan : Plan) (entries : List Chosen) → IsPlanned schema statement firings search plan entries → IsPrinted entries plan before after → CanExecute seen schema plan old new) →
+    RunEnds seen name query firings search before after old new result → IsAnswered (ended result)
+run_answered seen name query firings search before after old new result calm schema statement given query_given can (refused end why quiet same) =
     texts_answered (record { schema = name; query = query; plan = []; relations = [] }) before after calm schema statement given query_given end why
-run_answered {S = S} seen name query firings before after old new result calm schema statement given query_given can (read other its same_result is are ends) =
+run_answered {S = S} seen name query firings search before after old new result calm schema statement given query_given can (read other its same_result is are ends) =
     let schemas = same_schema before.files name schema other given is in
     let query_is : QueryIsGiven before.files query other statement = subst (λ (s : Schema). QueryIsGiven before.files query s statement) schemas query_given in
     let statements = same_statement before.files query other statement its query_is are in
     let names : Names = record { schema = name; query = query; plan = []; relations = other.relations } in
-    let able : (plan : Plan) → IsPlanned other its plan → IsPrinted plan before after → CanExecute seen other plan old new =
-    subst (λ (t : Statement). (plan : Plan) → IsPlanned other t plan → IsPrinted plan before after → CanExecute seen other plan old new) statements
-    (subst (λ (s : Schema). (plan : Plan) → IsPlanned s statement plan → IsPrinted plan before after → CanExecute seen s plan old new) schemas can) in
-    statement_answered seen other its names before after old new calm able firings result ends
+    let able : (plan : Plan) (entries : List Chosen) → IsPlanned other its firings search plan entries → IsPrinted entries plan before after → CanExecute seen other plan old new =
+    subst (λ (t : Statement). (plan : Plan) (entries : List Chosen) → IsPlanned other t firings search plan entries → IsPrinted entries plan before after → CanExecute seen other plan old new) statements
+    (subst (λ (s : Schema). (plan : Plan) (entries : List Chosen) → IsPlanned s statement firings search plan entries → IsPrinted entries plan before after → CanExecute seen s plan old new) schemas can) in
+    statement_answered seen other its names before after old new calm firings search able result ends

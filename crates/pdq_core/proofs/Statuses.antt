@@ -5,6 +5,7 @@ use Rattle.meaning.specs.declared.types.Firing.{Firing}
 use Rattle.meaning.specs.declared.types.Plan.{Plan}
 use Rattle.meaning.specs.declared.types.Statement.{Statement}
 use Rattle.access_schema.specs.declared.schema.Schema.{Schema}
+use Rattle.no_plan_witness.specs.declared.decision.Chosen.{Chosen}
 use Rattle.proof_search.specs.Plans.{HasNoPlan}
 use Rattle.proof_search.specs.Decisions.{IsUndecided}
 use Rattle.source_trait.specs.Asking.{Seen}
@@ -52,8 +53,8 @@ longer schema statement firings select log is =
       long = omega (arith, count, one_more);
     }
 
-has_plan : (schema : Schema) (statement : Statement) (plan : Plan) → IsPlanned schema statement plan → HasPlan schema statement
-has_plan schema statement plan planned = (plan, planned.is.lawful, planned.is.equivalent)
+has_plan : (schema : Schema) (statement : Statement) (firings search : ℕ) (plan : Plan) (entries : List Chosen) → IsPlanned schema statement firings search plan entries → HasPlan schema statement
+has_plan schema statement firings search plan entries planned = (plan, planned.is.lawful, planned.is.equivalent)
 
 module _ (told : Option Contents) (name query : List ℕ) (firings : ℕ) where
   attach_says : (rel : ℕ) (why : AttachFault) → Says (status_of (stop.Run (fault.Attach rel why))) told name query firings
@@ -91,25 +92,25 @@ module _ (told : Option Contents) (name query : List ℕ) (firings : ℕ) where
     read_as : (P : Schema → Statement → Type 0) → P schema statement → ReadAs told name query P
     read_as P so = record { schema = schema; statement = statement; schema_is = is; statement_is = are; so = so }
 
-    explained_says : (names : Names) (before after : Moment) (result : Result Outcome Stop) → DecisionEnds schema statement firings names before after result →
+    explained_says : (search : ℕ) (names : Names) (before after : Moment) (result : Result Outcome Stop) → DecisionEnds schema statement firings search names before after result →
         Says (ended result) told name query firings
-    explained_says names before after result (nothing_shown end why quiet) = stop_says end
-    explained_says names before after result (shown_part decision end decided took why) = stop_says end
-    explained_says names before after result (shown text outcome (shows_plan plan planned text_is) took quiet) = read_as HasPlan (has_plan schema statement plan planned)
-    explained_says names before after result (shown text outcome (shows_none refutes) took quiet) = read_as HasNoPlan refutes.refutes.none
-    explained_says names before after result (shown text outcome (shows_log select log spent text_is) took quiet) =
+    explained_says search names before after result (nothing_shown end why quiet) = stop_says end
+    explained_says search names before after result (shown_part decision end decided took why) = stop_says end
+    explained_says search names before after result (shown text outcome (shows_plan plan entries planned text_is) took quiet) = read_as HasPlan (has_plan schema statement firings search plan entries planned)
+    explained_says search names before after result (shown text outcome (shows_none refutes) took quiet) = read_as HasNoPlan refutes.refutes.none
+    explained_says search names before after result (shown text outcome (shows_log select log spent text_is) took quiet) =
         read_as (RunsOn firings) (longer schema statement firings select log spent)
 
-    run_says : {S : Type 0} (seen : S → Seen) (names : Names) (before after : Moment) (old new : List (Lane S)) (result : Result Outcome Stop) →
-        StatementEnds seen schema statement firings names before after old new result → Says (ended result) told name query firings
-    run_says seen names before after old new result (no_decision end why quiet same) = stop_says end
-    run_says seen names before after old new result (untold decision middle count end decided took why quiet same) = stop_says end
-    run_says seen names before after old new result (refuted text refutes took quiet same) = read_as HasNoPlan refutes.refutes.none
-    run_says seen names before after old new result (undecided select log spent took quiet same) = read_as (RunsOn firings) (longer schema statement firings select log spent)
-    run_says seen names before after old new result (stopped plan middle count why end planned took executes line quiet) = stop_says end
-    run_says seen names before after old new result (no_text plan middle count given end planned took executes line quiet) = stop_says end
-    run_says seen names before after old new result (cut plan middle count given text end planned took executes result_is part line) = stop_says end
-    run_says seen names before after old new result (done plan given text planned took executes result_is whole) = read_as HasPlan (has_plan schema statement plan planned)
+    run_says : {S : Type 0} (seen : S → Seen) (search : ℕ) (names : Names) (before after : Moment) (old new : List (Lane S)) (result : Result Outcome Stop) →
+        StatementEnds seen schema statement firings search names before after old new result → Says (ended result) told name query firings
+    run_says seen search names before after old new result (no_decision end why quiet same) = stop_says end
+    run_says seen search names before after old new result (untold decision middle count end decided took why quiet same) = stop_says end
+    run_says seen search names before after old new result (refuted text refutes took quiet same) = read_as HasNoPlan refutes.refutes.none
+    run_says seen search names before after old new result (undecided select log spent took quiet same) = read_as (RunsOn firings) (longer schema statement firings select log spent)
+    run_says seen search names before after old new result (stopped plan entries middle count why end planned took executes line quiet) = stop_says end
+    run_says seen search names before after old new result (no_text plan entries middle count given end planned took executes line quiet) = stop_says end
+    run_says seen search names before after old new result (cut plan entries middle count given text end planned took executes result_is part line) = stop_says end
+    run_says seen search names before after old new result (done plan entries given text planned took executes result_is whole) = read_as HasPlan (has_plan schema statement firings search plan entries planned)
 
 module _ {S : Type 0} (seen : S → Seen) (words : List (List ℕ)) (command : Command) (before after : Moment) (old new : List (Lane S)) (one : (other : Command) → IsCommand words command → IsCommand words other → command ≡ other) (is : IsCommand words command) where
   its : (other : Command) (status : Status) → IsCommand words other → SaysOf other before.files status → SaysOf command before.files status
@@ -119,14 +120,14 @@ module _ {S : Type 0} (seen : S → Seen) (words : List (List ℕ)) (command : C
   says status (no_command end none why quiet same) = absurd (none command is)
   says status (help result also ends same) = its Help (ended result) also tt
   says status (print_schema name result also ends same) = its (Print name) (ended result) also tt
-  says status (explain name query firings result also (not_explained end why quiet) same) = its (Explain name query firings) (status_of end) also (stop_says before.files name query firings end)
-  says status (explain name query firings result also (explained schema statement same_result schema_is statement_is ends) same) =
-      its (Explain name query firings) (ended result) also
-      (explained_says before.files name query firings schema statement schema_is statement_is (record { schema = name; query = query; plan = []; relations = schema.relations }) before after result ends)
-  says status (run name query firings result also (refused end why quiet same)) = its (Run name query firings) (status_of end) also (stop_says before.files name query firings end)
-  says status (run name query firings result also (read schema statement same_result schema_is statement_is ends)) =
-      its (Run name query firings) (ended result) also
-      (run_says before.files name query firings schema statement schema_is statement_is seen (record { schema = name; query = query; plan = []; relations = schema.relations }) before after old new result ends)
+  says status (explain name query firings search result also (not_explained end why quiet) same) = its (Explain name query firings search) (status_of end) also (stop_says before.files name query firings end)
+  says status (explain name query firings search result also (explained schema statement same_result schema_is statement_is ends) same) =
+      its (Explain name query firings search) (ended result) also
+      (explained_says before.files name query firings schema statement schema_is statement_is search (record { schema = name; query = query; plan = []; relations = schema.relations }) before after result ends)
+  says status (run name query firings search result also (refused end why quiet same)) = its (Run name query firings search) (status_of end) also (stop_says before.files name query firings end)
+  says status (run name query firings search result also (read schema statement same_result schema_is statement_is ends)) =
+      its (Run name query firings search) (ended result) also
+      (run_says before.files name query firings schema statement schema_is statement_is seen search (record { schema = name; query = query; plan = []; relations = schema.relations }) before after old new result ends)
   says status (exec name plan result also ends) = its (Exec name plan) (ended result) also tt
   says status (verify name result also ends) = its (Verify name) (ended result) also tt
 

@@ -1,9 +1,10 @@
 -- What the words of a command set, and what its ends rest on.
 use Rattle.std.proofs.Common.{◌≤◌, ℕ, List, None, Result, arith}
 use Rattle.rule_pass.specs.declared.pass.TheConstants.{MOST_FIRINGS}
+use Rattle.proof_search.specs.declared.deciding.TheConstants.{MOST_UNITS}
 use Rattle.command_words.specs.Splits.{Item, IsSet}
 use Rattle.command_words.specs.Splits.IsSet.{Once, Absent}
-use Rattle.command_words.specs.declared.table.OptionName.TheVariants.{Firings}
+use Rattle.command_words.specs.declared.table.OptionName.TheVariants.{Firings, Search}
 use Rattle.command_words.specs.Words.{IsCommand}
 use Rattle.command_words.specs.Words.Command.{Explain, Run}
 use Rattle.command_io.specs.declared.stop.Stop.{Stop}
@@ -17,11 +18,22 @@ in_range : (items : List Item) (n : ℕ) → IsSet Firings items n → n ≤ MOS
 in_range items n (Once text most) = most
 in_range items n (Absent none is) = omega (arith, is)
 
-pub few_explained : (words : List (List ℕ)) (schema query : List ℕ) (n : ℕ) → IsCommand words (Explain schema query n) → n ≤ MOST_FIRINGS
-few_explained words schema query n is = in_range is.items n is.are_set.0
+-- and so is a number of search units
+units_in_range : (items : List Item) (n : ℕ) → IsSet Search items n → n ≤ MOST_UNITS
+units_in_range items n (Once text most) = most
+units_in_range items n (Absent none is) = omega (arith, is)
 
-pub few_run : (words : List (List ℕ)) (schema query : List ℕ) (n : ℕ) → IsCommand words (Run schema query n) → n ≤ MOST_FIRINGS
-few_run words schema query n is = in_range is.items n is.are_set.0
+pub few_explained : (words : List (List ℕ)) (schema query : List ℕ) (n units : ℕ) → IsCommand words (Explain schema query n units) → n ≤ MOST_FIRINGS
+few_explained words schema query n units is = in_range is.items n is.are_set.0
+
+pub few_run : (words : List (List ℕ)) (schema query : List ℕ) (n units : ℕ) → IsCommand words (Run schema query n units) → n ≤ MOST_FIRINGS
+few_run words schema query n units is = in_range is.items n is.are_set.0
+
+pub units_explained : (words : List (List ℕ)) (schema query : List ℕ) (n units : ℕ) → IsCommand words (Explain schema query n units) → units ≤ MOST_UNITS
+units_explained words schema query n units is = units_in_range is.items units is.are_set.1.0
+
+pub units_run : (words : List (List ℕ)) (schema query : List ℕ) (n units : ℕ) → IsCommand words (Run schema query n units) → units ≤ MOST_UNITS
+units_run words schema query n units is = units_in_range is.items units is.are_set.1.0
 
 -- the ends of `help` rest on the two outputs alone
 pub help_with_files : (before after : Moment) (result : Result Outcome Stop) →

@@ -11,7 +11,8 @@ use Rattle.access_schema.specs.Meaning.{meaning_of}
 use Rattle.tgd_reader.specs.SchemaText.{IsSchemaText}
 use Rattle.sql_select.specs.Statements.{IsStatementText}
 use Rattle.plan_form.specs.Grammar.{IsPlanText}
-use Rattle.plan_form.specs.Printing.{plan_text}
+use Rattle.no_plan_witness.specs.declared.decision.Chosen.{Chosen}
+use Rattle.explain.specs.Printing.{planned_text}
 use Rattle.source_trait.specs.Asking.{RowList, Seen, offered_now, facts_of}
 use Rattle.source_trait.specs.Causes.{Rose}
 use Rattle.source_trait.specs.Lanes.{source_of, AtKind}
@@ -128,9 +129,9 @@ pub record OfferInstance {S : Type 0} (seen : S → Seen) (schema : Schema) (IsN
 
 -- ---- commands
 
--- What standard error took begins with the plan's text, where that is told.
-abbrev pub IsPrinted : Plan → Moment → Moment → Type 0
-IsPrinted plan before after = (rest : List ℕ) × TookAll before.err after.err (plan_text plan ++ rest)
+-- What standard error took begins with the text of the plan and of what is said of each select, where that is told.
+abbrev pub IsPrinted : List Chosen → Plan → Moment → Moment → Type 0
+IsPrinted entries plan before after = (rest : List ℕ) × TookAll before.err after.err (planned_text entries plan ++ rest)
 
 -- The texts of a schema and of a statement over it are given.
 pub record TextsAreGiven (told : Option Contents) (name query : List ℕ) : Type 0 where
@@ -140,9 +141,10 @@ pub record TextsAreGiven (told : Option Contents) (name query : List ℕ) : Type
   pub query_given : QueryIsGiven told query schema statement
 
 -- For `run`: the texts are given, and the plan for the statement that was printed can be executed.
-pub record RunIsSupplied {S : Type 0} (seen : S → Seen) (name query : List ℕ) (before after : Moment) (old new : List (Lane S)) : Type 0 where
+pub record RunIsSupplied {S : Type 0} (seen : S → Seen) (name query : List ℕ) (firings search : ℕ) (before after : Moment) (old new : List (Lane S)) : Type 0 where
   pub texts : TextsAreGiven before.files name query
-  pub execution : (plan : Plan) → IsPlanned texts.schema texts.statement plan → IsPrinted plan before after → CanExecute seen texts.schema plan old new
+  pub execution : (plan : Plan) (entries : List Chosen) → IsPlanned texts.schema texts.statement firings search plan entries →
+      IsPrinted entries plan before after → CanExecute seen texts.schema plan old new
 
 -- For `exec`: the texts are given, and the plan is lawful and can be executed.
 pub record ExecIsSupplied {S : Type 0} (seen : S → Seen) (name its : List ℕ) (told : Option Contents) (old new : List (Lane S)) : Type 0 where
@@ -163,7 +165,7 @@ pub record VerifyIsSupplied {S : Type 0} (seen : S → Seen) (name : List ℕ) (
 abbrev pub IsSupplied : {S : Type 0} → (S → Seen) → Command → Moment → Moment → List (Lane S) → List (Lane S) → Type 0
 IsSupplied seen Help before after old new = Unit {0}
 IsSupplied seen (Print name) before after old new = (schema : Schema) × SchemaIsGiven before.files name schema
-IsSupplied seen (Explain name query firings) before after old new = TextsAreGiven before.files name query
-IsSupplied seen (Run name query firings) before after old new = RunIsSupplied seen name query before after old new
+IsSupplied seen (Explain name query firings search) before after old new = TextsAreGiven before.files name query
+IsSupplied seen (Run name query firings search) before after old new = RunIsSupplied seen name query firings search before after old new
 IsSupplied seen (Exec name plan) before after old new = ExecIsSupplied seen name plan before.files old new
 IsSupplied seen (Verify name) before after old new = VerifyIsSupplied seen name before.files old new

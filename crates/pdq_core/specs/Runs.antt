@@ -40,12 +40,12 @@ pub data Runs {S : Type 0} (seen : S → Seen) (words : List (List ℕ)) (before
   -- the words are `schema SCHEMA`
   schema : (name : List ℕ) (result : Result Outcome Stop) → IsCommand words (Schema name) →
       SchemaEnds name before after result → new ≡ old → Runs seen words before after old new (ended result)
-  -- the words are `explain SCHEMA QUERY`, with a number of firings
-  explain : (name query : List ℕ) (firings : ℕ) (result : Result Outcome Stop) → IsCommand words (Explain name query firings) →
-      ExplainEnds name query firings before after result → new ≡ old → Runs seen words before after old new (ended result)
-  -- the words are `run SCHEMA QUERY`, with a number of firings
-  run : (name query : List ℕ) (firings : ℕ) (result : Result Outcome Stop) → IsCommand words (Run name query firings) →
-      RunEnds seen name query firings before after old new result → Runs seen words before after old new (ended result)
+  -- the words are `explain SCHEMA QUERY`, with a number of firings and one of search units
+  explain : (name query : List ℕ) (firings search : ℕ) (result : Result Outcome Stop) → IsCommand words (Explain name query firings search) →
+      ExplainEnds name query firings search before after result → new ≡ old → Runs seen words before after old new (ended result)
+  -- the words are `run SCHEMA QUERY`, with a number of firings and one of search units
+  run : (name query : List ℕ) (firings search : ℕ) (result : Result Outcome Stop) → IsCommand words (Run name query firings search) →
+      RunEnds seen name query firings search before after old new result → Runs seen words before after old new (ended result)
   -- the words are `exec SCHEMA PLAN`
   exec : (name plan : List ℕ) (result : Result Outcome Stop) → IsCommand words (Exec name plan) →
       ExecEnds seen name plan before after old new result → Runs seen words before after old new (ended result)

@@ -50,6 +50,6 @@ Says _ told name query firings = Unit {0}
 
 -- That is so of the commands that decide a statement.
 abbrev pub SaysOf : Command → Option Contents → Status → Type 0
-SaysOf (Explain name query firings) told status = Says status told name query firings
-SaysOf (Run name query firings) told status = Says status told name query firings
+SaysOf (Explain name query firings search) told status = Says status told name query firings
+SaysOf (Run name query firings search) told status = Says status told name query firings
 SaysOf _ told status = Unit {0}

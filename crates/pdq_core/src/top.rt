@@ -49,15 +49,21 @@ pub fn run_words<F: Files, S: Source + Send + Drop, O: Sink, E: Sink>(
                 schema,
                 query,
                 firings,
+                search,
             },
-        ) => ended(explain_query(alloc, schema, query, firings, files, out, err)),
+        ) => ended(explain_query(
+            alloc, schema, query, firings, search, files, out, err,
+        )),
         Some(
             Command::Run {
                 schema,
                 query,
                 firings,
+                search,
             },
-        ) => ended(run_query(alloc, schema, query, firings, files, lanes, out, err)),
+        ) => ended(run_query(
+            alloc, schema, query, firings, search, files, lanes, out, err,
+        )),
         Some(Command::Exec { schema, plan }) => {
             ended(exec_plan(alloc, schema, plan, files, lanes, out, err))
         }

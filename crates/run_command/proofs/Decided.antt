@@ -13,15 +13,16 @@ use Rattle.access_schema.specs.declared.schema.Schema.{Schema}
 use Rattle.access_schema.specs.Meaning.{meaning_of}
 use Rattle.sql_select.specs.Statements.{StatementFits}
 use Rattle.plan_form.specs.Fitting.{PlanFits}
-use Rattle.plan_form.specs.Printing.{plan_text}
-use Rattle.plan_form.proofs.PrintLaws.{printed_again as plan_again}
 use Rattle.no_plan_witness.specs.declared.refutation.Witness.{Witness}
+use Rattle.no_plan_witness.specs.declared.decision.Chosen.{Chosen}
 use Rattle.no_plan_witness.specs.declared.decision.Decision.{Decision}
 use Rattle.no_plan_witness.specs.declared.decision.Decision.TheVariants.{NoPlan}
-use Rattle.explain.specs.Printing.{IsDecisionText}
+use Rattle.explain.specs.Printing.{IsDecisionText, planned_text}
 use Rattle.explain.specs.Grammar.{FitsSchema, IsReadAs}
 use Rattle.explain.proofs.PrintLaws.{printed_again}
+use Rattle.explain.proofs.Entries.{planned_again}
 use Rattle.proof_search.specs.Plans.{IsPlanFor, known_of}
+use Rattle.proof_search.specs.Chosen.{AreChosen}
 use Rattle.proof_search.specs.Decisions.{IsRefutation, IsDecision}
 use Rattle.proof_search.specs.Decisions.IsDecision.{plan as plan_found, no_plan as no_plan_found, undecided as none_found}
 use Rattle.run_command.specs.Deciding.{IsPlanned, IsDecided, IsRefuted, Shows, outcome_of}
@@ -30,15 +31,16 @@ use Rattle.run_command.specs.Deciding.Shows.{plan as shows_plan, no_plan as show
 use Rattle.run_command.proofs.Fits.{plan_fits}
 
 -- what the search decides is right, and a plan can be written
-pub decided_right : (schema : Schema) (statement : Statement) (firings : ℕ) (decision : Decision) → StatementFits schema statement →
-    IsDecision schema statement firings decision → IsDecided schema statement firings decision
-decided_right schema statement firings decision fits (plan_found of is few) = plan of is (plan_fits schema statement of fits is few)
-decided_right schema statement firings decision fits (no_plan_found pair is) = no_plan pair is
-decided_right schema statement firings decision fits (none_found select log is) = undecided select log is
+pub decided_right : (schema : Schema) (statement : Statement) (firings search : ℕ) (decision : Decision) → StatementFits schema statement →
+    IsDecision schema statement firings search decision → IsDecided schema statement firings search decision
+decided_right schema statement firings search decision fits (plan_found of entries is few chosen) = plan of entries is (plan_fits schema statement of fits is few) chosen
+decided_right schema statement firings search decision fits (no_plan_found pair is) = no_plan pair is
+decided_right schema statement firings search decision fits (none_found select log is) = undecided select log is
 
 -- a plan whose text is UTF-8 is read again
-pub planned : (schema : Schema) (statement : Statement) (of : PlanOf) → IsPlanFor schema statement of → PlanFits of → IsUtf8 (plan_text of) → IsPlanned schema statement of
-planned schema statement of is fits utf8 = record { is = is; fits = fits; reads = (utf8, plan_again of fits.writable) }
+pub planned : (schema : Schema) (statement : Statement) (firings search : ℕ) (of : PlanOf) (entries : List Chosen) → IsPlanFor schema statement of → PlanFits of →
+    AreChosen schema statement firings search statement.selects of.branches entries → IsUtf8 (planned_text entries of) → IsPlanned schema statement firings search of entries
+planned schema statement firings search of entries is fits chosen utf8 = record { is = is; fits = fits; chosen = chosen; reads = (utf8, planned_again entries of fits.writable) }
 
 -- an answer that is as wide as each select is not empty
 some_answer : (schema : Schema) (statement : Statement) (answer : List Value) → StatementFits schema statement →
@@ -77,9 +79,10 @@ refuted schema statement pair text fits is of utf8 =
     }
 
 -- the text of what is decided shows it
-pub shown : (schema : Schema) (statement : Statement) (firings : ℕ) (decision : Decision) (text : List ℕ) → StatementFits schema statement →
-    IsDecided schema statement firings decision → IsDecisionText schema decision text → IsUtf8 text →
-    Shows schema statement firings text (outcome_of decision)
-shown schema statement firings decision text fits (plan of is can) said utf8 = shows_plan of (planned schema statement of is can (subst IsUtf8 said utf8)) said
-shown schema statement firings decision text fits (no_plan pair is) said utf8 = shows_none (refuted schema statement pair text fits is said utf8)
-shown schema statement firings decision text fits (undecided select log is) said utf8 = shows_log select log is said
+pub shown : (schema : Schema) (statement : Statement) (firings search : ℕ) (decision : Decision) (text : List ℕ) → StatementFits schema statement →
+    IsDecided schema statement firings search decision → IsDecisionText schema decision text → IsUtf8 text →
+    Shows schema statement firings search text (outcome_of decision)
+shown schema statement firings search decision text fits (plan of entries is can chosen) said utf8 =
+    shows_plan of entries (planned schema statement firings search of entries is can chosen (subst IsUtf8 said utf8)) said
+shown schema statement firings search decision text fits (no_plan pair is) said utf8 = shows_none (refuted schema statement pair text fits is said utf8)
+shown schema statement firings search decision text fits (undecided select log is) said utf8 = shows_log select log is said

@@ -9,7 +9,6 @@ use Rattle.meaning.specs.Answers.{Answers}
 use Rattle.meaning.specs.Claims.{IsModel}
 use Rattle.access_schema.specs.declared.schema.Schema.{Schema}
 use Rattle.access_schema.specs.Meaning.{meaning_of}
-use Rattle.plan_form.specs.Printing.{plan_text}
 use Rattle.source_trait.specs.Asking.{Seen}
 use Rattle.source_trait.specs.Causes.{Rose}
 use Rattle.source_trait.specs.Lanes.{LanesStay}
@@ -34,7 +33,9 @@ use Rattle.meaning.specs.declared.types.Firing.{Firing}
 use Rattle.sql_select.specs.Statements.{StatementFits}
 use Rattle.plan_form.specs.Fitting.{PlanFits}
 use Rattle.no_plan_witness.specs.declared.refutation.Witness.{Witness}
+use Rattle.no_plan_witness.specs.declared.decision.Chosen.{Chosen}
 use Rattle.no_plan_witness.specs.declared.decision.Decision.{Decision}
+use Rattle.explain.specs.Printing.{planned_text}
 use Rattle.no_plan_witness.specs.declared.decision.Decision.TheVariants.{Plan as Planned, NoPlan, Undecided}
 use Rattle.proof_search.specs.Plans.{IsPlanFor}
 use Rattle.run_command.specs.Deciding.{IsPlanned, IsDecided, Written}
@@ -47,7 +48,7 @@ use Rattle.run_command.specs.Ends.StatementEnds.{no_decision, untold, refuted, u
 use Rattle.run_command.specs.Explained.{DecisionEnds}
 use Rattle.run_command.specs.Explained.DecisionEnds.{no_decision as none_decided, cut as part_shown, shown}
 
-module _ {S : Type 0} (seen : S → Seen) (schema : Schema) (statement : Statement) (firings : ℕ) (plan : Plan) (is : IsPlanned schema statement plan)
+module _ {S : Type 0} (seen : S → Seen) (schema : Schema) (statement : Statement) (firings search : ℕ) (plan : Plan) (entries : List Chosen) (is : IsPlanned schema statement firings search plan entries)
     (columns : List (List ℕ)) (named : result_names statement.selects ≡ columns) (old new : List (Lane S)) where
   -- the text of the rows is the result
   pub result_of : (run : Run) (text : List ℕ) → Executes seen schema plan CALLS old new (Ok run) → IsRowText columns (Contains run.rows) text →
@@ -62,54 +63,56 @@ module _ {S : Type 0} (seen : S → Seen) (schema : Schema) (statement : Stateme
           (λ row. (is.is.equivalent.sound instance row model, is.is.equivalent.complete instance row model)) (rows instance holds)
 
   module _ (names : Names) (before after : Moment) where
-    pub delivered : TookAll before.err after.err (plan_text plan) →
+    pub delivered : TookAll before.err after.err (planned_text entries plan) →
         Delivers seen schema plan CALLS columns old new before.out after.out (Rose before.out_faults after.out_faults) (Ok tt) →
-        StatementEnds seen schema statement firings names before after old new (Ok outcome.Done)
-    delivered told (delivered_all run text executes of_rows took) = done plan run text is told executes (result_of run text executes of_rows) took
+        StatementEnds seen schema statement firings search names before after old new (Ok outcome.Done)
+    delivered told (delivered_all run text executes of_rows took) = done plan entries run text is told executes (result_of run text executes of_rows) took
 
-    pub not_delivered : (middle : Option (List ℕ)) (count : Between before.err_faults after.err_faults) (given end : Stop) → TookAll before.err middle (plan_text plan) →
+    pub not_delivered : (middle : Option (List ℕ)) (count : Between before.err_faults after.err_faults) (given end : Stop) → TookAll before.err middle (planned_text entries plan) →
         Delivers seen schema plan CALLS columns old new before.out after.out (Rose before.out_faults after.out_faults) (Err given) →
         Tells middle after.err (Rose count.faults after.err_faults) names given end →
-        StatementEnds seen schema statement firings names before after old new (Err end)
-    not_delivered middle count given end told (no_rows why executes same) tells = stopped plan middle count why end is told executes (record { given = given; cause = refl; tells = tells }) same
-    not_delivered middle count given end told (no_text_made run executes same) tells = no_text plan middle count run end is told executes (record { given = given; cause = refl; tells = tells }) same
+        StatementEnds seen schema statement firings search names before after old new (Err end)
+    not_delivered middle count given end told (no_rows why executes same) tells = stopped plan entries middle count why end is told executes (record { given = given; cause = refl; tells = tells }) same
+    not_delivered middle count given end told (no_text_made run executes same) tells = no_text plan entries middle count run end is told executes (record { given = given; cause = refl; tells = tells }) same
     not_delivered middle count given end told (delivered_part run text its executes of_rows took why) tells =
-        cut plan middle count run text end is told executes (result_of run text executes of_rows) took (record { given = given; cause = why; tells = tells })
+        cut plan entries middle count run text end is told executes (result_of run text executes of_rows) took (record { given = given; cause = why; tells = tells })
 
 -- where the decision was written whole, what it shows was
-module _ {S : Type 0} (seen : S → Seen) (schema : Schema) (statement : Statement) (firings : ℕ) (fits : StatementFits schema statement) (decision : Decision)
-    (right : IsDecided schema statement firings decision) where
+module _ {S : Type 0} (seen : S → Seen) (schema : Schema) (statement : Statement) (firings search : ℕ) (fits : StatementFits schema statement) (decision : Decision)
+    (right : IsDecided schema statement firings search decision) where
   -- a plan is one for the statement, and can be written
-  pub plan_of : (plan : Plan) → decision ≡ Planned plan → IsPlanFor schema statement plan × PlanFits plan
-  plan_of plan is = go (subst (IsDecided schema statement firings) is right)
+  pub plan_of : (plan : Plan) (entries : List Chosen) → decision ≡ Planned plan entries → IsPlanFor schema statement plan × PlanFits plan
+  plan_of plan entries is = go (subst (IsDecided schema statement firings search) is right)
     where
-      go : IsDecided schema statement firings (Planned plan) → IsPlanFor schema statement plan × PlanFits plan
-      go (right_plan of for can) = (for, can)
+      go : IsDecided schema statement firings search (Planned plan entries) → IsPlanFor schema statement plan × PlanFits plan
+      go (right_plan of its for can chosen) = (for, can)
 
   -- and its text was written
-  pub plan_told : (plan : Plan) (old new : Option (List ℕ)) → decision ≡ Planned plan → Written schema decision old new → IsPlanned schema statement plan × TookAll old new (plan_text plan)
-  plan_told plan old new is written = go (subst (IsDecided schema statement firings) is right) (subst (λ d. Written schema d old new) is written)
+  pub plan_told : (plan : Plan) (entries : List Chosen) (old new : Option (List ℕ)) → decision ≡ Planned plan entries → Written schema decision old new →
+      IsPlanned schema statement firings search plan entries × TookAll old new (planned_text entries plan)
+  plan_told plan entries old new is written = go (subst (IsDecided schema statement firings search) is right) (subst (λ d. Written schema d old new) is written)
     where
-      go : IsDecided schema statement firings (Planned plan) → Written schema (Planned plan) old new → IsPlanned schema statement plan × TookAll old new (plan_text plan)
-      go (right_plan of for can) told = (planned schema statement plan for can (subst IsUtf8 told.is told.utf8), subst (TookAll old new) told.is told.took)
+      go : IsDecided schema statement firings search (Planned plan entries) → Written schema (Planned plan entries) old new →
+          IsPlanned schema statement firings search plan entries × TookAll old new (planned_text entries plan)
+      go (right_plan of its for can chosen) told = (planned schema statement firings search plan entries for can chosen (subst IsUtf8 told.is told.utf8), subst (TookAll old new) told.is told.took)
 
   module _ (names : Names) (before after : Moment) (old new : List (Lane S)) (out : after.out ≡ before.out) (lanes : new ≡ old) where
     -- a refutation
     pub none_told : (pair : Witness) → decision ≡ NoPlan pair → Written schema decision before.err after.err →
-        StatementEnds seen schema statement firings names before after old new (Ok outcome.No)
-    none_told pair is written = go (subst (IsDecided schema statement firings) is right) (subst (λ d. Written schema d before.err after.err) is written)
+        StatementEnds seen schema statement firings search names before after old new (Ok outcome.No)
+    none_told pair is written = go (subst (IsDecided schema statement firings search) is right) (subst (λ d. Written schema d before.err after.err) is written)
       where
-        go : IsDecided schema statement firings (NoPlan pair) → Written schema (NoPlan pair) before.err after.err →
-            StatementEnds seen schema statement firings names before after old new (Ok outcome.No)
+        go : IsDecided schema statement firings search (NoPlan pair) → Written schema (NoPlan pair) before.err after.err →
+            StatementEnds seen schema statement firings search names before after old new (Ok outcome.No)
         go (right_pair of for) told = refuted told.text (refutation_told schema statement pair told.text fits for told.is told.utf8) told.took out lanes
 
     -- the log of spent firings
     pub log_told : (select : ℕ) (log : List Firing) → decision ≡ Undecided select log → Written schema decision before.err after.err →
-        StatementEnds seen schema statement firings names before after old new (Ok outcome.Undecided)
-    log_told select log is written = go (subst (IsDecided schema statement firings) is right) (subst (λ d. Written schema d before.err after.err) is written)
+        StatementEnds seen schema statement firings search names before after old new (Ok outcome.Undecided)
+    log_told select log is written = go (subst (IsDecided schema statement firings search) is right) (subst (λ d. Written schema d before.err after.err) is written)
       where
-        go : IsDecided schema statement firings (Undecided select log) → Written schema (Undecided select log) before.err after.err →
-            StatementEnds seen schema statement firings names before after old new (Ok outcome.Undecided)
+        go : IsDecided schema statement firings search (Undecided select log) → Written schema (Undecided select log) before.err after.err →
+            StatementEnds seen schema statement firings search names before after old new (Ok outcome.Undecided)
         go (right_log one its for) told = undecided select log for (subst (TookAll before.err after.err) told.is told.took) out lanes
 
 -- the lanes stay in their order however the delivery ended
@@ -122,30 +125,30 @@ lanes_stay seen schema plan columns old new out_old out_new rose result (no_text
 lanes_stay seen schema plan columns old new out_old out_new rose result (delivered_part run text its executes of_rows took why) = executes.stay
 
 -- what became of a statement does not depend on the files
-pub with_files : {S : Type 0} (seen : S → Seen) (schema : Schema) (statement : Statement) (firings : ℕ) (names : Names) (before after : Moment) (old new : List (Lane S))
+pub with_files : {S : Type 0} (seen : S → Seen) (schema : Schema) (statement : Statement) (firings search : ℕ) (names : Names) (before after : Moment) (old new : List (Lane S))
     (result : Result Outcome Stop) →
-    StatementEnds seen schema statement firings names
+    StatementEnds seen schema statement firings search names
     (record { files = None; file_faults = 0; out = before.out; out_faults = before.out_faults; err = before.err; err_faults = before.err_faults })
     (record { files = None; file_faults = 0; out = after.out; out_faults = after.out_faults; err = after.err; err_faults = after.err_faults }) old new result →
-    StatementEnds seen schema statement firings names before after old new result
-with_files seen schema statement firings names before after old new result (no_decision end why out lanes) = no_decision end why out lanes
-with_files seen schema statement firings names before after old new result (untold decision middle count end is told why out lanes) = untold decision middle count end is told why out lanes
-with_files seen schema statement firings names before after old new result (refuted text is told out lanes) = refuted text is told out lanes
-with_files seen schema statement firings names before after old new result (undecided select log is told out lanes) = undecided select log is told out lanes
-with_files seen schema statement firings names before after old new result (stopped plan middle count fault end is told executes why out) = stopped plan middle count fault end is told executes why out
-with_files seen schema statement firings names before after old new result (no_text plan middle count run end is told executes why out) = no_text plan middle count run end is told executes why out
-with_files seen schema statement firings names before after old new result (cut plan middle count run text end is told executes of_rows took why) = cut plan middle count run text end is told executes of_rows took why
-with_files seen schema statement firings names before after old new result (done plan run text is told executes of_rows took) = done plan run text is told executes of_rows took
+    StatementEnds seen schema statement firings search names before after old new result
+with_files seen schema statement firings search names before after old new result (no_decision end why out lanes) = no_decision end why out lanes
+with_files seen schema statement firings search names before after old new result (untold decision middle count end is told why out lanes) = untold decision middle count end is told why out lanes
+with_files seen schema statement firings search names before after old new result (refuted text is told out lanes) = refuted text is told out lanes
+with_files seen schema statement firings search names before after old new result (undecided select log is told out lanes) = undecided select log is told out lanes
+with_files seen schema statement firings search names before after old new result (stopped plan entries middle count fault end is told executes why out) = stopped plan entries middle count fault end is told executes why out
+with_files seen schema statement firings search names before after old new result (no_text plan entries middle count run end is told executes why out) = no_text plan entries middle count run end is told executes why out
+with_files seen schema statement firings search names before after old new result (cut plan entries middle count run text end is told executes of_rows took why) = cut plan entries middle count run text end is told executes of_rows took why
+with_files seen schema statement firings search names before after old new result (done plan entries run text is told executes of_rows took) = done plan entries run text is told executes of_rows took
 
 -- nor do the ends of a decision
-pub shown_with_files : (schema : Schema) (statement : Statement) (firings : ℕ) (names : Names) (before after : Moment) (result : Result Outcome Stop) →
-    DecisionEnds schema statement firings names
+pub shown_with_files : (schema : Schema) (statement : Statement) (firings search : ℕ) (names : Names) (before after : Moment) (result : Result Outcome Stop) →
+    DecisionEnds schema statement firings search names
     (record { files = None; file_faults = 0; out = before.out; out_faults = before.out_faults; err = before.err; err_faults = before.err_faults })
     (record { files = None; file_faults = 0; out = after.out; out_faults = after.out_faults; err = after.err; err_faults = after.err_faults }) result →
-    DecisionEnds schema statement firings names before after result
-shown_with_files schema statement firings names before after result (none_decided end why out) = none_decided end why out
-shown_with_files schema statement firings names before after result (part_shown decision end is told why) = part_shown decision end is told why
-shown_with_files schema statement firings names before after result (shown text outcome is told quiet) = shown text outcome is told quiet
+    DecisionEnds schema statement firings search names before after result
+shown_with_files schema statement firings search names before after result (none_decided end why out) = none_decided end why out
+shown_with_files schema statement firings search names before after result (part_shown decision end is told why) = part_shown decision end is told why
+shown_with_files schema statement firings search names before after result (shown text outcome is told quiet) = shown text outcome is told quiet
 
 -- why texts are not read depends on the files and standard error alone
 pub texts_with_out : (names : Names) (before after : Moment) (end : Stop) →

@@ -6,31 +6,36 @@ use Rattle.meaning.specs.declared.types.Plan.{Plan as PlanOf}
 use Rattle.meaning.specs.declared.types.Firing.{Firing}
 use Rattle.access_schema.specs.declared.schema.Schema.{Schema}
 use Rattle.plan_form.specs.Fitting.{PlanFits}
-use Rattle.plan_form.specs.Printing.{plan_text}
 use Rattle.plan_form.specs.Grammar.{IsPlanText}
 use Rattle.no_plan_witness.specs.declared.refutation.Witness.{Witness}
+use Rattle.no_plan_witness.specs.declared.decision.Chosen.{Chosen}
 use Rattle.no_plan_witness.specs.declared.decision.Decision.{Decision}
 use Rattle.no_plan_witness.specs.declared.decision.Decision.TheVariants.{Plan, NoPlan, Undecided}
 use Rattle.proof_search.specs.Plans.{IsPlanFor}
+use Rattle.proof_search.specs.Chosen.{AreChosen}
 use Rattle.proof_search.specs.Decisions.{IsRefutation, IsUndecided}
-use Rattle.explain.specs.Printing.{IsDecisionText, undecided_text}
+use Rattle.explain.specs.Printing.{IsDecisionText, planned_text, undecided_text}
 use Rattle.explain.specs.Grammar.{IsWitnessText}
 use Rattle.command_io.specs.declared.outcome.Outcome.{Outcome}
 use Rattle.command_io.specs.declared.outcome.Outcome.TheVariants as outcome
 use Rattle.command_io.specs.Writing.{TookAll, TookPart}
 
--- The plan is one for the statement and within the limits of plan texts, and its text reads as it.
-pub record IsPlanned (schema : Schema) (statement : Statement) (plan : PlanOf) : Type 0 where
+-- The plan is one for the statement and within the limits of plan texts; what is said of each select is so, of the cost of its branch
+-- and of its rivals; and the text of both reads as the plan.
+pub record IsPlanned (schema : Schema) (statement : Statement) (firings search : ℕ) (plan : PlanOf) (entries : List Chosen) : Type 0 where
   pub is : IsPlanFor schema statement plan
   pub fits : PlanFits plan
-  pub reads : IsPlanText (plan_text plan) plan
+  pub chosen : AreChosen schema statement firings search statement.selects plan.branches entries
+  pub reads : IsPlanText (planned_text entries plan) plan
 
--- A decision is right: a plan is one for the statement and can be written, a pair refutes, and a log is one of spent firings.
-pub data IsDecided (schema : Schema) (statement : Statement) (firings : ℕ) : Decision → Type 0 where
-  plan : (plan : PlanOf) → IsPlanFor schema statement plan → PlanFits plan → IsDecided schema statement firings (Plan plan)
-  no_plan : (pair : Witness) → IsRefutation schema statement pair → IsDecided schema statement firings (NoPlan pair)
+-- A decision is right: a plan is one for the statement and can be written, and what is said of each select is so; a pair refutes; and a
+-- log is one of spent firings.
+pub data IsDecided (schema : Schema) (statement : Statement) (firings search : ℕ) : Decision → Type 0 where
+  plan : (plan : PlanOf) (entries : List Chosen) → IsPlanFor schema statement plan → PlanFits plan →
+      AreChosen schema statement firings search statement.selects plan.branches entries → IsDecided schema statement firings search (Plan plan entries)
+  no_plan : (pair : Witness) → IsRefutation schema statement pair → IsDecided schema statement firings search (NoPlan pair)
   undecided : (select : ℕ) (log : List Firing) → IsUndecided schema statement firings select log →
-      IsDecided schema statement firings (Undecided select log)
+      IsDecided schema statement firings search (Undecided select log)
 
 -- The text reads as two instances and a row that refute, so that no lawful plan is equivalent to the statement.
 pub record IsRefuted (schema : Schema) (statement : Statement) (text : List ℕ) : Type 0 where
@@ -38,13 +43,14 @@ pub record IsRefuted (schema : Schema) (statement : Statement) (text : List ℕ)
   pub reads : IsWitnessText schema text pair
   pub refutes : IsRefutation schema statement pair
 
--- What the text of a decision shows, by the outcome: it reads as a plan for the statement; it reads as a refutation; or it is that of
--- spent firings.
-pub data Shows (schema : Schema) (statement : Statement) (firings : ℕ) (text : List ℕ) : Outcome → Type 0 where
-  plan : (plan : PlanOf) → IsPlanned schema statement plan → text ≡ plan_text plan → Shows schema statement firings text outcome.Done
-  no_plan : IsRefuted schema statement text → Shows schema statement firings text outcome.No
+-- What the text of a decision shows, by the outcome: it reads as a plan for the statement, and says what is so of each select; it reads
+-- as a refutation; or it is that of spent firings.
+pub data Shows (schema : Schema) (statement : Statement) (firings search : ℕ) (text : List ℕ) : Outcome → Type 0 where
+  plan : (plan : PlanOf) (entries : List Chosen) → IsPlanned schema statement firings search plan entries → text ≡ planned_text entries plan →
+      Shows schema statement firings search text outcome.Done
+  no_plan : IsRefuted schema statement text → Shows schema statement firings search text outcome.No
   undecided : (select : ℕ) (log : List Firing) → IsUndecided schema statement firings select log →
-      text ≡ undecided_text schema select log → Shows schema statement firings text outcome.Undecided
+      text ≡ undecided_text schema select log → Shows schema statement firings search text outcome.Undecided
 
 -- Nothing was taken, or a first part of one of these texts that is not all of it.
 abbrev pub TookPartOf : Option (List ℕ) → Option (List ℕ) → (List ℕ → Type 0) → Type 0
@@ -59,6 +65,6 @@ pub record Written (schema : Schema) (decision : Decision) (old new : Option (Li
 
 -- The outcome of a decision: done with a plan, no with a refutation, undecided with the log of spent firings.
 abbrev pub outcome_of : Decision → Outcome
-outcome_of (Plan found) = outcome.Done
+outcome_of (Plan found entries) = outcome.Done
 outcome_of (NoPlan pair) = outcome.No
 outcome_of (Undecided select log) = outcome.Undecided

@@ -3,6 +3,7 @@ ghost use Rattle.std.specs.Prelude.{◌≡◌, ◌≤◌, ◌⊎◌, [], OnOk, O
 ghost use Rattle.source_trait.specs.Causes.{Rose};
 ghost use Rattle.sql_select.specs.Statements.{StatementFits};
 ghost use Rattle.rule_pass.specs.declared.pass.TheConstants.{MOST_FIRINGS};
+ghost use Rattle.proof_search.specs.declared.deciding.TheConstants.{MOST_UNITS};
 ghost use Rattle.command_io.specs.Moments.{Moment};
 ghost use Rattle.command_io.specs.Inputs.{SchemaIsRead, QueryIsRead};
 ghost use Rattle.explain.specs.Printing.{IsDecisionText};
@@ -46,19 +47,22 @@ pub fn read_texts<F: Files, E: Sink>(
     }
 }
 
-/// What is decided of the statement with a budget of `firings` for the proof of each select. `Stop::Memory` is the only refusal.
+/// What is decided of the statement with a budget of `firings` for the proof of each select, and of `search` units for the search for a
+/// cheaper branch. `Stop::Memory` is the only refusal.
 pub fn decided(
     alloc: Global,
     schema: &Schema,
     statement: &Statement,
     firings: u32,
+    search: u32,
 ) -> Result<Decision, Stop>
     requires fits { StatementFits schema.now statement.now }
     requires budget { firings ≤ MOST_FIRINGS }
-    ensures decided { IfOk result (IsDecided schema.now statement.now firings) }
+    requires units { search ≤ MOST_UNITS }
+    ensures decided { IfOk result (IsDecided schema.now statement.now firings search) }
     ensures memory { IfErr result (λ stop. stop ≡ Stop.Memory) }
 {
-    match decide(alloc, schema, statement, firings) {
+    match decide(alloc, schema, statement, firings, search) {
         Ok(decision) => Ok(decision),
         Err(_) => Err(Stop::Memory),
     }
@@ -89,7 +93,10 @@ pub fn outcome(decision: &Decision) -> Outcome
     ensures { result ≡ outcome_of decision.now }
 {
     match decision {
-        Decision::Plan(_) => Outcome::Done,
+        Decision::Plan {
+            plan: _,
+            selects: _,
+        } => Outcome::Done,
         Decision::NoPlan(_) => Outcome::No,
         Decision::Undecided { select: _, log: _ } => Outcome::Undecided,
     }

@@ -3,6 +3,7 @@ ghost use Rattle.std.specs.Prelude.{◌≡◌, ◌≤◌, None};
 ghost use Rattle.source_trait.specs.Causes.{Rose};
 ghost use Rattle.sql_select.specs.Statements.{StatementFits};
 ghost use Rattle.rule_pass.specs.declared.pass.TheConstants.{MOST_FIRINGS};
+ghost use Rattle.proof_search.specs.declared.deciding.TheConstants.{MOST_UNITS};
 ghost use Rattle.command_io.specs.Moments.{Moment, Stays};
 ghost use Rattle.run_command.specs.Explained.{DecisionEnds, ExplainEnds};
 
@@ -14,19 +15,21 @@ use meaning::types::Statement;
 use source_trait::{Files, Sink};
 use std::alloc::Global;
 
-/// Decides the query of the second file over the schema of the first with at most so many firings for each select, and writes the
-/// text of the decision to `out`; says why it stopped. No source is needed.
+/// Decides the query of the second file over the schema of the first with at most so many firings for each select and so many
+/// units for the search of a cheaper branch, and writes the text of the decision to `out`; says why it stopped. No source is needed.
 pub fn explain_query<F: Files, O: Sink, E: Sink>(
     alloc: Global,
     schema_name: &Text,
     query_name: &Text,
     firings: u32,
+    search: u32,
     files: &mut F,
     out: &mut O,
     err: &mut E,
 ) -> Result<Outcome, Stop>
-    requires { firings ≤ MOST_FIRINGS }
-    ensures ends { ExplainEnds schema_name.now query_name.now firings
+    requires budget { firings ≤ MOST_FIRINGS }
+    requires units { search ≤ MOST_UNITS }
+    ensures ends { ExplainEnds schema_name.now query_name.now firings search
         (record { files = F.contents files.old; file_faults = F.faults files.old; out = O.taken out.old; out_faults = O.faults out.old; err = E.taken err.old; err_faults = E.faults err.old })
         (record { files = F.contents files.new; file_faults = F.faults files.new; out = O.taken out.new; out_faults = O.faults out.new; err = E.taken err.new; err_faults = E.faults err.new })
         result }
@@ -41,7 +44,9 @@ pub fn explain_query<F: Files, O: Sink, E: Sink>(
         plan: &none,
     };
     match read_texts(alloc, names, files, err) {
-        Ok((schema, statement)) => show(alloc, names, &schema, &statement, firings, out, err),
+        Ok((schema, statement)) => show(
+            alloc, names, &schema, &statement, firings, search, out, err,
+        ),
         Err(stop) => Err(stop),
     }
 }
@@ -53,12 +58,14 @@ fn show<O: Sink, E: Sink>(
     schema: &Schema,
     statement: &Statement,
     firings: u32,
+    search: u32,
     out: &mut O,
     err: &mut E,
 ) -> Result<Outcome, Stop>
     requires fits { StatementFits schema.now statement.now }
     requires budget { firings ≤ MOST_FIRINGS }
-    ensures ends { DecisionEnds schema.now statement.now firings (record { schema = names.entry.schema.now; query = names.entry.query.now; plan = names.entry.plan.now; relations = schema.now.relations })
+    requires units { search ≤ MOST_UNITS }
+    ensures ends { DecisionEnds schema.now statement.now firings search (record { schema = names.entry.schema.now; query = names.entry.query.now; plan = names.entry.plan.now; relations = schema.now.relations })
         (record { files = None; file_faults = 0; out = O.taken out.old; out_faults = O.faults out.old; err = E.taken err.old; err_faults = E.faults err.old })
         (record { files = None; file_faults = 0; out = O.taken out.new; out_faults = O.faults out.new; err = E.taken err.new; err_faults = E.faults err.new })
         result }
@@ -66,7 +73,7 @@ fn show<O: Sink, E: Sink>(
     ensures later_err { E.faults err.old ≤ E.faults err.new }
 {
     let relations = schema.relations.as_slice();
-    let decision = match decided(alloc, schema, statement, firings) {
+    let decision = match decided(alloc, schema, statement, firings, search) {
         Ok(decision) => decision,
         Err(stop) => return Err(tell(alloc, err, stop, names, relations)),
     };

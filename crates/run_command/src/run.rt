@@ -4,6 +4,7 @@ ghost use Rattle.source_trait.specs.Causes.{Rose};
 ghost use Rattle.source_trait.specs.Lanes.{LanesStay};
 ghost use Rattle.sql_select.specs.Statements.{StatementFits};
 ghost use Rattle.rule_pass.specs.declared.pass.TheConstants.{MOST_FIRINGS};
+ghost use Rattle.proof_search.specs.declared.deciding.TheConstants.{MOST_UNITS};
 ghost use Rattle.command_io.specs.Moments.{Moment, Stays};
 ghost use Rattle.run_command.specs.Ends.{StatementEnds, RunEnds};
 
@@ -19,20 +20,22 @@ use std::alloc::Global;
 
 /// Answers the query of the second file over the schema of the first, and says why it stopped.
 ///
-/// The decision, with at most so many firings for the proof of each select, is written to `err` before any source is attached, and
+/// The decision, with at most so many firings for the proof of each select and so many units for the search of a cheaper branch, is written to `err` before any source is attached, and
 /// where it is a plan, the answer to `out`.
 pub fn run_query<F: Files, S: Source + Send + Drop, O: Sink, E: Sink>(
     alloc: Global,
     schema_name: &Text,
     query_name: &Text,
     firings: u32,
+    search: u32,
     files: &mut F,
     lanes: &mut Vec<Lane<S>>,
     out: &mut O,
     err: &mut E,
 ) -> Result<Outcome, Stop>
-    requires { firings ≤ MOST_FIRINGS }
-    ensures ends { RunEnds S.seen schema_name.now query_name.now firings
+    requires budget { firings ≤ MOST_FIRINGS }
+    requires units { search ≤ MOST_UNITS }
+    ensures ends { RunEnds S.seen schema_name.now query_name.now firings search
         (record { files = F.contents files.old; file_faults = F.faults files.old; out = O.taken out.old; out_faults = O.faults out.old; err = E.taken err.old; err_faults = E.faults err.old })
         (record { files = F.contents files.new; file_faults = F.faults files.new; out = O.taken out.new; out_faults = O.faults out.new; err = E.taken err.new; err_faults = E.faults err.new })
         lanes.old.items lanes.new.items result }
@@ -49,7 +52,7 @@ pub fn run_query<F: Files, S: Source + Send + Drop, O: Sink, E: Sink>(
     };
     match read_texts(alloc, names, files, err) {
         Ok((schema, statement)) => answer(
-            alloc, names, &schema, &statement, firings, lanes, out, err,
+            alloc, names, &schema, &statement, firings, search, lanes, out, err,
         ),
         Err(stop) => Err(stop),
     }
@@ -62,13 +65,15 @@ fn answer<S: Source + Send + Drop, O: Sink, E: Sink>(
     schema: &Schema,
     statement: &Statement,
     firings: u32,
+    search: u32,
     lanes: &mut Vec<Lane<S>>,
     out: &mut O,
     err: &mut E,
 ) -> Result<Outcome, Stop>
     requires fits { StatementFits schema.now statement.now }
     requires budget { firings ≤ MOST_FIRINGS }
-    ensures ends { StatementEnds S.seen schema.now statement.now firings (record { schema = names.entry.schema.now; query = names.entry.query.now; plan = names.entry.plan.now; relations = schema.now.relations })
+    requires units { search ≤ MOST_UNITS }
+    ensures ends { StatementEnds S.seen schema.now statement.now firings search (record { schema = names.entry.schema.now; query = names.entry.query.now; plan = names.entry.plan.now; relations = schema.now.relations })
         (record { files = None; file_faults = 0; out = O.taken out.old; out_faults = O.faults out.old; err = E.taken err.old; err_faults = E.faults err.old })
         (record { files = None; file_faults = 0; out = O.taken out.new; out_faults = O.faults out.new; err = E.taken err.new; err_faults = E.faults err.new })
         lanes.old.items lanes.new.items result }
@@ -77,7 +82,7 @@ fn answer<S: Source + Send + Drop, O: Sink, E: Sink>(
     ensures later_err { E.faults err.old ≤ E.faults err.new }
 {
     let relations = schema.relations.as_slice();
-    let decision = match decided(alloc, schema, statement, firings) {
+    let decision = match decided(alloc, schema, statement, firings, search) {
         Ok(decision) => decision,
         Err(stop) => return Err(tell(alloc, err, stop, names, relations)),
     };
@@ -86,7 +91,7 @@ fn answer<S: Source + Send + Drop, O: Sink, E: Sink>(
         Err(stop) => return Err(tell(alloc, err, stop, names, relations)),
     }
     let plan = match &decision {
-        Decision::Plan(plan) => plan,
+        Decision::Plan { plan, selects: _ } => plan,
         Decision::NoPlan(_) => return Ok(Outcome::No),
         Decision::Undecided { select: _, log: _ } => return Ok(Outcome::Undecided),
     };

@@ -1,4 +1,4 @@
--- who gave the order 1007
+-- who placed the order 1007
 SELECT DISTINCT c.name, c.segment
 FROM orders o, customer c
 WHERE o.orderkey = '1007' AND c.custkey = o.custkey

@@ -1,31 +1,30 @@
-use Rattle.std.proofs.Common.{◌≡◌, [], Some, length, sym, subst, rules}
-use Rattle.std.specs.Prelude.{Contains, slice_get}
+use Rattle.std.proofs.Common.{◌≡◌, ◌+◌, ◌++◌, ◌∷◌, [], take, sym, subst}
+use Rattle.std.specs.Prelude.{Contains, slice_index}
+use Rattle.std.proofs.lemmas.List.{take_more}
 use Rattle.access_schema.specs.Meaning.{meaning_of}
 use Rattle.homomorphism.proofs.Covering.{told, denied}
 use Rattle.accessible_copy.specs.Proving.{Proving}
-use Rattle.accessible_copy.proofs.Listed.{got_here, of_exposed, of_more, of_less, can_fire, can_expose}
+use Rattle.accessible_copy.proofs.Listed.{at_index, at_got, not_before, of_more, of_less}
 use Rattle.accessible_copy.proofs.listing.exposures_of.Goals.{then-can_expose+in_ok-copy+in_ok-push, else-can_expose}
 use Rattle.accessible_copy.proofs.listing.exposures_of.Goals as goal
 
+pub can_expose-requires-clause-named : goal.can_expose-requires-clause-named
+can_expose-requires-clause-named c = c.requires.named (slice_index c.args.numbers.now c.loop-number.number-index) (at_index c.args.numbers.now c.loop-number.number-index c.loop-number-test.true)
+
+pub can_expose-requires-clause-new : goal.can_expose-requires-clause-new
+can_expose-requires-clause-new c = λ h. denied _ c.has.ensures c.if-has.false (subst (λ (p : Proving). Contains p.end.exposed c.args.fact.now) (sym c.proof.view_is) h)
+
 pub loop-number-preserved : goal.loop-number-preserved
 loop-number-preserved c =
-    let named : slice_get c.args.schema.now.methods c.loop-number.number ≡ Some c.index-methods-number.result = rw (← c.as_slice-methods.ensures) (got_here c.as_slice-methods.result.now c.loop-number.number c.index-methods-number.result c.loop-number-test.true c.index-methods-number.is) in
+    let turn : take (c.loop-number.number-index + 1) c.args.numbers.now ≡ take c.loop-number.number-index c.args.numbers.now ++ slice_index c.args.numbers.now c.loop-number.number-index ∷ [] = take_more c.args.numbers.now c.loop-number.number-index 0 c.loop-number-test.true in
     elim c.if-can_expose.branch [
       | then-can_expose+in_ok-copy+in_ok-push w ↦
-          rw (w.found-is, w.in_ok-push.ensures.items, w.in_ok-copy.ensures)
-          (of_more (meaning_of c.args.schema.now) c.args.proof.now c.args.fact.now c.loop-number.number c.loop-number.found.items c.loop-number.invariant
-          (can_fire (meaning_of c.args.schema.now) c.args.proof.now c.loop-number.number c.args.fact.now c.index-methods-number.result c.requires named (told _ c.can_expose.ensures w.if-can_expose.true)))
+          rw (w.found-is, turn, w.in_ok-push.ensures.items, w.in_ok-copy.ensures)
+          (of_more (meaning_of c.args.schema.now) c.args.proof.now c.args.fact.now (take c.loop-number.number-index c.args.numbers.now) (slice_index c.args.numbers.now c.loop-number.number-index) c.loop-number.found.items c.loop-number.invariant
+          (not_before c.args.numbers.now c.loop-number.number-index (slice_index c.args.numbers.now c.loop-number.number-index) c.requires.once (at_got c.args.numbers.now c.loop-number.number-index c.loop-number-test.true))
+          (told _ c.can_expose.ensures w.if-can_expose.true))
       | else-can_expose w ↦
-          rw w.found-is
-          (of_less (meaning_of c.args.schema.now) c.args.proof.now c.args.fact.now c.loop-number.number c.loop-number.found.items c.loop-number.invariant
-          (λ can. denied _ c.can_expose.ensures w.if-can_expose.false (can_expose (meaning_of c.args.schema.now) c.args.proof.now c.loop-number.number c.args.fact.now c.index-methods-number.result named can)))
+          rw (w.found-is, turn)
+          (of_less (meaning_of c.args.schema.now) c.args.proof.now c.args.fact.now (take c.loop-number.number-index c.args.numbers.now) (slice_index c.args.numbers.now c.loop-number.number-index) c.loop-number.found.items c.loop-number.invariant
+          (λ can. denied _ c.can_expose.ensures w.if-can_expose.false can))
     ]
-
-pub can_expose-requires : goal.can_expose-requires
-can_expose-requires c = λ h. denied _ c.has.ensures c.if-has.false (subst (λ (p : Proving). Contains p.end.exposed c.args.fact.now) (sym c.proof.view_is) h)
-
-pub returns-then-has : goal.returns-then-has
-returns-then-has c =
-    let none : c.new-found.result.items ≡ [] = search rules in
-    rw none (of_exposed (meaning_of c.args.schema.now) c.args.proof.now c.args.fact.now (length c.args.schema.now.methods)
-    (subst (λ (p : Proving). Contains p.end.exposed c.args.fact.now) c.proof.view_is (told _ c.has.ensures c.if-has.true)))

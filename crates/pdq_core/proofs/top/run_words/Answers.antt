@@ -6,7 +6,7 @@ use Rattle.command_io.proofs.Lines.{said_tells}
 use Rattle.command_words.specs.Words.{IsCommand}
 use Rattle.command_words.specs.Words.Command.{Help, Schema, Explain, Run, Exec, Verify}
 use Rattle.pdq_core.specs.Runs.Runs.{no_command, help, schema, explain, run, exec, verify}
-use Rattle.pdq_core.proofs.Ways.{few_explained, few_run, help_with_files}
+use Rattle.pdq_core.proofs.Ways.{few_explained, few_run, units_explained, units_run, help_with_files}
 use Rattle.pdq_core.proofs.top.run_words.Goals as goal
 
 pub returns-in-None-clause-run : goal.returns-in-None-clause-run
@@ -37,30 +37,38 @@ returns-in-Some-Schema-clause-lanes g c = LanesStay-refl g.S.Source.seen c.args.
 
 pub returns-in-Some-Explain-clause-run : goal.returns-in-Some-Explain-clause-run
 returns-in-Some-Explain-clause-run g c =
-    let is : IsCommand c.args.words.now (Explain c.in-Some-Explain.schema.now c.in-Some-Explain.query.now c.in-Some-Explain.firings) =
+    let is : IsCommand c.args.words.now (Explain c.in-Some-Explain.schema.now c.in-Some-Explain.query.now c.in-Some-Explain.firings c.in-Some-Explain.search) =
     rw c.in-Some-Explain.field-0-is at c.in-Some-Explain.ensures.some in
-    rw c.ended-in-Some-Explain.ensures (explain c.in-Some-Explain.schema.now c.in-Some-Explain.query.now c.in-Some-Explain.firings c.explain_query.result is c.explain_query.ensures.ends refl)
+    rw c.ended-in-Some-Explain.ensures (explain c.in-Some-Explain.schema.now c.in-Some-Explain.query.now c.in-Some-Explain.firings c.in-Some-Explain.search c.explain_query.result is c.explain_query.ensures.ends refl)
 
 pub returns-in-Some-Explain-clause-lanes : goal.returns-in-Some-Explain-clause-lanes
 returns-in-Some-Explain-clause-lanes g c = LanesStay-refl g.S.Source.seen c.args.lanes.now.items
 
-pub explain_query-requires : goal.explain_query-requires
-explain_query-requires g c =
-    few_explained c.args.words.now c.in-Some-Explain.schema.now c.in-Some-Explain.query.now c.in-Some-Explain.firings
+pub explain_query-requires-clause-budget : goal.explain_query-requires-clause-budget
+explain_query-requires-clause-budget g c =
+    few_explained c.args.words.now c.in-Some-Explain.schema.now c.in-Some-Explain.query.now c.in-Some-Explain.firings c.in-Some-Explain.search
+    (rw c.in-Some-Explain.field-0-is at c.in-Some-Explain.ensures.some)
+
+pub explain_query-requires-clause-units : goal.explain_query-requires-clause-units
+explain_query-requires-clause-units g c =
+    units_explained c.args.words.now c.in-Some-Explain.schema.now c.in-Some-Explain.query.now c.in-Some-Explain.firings c.in-Some-Explain.search
     (rw c.in-Some-Explain.field-0-is at c.in-Some-Explain.ensures.some)
 
 pub returns-in-Some-Run-clause-run : goal.returns-in-Some-Run-clause-run
 returns-in-Some-Run-clause-run g c =
-    let is : IsCommand c.args.words.now (Run c.in-Some-Run.schema.now c.in-Some-Run.query.now c.in-Some-Run.firings) =
+    let is : IsCommand c.args.words.now (Run c.in-Some-Run.schema.now c.in-Some-Run.query.now c.in-Some-Run.firings c.in-Some-Run.search) =
     rw c.in-Some-Run.field-0-is at c.in-Some-Run.ensures.some in
-    rw c.ended-in-Some-Run.ensures (run c.in-Some-Run.schema.now c.in-Some-Run.query.now c.in-Some-Run.firings c.run_query.result is c.run_query.ensures.ends)
+    rw c.ended-in-Some-Run.ensures (run c.in-Some-Run.schema.now c.in-Some-Run.query.now c.in-Some-Run.firings c.in-Some-Run.search c.run_query.result is c.run_query.ensures.ends)
 
-pub run_query-requires : goal.run_query-requires
-run_query-requires g c = (
-  c.type_bounds.send-S,
-  few_run c.args.words.now c.in-Some-Run.schema.now c.in-Some-Run.query.now c.in-Some-Run.firings
-      (rw c.in-Some-Run.field-0-is at c.in-Some-Run.ensures.some),
-)
+pub run_query-requires-clause-budget : goal.run_query-requires-clause-budget
+run_query-requires-clause-budget g c κs within =
+    few_run c.args.words.now c.in-Some-Run.schema.now c.in-Some-Run.query.now c.in-Some-Run.firings c.in-Some-Run.search
+    (rw c.in-Some-Run.field-0-is at c.in-Some-Run.ensures.some)
+
+pub run_query-requires-clause-units : goal.run_query-requires-clause-units
+run_query-requires-clause-units g c κs within =
+    units_run c.args.words.now c.in-Some-Run.schema.now c.in-Some-Run.query.now c.in-Some-Run.firings c.in-Some-Run.search
+    (rw c.in-Some-Run.field-0-is at c.in-Some-Run.ensures.some)
 
 pub returns-in-Some-Exec-clause-run : goal.returns-in-Some-Exec-clause-run
 returns-in-Some-Exec-clause-run g c =

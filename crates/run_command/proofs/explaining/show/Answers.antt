@@ -16,7 +16,7 @@ returns-in-Err-clause-ends g c = no_decision c.tell.result (record {
 pub returns-in-Ok-write_decision-clause-ends : goal.returns-in-Ok-write_decision-clause-ends
 returns-in-Ok-write_decision-clause-ends g c =
     rw c.outcome.ensures (shown c.in-Ok-write_decision.ensures.whole.text (outcome_of c.in-Ok.decision)
-    (shows c.args.schema.now c.args.statement.now c.args.firings c.in-Ok.decision c.in-Ok-write_decision.ensures.whole.text c.requires.fits
+    (shows c.args.schema.now c.args.statement.now c.args.firings c.args.search c.in-Ok.decision c.in-Ok-write_decision.ensures.whole.text c.requires.fits
     c.in-Ok.ensures.decided c.in-Ok-write_decision.ensures.whole.is c.in-Ok-write_decision.ensures.whole.utf8)
     c.in-Ok-write_decision.ensures.whole.took refl)
 

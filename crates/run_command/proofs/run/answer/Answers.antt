@@ -33,7 +33,7 @@ returns-in-Err-write_decision-clause-lanes g c = LanesStay-refl g.S.Source.seen 
 
 pub returns-in-NoPlan-clause-ends : goal.returns-in-NoPlan-clause-ends
 returns-in-NoPlan-clause-ends g c =
-    none_told g.S.Source.seen c.args.schema.now c.args.statement.now c.args.firings c.requires.fits c.in-Ok.decision c.in-Ok.ensures.decided
+    none_told g.S.Source.seen c.args.schema.now c.args.statement.now c.args.firings c.args.search c.requires.fits c.in-Ok.decision c.in-Ok.ensures.decided
     _ _ _ _ _ refl refl c.in-NoPlan.field-0 c.in-NoPlan.is c.in-Ok-write_decision.ensures.whole
 
 pub returns-in-NoPlan-clause-lanes : goal.returns-in-NoPlan-clause-lanes
@@ -41,7 +41,7 @@ returns-in-NoPlan-clause-lanes g c = LanesStay-refl g.S.Source.seen c.args.lanes
 
 pub returns-in-Undecided-clause-ends : goal.returns-in-Undecided-clause-ends
 returns-in-Undecided-clause-ends g c =
-    log_told g.S.Source.seen c.args.schema.now c.args.statement.now c.args.firings c.requires.fits c.in-Ok.decision c.in-Ok.ensures.decided
+    log_told g.S.Source.seen c.args.schema.now c.args.statement.now c.args.firings c.args.search c.requires.fits c.in-Ok.decision c.in-Ok.ensures.decided
     _ _ _ _ _ refl refl c.in-Undecided.select c.in-Undecided.log c.in-Undecided.is c.in-Ok-write_decision.ensures.whole
 
 pub returns-in-Undecided-clause-lanes : goal.returns-in-Undecided-clause-lanes
@@ -49,24 +49,24 @@ returns-in-Undecided-clause-lanes g c = LanesStay-refl g.S.Source.seen c.args.la
 
 pub deliver-requires-clause-lawful : goal.deliver-requires-clause-lawful
 deliver-requires-clause-lawful g c κs within =
-    let is = plan_of g.S.Source.seen c.args.schema.now c.args.statement.now c.args.firings c.requires.fits c.in-Ok.decision c.in-Ok.ensures.decided c.in-Plan.plan c.in-Plan.is in
+    let is = plan_of g.S.Source.seen c.args.schema.now c.args.statement.now c.args.firings c.args.search c.requires.fits c.in-Ok.decision c.in-Ok.ensures.decided c.in-Plan.plan c.in-Plan.selects c.in-Plan.is in
     (known_of c.args.schema.now c.args.statement.now, is.0.lawful)
 
 pub deliver-requires-clause-short : goal.deliver-requires-clause-short
 deliver-requires-clause-short g c κs within =
-    let is = plan_of g.S.Source.seen c.args.schema.now c.args.statement.now c.args.firings c.requires.fits c.in-Ok.decision c.in-Ok.ensures.decided c.in-Plan.plan c.in-Plan.is in
+    let is = plan_of g.S.Source.seen c.args.schema.now c.args.statement.now c.args.firings c.args.search c.requires.fits c.in-Ok.decision c.in-Ok.ensures.decided c.in-Plan.plan c.in-Plan.selects c.in-Plan.is in
     short c.in-Plan.plan is.1.few
 
 pub returns-in-Ok-deliver-clause-ends : goal.returns-in-Ok-deliver-clause-ends
 returns-in-Ok-deliver-clause-ends g c =
-    let told = plan_told g.S.Source.seen c.args.schema.now c.args.statement.now c.args.firings c.requires.fits c.in-Ok.decision c.in-Ok.ensures.decided c.in-Plan.plan _ _ c.in-Plan.is c.in-Ok-write_decision.ensures.whole in
-    delivered g.S.Source.seen c.args.schema.now c.args.statement.now c.args.firings c.in-Plan.plan told.0
+    let told = plan_told g.S.Source.seen c.args.schema.now c.args.statement.now c.args.firings c.args.search c.requires.fits c.in-Ok.decision c.in-Ok.ensures.decided c.in-Plan.plan c.in-Plan.selects _ _ c.in-Plan.is c.in-Ok-write_decision.ensures.whole in
+    delivered g.S.Source.seen c.args.schema.now c.args.statement.now c.args.firings c.args.search c.in-Plan.plan c.in-Plan.selects told.0
     c.result_names.result.now (sym c.result_names.ensures) _ _ _ _ _ told.1 c.in-Ok-deliver.ensures.delivers
 
 pub returns-clause-ends : goal.returns-clause-ends
 returns-clause-ends g c =
-    let told = plan_told g.S.Source.seen c.args.schema.now c.args.statement.now c.args.firings c.requires.fits c.in-Ok.decision c.in-Ok.ensures.decided c.in-Plan.plan _ _ c.in-Plan.is c.in-Ok-write_decision.ensures.whole in
-    not_delivered g.S.Source.seen c.args.schema.now c.args.statement.now c.args.firings c.in-Plan.plan told.0
+    let told = plan_told g.S.Source.seen c.args.schema.now c.args.statement.now c.args.firings c.args.search c.requires.fits c.in-Ok.decision c.in-Ok.ensures.decided c.in-Plan.plan c.in-Plan.selects _ _ c.in-Plan.is c.in-Ok-write_decision.ensures.whole in
+    not_delivered g.S.Source.seen c.args.schema.now c.args.statement.now c.args.firings c.args.search c.in-Plan.plan c.in-Plan.selects told.0
     c.result_names.result.now (sym c.result_names.ensures) _ _ _ _ _
     (g.E.Sink.taken c.write_decision.new.sink)
     (record { faults = g.E.Sink.faults c.write_decision.new.sink; begun = c.write_decision.ensures.later; ended = c.tell-in-Err-deliver.ensures.later })

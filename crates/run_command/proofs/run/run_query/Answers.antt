@@ -8,7 +8,7 @@ use Rattle.run_command.proofs.run.run_query.Goals as goal
 pub returns-in-Ok-clause-ends : goal.returns-in-Ok-clause-ends
 returns-in-Ok-clause-ends g c =
     read c.in-Ok.schema c.in-Ok.statement c.answer.result c.in-Ok.ensures.schema c.in-Ok.ensures.statement
-    (with_files g.S.Source.seen c.in-Ok.schema c.in-Ok.statement c.args.firings _ _ _ _ _ c.answer.result
+    (with_files g.S.Source.seen c.in-Ok.schema c.in-Ok.statement c.args.firings c.args.search _ _ _ _ _ c.answer.result
     (rw (c.new-none.ensures, c.new.ensures.bytes, c.in-Ok.ensures.silent) at c.answer.ensures.ends))
 
 pub returns-clause-ends : goal.returns-clause-ends

@@ -23,8 +23,8 @@ returns-in_err-number_up_to-in-Given-clause-none c =
 pub returns-in_ok-with-in-Positional-clause-some :
     goal.returns-in_ok-with-in-Positional-clause-some
 returns-in_ok-with-in-Positional-clause-some c items give =
-    subst (λ (i : Lent). Give (items ++ item_of i ∷ []) (record { positionals = c.in_ok-with-in-Positional.field-0; firings = c.args.self.firings })) (sym c.in-Positional.is)
-    (give_positional items c.in-Positional.word.now c.args.self (record { positionals = c.in_ok-with-in-Positional.field-0; firings = c.args.self.firings }) c.in_ok-with-in-Positional.ensures refl give)
+    subst (λ (i : Lent). Give (items ++ item_of i ∷ []) (record { positionals = c.in_ok-with-in-Positional.field-0; firings = c.args.self.firings; search = c.args.self.search })) (sym c.in-Positional.is)
+    (give_positional items c.in-Positional.word.now c.args.self (record { positionals = c.in_ok-with-in-Positional.field-0; firings = c.args.self.firings; search = c.args.self.search }) c.in_ok-with-in-Positional.ensures refl refl give)
 
 pub returns-in_ok-number_up_to-in-Given-clause-some :
     goal.returns-in_ok-number_up_to-in-Given-clause-some

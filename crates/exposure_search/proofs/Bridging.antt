@@ -1,0 +1,55 @@
+-- Exposures in order are walks of moves at the same cost, and the other way round.
+use Rattle.std.proofs.Common.{◌≡◌, ℕ, suc, ◌+◌, ◌<◌, ◌≤◌, List, [], ◌∷◌, ◌++◌, length, Bool, true, false, Some, refl, sym, ap, ◌∙◌, subst, inl, inr, ⊎_elim, arith, append_assoc}
+use Rattle.std.specs.Prelude.{Contains, slice_get, slice_set}
+use Rattle.std.proofs.lemmas.List.{append-nil, length-set}
+use Rattle.std.proofs.lemmas.Option.{slice_get_within}
+use Rattle.lists.proofs.Members.{got_below}
+use Rattle.meaning_laws.proofs.SameSets.{run_alike, active_alike}
+use Rattle.meaning.specs.declared.types.Val.{Val}
+use Rattle.meaning.specs.declared.types.Ground.{Ground}
+use Rattle.meaning.specs.declared.types.Query.{Query}
+use Rattle.meaning.specs.declared.types.SchemaParts.{SchemaParts}
+use Rattle.meaning.specs.Search.{AreDistinct}
+use Rattle.meaning.specs.Triggers.{ground}
+use Rattle.meaning.specs.Runs.{IsKnownValue}
+use Rattle.meaning.specs.Extract.{Exposure, exposed_facts, Exposes, IsExposing, exposures_cost, HasGoalFrom, HasGoalAfter}
+use Rattle.least_search.specs.declared.space.Move.{Move}
+use Rattle.least_search.specs.Walks.{IsWalk, walk_cost, no_facts, IsSpace, with_fact}
+use Rattle.least_search.specs.Costs.{IsLeastCost}
+use Rattle.exposure_search.specs.Tries.{picked, IsOpen, IsTry}
+use Rattle.exposure_search.specs.Spaces.{exposes_same}
+use Rattle.exposure_search.specs.Sets.{AreSame, turned, got_contained, got_once, picked_at, picked_back, same_more, none_same, none_length, within_got, truth}
+
+module _ (schema : SchemaParts) (constants : List (List ℕ)) (base : List Ground) where
+  -- exposures in order are a walk at the same cost
+  pub exposing_walk : AreDistinct base → (exposures : List Exposure) (exposed : List Ground) (set : List Bool) → length set ≡ length base → AreSame (picked base set) exposed → IsExposing schema constants base exposed exposures →
+      (moves : List Move) × (end : List Bool) × IsWalk (IsOpen schema constants base) set moves end × (walk_cost moves ≡ exposures_cost exposures) × AreSame (picked base end) (exposed ++ exposed_facts exposures)
+  exposing_walk once [] exposed set size same is = ([], set, refl, refl, subst (λ gs. AreSame (picked base set) gs) (sym (append-nil exposed)) same)
+  exposing_walk once (e ∷ exposures) exposed set size same (first, rest) =
+      let (k, at) = got_contained base e.fact first.of_base in
+      let (number, named) = got_contained schema.methods e.method first.of_schema in
+      let (mark, marked) = got_below set k (subst (λ n. k < n) (sym size) (slice_get_within base k e.fact at)) in
+      let out : slice_get set k ≡ Some false = ⊎_elim (λ is. absurd (first.new (same.to e.fact (picked_at base set k e.fact at (marked ∙ ap (λ b. Some b) is))))) (λ is. marked ∙ ap (λ b. Some b) is) (truth mark) in
+      let (moves, end, walk, cost, ends) = exposing_walk once exposures (exposed ++ e.fact ∷ []) (slice_set set k true) (length-set set k true ∙ size) (same_more base set exposed k e.fact same at out) rest in (
+        record { fact = k; method = number; cost = e.method.cost } ∷ moves,
+        end,
+        ((e, record { fact = at; only = λ j there. got_once base e.fact j k once there at; method = named; cost = refl; new = out; exposes = exposes_same schema constants base exposed (picked base set) e (turned (picked base set) exposed same) first }), walk),
+        ap (λ n. e.method.cost + n) cost,
+        subst (λ gs. AreSame (picked base end) gs) (append_assoc exposed (e.fact ∷ []) (exposed_facts exposures)) ends,
+      )
+
+-- a goal belongs to the facts, whatever their order
+pub goal_same : (schema : SchemaParts) (queries : List Query) (head : List Val) (next : ℕ) (first second : List Ground) → AreSame first second → HasGoalFrom schema queries head next first → HasGoalFrom schema queries head next second
+goal_same schema queries head next first second same has copy end run quiet =
+    let (other, its, alike) = run_alike schema.rules copy (record { facts = second; next = next }) end (record { facts = first; next = next }) (record { to = same.from; from = same.to; next = refl }) run in
+    let (goal, among, (a, are, e)) = has copy other its (λ trigger rule active. quiet trigger rule (active_alike schema.rules other end trigger rule (record { to = alike.from; from = alike.to; next = sym alike.next }) active)) in
+    (goal, among, (a, (λ atom c. alike.from (ground a atom) (are atom c)), e))
+
+-- a cost that is least over walks is least over exposures: the premise of the law on the least branch
+pub least_exposing : (schema : SchemaParts) (constants : List (List ℕ)) (base : List Ground) (queries : List Query) (head : List Val) (next best : ℕ) → AreDistinct base →
+    IsLeastCost (length base) (IsOpen schema constants base) (λ set. HasGoalFrom schema queries head next (picked base set)) best →
+    (exposures : List Exposure) → IsExposing schema constants base [] exposures → HasGoalAfter schema queries head next exposures → best ≤ exposures_cost exposures
+least_exposing schema constants base queries head next best once least exposures exposing goal =
+    let (moves, end, walk, cost, ends) = exposing_walk schema constants base once exposures [] (no_facts (length base)) (none_length (length base)) (none_same base) exposing in
+    let low : best ≤ walk_cost moves = least moves end walk (goal_same schema queries head next (exposed_facts exposures) (picked base end) (record { to = ends.from; from = ends.to }) goal) in
+    omega arith

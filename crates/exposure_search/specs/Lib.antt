@@ -1,0 +1,6 @@
+pub mod Tries
+pub mod Sets
+pub mod Making
+pub mod Exploring
+pub mod Visiting
+pub mod Spaces

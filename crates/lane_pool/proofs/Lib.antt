@@ -1,0 +1,12 @@
+pub mod Totals
+pub mod Exact
+pub mod DrawSteps
+pub mod Moves
+pub mod Steps
+pub mod Parts
+pub mod Places
+pub mod FansOut
+pub mod Closing
+pub mod OneWorker
+pub mod Charges
+pub mod DrawEvents

@@ -1,0 +1,1 @@
+SELECT DISTINCT eid FROM udirect WHERE lname = -1
