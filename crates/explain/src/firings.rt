@@ -102,8 +102,8 @@ fn push_method(out: &mut Vec<u8>, schema: &Schema, method: u32) -> Result<(), No
     }
 }
 
-// Appends the number of a trigger's rule, its values and its new labels.
-fn push_trigger(out: &mut Vec<u8>, schema: &Schema, trigger: &Trigger) -> Result<(), NoMemory>
+/// Appends the number of a trigger's rule, its values and its new labels.
+pub fn push_trigger(out: &mut Vec<u8>, schema: &Schema, trigger: &Trigger) -> Result<(), NoMemory>
     ensures text { OnOk result (out.new.items ≡ out.old.items ++ trigger_text schema.now.rules trigger.now) }
     ensures utf8 { OnOk result (KeepsUtf8 out.old.items out.new.items) }
 {

@@ -14,6 +14,7 @@ mod progress;
 mod push;
 mod read;
 mod refutation;
+mod verdict;
 
 pub use decision::decision_text;
 pub use fault::WitnessReadFault;
@@ -21,6 +22,7 @@ pub use firings::undecided_text;
 pub use laws::{printed_plans_say_the_plan, printed_refutations_are_read};
 pub use read::read_witness;
 pub use refutation::witness_text;
+pub use verdict::verdict_text;
 
 #[cfg(test)]
 mod tests;

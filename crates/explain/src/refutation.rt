@@ -56,8 +56,8 @@ fn push_refutation(
     push_str(out, "end\n")
 }
 
-// Appends a line for each fact.
-fn push_facts(out: &mut Vec<u8>, schema: &Schema, facts: &[(u32, &Row)]) -> Result<(), NoMemory>
+/// Appends a line for each fact.
+pub fn push_facts(out: &mut Vec<u8>, schema: &Schema, facts: &[(u32, &Row)]) -> Result<(), NoMemory>
     ensures text { OnOk result (out.new.items ≡ out.old.items ++ flat_map (fact_text schema.now.relations) (map lent_fact facts.now)) }
     ensures utf8 { OnOk result (KeepsUtf8 out.old.items out.new.items) }
 {

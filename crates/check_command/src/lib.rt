@@ -1,0 +1,9 @@
+//! The command `check`: it reads a query and a plan, judges the plan and prints the verdict.
+//!
+//! Begin at `specs/Ends.antt`, which says how the command ends.
+#![tactic(auto)]
+
+mod check;
+mod texts;
+
+pub use check::check_plan;

@@ -1,0 +1,7 @@
+use Rattle.std.proofs.Common.{sym, subst}
+use Rattle.std.specs.Str.{IsUtf8}
+use Rattle.std.proofs.lemmas.Str.{IsUtf8-nil}
+use Rattle.explain.proofs.verdict.separation.Goals as goal
+
+pub returns-clause-utf8 : goal.returns-clause-utf8
+returns-clause-utf8 c = subst IsUtf8 (sym c.from_vec.ensures) (c.in_ok-push_separation.ensures.utf8 (subst IsUtf8 (sym c.new-out.ensures.items) IsUtf8-nil))
