@@ -9,7 +9,7 @@ use Rattle.command_words.specs.Arguments.{words_of, given_number, IsGiven, Give,
 use Rattle.command_words.specs.declared.item.Item.{Item as Lent}
 use Rattle.command_words.specs.declared.table.CommandName.{CommandName}
 use Rattle.command_words.specs.declared.table.OptionName.{OptionName}
-use Rattle.command_words.specs.declared.table.OptionName.TheVariants.{Firings}
+use Rattle.command_words.specs.declared.table.OptionName.TheVariants.{Firings, Search}
 use Rattle.command_words.specs.declared.given.Arguments.{Arguments}
 use Rattle.command_words.proofs.Splitting.{Parts, ended, more, parts, none_begins, first_once, same_options, same_itself}
 
@@ -43,8 +43,8 @@ moved : (option : OptionName) (items others : List Item) (number : Option ℕ) �
 moved option items others None e is = e ∙ is
 moved option items others (Some n) e is = (e ∙ is.0, is.1)
 
-pub give_positional : (items : List Item) (word : List ℕ) (arguments after : Arguments) → words_of after.positionals ≡ words_of arguments.positionals ++ word ∷ [] → after.firings ≡ arguments.firings → Give items arguments → Give (items ++ Positional word ∷ []) after
-give_positional items word arguments after words same give = record {
+pub give_positional : (items : List Item) (word : List ℕ) (arguments after : Arguments) → words_of after.positionals ≡ words_of arguments.positionals ++ word ∷ [] → after.firings ≡ arguments.firings → after.search ≡ arguments.search → Give items arguments → Give (items ++ Positional word ∷ []) after
+give_positional items word arguments after words same alike give = record {
   in_order = positionals_append items (Positional word ∷ []) ∙ ap (λ (ws : List (List ℕ)). ws ++ word ∷ []) give.in_order ∙ sym words;
   are_given = λ option.
       let texts = texts_append option items (Positional word ∷ []) ∙ append_none (texts_of option items) in
@@ -53,19 +53,21 @@ give_positional items word arguments after words same give = record {
   where
     kept : (option : OptionName) → given_number option arguments ≡ given_number option after
     kept Firings = sym same
+    kept Search = sym alike
 
-long : (xs ys : List (List ℕ)) (word : List ℕ) → length xs ≡ 2 → length (xs ++ word ∷ ys) ≤ 2 → ⊥
+long : (xs ys : List (List ℕ)) (word : List ℕ) → length xs ≡ 3 → length (xs ++ word ∷ ys) ≤ 3 → ⊥
 long [] ys word e le = absurd (omega arith)
 long (a ∷ []) ys word e le = absurd (omega arith)
 long (a ∷ b ∷ []) ys word e le = absurd (omega arith)
-long (a ∷ b ∷ c ∷ xs) ys word e le = absurd (omega arith)
+long (a ∷ b ∷ c ∷ []) ys word e le = absurd (omega arith)
+long (a ∷ b ∷ c ∷ d ∷ xs) ys word e le = absurd (omega arith)
 
--- a third positional
-pub third_positional : (items rest : List Item) (word : List ℕ) (arguments : Arguments) → length (words_of arguments.positionals) ≡ 2 → Give items arguments → MayBe (items ++ Positional word ∷ rest) → ⊥
-third_positional items rest word arguments two give may =
+-- a fourth positional
+pub fourth_positional : (items rest : List Item) (word : List ℕ) (arguments : Arguments) → length (words_of arguments.positionals) ≡ 3 → Give items arguments → MayBe (items ++ Positional word ∷ rest) → ⊥
+fourth_positional items rest word arguments three give may =
     let all = positionals_append items (Positional word ∷ rest) in
-    let some : length (positionals_of items) ≡ 2 = ap length give.in_order ∙ two in
-    long (positionals_of items) (positionals_of rest) word some (subst (λ (ws : List (List ℕ)). length ws ≤ 2) all may.few)
+    let some : length (positionals_of items) ≡ 3 = ap length give.in_order ∙ three in
+    long (positionals_of items) (positionals_of rest) word some (subst (λ (ws : List (List ℕ)). length ws ≤ 3) all may.few)
 
 -- ---- one more option
 
@@ -135,8 +137,8 @@ pub record Sofar (name : CommandName) (words left : List (List ℕ)) (arguments 
   pub behind : (items : List Item) → Splits name left items → Splits name words (done ++ items)
   pub only : (items : List Item) → Splits name words items → (others : List Item) × (items ≡ done ++ others) × Splits name left others
 
-pub sofar_none : (name : CommandName) (words : List (List ℕ)) (arguments : Arguments) → words_of arguments.positionals ≡ [] → arguments.firings ≡ None → Sofar name words words arguments
-sofar_none name words arguments none unset = record {
+pub sofar_none : (name : CommandName) (words : List (List ℕ)) (arguments : Arguments) → words_of arguments.positionals ≡ [] → arguments.firings ≡ None → arguments.search ≡ None → Sofar name words words arguments
+sofar_none name words arguments none unset unused = record {
   done = [];
   give = record { in_order = sym none; are_given = λ option. subst (IsGiven option []) (sym (not_given option)) refl };
   behind = λ items splits. splits;
@@ -145,6 +147,7 @@ sofar_none name words arguments none unset = record {
   where
     not_given : (option : OptionName) → given_number option arguments ≡ None
     not_given Firings = unset
+    not_given Search = unused
 
 -- the items of words that begin with an item
 behind_first : (name : CommandName) (words : List (List ℕ)) (item : Item) (rest : List (List ℕ)) (items : List Item) → Begins name words item rest → Parts name words items → (others : List Item) × (items ≡ item ∷ others) × Splits name rest others

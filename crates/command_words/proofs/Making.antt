@@ -6,13 +6,13 @@ use Rattle.std.specs.Fmt.{decimal}
 use Rattle.std.proofs.lemmas.Fmt.{decimal_injective}
 use Rattle.command_words.specs.Table.{command_word, takes, limit, default_number}
 use Rattle.command_words.specs.Splits.{Item, Splits, positionals_of, IsSet, Once, Absent}
-use Rattle.command_words.specs.Words.{Command, Help, Schema, Explain, Run, Exec, Verify, Setting, Asks, firings, IsCommand, seen_as}
+use Rattle.command_words.specs.Words.{Command, Help, Schema, Explain, Run, Exec, Check, Verify, Setting, Asks, firings, firings_and_search, IsCommand, seen_as}
 use Rattle.command_words.specs.Arguments.{words_of, given_number, number_of, IsGiven, AreArguments, MayBe, made}
 use Rattle.command_words.specs.declared.command.Command.{Command as Coded}
 use Rattle.command_words.specs.declared.table.CommandName.{CommandName}
 use Rattle.command_words.specs.declared.table.CommandName.TheVariants as name
 use Rattle.command_words.specs.declared.table.OptionName.{OptionName}
-use Rattle.command_words.specs.declared.table.OptionName.TheVariants.{Firings}
+use Rattle.command_words.specs.declared.table.OptionName.TheVariants.{Firings, Search}
 use Rattle.command_words.specs.declared.given.Arguments.{Arguments}
 use Rattle.command_words.proofs.Splitting.{splits_once, not_taken, front_and_rest}
 
@@ -21,7 +21,7 @@ named_by : List ℕ → CommandName
 named_by word =
     if pointwise nat_eq word (codes "help") then name.Help else (if pointwise nat_eq word (codes "schema") then name.Schema else
     (if pointwise nat_eq word (codes "explain") then name.Explain else (if pointwise nat_eq word (codes "run") then name.Run else
-    (if pointwise nat_eq word (codes "exec") then name.Exec else name.Verify))))
+    (if pointwise nat_eq word (codes "exec") then name.Exec else (if pointwise nat_eq word (codes "check") then name.Check else name.Verify)))))
 
 its_own : (which : CommandName) → named_by (command_word which) ≡ which
 unfolding named_by
@@ -30,6 +30,7 @@ its_own name.Schema = refl
 its_own name.Explain = refl
 its_own name.Run = refl
 its_own name.Exec = refl
+its_own name.Check = refl
 its_own name.Verify = refl
 
 same_command : (one other : CommandName) → command_word one ≡ command_word other → one ≡ other
@@ -41,45 +42,56 @@ record Makes (words : List (List ℕ)) (command : Command) : Type 0 where
   pub behind : List (List ℕ)
   pub items : List Item
   pub number : ℕ
+  pub units : ℕ
   pub first : words ≡ command_word name ∷ behind
   pub splits : Splits name behind items
   pub set : IsSet Firings items number
-  pub is_made : made name (positionals_of items) number ≡ Some command
+  pub set_search : IsSet Search items units
+  pub is_made : made name (positionals_of items) number units ≡ Some command
 
-made_of : (words : List (List ℕ)) (which : CommandName) (positionals : List (List ℕ)) (settings : List Setting) (n : ℕ) (command : Command) (asks : Asks words which positionals settings) → IsSet Firings asks.items n → made which positionals n ≡ Some command → Makes words command
-made_of words which positionals settings n command asks set is = record {
+made_of : (words : List (List ℕ)) (which : CommandName) (positionals : List (List ℕ)) (settings : List Setting) (n units : ℕ) (command : Command) (asks : Asks words which positionals settings) → IsSet Firings asks.items n → IsSet Search asks.items units → made which positionals n units ≡ Some command → Makes words command
+made_of words which positionals settings n units command asks set searched is = record {
   name = which;
   behind = asks.behind;
   items = asks.items;
   number = n;
+  units = units;
   first = asks.first;
   splits = asks.splits;
   set = set;
-  is_made = ap (λ (ps : List (List ℕ)). made which ps n) asks.in_order ∙ is;
+  set_search = searched;
+  is_made = ap (λ (ps : List (List ℕ)). made which ps n units) asks.in_order ∙ is;
 }
 
--- a command without the option
-unset : (words : List (List ℕ)) (which : CommandName) (positionals : List (List ℕ)) (command : Command) → takes which Firings ≡ false → made which positionals 10000 ≡ Some command → Asks words which positionals [] → Makes words command
-unset words which positionals command off is asks =
-    made_of words which positionals [] 10000 command asks (Absent (not_taken which Firings asks.behind asks.items off asks.splits) refl) is
+-- an option that a command does not take
+untaken : (words : List (List ℕ)) (which : CommandName) (positionals : List (List ℕ)) (settings : List Setting) (option : OptionName) (asks : Asks words which positionals settings) → takes which option ≡ false → IsSet option asks.items (default_number option)
+untaken words which positionals settings option asks off = Absent (not_taken which option asks.behind asks.items off asks.splits) refl
+
+-- a command without options
+unset : (words : List (List ℕ)) (which : CommandName) (positionals : List (List ℕ)) (command : Command) → takes which Firings ≡ false → takes which Search ≡ false → made which positionals 10000 10000 ≡ Some command → Asks words which positionals [] → Makes words command
+unset words which positionals command off without is asks =
+    made_of words which positionals [] 10000 10000 command asks (untaken words which positionals [] Firings asks off) (untaken words which positionals [] Search asks without) is
 
 makes : (words : List (List ℕ)) (command : Command) → IsCommand words command → Makes words command
-makes words Help asks = unset words name.Help [] Help refl refl asks
-makes words (Schema schema) asks = unset words name.Schema (schema ∷ []) (Schema schema) refl refl asks
-makes words (Explain schema query n) asks = made_of words name.Explain (schema ∷ query ∷ []) (firings n) n (Explain schema query n) asks asks.are_set.0 refl
-makes words (Run schema query n) asks = made_of words name.Run (schema ∷ query ∷ []) (firings n) n (Run schema query n) asks asks.are_set.0 refl
-makes words (Exec schema plan) asks = unset words name.Exec (schema ∷ plan ∷ []) (Exec schema plan) refl refl asks
-makes words (Verify schema) asks = unset words name.Verify (schema ∷ []) (Verify schema) refl refl asks
+makes words Help asks = unset words name.Help [] Help refl refl refl asks
+makes words (Schema schema) asks = unset words name.Schema (schema ∷ []) (Schema schema) refl refl refl asks
+makes words (Explain schema query n units) asks = made_of words name.Explain (schema ∷ query ∷ []) (firings_and_search n units) n units (Explain schema query n units) asks asks.are_set.0 asks.are_set.1.0 refl
+makes words (Run schema query n units) asks = made_of words name.Run (schema ∷ query ∷ []) (firings_and_search n units) n units (Run schema query n units) asks asks.are_set.0 asks.are_set.1.0 refl
+makes words (Exec schema plan) asks = unset words name.Exec (schema ∷ plan ∷ []) (Exec schema plan) refl refl refl asks
+makes words (Check schema query plan n) asks =
+    let these = schema ∷ query ∷ plan ∷ [] in
+    made_of words name.Check these (firings n) n 10000 (Check schema query plan n) asks asks.are_set.0 (untaken words name.Check these (firings n) Search asks refl) refl
+makes words (Verify schema) asks = unset words name.Verify (schema ∷ []) (Verify schema) refl refl refl asks
 
 -- ---- the other way round
 
-asked : (words behind : List (List ℕ)) (which : CommandName) (items : List Item) (n : ℕ) (positionals : List (List ℕ)) (command : Command) → words ≡ command_word which ∷ behind → Splits which behind items → IsSet Firings items n → positionals_of items ≡ positionals → made which positionals n ≡ Some command → IsCommand words command
-asked words behind which items n positionals command first splits set order is = go which positionals first splits order is
+asked : (words behind : List (List ℕ)) (which : CommandName) (items : List Item) (n units : ℕ) (positionals : List (List ℕ)) (command : Command) → words ≡ command_word which ∷ behind → Splits which behind items → IsSet Firings items n → IsSet Search items units → positionals_of items ≡ positionals → made which positionals n units ≡ Some command → IsCommand words command
+asked words behind which items n units positionals command first splits set searched order is = go which positionals first splits order is
   where
     named : (c : Command) → c ≡ command → IsCommand words c → IsCommand words command
     named c e here = subst (IsCommand words) e here
 
-    go : (which : CommandName) (positionals : List (List ℕ)) → words ≡ command_word which ∷ behind → Splits which behind items → positionals_of items ≡ positionals → made which positionals n ≡ Some command → IsCommand words command
+    go : (which : CommandName) (positionals : List (List ℕ)) → words ≡ command_word which ∷ behind → Splits which behind items → positionals_of items ≡ positionals → made which positionals n units ≡ Some command → IsCommand words command
     go name.Help [] first splits order is = named Help (cc) (record { behind = behind; items = items; first = first; splits = splits; in_order = order; are_set = tt })
     go name.Help (a ∷ ps) first splits order is = absurd cc
     go name.Schema [] first splits order is = absurd cc
@@ -87,16 +99,21 @@ asked words behind which items n positionals command first splits set order is =
     go name.Schema (a ∷ b ∷ ps) first splits order is = absurd cc
     go name.Explain [] first splits order is = absurd cc
     go name.Explain (a ∷ []) first splits order is = absurd cc
-    go name.Explain (a ∷ b ∷ []) first splits order is = named (Explain a b n) (cc) (record { behind = behind; items = items; first = first; splits = splits; in_order = order; are_set = (set, tt) })
+    go name.Explain (a ∷ b ∷ []) first splits order is = named (Explain a b n units) (cc) (record { behind = behind; items = items; first = first; splits = splits; in_order = order; are_set = (set, (searched, tt)) })
     go name.Explain (a ∷ b ∷ c ∷ ps) first splits order is = absurd cc
     go name.Run [] first splits order is = absurd cc
     go name.Run (a ∷ []) first splits order is = absurd cc
-    go name.Run (a ∷ b ∷ []) first splits order is = named (Run a b n) (cc) (record { behind = behind; items = items; first = first; splits = splits; in_order = order; are_set = (set, tt) })
+    go name.Run (a ∷ b ∷ []) first splits order is = named (Run a b n units) (cc) (record { behind = behind; items = items; first = first; splits = splits; in_order = order; are_set = (set, (searched, tt)) })
     go name.Run (a ∷ b ∷ c ∷ ps) first splits order is = absurd cc
     go name.Exec [] first splits order is = absurd cc
     go name.Exec (a ∷ []) first splits order is = absurd cc
     go name.Exec (a ∷ b ∷ []) first splits order is = named (Exec a b) (cc) (record { behind = behind; items = items; first = first; splits = splits; in_order = order; are_set = tt })
     go name.Exec (a ∷ b ∷ c ∷ ps) first splits order is = absurd cc
+    go name.Check [] first splits order is = absurd cc
+    go name.Check (a ∷ []) first splits order is = absurd cc
+    go name.Check (a ∷ b ∷ []) first splits order is = absurd cc
+    go name.Check (a ∷ b ∷ c ∷ []) first splits order is = named (Check a b c n) (cc) (record { behind = behind; items = items; first = first; splits = splits; in_order = order; are_set = (set, tt) })
+    go name.Check (a ∷ b ∷ c ∷ d ∷ ps) first splits order is = absurd cc
     go name.Verify [] first splits order is = absurd cc
     go name.Verify (a ∷ []) first splits order is = named (Verify a) (cc) (record { behind = behind; items = items; first = first; splits = splits; in_order = order; are_set = tt })
     go name.Verify (a ∷ b ∷ ps) first splits order is = absurd cc
@@ -105,6 +122,7 @@ asked words behind which items n positionals command first splits set order is =
 
 small : (option : OptionName) (n : ℕ) → n ≤ limit option → n < 2 ^ 64
 small Firings n le = omega arith
+small Search n le = omega arith
 
 set_once : (option : OptionName) (items : List Item) (n m : ℕ) → IsSet option items n → IsSet option items m → n ≡ m
 set_once option items n m (Once is le) (Once is' le') = let e : decimal n ≡ decimal m = cc in decimal_injective n m (small option n le) (small option m le') e
@@ -121,7 +139,8 @@ makes_once words command other a b =
     let here : Splits a.name a.behind b.items = subst (λ (n : CommandName). Splits n a.behind b.items) (sym which) there in
     let items = splits_once a.name a.behind a.items b.items a.splits here in
     let number = set_once Firings a.items a.number b.number a.set (subst (λ (is : List Item). IsSet Firings is b.number) (sym items) b.set) in
-    let e : made a.name (positionals_of a.items) a.number ≡ made b.name (positionals_of b.items) b.number = cc in
+    let units = set_once Search a.items a.units b.units a.set_search (subst (λ (is : List Item). IsSet Search is b.units) (sym items) b.set_search) in
+    let e : made a.name (positionals_of a.items) a.number a.units ≡ made b.name (positionals_of b.items) b.number b.units = cc in
     cc
 
 pub one_command : (words : List (List ℕ)) (command other : Command) → IsCommand words command → IsCommand words other → command ≡ other
@@ -143,22 +162,25 @@ set_number : (option : OptionName) (items : List Item) (number : Option ℕ) →
 set_number option items None given = Absent given refl
 set_number option items (Some n) given = Once given.0 given.1
 
-pub is_command : (words behind : List (List ℕ)) (word : List ℕ) (which : CommandName) (arguments : Arguments) (r : Option Coded) → words ≡ word ∷ behind → word ≡ command_word which → AreArguments which behind arguments → option_map seen_as r ≡ made which (words_of arguments.positionals) (number_of Firings arguments) → IfSome r (λ command. IsCommand words (seen_as command))
+pub is_command : (words behind : List (List ℕ)) (word : List ℕ) (which : CommandName) (arguments : Arguments) (r : Option Coded) → words ≡ word ∷ behind → word ≡ command_word which → AreArguments which behind arguments → option_map seen_as r ≡ made which (words_of arguments.positionals) (number_of Firings arguments) (number_of Search arguments) → IfSome r (λ command. IsCommand words (seen_as command))
 is_command words behind word which arguments None all is are e = tt
 is_command words behind word which arguments (Some command) all is are e =
-    asked words behind which are.items (number_of Firings arguments) (words_of arguments.positionals) (seen_as command) (all ∙ ap (λ (w : List ℕ). w ∷ behind) is) are.splits
-    (set_number Firings are.items (given_number Firings arguments) (are.give.are_given Firings)) are.give.in_order (sym e)
+    asked words behind which are.items (number_of Firings arguments) (number_of Search arguments) (words_of arguments.positionals) (seen_as command) (all ∙ ap (λ (w : List ℕ). w ∷ behind) is) are.splits
+    (set_number Firings are.items (given_number Firings arguments) (are.give.are_given Firings))
+    (set_number Search are.items (given_number Search arguments) (are.give.are_given Search)) are.give.in_order (sym e)
 
-few_positionals : (which : CommandName) (positionals : List (List ℕ)) (n : ℕ) (command : Command) → made which positionals n ≡ Some command → length positionals ≤ 2
-few_positionals which [] n command is = omega arith
-few_positionals which (a ∷ []) n command is = omega arith
-few_positionals which (a ∷ b ∷ []) n command is = omega arith
-few_positionals name.Help (a ∷ b ∷ c ∷ ps) n command is = absurd cc
-few_positionals name.Schema (a ∷ b ∷ c ∷ ps) n command is = absurd cc
-few_positionals name.Explain (a ∷ b ∷ c ∷ ps) n command is = absurd cc
-few_positionals name.Run (a ∷ b ∷ c ∷ ps) n command is = absurd cc
-few_positionals name.Exec (a ∷ b ∷ c ∷ ps) n command is = absurd cc
-few_positionals name.Verify (a ∷ b ∷ c ∷ ps) n command is = absurd cc
+few_positionals : (which : CommandName) (positionals : List (List ℕ)) (n units : ℕ) (command : Command) → made which positionals n units ≡ Some command → length positionals ≤ 3
+few_positionals which [] n units command is = omega arith
+few_positionals which (a ∷ []) n units command is = omega arith
+few_positionals which (a ∷ b ∷ []) n units command is = omega arith
+few_positionals which (a ∷ b ∷ c ∷ []) n units command is = omega arith
+few_positionals name.Help (a ∷ b ∷ c ∷ d ∷ ps) n units command is = absurd cc
+few_positionals name.Schema (a ∷ b ∷ c ∷ d ∷ ps) n units command is = absurd cc
+few_positionals name.Explain (a ∷ b ∷ c ∷ d ∷ ps) n units command is = absurd cc
+few_positionals name.Run (a ∷ b ∷ c ∷ d ∷ ps) n units command is = absurd cc
+few_positionals name.Exec (a ∷ b ∷ c ∷ d ∷ ps) n units command is = absurd cc
+few_positionals name.Check (a ∷ b ∷ c ∷ d ∷ ps) n units command is = absurd cc
+few_positionals name.Verify (a ∷ b ∷ c ∷ d ∷ ps) n units command is = absurd cc
 
 -- the command's word says which command it is
 module _ (words behind : List (List ℕ)) (word : List ℕ) (which : CommandName) (all : words ≡ word ∷ behind) (is : word ≡ command_word which) where
@@ -174,20 +196,22 @@ module _ (words behind : List (List ℕ)) (word : List ℕ) (which : CommandName
   no_arguments command none asks =
       let m = makes words command asks in
       let here = items_of command m in
-      none m.items here.1 (record { few = few_positionals m.name (positionals_of m.items) m.number command m.is_made; settable = set m })
+      none m.items here.1 (record { few = few_positionals m.name (positionals_of m.items) m.number m.units command m.is_made; settable = set m })
     where
       set : (m : Makes words command) (option : OptionName) → (n : ℕ) × IsSet option m.items n
       set m Firings = (m.number, m.set)
+      set m Search = (m.units, m.set_search)
 
-  pub not_made : (arguments : Arguments) (r : Option Coded) → AreArguments which behind arguments → option_map seen_as r ≡ made which (words_of arguments.positionals) (number_of Firings arguments) → IfNone r ((command : Command) → IsCommand words command → ⊥)
+  pub not_made : (arguments : Arguments) (r : Option Coded) → AreArguments which behind arguments → option_map seen_as r ≡ made which (words_of arguments.positionals) (number_of Firings arguments) (number_of Search arguments) → IfNone r ((command : Command) → IsCommand words command → ⊥)
   not_made arguments (Some coded) are e = tt
   not_made arguments None are e = λ command asks.
       let m = makes words command asks in
       let here = items_of command m in
       let items = splits_once which behind m.items are.items here.1 are.splits in
       let number = set_once Firings are.items m.number (number_of Firings arguments) (subst (λ (is : List Item). IsSet Firings is m.number) items m.set) (set_number Firings are.items (given_number Firings arguments) (are.give.are_given Firings)) in
-      let same : made m.name (positionals_of m.items) m.number ≡ made which (positionals_of are.items) (number_of Firings arguments) = let n = here.0 in cc in
-      let order = ap (λ (ps : List (List ℕ)). made which ps (number_of Firings arguments)) are.give.in_order in
+      let units = set_once Search are.items m.units (number_of Search arguments) (subst (λ (is : List Item). IsSet Search is m.units) items m.set_search) (set_number Search are.items (given_number Search arguments) (are.give.are_given Search)) in
+      let same : made m.name (positionals_of m.items) m.number m.units ≡ made which (positionals_of are.items) (number_of Firings arguments) (number_of Search arguments) = let n = here.0 in cc in
+      let order = ap (λ (ps : List (List ℕ)). made which ps (number_of Firings arguments) (number_of Search arguments)) are.give.in_order in
       let made' = m.is_made in
       absurd cc
 

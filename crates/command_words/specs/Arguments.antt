@@ -1,13 +1,13 @@
--- What the words behind a command's name give: at most two positionals, and a number or none for each option.
+-- What the words behind a command's name give: at most three positionals, and a number or none for each option.
 use Rattle.std.specs.Prelude.{◌≡◌, ◌≤◌, ℕ, List, [], ◌∷◌, length, Option, None, Some, unwrap_or}
 use Rattle.std.specs.Fmt.{decimal}
 use Rattle.command_words.specs.Table.{limit, default_number}
 use Rattle.command_words.specs.Splits.{Item, Splits, positionals_of, texts_of, IsSet}
-use Rattle.command_words.specs.Words.{Command, Help, Schema, Explain, Run, Exec, Verify}
+use Rattle.command_words.specs.Words.{Command, Help, Schema, Explain, Run, Exec, Check, Verify}
 use Rattle.command_words.specs.declared.table.CommandName.{CommandName}
 use Rattle.command_words.specs.declared.table.CommandName.TheVariants as name
 use Rattle.command_words.specs.declared.table.OptionName.{OptionName}
-use Rattle.command_words.specs.declared.table.OptionName.TheVariants.{Firings}
+use Rattle.command_words.specs.declared.table.OptionName.TheVariants.{Firings, Search}
 use Rattle.command_words.specs.declared.given.Arguments.{Arguments}
 use Rattle.command_words.specs.declared.given.Positionals.{Positionals}
 use Rattle.command_words.specs.declared.given.Positionals.TheVariants as some
@@ -16,9 +16,11 @@ abbrev pub words_of : Positionals → List (List ℕ)
 words_of some.Zero = []
 words_of (some.One first) = first.now ∷ []
 words_of (some.Two first second) = first.now ∷ second.now ∷ []
+words_of (some.Three first second third) = first.now ∷ second.now ∷ third.now ∷ []
 
 abbrev pub given_number : OptionName → Arguments → Option ℕ
 given_number Firings arguments = arguments.firings
+given_number Search arguments = arguments.search
 
 -- the number that is given, or the default
 abbrev pub number_of : OptionName → Arguments → ℕ
@@ -40,17 +42,18 @@ pub record AreArguments (name : CommandName) (words : List (List ℕ)) (argument
   pub splits : Splits name words items
   pub give : Give items arguments
 
--- A command may have these items: there are at most two positionals, and each option has a number.
+-- A command may have these items: there are at most three positionals, and each option has a number.
 pub record MayBe (items : List Item) : Type 0 where
-  pub few : length (positionals_of items) ≤ 2
+  pub few : length (positionals_of items) ≤ 3
   pub settable : (option : OptionName) → (n : ℕ) × IsSet option items n
 
--- The command with these positionals and this number of firings.
-abbrev pub made : CommandName → List (List ℕ) → ℕ → Option Command
-made name.Help [] n = Some Help
-made name.Schema (schema ∷ []) n = Some (Schema schema)
-made name.Explain (schema ∷ query ∷ []) n = Some (Explain schema query n)
-made name.Run (schema ∷ query ∷ []) n = Some (Run schema query n)
-made name.Exec (schema ∷ plan ∷ []) n = Some (Exec schema plan)
-made name.Verify (schema ∷ []) n = Some (Verify schema)
-made _ _ _ = None
+-- The command with these positionals, and these numbers of firings and of search units where it takes them.
+abbrev pub made : CommandName → List (List ℕ) → ℕ → ℕ → Option Command
+made name.Help [] n units = Some Help
+made name.Schema (schema ∷ []) n units = Some (Schema schema)
+made name.Explain (schema ∷ query ∷ []) n units = Some (Explain schema query n units)
+made name.Run (schema ∷ query ∷ []) n units = Some (Run schema query n units)
+made name.Exec (schema ∷ plan ∷ []) n units = Some (Exec schema plan)
+made name.Check (schema ∷ query ∷ plan ∷ []) n units = Some (Check schema query plan n)
+made name.Verify (schema ∷ []) n units = Some (Verify schema)
+made _ _ _ _ = None

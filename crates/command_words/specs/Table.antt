@@ -1,9 +1,9 @@
 -- The commands and the options: one case a row.
 use Rattle.std.specs.Prelude.{ℕ, Bool, true, false, List, [], ◌∷◌, codes}
 use Rattle.command_words.specs.declared.table.CommandName.{CommandName}
-use Rattle.command_words.specs.declared.table.CommandName.TheVariants.{Help, Schema, Explain, Run, Exec, Verify}
+use Rattle.command_words.specs.declared.table.CommandName.TheVariants.{Help, Schema, Explain, Run, Exec, Check, Verify}
 use Rattle.command_words.specs.declared.table.OptionName.{OptionName}
-use Rattle.command_words.specs.declared.table.OptionName.TheVariants.{Firings}
+use Rattle.command_words.specs.declared.table.OptionName.TheVariants.{Firings, Search}
 
 -- the word that a command's list begins with
 abbrev pub command_word : CommandName → List ℕ
@@ -12,6 +12,7 @@ command_word Schema = codes "schema"
 command_word Explain = codes "explain"
 command_word Run = codes "run"
 command_word Exec = codes "exec"
+command_word Check = codes "check"
 command_word Verify = codes "verify"
 
 -- what a command's positionals are called in the text that `help` prints
@@ -21,32 +22,41 @@ positional_names Schema = codes "SCHEMA" ∷ []
 positional_names Explain = codes "SCHEMA" ∷ codes "QUERY" ∷ []
 positional_names Run = codes "SCHEMA" ∷ codes "QUERY" ∷ []
 positional_names Exec = codes "SCHEMA" ∷ codes "PLAN" ∷ []
+positional_names Check = codes "SCHEMA" ∷ codes "QUERY" ∷ codes "PLAN" ∷ []
 positional_names Verify = codes "SCHEMA" ∷ []
 
 -- the commands in the order in which `help` prints them
 abbrev pub commands : List CommandName
-commands = Help ∷ Schema ∷ Explain ∷ Run ∷ Exec ∷ Verify ∷ []
+commands = Help ∷ Schema ∷ Explain ∷ Run ∷ Exec ∷ Check ∷ Verify ∷ []
 
 abbrev pub options : List OptionName
-options = Firings ∷ []
+options = Firings ∷ Search ∷ []
 
 -- the word that names an option, behind two dashes
 abbrev pub option_word : OptionName → List ℕ
 option_word Firings = codes "firings"
+option_word Search = codes "search"
 
 abbrev pub same_option : OptionName → OptionName → Bool
 same_option Firings Firings = true
+same_option Search Search = true
+same_option _ _ = false
 
 -- the options that a command takes
 abbrev pub takes : CommandName → OptionName → Bool
 takes Explain Firings = true
 takes Run Firings = true
+takes Check Firings = true
+takes Explain Search = true
+takes Run Search = true
 takes _ _ = false
 
 -- the greatest number that an option takes
 abbrev pub limit : OptionName → ℕ
 limit Firings = 100000
+limit Search = 1000000
 
 -- the number of an option that is not given
 abbrev pub default_number : OptionName → ℕ
 default_number Firings = 10000
+default_number Search = 10000

@@ -5,7 +5,7 @@ use Rattle.command_words.specs.Splits.{Item, Splits, positionals_of, IsSet}
 use Rattle.command_words.specs.declared.table.CommandName.{CommandName}
 use Rattle.command_words.specs.declared.table.CommandName.TheVariants as name
 use Rattle.command_words.specs.declared.table.OptionName.{OptionName}
-use Rattle.command_words.specs.declared.table.OptionName.TheVariants.{Firings}
+use Rattle.command_words.specs.declared.table.OptionName.TheVariants.{Firings, Search}
 use Rattle.command_words.specs.declared.command.Command.TheVariants as code
 use Rattle.command_words.specs.declared.command.Command.{Command as Coded}
 
@@ -13,9 +13,10 @@ use Rattle.command_words.specs.declared.command.Command.{Command as Coded}
 pub data Command : Type 0 where
   Help : Command
   Schema : List ℕ → Command
-  Explain : List ℕ → List ℕ → ℕ → Command
-  Run : List ℕ → List ℕ → ℕ → Command
+  Explain : List ℕ → List ℕ → ℕ → ℕ → Command
+  Run : List ℕ → List ℕ → ℕ → ℕ → Command
   Exec : List ℕ → List ℕ → Command
+  Check : List ℕ → List ℕ → List ℕ → ℕ → Command
   Verify : List ℕ → Command
 
 -- an option with its number
@@ -41,19 +42,24 @@ pub record Asks (words : List (List ℕ)) (name : CommandName) (positionals : Li
 abbrev pub firings : ℕ → List Setting
 firings n = record { option = Firings; number = n } ∷ []
 
+abbrev pub firings_and_search : ℕ → ℕ → List Setting
+firings_and_search n units = record { option = Firings; number = n } ∷ record { option = Search; number = units } ∷ []
+
 -- The words are this command.
 abbrev pub IsCommand : List (List ℕ) → Command → Type 0
 IsCommand words Help = Asks words name.Help [] []
 IsCommand words (Schema schema) = Asks words name.Schema (schema ∷ []) []
-IsCommand words (Explain schema query n) = Asks words name.Explain (schema ∷ query ∷ []) (firings n)
-IsCommand words (Run schema query n) = Asks words name.Run (schema ∷ query ∷ []) (firings n)
+IsCommand words (Explain schema query n units) = Asks words name.Explain (schema ∷ query ∷ []) (firings_and_search n units)
+IsCommand words (Run schema query n units) = Asks words name.Run (schema ∷ query ∷ []) (firings_and_search n units)
 IsCommand words (Exec schema plan) = Asks words name.Exec (schema ∷ plan ∷ []) []
+IsCommand words (Check schema query plan n) = Asks words name.Check (schema ∷ query ∷ plan ∷ []) (firings n)
 IsCommand words (Verify schema) = Asks words name.Verify (schema ∷ []) []
 
 abbrev pub seen_as : Coded → Command
 seen_as code.Help = Help
 seen_as (code.Schema schema) = Schema schema.now
-seen_as (code.Explain schema query n) = Explain schema.now query.now n
-seen_as (code.Run schema query n) = Run schema.now query.now n
+seen_as (code.Explain schema query n units) = Explain schema.now query.now n units
+seen_as (code.Run schema query n units) = Run schema.now query.now n units
 seen_as (code.Exec schema plan) = Exec schema.now plan.now
+seen_as (code.Check schema query plan n) = Check schema.now query.now plan.now n
 seen_as (code.Verify schema) = Verify schema.now

@@ -2,7 +2,7 @@
 ghost use Rattle.std.specs.Prelude.{◌≡◌, IfSome, IfNone, option_map};
 ghost use Rattle.command_words.specs.Words.{Command as Plain, IsCommand, seen_as};
 ghost use Rattle.command_words.specs.Arguments.{made, words_of, number_of};
-ghost use Rattle.command_words.specs.declared.table.OptionName.TheVariants.{Firings as TheFirings};
+ghost use Rattle.command_words.specs.declared.table.OptionName.TheVariants.{Firings as TheFirings, Search as TheSearch};
 
 use crate::given::{Arguments, Positionals, read_arguments};
 use crate::table::{CommandName, OptionName, command_named};
@@ -19,15 +19,23 @@ pub enum Command<'a> {
         schema: &'a Text,
         query: &'a Text,
         firings: u32,
+        search: u32,
     },
     Run {
         schema: &'a Text,
         query: &'a Text,
         firings: u32,
+        search: u32,
     },
     Exec {
         schema: &'a Text,
         plan: &'a Text,
+    },
+    Check {
+        schema: &'a Text,
+        query: &'a Text,
+        plan: &'a Text,
+        firings: u32,
     },
     Verify {
         schema: &'a Text,
@@ -49,9 +57,11 @@ pub fn read_words(words: &[Text]) -> Option<Command<'_>>
 
 // The command with these arguments; none where it has another number of positionals.
 fn command_with<'a>(name: CommandName, arguments: Arguments<'a>) -> Option<Command<'a>>
-    ensures { option_map seen_as result ≡ made name (words_of arguments.entry.positionals) (number_of TheFirings arguments.entry) }
+    ensures { option_map seen_as result ≡ made name (words_of arguments.entry.positionals)
+        (number_of TheFirings arguments.entry) (number_of TheSearch arguments.entry) }
 {
     let firings = arguments.number_of(OptionName::Firings);
+    let search = arguments.number_of(OptionName::Search);
     match (name, arguments.positionals) {
         (CommandName::Help, Positionals::Zero) => Some(Command::Help),
         (CommandName::Schema, Positionals::One(schema)) => Some(Command::Schema { schema }),
@@ -59,13 +69,21 @@ fn command_with<'a>(name: CommandName, arguments: Arguments<'a>) -> Option<Comma
             schema,
             query,
             firings,
+            search,
         }),
         (CommandName::Run, Positionals::Two(schema, query)) => Some(Command::Run {
             schema,
             query,
             firings,
+            search,
         }),
         (CommandName::Exec, Positionals::Two(schema, plan)) => Some(Command::Exec { schema, plan }),
+        (CommandName::Check, Positionals::Three(schema, query, plan)) => Some(Command::Check {
+            schema,
+            query,
+            plan,
+            firings,
+        }),
         (CommandName::Verify, Positionals::One(schema)) => Some(Command::Verify { schema }),
         _ => None,
     }

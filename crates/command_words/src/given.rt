@@ -10,12 +10,13 @@ use crate::number::number_up_to;
 use crate::table::{CommandName, OptionName};
 use lists::Text;
 
-/// Positionals, in their order. No command has more than two.
+/// Positionals, in their order. No command has more than three.
 #[derive(Clone, Copy)]
 pub enum Positionals<'a> {
     Zero,
     One(&'a Text),
     Two(&'a Text, &'a Text),
+    Three(&'a Text, &'a Text, &'a Text),
 }
 
 /// The positionals, and the number of each option that is given.
@@ -23,6 +24,7 @@ pub enum Positionals<'a> {
 pub struct Arguments<'a> {
     pub positionals: Positionals<'a>,
     pub firings: Option<u32>,
+    pub search: Option<u32>,
 }
 
 /// The arguments that the words behind a command's name give; none where they can be no command's.
@@ -33,6 +35,7 @@ pub fn read_arguments<'a>(name: CommandName, words: &'a [Text]) -> Option<Argume
     let mut arguments = Arguments {
         positionals: Positionals::Zero,
         firings: None,
+        search: None,
     };
     let mut left = words;
     while !left.is_empty() {
@@ -46,12 +49,13 @@ pub fn read_arguments<'a>(name: CommandName, words: &'a [Text]) -> Option<Argume
 impl<'a> Positionals<'a> {
     // One more positional.
     fn with(self, word: &'a Text) -> Option<Positionals<'a>>
-        ensures { MatchOption result (length (words_of self.entry) ≡ 2) (λ more. words_of more ≡ words_of self.entry ++ word.now ∷ []) }
+        ensures { MatchOption result (length (words_of self.entry) ≡ 3) (λ more. words_of more ≡ words_of self.entry ++ word.now ∷ []) }
     {
         match self {
             Positionals::Zero => Some(Positionals::One(word)),
             Positionals::One(first) => Some(Positionals::Two(first, word)),
-            Positionals::Two(_, _) => None,
+            Positionals::Two(first, second) => Some(Positionals::Three(first, second, word)),
+            Positionals::Three(_, _, _) => None,
         }
     }
 }
@@ -61,10 +65,17 @@ impl<'a> Arguments<'a> {
     pub fn number_of(self, option: OptionName) -> u32
         ensures { result ≡ number_of option self.entry }
     {
-        let given = match option {
+        self.given_number(option).unwrap_or(option.default_number())
+    }
+
+    // The number that is given for an option.
+    fn given_number(self, option: OptionName) -> Option<u32>
+        ensures { result ≡ given_number option self.entry }
+    {
+        match option {
             OptionName::Firings => self.firings,
-        };
-        given.unwrap_or(option.default_number())
+            OptionName::Search => self.search,
+        }
     }
 
     // One more item; none where no command has such items.
@@ -75,7 +86,7 @@ impl<'a> Arguments<'a> {
         match item {
             Item::Positional(word) => Some(Arguments {
                 positionals: self.positionals.with(word)?,
-                firings: self.firings,
+                ..self
             }),
             Item::Given(option, text) => self.with_number(
                 option,
@@ -91,10 +102,14 @@ impl<'a> Arguments<'a> {
         ensures numbers { IfSome result (λ more. (other : options.OptionName) →
             given_number other more ≡ (if same_option other option then Some number else given_number other self.entry)) }
     {
-        match (option, self.firings) {
+        match (option, self.given_number(option)) {
             (OptionName::Firings, None) => Some(Arguments {
-                positionals: self.positionals,
                 firings: Some(number),
+                ..self
+            }),
+            (OptionName::Search, None) => Some(Arguments {
+                search: Some(number),
+                ..self
             }),
             _ => None,
         }

@@ -12,6 +12,7 @@ pub enum CommandName {
     Explain,
     Run,
     Exec,
+    Check,
     Verify,
 }
 
@@ -19,6 +20,7 @@ pub enum CommandName {
 #[derive(Clone, Copy)]
 pub enum OptionName {
     Firings,
+    Search,
 }
 
 /// The command with this word.
@@ -31,6 +33,7 @@ pub fn command_named(word: &str) -> Option<CommandName>
         "explain" => Some(CommandName::Explain),
         "run" => Some(CommandName::Run),
         "exec" => Some(CommandName::Exec),
+        "check" => Some(CommandName::Check),
         "verify" => Some(CommandName::Verify),
         _ => None,
     }
@@ -42,6 +45,7 @@ pub fn option_named(word: &[u8]) -> Option<OptionName>
 {
     match word {
         b"firings" => Some(OptionName::Firings),
+        b"search" => Some(OptionName::Search),
         _ => None,
     }
 }
@@ -52,7 +56,9 @@ impl CommandName {
         ensures { result ≡ takes self option }
     {
         match (self, option) {
-            (CommandName::Explain | CommandName::Run, OptionName::Firings) => true,
+            (CommandName::Explain | CommandName::Run | CommandName::Check, OptionName::Firings) =>
+                true,
+            (CommandName::Explain | CommandName::Run, OptionName::Search) => true,
             _ => false,
         }
     }
@@ -65,6 +71,7 @@ impl OptionName {
     {
         match self {
             OptionName::Firings => 100_000,
+            OptionName::Search => 1_000_000,
         }
     }
 
@@ -73,7 +80,7 @@ impl OptionName {
         ensures { result ≡ default_number self }
     {
         match self {
-            OptionName::Firings => 10_000,
+            OptionName::Firings | OptionName::Search => 10_000,
         }
     }
 }

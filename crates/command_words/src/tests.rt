@@ -24,17 +24,42 @@ fn shown(alloc: Global, command: Option<Command<'_>>) -> Result<String, AllocErr
                 schema,
                 query,
                 firings,
+                search,
             },
-        ) => format!(in alloc; "explain {} {} {firings}", schema.as_str(), query.as_str()),
+        ) => format!(in alloc;
+            "explain {} {} {firings} {search}",
+            schema.as_str(),
+            query.as_str()
+        ),
         Some(
             Command::Run {
                 schema,
                 query,
                 firings,
+                search,
             },
-        ) => format!(in alloc; "run {} {} {firings}", schema.as_str(), query.as_str()),
+        ) => format!(in alloc;
+            "run {} {} {firings} {search}",
+            schema.as_str(),
+            query.as_str()
+        ),
         Some(Command::Exec { schema, plan }) => {
             format!(in alloc; "exec {} {}", schema.as_str(), plan.as_str())
+        }
+        Some(
+            Command::Check {
+                schema,
+                query,
+                plan,
+                firings,
+            },
+        ) => {
+            format!(in alloc;
+                "check {} {} {} {firings}",
+                schema.as_str(),
+                query.as_str(),
+                plan.as_str()
+            )
         }
         Some(Command::Verify { schema }) => format!(in alloc; "verify {}", schema.as_str()),
     }
@@ -56,14 +81,21 @@ fn words_that_are_commands(rt: HostRuntime) -> Result<(), Fail> {
         ("schema s", "schema s"),
         ("verify s", "verify s"),
         ("exec s p", "exec s p"),
-        ("run s q", "run s q 10000"),
-        ("explain s q", "explain s q 10000"),
-        ("run s q --firings 1", "run s q 1"),
-        ("run --firings=1 s q", "run s q 1"),
-        ("run s --firings 100000 q", "run s q 100000"),
-        ("explain --firings 0 s q", "explain s q 0"),
-        ("run help run", "run help run 10000"),
-        ("run s=1 q", "run s=1 q 10000"),
+        ("run s q", "run s q 10000 10000"),
+        ("explain s q", "explain s q 10000 10000"),
+        ("run s q --firings 1", "run s q 1 10000"),
+        ("run --firings=1 s q", "run s q 1 10000"),
+        ("run s --firings 100000 q", "run s q 100000 10000"),
+        ("explain --firings 0 s q", "explain s q 0 10000"),
+        ("run s q --search 0", "run s q 10000 0"),
+        (
+            "explain --search=1000000 s --firings 3 q",
+            "explain s q 3 1000000",
+        ),
+        ("check s q p", "check s q p 10000"),
+        ("check s --firings=0 q p", "check s q p 0"),
+        ("run help run", "run help run 10000 10000"),
+        ("run s=1 q", "run s=1 q 10000 10000"),
     ];
     assert_shown(&rt, rt.alloc(), &rows)?;
     Ok(())
@@ -88,6 +120,12 @@ fn words_that_are_none(rt: HostRuntime) -> Result<(), Fail> {
         "run -- s q",
         "schema s --firings 1",
         "exec s p --firings=1",
+        "check s q",
+        "check s q p r",
+        "check s q p --search 1",
+        "run s q --search 1000001",
+        "run s q --search 1 --firings 1 --search=1",
+        "check s q p --firings 1 --firings 1",
         "run s q --workers 9",
         "run s q --firing 1",
         "run s q --firings",
@@ -147,6 +185,6 @@ fn blanks_stand_in_no_number(rt: HostRuntime) -> Result<(), Fail> {
 #[test]
 fn usage_has_a_line_for_each_command(rt: HostRuntime) {
     let lines =
-        b"usage: pdq COMMAND\n  help\n  schema SCHEMA\n  explain SCHEMA QUERY [--firings N]\n  run SCHEMA QUERY [--firings N]\n  exec SCHEMA PLAN\n  verify SCHEMA\n";
+        b"usage: pdq COMMAND\n  help\n  schema SCHEMA\n  explain SCHEMA QUERY [--firings N] [--search N]\n  run SCHEMA QUERY [--firings N] [--search N]\n  exec SCHEMA PLAN\n  check SCHEMA QUERY PLAN [--firings N]\n  verify SCHEMA\n";
     assert_eq!(rt; usage_text(), lines.as_slice());
 }

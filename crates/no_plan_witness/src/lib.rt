@@ -17,7 +17,7 @@ pub mod laws;
 mod naming;
 mod refutation;
 
-pub use decision::Decision;
+pub use decision::{Chosen, ChosenList, Decision};
 pub use fault::{Which, WitnessFault};
 pub use find_witness::witness;
 pub use judge_witness::check_witness;

@@ -11,9 +11,11 @@ use Rattle.meaning.specs.Runs.{Proof, IsOrderedRun, HasGoal, opening, frozen_hea
 use Rattle.access_schema.specs.declared.schema.Schema.{Schema}
 use Rattle.access_schema.specs.Meaning.{meaning_of}
 use Rattle.no_plan_witness.specs.declared.refutation.Witness.{Witness}
+use Rattle.no_plan_witness.specs.declared.decision.Chosen.{Chosen as Entry}
 use Rattle.no_plan_witness.specs.declared.decision.Decision.{Decision}
 use Rattle.no_plan_witness.specs.declared.decision.Decision.TheVariants as decision
 use Rattle.proof_search.specs.Plans.{known_of, IsPlanFor, HasFewSteps, HasNoPlan}
+use Rattle.proof_search.specs.Chosen.{AreChosen}
 
 -- The pair refutes, so no lawful plan is equivalent to the statement; and the answer is as wide as each select.
 pub record IsRefutation (schema : Schema) (statement : Statement) (pair : Witness) : Type 0 where
@@ -39,10 +41,12 @@ pub record IsUndecided (schema : Schema) (statement : Statement) (firings select
   pub goes_on : (firing : Firing) × (next : Proof)
       × IsOrderedRun (meaning_of schema) (known_of schema statement) 0 (opening query) (log ++ firing ∷ []) next
 
--- What is decided of a statement with so many firings for the proof of each select: a plan for it, a refutation of every plan, or
--- nothing, as the firings are spent.
-pub data IsDecision (schema : Schema) (statement : Statement) (firings : ℕ) : Decision → Type 0 where
-  plan : (plan : Plan) → IsPlanFor schema statement plan → HasFewSteps plan → IsDecision schema statement firings (decision.Plan plan)
-  no_plan : (pair : Witness) → IsRefutation schema statement pair → IsDecision schema statement firings (decision.NoPlan pair)
+-- What is decided of a statement with so many firings for the proof of each select, and so many units for the search for a cheaper
+-- branch: a plan for it, with what is said of each select; a refutation of every plan; or nothing, as the firings are spent.
+pub data IsDecision (schema : Schema) (statement : Statement) (firings search : ℕ) : Decision → Type 0 where
+  plan : (plan : Plan) (entries : List Entry) → IsPlanFor schema statement plan → HasFewSteps plan →
+      AreChosen schema statement firings search statement.selects plan.branches entries →
+      IsDecision schema statement firings search (decision.Plan plan entries)
+  no_plan : (pair : Witness) → IsRefutation schema statement pair → IsDecision schema statement firings search (decision.NoPlan pair)
   undecided : (select : ℕ) (log : List Firing) → IsUndecided schema statement firings select log →
-      IsDecision schema statement firings (decision.Undecided select log)
+      IsDecision schema statement firings search (decision.Undecided select log)

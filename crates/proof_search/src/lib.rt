@@ -12,7 +12,7 @@ mod proving;
 mod reading;
 mod resting;
 
-pub use deciding::decide;
+pub use deciding::{MOST_UNITS, decide};
 
 #[cfg(test)]
 mod tests;

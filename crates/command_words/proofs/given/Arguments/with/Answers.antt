@@ -2,14 +2,14 @@ use Rattle.std.proofs.Common.{◌++◌, ◌∷◌, [], sym, ap, subst, ℕ, refl
 use Rattle.command_words.specs.Splits.{item_of}
 use Rattle.command_words.specs.Arguments.{Give, MayBe}
 use Rattle.command_words.specs.declared.item.Item.{Item as Lent}
-use Rattle.command_words.proofs.Giving.{third_positional, give_positional, no_number, with_option, without_option, none_at}
+use Rattle.command_words.proofs.Giving.{fourth_positional, give_positional, no_number, with_option, without_option, none_at}
 use Rattle.command_words.proofs.given.Arguments.with.Goals as goal
 
 pub returns-in_err-with-in-Positional-clause-none :
     goal.returns-in_err-with-in-Positional-clause-none
 returns-in_err-with-in-Positional-clause-none c =
     none_at c.from_residual.result c.from_residual.ensures
-    (λ items rest give may. third_positional items rest c.in-Positional.word.now c.args.self c.in_err-with-in-Positional.ensures give
+    (λ items rest give may. fourth_positional items rest c.in-Positional.word.now c.args.self c.in_err-with-in-Positional.ensures give
     (subst (λ (i : Lent). MayBe (items ++ item_of i ∷ rest)) c.in-Positional.is may))
 
 pub returns-in_err-number_up_to-in-Given-clause-none :
@@ -23,8 +23,8 @@ returns-in_err-number_up_to-in-Given-clause-none c =
 pub returns-in_ok-with-in-Positional-clause-some :
     goal.returns-in_ok-with-in-Positional-clause-some
 returns-in_ok-with-in-Positional-clause-some c items give =
-    subst (λ (i : Lent). Give (items ++ item_of i ∷ []) (record { positionals = c.in_ok-with-in-Positional.field-0; firings = c.args.self.firings })) (sym c.in-Positional.is)
-    (give_positional items c.in-Positional.word.now c.args.self (record { positionals = c.in_ok-with-in-Positional.field-0; firings = c.args.self.firings }) c.in_ok-with-in-Positional.ensures refl give)
+    subst (λ (i : Lent). Give (items ++ item_of i ∷ []) (record { positionals = c.in_ok-with-in-Positional.field-0; firings = c.args.self.firings; search = c.args.self.search })) (sym c.in-Positional.is)
+    (give_positional items c.in-Positional.word.now c.args.self (record { positionals = c.in_ok-with-in-Positional.field-0; firings = c.args.self.firings; search = c.args.self.search }) c.in_ok-with-in-Positional.ensures refl refl give)
 
 pub returns-in_ok-number_up_to-in-Given-clause-some :
     goal.returns-in_ok-number_up_to-in-Given-clause-some
