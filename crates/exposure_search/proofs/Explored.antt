@@ -1,0 +1,101 @@
+-- Spaces of proofs, and what a search over them shows.
+use Rattle.std.proofs.Common.{◌≡◌, ℕ, ◌≤◌, List, [], ◌∷◌, ◌++◌, length, map, Bool, refl, sym, ap, ◌∙◌, subst, arith}
+use Rattle.std.specs.Prelude.{Contains}
+use Rattle.std.proofs.lemmas.List.{append-nil, length-map}
+use Rattle.lists.proofs.Members.{contains_got}
+use Rattle.meaning_laws.proofs.SameSets.{run_alike}
+use Rattle.meaning_laws.proofs.Everywhere.{goal_everywhere}
+use Rattle.meaning.specs.declared.types.SchemaParts.{SchemaParts}
+use Rattle.meaning.specs.declared.types.Ground.{Ground}
+use Rattle.meaning.specs.declared.types.Trigger.{Trigger}
+use Rattle.meaning.specs.declared.types.Firing.{Firing}
+use Rattle.meaning.specs.declared.types.Firing.TheVariants.{Base}
+use Rattle.meaning.specs.declared.types.Query.{Query}
+use Rattle.meaning.specs.declared.types.Val.{Val}
+use Rattle.meaning.specs.declared.types.Val.TheVariants.{Const}
+use Rattle.meaning.specs.Matching.{GroundsOf, IsQueryAnswer}
+use Rattle.meaning.specs.Triggers.{State, IsFiringRun, ground}
+use Rattle.meaning.specs.Runs.{Proof, IsRun, IsBaseQuiet}
+use Rattle.meaning.specs.Naming.{IsNamed, AreNamed}
+use Rattle.meaning.specs.Fitting.{QueryHasConstants, Fit, RulesFit}
+use Rattle.meaning.specs.Extract.{Exposure, exposed_facts, exposures_cost, IsExposing, HasGoalAfter}
+use Rattle.accessible_copy.specs.declared.entry.Entry.{Entry}
+use Rattle.accessible_copy.specs.Rounds.{exposure_of}
+use Rattle.accessible_copy.specs.Proving.{Proving, IsProofOf, log_of}
+use Rattle.accessible_copy.proofs.Listed.{proof_once}
+use Rattle.least_search.specs.declared.node.Node.{Node}
+use Rattle.least_search.specs.Walks.{IsNode, no_facts}
+use Rattle.least_search.specs.Costs.{IsLeastCost, AreRunsWithin}
+use Rattle.exposure_search.specs.Tries.{picked, exposures_in}
+use Rattle.exposure_search.specs.Making.{bases_of, OnlyExposes}
+use Rattle.exposure_search.specs.Exploring.{Exploring, exploring_of, space_size, CanExpose, HasGoalAt, HasMatchAt, HasTry, IsFounded}
+use Rattle.exposure_search.proofs.Sets.{none_same, picked_back}
+use Rattle.exposure_search.proofs.Bridging.{least_exposing}
+use Rattle.exposure_search.proofs.Trying.{try_run}
+use Rattle.exposure_search.proofs.Logs.{laid, lies}
+use Rattle.exposure_search.proofs.Steps.{walked}
+
+-- a match at a node's set, as exposures at the node's cost
+pub node_exposes : (space : Exploring) (node : Node) → IsNode (space_size space) (CanExpose space) node → HasMatchAt space node.set.items →
+    (made : List Exposure) × (copy : List Trigger) × (end : State) × (goal : Query) × IsExposing space.schema space.constants space.base.facts [] made
+    × IsFiringRun space.schema.rules (record { facts = exposed_facts made; next = space.base.next }) copy end
+    × Contains space.queries goal × IsQueryAnswer Const (GroundsOf end.facts) goal space.head × (exposures_cost made ≡ node.cost)
+node_exposes space node is has =
+    let w = walked space.schema space.constants space.base.facts node.path.items (no_facts (length space.base.facts)) node.set.items [] (none_same space.base.facts) is.walk in
+    let same = w.same in
+    let (end, run, alike) = run_alike space.schema.rules has.copy (record { facts = picked space.base.facts node.set.items; next = space.base.next }) has.end (record { facts = exposed_facts w.made; next = space.base.next }) (record { to = same.to; from = same.from; next = refl }) has.run in
+    let (a, are, e) = has.answer in
+    (w.made, has.copy, end, has.goal, w.exposing, run, has.among, (a, (λ atom c. alike.to (ground a atom) (are atom c)), e), w.cost ∙ sym is.cost)
+
+pub least_found : (space : Exploring) (best : ℕ) → IsFounded space → IsLeastCost (space_size space) (CanExpose space) (HasGoalAt space) best →
+    (exposures : List Exposure) → IsExposing space.schema space.constants space.base.facts [] exposures → HasGoalAfter space.schema space.queries space.head space.base.next exposures → best ≤ exposures_cost exposures
+least_found space best founded least = least_exposing space.schema space.constants space.base.facts space.queries space.head space.base.next best founded.once least
+
+-- what bounds runs bounds tries
+pub tries_within : (space : Exploring) (m n : ℕ) → IsFounded space → ((log : List Firing) (end : Proof) → IsRun space.schema space.constants 0 space.start log end → (length log ≤ m) × (exposures_in log ≤ n)) → AreRunsWithin (HasTry space) m n
+tries_within space m n founded bounds firings exposures tried =
+    let (log, end, run, long, shown) = try_run space.schema space.constants space.start space.log space.base firings exposures founded.none_exposed founded.none_copied founded.run founded.quiet tried in
+    let (few, low) = bounds log end run in
+    (subst (λ k. k ≤ m) long few, subst (λ k. k ≤ n) shown low)
+
+-- a match is a goal
+pub match_goal : (space : Exploring) (set : List Bool) → RulesFit space.schema space.constants → ((query : Query) → Contains space.queries query → QueryHasConstants space.constants query) → AreNamed space.constants space.base.next space.base.facts →
+    Fit space.schema space.base.facts → ((v : Val) → Contains space.head v → IsNamed space.constants space.base.next v) → HasMatchAt space set → HasGoalAt space set
+match_goal space set rules have named fit head_named has =
+    goal_everywhere space.schema space.constants space.queries (record { facts = picked space.base.facts set; next = space.base.next }) space.head has.copy has.end has.goal rules have
+    (λ fact v among there. named fact v (of_base fact among) there) (λ fact among. fit fact (of_base fact among)) head_named has.run has.among has.answer
+  where
+    of_base : (fact : Ground) → Contains (picked space.base.facts set) fact → Contains space.base.facts fact
+    of_base fact among = let (k, at, marked) = picked_back space.base.facts set fact among in contains_got space.base.facts k fact at
+
+-- ---- the beginning
+
+pub begins_only : (schema : SchemaParts) (proof : Proving) (bases : List Trigger) → IsProofOf schema proof → log_of proof ≡ map Base bases → IsBaseQuiet schema proof.end → OnlyExposes schema proof
+begins_only schema proof bases is log quiet =
+    let its = laid schema proof is bases [] (log ∙ sym (append-nil (map Base bases))) in
+    record {
+      run = is;
+      log = log ∙ sym (append-nil (map Base bases)) ∙ ap (λ b. map Base b ++ []) (sym its.bases_are) ∙ ap (λ m. map Base (bases_of (log_of proof)) ++ map exposure_of m) (sym its.made_are);
+      quiet = quiet;
+    }
+
+pub founded : (schema : SchemaParts) (proof : Proving) (queries : List Query) (head : List Val) (budget : ℕ) → OnlyExposes schema proof → IsFounded (exploring_of schema proof queries head budget)
+founded schema proof queries head budget is = record {
+  none_exposed = is.run.none_exposed;
+  none_copied = is.run.none_copied;
+  run = (lies schema proof is).base;
+  quiet = is.quiet;
+  once = proof_once schema proof is.run;
+}
+
+-- as many firings as base firings
+pub begins_long : (proof : Proving) (bases : List Trigger) → log_of proof ≡ map Base bases → length proof.entries ≡ length (bases_of (log_of proof))
+begins_long proof bases log =
+    let one : length (log_of proof) ≡ length proof.entries = length-map proof.entries (λ (entry : Entry). entry.firing) in
+    let two : length (map Base bases) ≡ length bases = length-map bases Base in
+    let three : bases_of (log_of proof) ≡ bases = ap bases_of log ∙ based bases in
+    sym one ∙ ap length log ∙ two ∙ ap length (sym three)
+  where
+    based : (bases : List Trigger) → bases_of (map Base bases) ≡ bases
+    based [] = refl
+    based (trigger ∷ bases) = ap (λ z. trigger ∷ z) (based bases)

@@ -1,0 +1,166 @@
+-- What settling the copy of exposures shows.
+use Rattle.std.proofs.Common.{◌≡◌, ◌⊎◌, ℕ, ◌+◌, ◌<◌, ◌≤◌, List, [], ◌∷◌, ◌++◌, length, map, Bool, true, false, Option, Some, None, refl, sym, ap, ◌∙◌, subst, inl, inr, arith}
+use Rattle.std.specs.Prelude.{Contains, is_some, IfSome}
+use Rattle.std.specs.List.{AllZip}
+use Rattle.lists.proofs.Members.{contains_got}
+use Rattle.meaning_laws.proofs.SameSets.{run_alike}
+use Rattle.meaning_laws.proofs.Carrying.{run_fires}
+use Rattle.meaning.specs.declared.types.SchemaParts.{SchemaParts}
+use Rattle.meaning.specs.declared.types.Ground.{Ground}
+use Rattle.meaning.specs.declared.types.Query.{Query}
+use Rattle.meaning.specs.declared.types.Val.{Val}
+use Rattle.meaning.specs.declared.types.Firing.TheVariants.{Base}
+use Rattle.meaning.specs.Triggers.{State, IsQuiet, IsFiringRun, ground}
+use Rattle.meaning.specs.Runs.{Proof, base_state, copy_state, HasGoal, IsBaseRun}
+use Rattle.meaning.specs.Extract.{Exposure, exposed_facts, IsExposing, HasGoalFrom}
+use Rattle.homomorphism.specs.Bindings.{at}
+use Rattle.rule_pass.specs.States.{SomeActive}
+use Rattle.accessible_copy.specs.declared.goals.Match.{Match}
+use Rattle.accessible_copy.specs.declared.settling.Round.{Round}
+use Rattle.accessible_copy.specs.declared.settling.Round.TheVariants.{Quiet, Done, Spent}
+use Rattle.accessible_copy.specs.Known.{facts_of}
+use Rattle.accessible_copy.specs.Written.{firing_of}
+use Rattle.accessible_copy.specs.Rounds.{exposure_of}
+use Rattle.accessible_copy.specs.Goals.{IsGoal}
+use Rattle.accessible_copy.specs.Proving.{Proving, IsProofOf, log_of}
+use Rattle.accessible_copy.specs.Settling.{Settles}
+use Rattle.least_search.specs.declared.space.Move.{Move}
+use Rattle.least_search.specs.declared.space.End.{End}
+use Rattle.least_search.specs.declared.space.End.TheVariants as end
+use Rattle.least_search.specs.Walks.{IsWalk, no_facts}
+use Rattle.least_search.specs.Ends.{GoesOn}
+use Rattle.exposure_search.specs.Tries.{picked, IsOpen, IsTry, HasMatchFrom}
+use Rattle.exposure_search.specs.Making.{bases_of, OnlyExposes, SameBase, all_made, IsExposedBy, IsActiveMove, IsServed}
+use Rattle.exposure_search.specs.Exploring.{Exploring, exploring_of, HasGoalAt, HasRunBeyond}
+use Rattle.exposure_search.specs.Visiting.{IsVisitEnd, AreMovesAt, IsReached}
+use Rattle.exposure_search.proofs.Sets.{AreSame, none_same, turned}
+use Rattle.exposure_search.proofs.Bridging.{goal_same}
+use Rattle.exposure_search.proofs.Logs.{lies, settled_run, settled_long, settled_on}
+use Rattle.exposure_search.proofs.Steps.{IsWalked, walked, walk_same}
+use Rattle.exposure_search.proofs.Serving.{active_open, open_active}
+
+-- a match that was found
+pub found_goal : (queries : List Query) (proof : Proof) (head : List Val) (found : Option Match) → is_some found ≡ true → IfSome found (λ (m : Match). IsGoal queries proof.copy head m.select m.assignment.vals) → HasGoal queries proof head
+found_goal queries proof head None e is = absurd (cc)
+found_goal queries proof head (Some m) e (query, named, its) = (query, contains_got queries m.select query named, (at m.assignment.vals, its.facts_are, its.head_is))
+
+pub none_found : (queries : List Query) (proof : Proof) (head : List Val) (found : Option Match) → is_some found ≡ false → IfSome found (λ (m : Match). IsGoal queries proof.copy head m.select m.assignment.vals) → found ≡ None
+none_found queries proof head None e is = refl
+none_found queries proof head (Some m) e is = absurd (cc)
+
+-- the same beginning gives the same space
+pub same_space : (schema : SchemaParts) (queries : List Query) (head : List Val) (budget : ℕ) (old new : Proving) → SameBase old new → exploring_of schema new queries head budget ≡ exploring_of schema old queries head budget
+same_space schema queries head budget old new same =
+    let constants = same.constants in
+    let start = same.start in
+    let bases = same.bases in
+    let base = same.base in
+    (λ i. record { schema = schema; constants = constants i; start = start i; log = bases i; base = base i; queries = queries; head = head; budget = budget })
+
+-- the same exposures
+pub made_same : (old new : Proving) (path : List Move) → SameBase old new → new.exposed ≡ all_made old.end.base path → new.exposed ≡ all_made new.end.base path
+made_same old new path same made = made ∙ ap (λ (s : State). all_made s.facts path) (sym same.base)
+
+-- ---- the exposures of a path
+
+module _ (schema : SchemaParts) (proof : Proving) (path : List Move) (set : List Bool) (is : OnlyExposes schema proof) (made : proof.exposed ≡ all_made proof.end.base path)
+    (walk : IsWalk (IsOpen schema proof.constants proof.end.base) (no_facts (length proof.end.base)) path set) where
+  pub path_walked : IsWalked schema proof.constants proof.end.base path (no_facts (length proof.end.base)) set []
+  path_walked = walked schema proof.constants proof.end.base path (no_facts (length proof.end.base)) set [] (none_same proof.end.base) walk
+
+  shown : proof.end.exposed ≡ exposed_facts path_walked.made
+  shown = (lies schema proof is).exposed ∙ ap facts_of made ∙ path_walked.facts
+
+  pub copied : proof.end.copy ≡ exposed_facts path_walked.made
+  copied = (lies schema proof is).copy ∙ ap facts_of made ∙ path_walked.facts
+
+  -- the facts of the set are exposed
+  pub set_exposed : AreSame (picked proof.end.base set) proof.end.exposed
+  set_exposed = subst (λ gs. AreSame (picked proof.end.base set) gs) (sym shown) path_walked.same
+
+  -- the moves from the set
+  pub moves_here : (queries : List Query) (head : List Val) (budget : ℕ) (ended : End) (moves : List Move) → ((move : Move) → Contains moves move → IsActiveMove schema proof move) →
+      (GoesOn ended → (move : Move) → IsActiveMove schema proof move → IsServed moves move) → AreMovesAt (exploring_of schema proof queries head budget) set ended moves
+  moves_here queries head budget ended moves active all = record {
+    possible = λ move among. active_open schema proof is.run path set walk set_exposed move (active move among);
+    complete = λ goes move open'. all goes move (open_active schema proof is.run path set walk set_exposed move open');
+  }
+
+-- ---- the settled copy
+
+module _ (schema : SchemaParts) (queries : List Query) (head : List Val) (budget : ℕ) (proof settled : Proving) (path : List Move) (set : List Bool)
+    (is : OnlyExposes schema proof) (its : IsProofOf schema settled) (settles : Settles schema true proof settled)
+    (made : proof.exposed ≡ all_made proof.end.base path)
+    (walk : IsWalk (IsOpen schema proof.constants proof.end.base) (no_facts (length proof.end.base)) path set) where
+  trail : IsWalked schema proof.constants proof.end.base path (no_facts (length proof.end.base)) set []
+  trail = path_walked schema proof path set is made walk
+
+  -- the copy firings are a run from the exposed facts
+  pub copy_base_run : IsBaseRun schema.rules (record { facts = exposed_facts trail.made; next = proof.end.next }) settles.more (copy_state settled.end)
+  copy_base_run = subst (λ gs. IsBaseRun schema.rules (record { facts = gs; next = proof.end.next }) settles.more (copy_state settled.end)) (copied schema proof path set is made walk) (settled_run schema proof settled is.run its settles)
+
+  pub copy_run : IsFiringRun schema.rules (record { facts = exposed_facts trail.made; next = proof.end.next }) settles.more (copy_state settled.end)
+  copy_run = run_fires schema.rules settles.more (record { facts = exposed_facts trail.made; next = proof.end.next }) (copy_state settled.end) copy_base_run
+
+  pub goal_matches : HasGoal queries settled.end head → HasMatchFrom schema queries head proof.end.next (picked proof.end.base set)
+  goal_matches (goal, among, (a, are, e)) =
+      let same = trail.same in
+      let (other, run, alike) = run_alike schema.rules settles.more (record { facts = exposed_facts trail.made; next = proof.end.next }) (copy_state settled.end) (record { facts = picked proof.end.base set; next = proof.end.next })
+          (record { to = same.from; from = same.to; next = refl }) copy_run in
+      record { copy = settles.more; end = other; goal = goal; run = run; among = among; answer = (a, (λ atom c. alike.to (ground a atom) (are atom c)), e) }
+
+  -- a settled copy without a match
+  pub none_goal : IsQuiet schema.rules (copy_state settled.end) → (HasGoal queries settled.end head → ⊥) → HasGoalFrom schema queries head proof.end.next (picked proof.end.base set) → ⊥
+  none_goal quiet none has = none (goal_same schema queries head proof.end.next (picked proof.end.base set) (exposed_facts trail.made) trail.same has settles.more (copy_state settled.end) copy_run quiet)
+
+  -- what was tried
+  tried : IsTry schema proof.constants (base_state proof.end) (length (bases_of (log_of proof))) (length (bases_of (log_of proof)) + length trail.made + length settles.more) (length path)
+  tried = record {
+    made = trail.made;
+    copy = settles.more;
+    end = copy_state settled.end;
+    exposing = trail.exposing;
+    copies = copy_base_run;
+    firings_are = refl;
+    exposures_are = sym trail.many;
+  }
+
+  -- where the firings are spent, some run is longer
+  pub runs_beyond : (budget ≤ length settled.entries) × SomeActive schema.rules (copy_state settled.end) → HasRunBeyond (exploring_of schema proof queries head budget)
+  runs_beyond (low, some) =
+      let (log, last, run, long) = settled_on schema proof settled is its settles some in
+      record { log = log; end = last; run = run; beyond = omega arith }
+
+  pub visit_end : (ended : End) (fired : ℕ) → (ended ≡ end.Goal → HasGoal queries settled.end head) → (ended ≡ end.NoGoal → IsQuiet schema.rules (copy_state settled.end)) → (ended ≡ end.NoGoal → HasGoal queries settled.end head → ⊥) →
+      (ended ≡ end.FiringsSpent → (budget ≤ length settled.entries) × SomeActive schema.rules (copy_state settled.end)) → length proof.entries + fired ≡ length settled.entries →
+      IsVisitEnd (exploring_of schema proof queries head budget) path set ended fired
+  visit_end ended fired goal quiet none long counted =
+      let added = settled_long schema proof settled settles in
+      record {
+        goal = λ e. goal_matches (goal e);
+        none = λ e. none_goal (quiet e) (none e);
+        long = λ e. runs_beyond (long e);
+        run = (length (bases_of (log_of proof)) + length trail.made + length settles.more, tried, omega arith);
+      }
+
+  -- the proof that was reached
+  pub reached_here : IsReached (exploring_of schema proof queries head budget) path settled
+  reached_here = record {
+    run = its;
+    constants = settles.constants;
+    start = settles.start;
+    made = trail.made;
+    copy = settles.more;
+    log = settles.log ∙ ap (λ l. l ++ map (firing_of true) settles.more) is.log ∙ ap (λ m. map Base (bases_of (log_of proof)) ++ map exposure_of m ++ map (firing_of true) settles.more) (sym settles.exposed);
+    shown = subst (λ l. AllZip (IsExposedBy schema) l trail.made) (sym made ∙ sym settles.exposed) trail.shown;
+    exposing = trail.exposing;
+    cost = trail.cost;
+    copies = copy_run;
+  }
+
+  -- where there is no match, some run is longer or there is no goal
+  pub none_reached : (ended : Round) → (ended ≡ Done → ⊥) → (ended ≡ Quiet → IsQuiet schema.rules (copy_state settled.end)) → (ended ≡ Spent → (budget ≤ length settled.entries) × SomeActive schema.rules (copy_state settled.end)) → (HasGoal queries settled.end head → ⊥) →
+      HasRunBeyond (exploring_of schema proof queries head budget) ⊎ (HasGoalAt (exploring_of schema proof queries head budget) set → ⊥)
+  none_reached Quiet going quiet spent none = inr (none_goal (quiet refl) none)
+  none_reached Done going quiet spent none = absurd (going refl)
+  none_reached Spent going quiet spent none = inl (runs_beyond (spent refl))

@@ -1,0 +1,78 @@
+-- What contracts see of the space of a proof, and what a search asks of it.
+use Rattle.std.specs.Prelude.{◌≡◌, ◌<◌, ℕ, List, [], Bool, length}
+use Rattle.meaning.specs.declared.types.SchemaParts.{SchemaParts}
+use Rattle.meaning.specs.declared.types.Ground.{Ground}
+use Rattle.meaning.specs.declared.types.Trigger.{Trigger}
+use Rattle.meaning.specs.declared.types.Firing.{Firing}
+use Rattle.meaning.specs.declared.types.Query.{Query}
+use Rattle.meaning.specs.declared.types.Val.{Val}
+use Rattle.meaning.specs.Values.{Value}
+use Rattle.meaning.specs.Search.{AreDistinct}
+use Rattle.meaning.specs.Triggers.{State, IsQuiet}
+use Rattle.meaning.specs.Runs.{Proof, base_state, IsBaseRun, IsRun}
+use Rattle.meaning.specs.Extract.{HasGoalFrom}
+use Rattle.accessible_copy.specs.Proving.{Proving, log_of}
+use Rattle.least_search.specs.declared.space.Move.{Move}
+use Rattle.exposure_search.specs.Tries.{picked, IsOpen, IsTry, HasMatchFrom}
+use Rattle.exposure_search.specs.Making.{bases_of}
+
+-- What contracts see of a space: the schema, the known constants, the state that the proof began with, its base firings and the
+-- state after them, the queries and the head of a match, and how many firings a run may have.
+pub record Exploring : Type 0 where
+  pub schema : SchemaParts
+  pub constants : List Value
+  pub start : Proof
+  pub log : List Trigger
+  pub base : State
+  pub queries : List Query
+  pub head : List Val
+  pub budget : ℕ
+
+-- The space of a proof.
+abbrev pub exploring_of : SchemaParts → Proving → List Query → List Val → ℕ → Exploring
+exploring_of schema proof queries head budget = record {
+  schema = schema;
+  constants = proof.constants;
+  start = proof.start;
+  log = bases_of (log_of proof);
+  base = base_state proof.end;
+  queries = queries;
+  head = head;
+  budget = budget;
+}
+
+-- How many facts there are.
+abbrev pub space_size : Exploring → ℕ
+space_size space = length space.base.facts
+
+-- The move is possible at the set.
+abbrev pub CanExpose : Exploring → List Bool → Move → Type 0
+CanExpose space set move = IsOpen space.schema space.constants space.base.facts set move
+
+-- Every run of firings from the facts of the set, after which nothing is active, has a match.
+abbrev pub HasGoalAt : Exploring → List Bool → Type 0
+HasGoalAt space set = HasGoalFrom space.schema space.queries space.head space.base.next (picked space.base.facts set)
+
+-- Some run of firings from the facts of the set has a match.
+abbrev pub HasMatchAt : Exploring → List Bool → Type 0
+HasMatchAt space set = HasMatchFrom space.schema space.queries space.head space.base.next (picked space.base.facts set)
+
+-- Some exposures and copy firings after the base firings make so many firings, so many of them exposures.
+abbrev pub HasTry : Exploring → ℕ → ℕ → Type 0
+HasTry space firings exposures = IsTry space.schema space.constants space.base (length space.log) firings exposures
+
+-- Some run from the start has more firings than are allowed.
+pub record HasRunBeyond (space : Exploring) : Type 0 where
+  pub log : List Firing
+  pub end : Proof
+  pub run : IsRun space.schema space.constants 0 space.start log end
+  pub beyond : space.budget < length log
+
+-- The base firings lead from the start, at which nothing is exposed, to the base state, in which no base trigger is active and
+-- no fact stands twice.
+pub record IsFounded (space : Exploring) : Type 0 where
+  pub none_exposed : space.start.exposed ≡ []
+  pub none_copied : space.start.copy ≡ []
+  pub run : IsBaseRun space.schema.rules (base_state space.start) space.log space.base
+  pub quiet : IsQuiet space.schema.rules space.base
+  pub once : AreDistinct space.base.facts

@@ -1,0 +1,5 @@
+pub mod Tries
+pub mod Making
+pub mod Exploring
+pub mod Visiting
+pub mod Spaces

@@ -1,0 +1,64 @@
+-- Exposures as moves between sets of base facts, each by its number.
+use Rattle.std.specs.Prelude.{◌≡◌, ℕ, ◌+◌, List, [], ◌∷◌, Contains, Bool, true, false, slice_get, length, Some}
+use Rattle.meaning.specs.declared.types.SchemaParts.{SchemaParts}
+use Rattle.meaning.specs.declared.types.Ground.{Ground}
+use Rattle.meaning.specs.declared.types.Trigger.{Trigger}
+use Rattle.meaning.specs.declared.types.Firing.{Firing}
+use Rattle.meaning.specs.declared.types.Query.{Query}
+use Rattle.meaning.specs.declared.types.Firing.TheVariants.{Base, Copy, Expose}
+use Rattle.meaning.specs.declared.types.Val.{Val}
+use Rattle.meaning.specs.declared.types.Val.TheVariants.{Const}
+use Rattle.meaning.specs.Values.{Value}
+use Rattle.meaning.specs.Matching.{GroundsOf, IsQueryAnswer}
+use Rattle.meaning.specs.Triggers.{State, IsFiringRun}
+use Rattle.meaning.specs.Runs.{IsBaseRun}
+use Rattle.meaning.specs.Extract.{Exposure, exposed_facts, Exposes, IsExposing}
+use Rattle.least_search.specs.declared.space.Move.{Move}
+
+-- The base facts that a set marks.
+abbrev pub picked : List Ground → List Bool → List Ground
+picked [] set = []
+picked (fact ∷ base) [] = []
+picked (fact ∷ base) (true ∷ set) = fact ∷ picked base set
+picked (fact ∷ base) (false ∷ set) = picked base set
+
+-- The move stands for an exposure that is possible where the facts of the set are exposed, at its cost.
+pub record IsMove (schema : SchemaParts) (constants : List Value) (base : List Ground) (set : List Bool) (move : Move)
+    (e : Exposure) : Type 0 where
+  pub fact : slice_get base move.fact ≡ Some e.fact
+  pub only : (number : ℕ) → slice_get base number ≡ Some e.fact → number ≡ move.fact
+  pub method : slice_get schema.methods move.method ≡ Some e.method
+  pub cost : move.cost ≡ e.method.cost
+  pub new : slice_get set move.fact ≡ Some false
+  pub exposes : Exposes schema constants base (picked base set) e
+
+-- The move is possible at the set.
+abbrev pub IsOpen : SchemaParts → List Value → List Ground → List Bool → Move → Type 0
+IsOpen schema constants base set move = (e : Exposure) × IsMove schema constants base set move e
+
+-- After so many base firings, exposures in order and copy firings behind them make these numbers of firings and exposures.
+pub record IsTry (schema : SchemaParts) (constants : List Value) (base : State) (fired firings exposures : ℕ) : Type 0 where
+  pub made : List Exposure
+  pub copy : List Trigger
+  pub end : State
+  pub exposing : IsExposing schema constants base.facts [] made
+  pub copies : IsBaseRun schema.rules (record { facts = exposed_facts made; next = base.next }) copy end
+  pub firings_are : firings ≡ fired + length made + length copy
+  pub exposures_are : exposures ≡ length made
+
+-- Some run of firings from the facts has a match of one of the queries with this head.
+pub record HasMatchFrom (schema : SchemaParts) (queries : List Query) (head : List Val) (next : ℕ)
+    (facts : List Ground) : Type 0 where
+  pub copy : List Trigger
+  pub end : State
+  pub goal : Query
+  pub run : IsFiringRun schema.rules (record { facts = facts; next = next }) copy end
+  pub among : Contains queries goal
+  pub answer : IsQueryAnswer Const (GroundsOf end.facts) goal head
+
+-- How many exposures a log has.
+abbrev pub exposures_in : List Firing → ℕ
+exposures_in [] = 0
+exposures_in (Base trigger ∷ log) = exposures_in log
+exposures_in (Copy trigger ∷ log) = exposures_in log
+exposures_in (Expose number fact ∷ log) = exposures_in log + 1

@@ -1,0 +1,131 @@
+// The space of a proof.
+ghost use Rattle.std.specs.Prelude.{◌≡◌, ◌≤◌, ◌^◌, ◌⊎◌, List, Bool, Contains, IfOk, IfSome, IfNone, length, map};
+ghost use Rattle.meaning.specs.declared.types.Query.{Query};
+ghost use Rattle.meaning.specs.declared.types.Trigger.{Trigger};
+ghost use Rattle.meaning.specs.declared.types.Firing.TheVariants.{Base};
+ghost use Rattle.meaning.specs.Runs.{IsBaseQuiet};
+ghost use Rattle.access_schema.specs.Meaning.{meaning_of};
+ghost use Rattle.rule_pass.specs.declared.pass.TheConstants.{MOST_FIRINGS};
+ghost use Rattle.accessible_copy.specs.Proving.{IsProofOf, log_of};
+ghost use Rattle.accessible_copy.specs.Goals.{IsCounted, IsGoal};
+ghost use Rattle.least_search.specs.Walks.{IsWalk, no_facts};
+ghost use Rattle.exposure_search.specs.Exploring.{exploring_of, space_size, CanExpose, HasGoalAt, HasMatchAt, HasTry, HasRunBeyond, IsFounded};
+ghost use Rattle.exposure_search.specs.Visiting.{IsReached};
+ghost use Rattle.exposure_search.specs.Spaces.{explored_is_space};
+
+use crate::visiting::{Aim, reach_set, visit_set};
+use access_schema::Schema;
+use accessible_copy::{Match, Proof, mark};
+use least_search::{Move, Space, Visit};
+use lists::{Copies, NoMemory};
+use meaning::types::{Ground, Queries, Vals};
+use std::alloc::Global;
+use std::marker::Model;
+
+/// The sets of base facts of a proof, with exposures as moves, and matches of queries in the settled copy as goals.
+///
+/// A visit leaves the exposures of its path made, so that the next visit makes only those that its path has beyond the common
+/// front. Contracts see the schema, the proof's beginning and what is looked for.
+#[derive(Drop)]
+pub struct ExposureSpace<'a> {
+    aim: Aim<'a>,
+    proof: Proof,
+}
+
+impl<'a> Model for ExposureSpace<'a> {
+    ghost use Rattle.access_schema.specs.Meaning.{meaning_of};
+    ghost use Rattle.exposure_search.specs.Making.{IsReady};
+    ghost use Rattle.exposure_search.specs.Exploring.{Exploring, exploring_of};
+
+    ghost Value = { Exploring };
+
+    ghost view = { λ s. exploring_of (meaning_of s.aim.schema.now) s.proof s.aim.queries.now s.aim.head.now s.aim.budget };
+
+    ghost invariant = { λ s. IsReady (meaning_of s.aim.schema.now) s.proof s.aim.facts.items s.aim.bases s.aim.queries.now s.aim.budget };
+}
+
+impl<'a> ExposureSpace<'a> {
+    /// The space of a proof of base firings alone, after which no base trigger is active. A run may have `budget` firings.
+    pub fn new(
+        alloc: Global,
+        schema: &'a Schema,
+        proof: Proof,
+        queries: &'a Queries,
+        head: &'a Vals,
+        budget: u32,
+    ) -> Result<ExposureSpace<'a>, NoMemory>
+        requires run { IsProofOf (meaning_of schema.now) proof }
+        requires bases { (bases : List Trigger) × (log_of proof ≡ map Base bases) }
+        requires quiet { IsBaseQuiet (meaning_of schema.now) proof.end }
+        requires counted { (query : Query) → Contains queries.now query → IsCounted query }
+        requires few { length queries.now ≤ 2 ^ 32 }
+        requires budget { budget ≤ MOST_FIRINGS }
+        ensures space { IfOk result (λ space. space ≡ exploring_of (meaning_of schema.now) proof queries.now head.now budget) }
+        ensures founded { IfOk result (λ space. IsFounded space) }
+    {
+        let facts = base_facts(alloc, &proof)?;
+        let bases = mark(&proof).firings;
+        let aim = Aim {
+            alloc,
+            schema,
+            queries,
+            head,
+            budget,
+            facts,
+            bases,
+        };
+        Ok(ExposureSpace { aim, proof })
+    }
+
+    /// The proof that has just the exposures of the path, and copy firings behind them, with a match in it.
+    ///
+    /// None comes only where some run is longer than the budget, or where the set of the path has no goal.
+    pub fn reach(self, path: &[Move], set: &[bool]) -> Result<Option<(Proof, Match)>, NoMemory>
+        requires { IsWalk (CanExpose self) (no_facts (space_size self)) path.now set.now }
+        ensures reached { IfOk result (λ found. IfSome found (λ pair. IsReached self path.now pair.0)) }
+        ensures found { IfOk result (λ found. IfSome found
+            (λ pair. IsGoal self.queries pair.0.end.copy self.head pair.1.select pair.1.assignment.vals)) }
+        ensures none { IfOk result (λ found. IfNone found (HasRunBeyond self ⊎ (HasGoalAt self set.now → ⊥))) }
+    {
+        let ExposureSpace { aim, mut proof } = self;
+        match reach_set(&aim, &mut proof, path, set)? {
+            Some(found) => Ok(Some((proof, found))),
+            None => Ok(None),
+        }
+    }
+}
+
+/// Copies of the base facts.
+fn base_facts(alloc: Global, proof: &Proof) -> Result<Vec<Ground>, NoMemory>
+    ensures { IfOk result (λ facts. facts.items ≡ proof.now.end.base) }
+{
+    let mut facts = Vec::new(alloc);
+    while let Some(fact) = proof.base(facts.len()) {
+        facts.push(fact.copy(alloc)?)?;
+    }
+    Ok(facts)
+}
+
+impl<'a> Space for ExposureSpace<'a> {
+    ghost size = { space_size };
+
+    ghost CanMove = { CanExpose };
+
+    ghost HasGoal = { HasGoalAt };
+
+    ghost HasMatch = { HasMatchAt };
+
+    ghost HasRun = { HasTry };
+
+    ghost HasLongRun = { HasRunBeyond };
+
+    ghost is_space = { explored_is_space };
+
+    fn facts(&self) -> usize {
+        self.aim.facts.len()
+    }
+
+    fn visit(&mut self, path: &[Move], set: &[bool], room: u64) -> Result<Visit, NoMemory> {
+        visit_set(&self.aim, &mut self.proof, path, set, room)
+    }
+}

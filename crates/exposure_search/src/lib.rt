@@ -1,0 +1,14 @@
+//! The space of a search for the least cost: sets of exposures over the base facts of a proof.
+//!
+//! Crates above use this: `cheapest` of the crate `least_search` goes over an `ExposureSpace`, and `reach` makes the proof of what
+//! it found. Begin at `specs/Tries.antt` and `specs/Exploring.antt`.
+#![tactic(auto)]
+
+mod exposure_space;
+mod going;
+pub mod laws;
+mod listing;
+mod looking;
+mod visiting;
+
+pub use exposure_space::ExposureSpace;

@@ -1,0 +1,118 @@
+// A visit of a set: what it is looked for, and how.
+ghost use Rattle.std.specs.Prelude.{◌≡◌, ◌≤◌, ◌⊎◌, Contains, IfOk, IfSome, IfNone, OnOk, length};
+ghost use Rattle.access_schema.specs.Meaning.{meaning_of};
+ghost use Rattle.accessible_copy.specs.Proving.{IsProofOf};
+ghost use Rattle.accessible_copy.specs.Goals.{IsGoal};
+ghost use Rattle.least_search.specs.declared.space.Move.{Move};
+ghost use Rattle.least_search.specs.declared.space.End.TheVariants as end;
+ghost use Rattle.least_search.specs.Walks.{IsWalk, no_facts};
+ghost use Rattle.least_search.specs.Ends.{GoesOn};
+ghost use Rattle.exposure_search.specs.Tries.{IsOpen};
+ghost use Rattle.exposure_search.specs.Making.{OnlyExposes, SameBase, IsReady, IsActiveMove, IsServed};
+ghost use Rattle.exposure_search.specs.Exploring.{exploring_of, HasGoalAt, HasRunBeyond};
+ghost use Rattle.exposure_search.specs.Visiting.{IsVisitEnd, AreMovesAt, IsReached};
+
+use crate::going::go_along;
+use crate::listing::active_moves;
+use crate::looking::look;
+use access_schema::Schema;
+use accessible_copy::{Match, Proof, goal, mark, settle, undo};
+use least_search::{End, Move, Visit};
+use lists::NoMemory;
+use meaning::types::{Ground, Queries, Vals};
+use std::alloc::Global;
+
+/// What is looked for: a match of one of the queries with this head, in runs of at most `budget` firings over the schema. The base
+/// facts of these runs, and how many base firings made them.
+#[derive(Drop)]
+pub struct Aim<'a> {
+    pub alloc: Global,
+    pub schema: &'a Schema,
+    pub queries: &'a Queries,
+    pub head: &'a Vals,
+    pub budget: u32,
+    pub facts: Vec<Ground>,
+    pub bases: u64,
+}
+
+/// Goes along the path, settles the copy there with at most `room` firings, looks for a match, undoes the copy firings, and lists
+/// the moves from there.
+pub(crate) fn visit_set(
+    aim: &Aim,
+    proof: &mut Proof,
+    path: &[Move],
+    set: &[bool],
+    room: u64,
+) -> Result<Visit, NoMemory>
+    requires ready { IsReady (meaning_of aim.now.schema.now) proof.old aim.now.facts.items aim.now.bases aim.now.queries.now aim.now.budget }
+    requires walk { IsWalk (IsOpen (meaning_of aim.now.schema.now) proof.old.constants proof.old.end.base)
+        (no_facts (length proof.old.end.base)) path.now set.now }
+    ensures exposes { OnlyExposes (meaning_of aim.now.schema.now) proof.new }
+    ensures same { SameBase proof.old proof.new }
+    ensures ended { IfOk result (λ visit. IsVisitEnd
+        (exploring_of (meaning_of aim.now.schema.now) proof.old aim.now.queries.now aim.now.head.now aim.now.budget)
+        path.now set.now visit.end visit.fired) }
+    ensures room { IfOk result (λ visit. visit.fired ≤ room) }
+    ensures spent { IfOk result (λ visit. visit.end ≡ end.UnitsSpent → visit.fired ≡ room) }
+    ensures moves { IfOk result (λ visit. AreMovesAt
+        (exploring_of (meaning_of aim.now.schema.now) proof.old aim.now.queries.now aim.now.head.now aim.now.budget)
+        set.now visit.end visit.moves.items) }
+{
+    go_along(aim.alloc, proof, aim.schema, aim.facts.as_slice(), aim.bases, path)?;
+    let made = mark(proof);
+    let seen = look(
+        aim.alloc,
+        proof,
+        aim.schema,
+        aim.queries,
+        aim.head,
+        aim.budget,
+        room,
+    );
+    undo(proof, made);
+    let (end, fired) = seen?;
+    let moves = moves_after(aim, proof, end)?;
+    Ok(Visit { end, fired, moves })
+}
+
+/// The moves from a set after whose visit the search goes on.
+fn moves_after(aim: &Aim, proof: &Proof, end: End) -> Result<Vec<Move>, NoMemory>
+    requires run { IsProofOf (meaning_of aim.now.schema.now) proof.now }
+    requires facts { aim.now.facts.items ≡ proof.now.end.base }
+    ensures active { IfOk result (λ moves. (move : Move) → Contains moves.items move →
+        IsActiveMove (meaning_of aim.now.schema.now) proof.now move) }
+    ensures all { IfOk result (λ moves. GoesOn end → (move : Move) →
+        IsActiveMove (meaning_of aim.now.schema.now) proof.now move → IsServed moves.items move) }
+{
+    match end {
+        End::Goal | End::UnitsSpent => Ok(Vec::new(aim.alloc)),
+        End::NoGoal | End::FiringsSpent => {
+            active_moves(aim.alloc, proof, aim.schema, aim.facts.as_slice())
+        }
+    }
+}
+
+/// Goes along the path, settles the copy there while the log has fewer than the budget's firings, and looks for a match.
+pub(crate) fn reach_set(
+    aim: &Aim,
+    proof: &mut Proof,
+    path: &[Move],
+    set: &[bool],
+) -> Result<Option<Match>, NoMemory>
+    requires ready { IsReady (meaning_of aim.now.schema.now) proof.old aim.now.facts.items aim.now.bases aim.now.queries.now aim.now.budget }
+    requires walk { IsWalk (IsOpen (meaning_of aim.now.schema.now) proof.old.constants proof.old.end.base)
+        (no_facts (length proof.old.end.base)) path.now set.now }
+    ensures reached { OnOk result (IsReached
+        (exploring_of (meaning_of aim.now.schema.now) proof.old aim.now.queries.now aim.now.head.now aim.now.budget)
+        path.now proof.new) }
+    ensures found { IfOk result (λ found. IfSome found
+        (λ m. IsGoal aim.now.queries.now proof.new.end.copy aim.now.head.now m.select m.assignment.vals)) }
+    ensures none { IfOk result (λ found. IfNone found
+        (HasRunBeyond (exploring_of (meaning_of aim.now.schema.now) proof.old aim.now.queries.now aim.now.head.now aim.now.budget)
+        ⊎ (HasGoalAt (exploring_of (meaning_of aim.now.schema.now) proof.old aim.now.queries.now aim.now.head.now aim.now.budget)
+        set.now → ⊥))) }
+{
+    go_along(aim.alloc, proof, aim.schema, aim.facts.as_slice(), aim.bases, path)?;
+    settle(aim.alloc, proof, aim.schema, true, aim.budget)?;
+    Ok(goal(aim.alloc, proof, aim.queries, aim.head)?)
+}
