@@ -5,3 +5,4 @@ pub mod Searched
 pub mod Counts
 pub mod Least
 pub mod Steps
+pub mod Buying
