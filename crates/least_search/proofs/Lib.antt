@@ -5,4 +5,3 @@ pub mod Searched
 pub mod Counts
 pub mod Least
 pub mod Steps
-pub mod Buying

@@ -4,7 +4,7 @@ ghost use Rattle.std.specs.Result.{IfOk, OnOk};
 ghost use Rattle.std.specs.Option.{IfSome, MatchOption};
 ghost use Rattle.least_search.specs.declared.space.Move.{Move as TheMove};
 ghost use Rattle.least_search.specs.declared.search.Ended.TheVariants as ended;
-ghost use Rattle.least_search.specs.Walks.{IsNode, IsSpace};
+ghost use Rattle.least_search.specs.Walks.{IsNode};
 ghost use Rattle.least_search.specs.Frontier.{AreLooked, IsNext, ArePushed};
 ghost use Rattle.least_search.specs.Costs.{IsLeastCost, IsEnough, best_cost};
 
@@ -42,7 +42,6 @@ pub fn cheapest<S: Space>(
     bound: u64,
     search: u64,
 ) -> Result<Outcome, NoMemory>
-    requires { IsSpace (S.size space.old) (S.CanMove space.old) (S.HasRun space.old) }
     ensures back { OnOk result (space.new ≡ space.old) }
     ensures better { IfOk result (λ outcome. IfSome outcome.better (λ node. IsNode (S.size space.old) (S.CanMove space.old) node × S.HasMatch space.old node.set.items × (node.cost < bound))) }
     ensures shown { IfOk result (λ outcome. outcome.ended ≡ ended.Shown → IsLeastCost (S.size space.old) (S.CanMove space.old) (S.HasGoal space.old) (best_cost bound outcome.better)) }

@@ -3,7 +3,7 @@ ghost use Rattle.std.specs.Prelude.{◌≡◌, ◌+◌, ◌<◌, ◌^◌, ◌≤
 ghost use Rattle.std.specs.Result.{IfOk, OnOk};
 ghost use Rattle.least_search.specs.declared.space.Move.{Move};
 ghost use Rattle.least_search.specs.declared.space.End.TheVariants as end;
-ghost use Rattle.least_search.specs.Walks.{IsWalk, no_facts};
+ghost use Rattle.least_search.specs.Walks.{IsWalk, IsSpace, no_facts};
 ghost use Rattle.least_search.specs.Ends.{GoesOn};
 
 use lists::NoMemory;
@@ -75,4 +75,6 @@ pub trait Space {
         ensures possible { IfOk result (λ visit. (move : Move) → Contains visit.moves.items move → CanMove self.old set.now move) }
         ensures complete { IfOk result (λ visit. GoesOn visit.end → (move : Move) → CanMove self.old set.now move →
             (other : Move) × Contains visit.moves.items other × (other.fact ≡ move.fact) × (other.cost ≤ move.cost)) };
+
+    ghost is_space: { (space : Self) → IsSpace (size space) (CanMove space) (HasRun space) };
 }

@@ -1,6 +1,6 @@
 // A search over two facts, worked out by hand: fact 0 costs 4, and fact 1, the goal, costs 10, or 2 where fact 0 is there.
 ghost use Rattle.std.specs.Prelude.{◌≡◌, ◌↔◌, ◌≤◌, IsTrue, IfOk, Contains, slice_get, Some, true, false};
-ghost use Rattle.least_search.specs.Markets.{CanBuy};
+ghost use Rattle.least_search.specs.Markets.{CanBuy, market_is_space};
 ghost use Rattle.least_search.specs.declared.tests.TheConstants.{FIRST, DEAR, CHEAP};
 ghost use Rattle.least_search.specs.declared.space.Move.{Move as TheMove};
 
@@ -78,6 +78,8 @@ impl Space for Market {
             moves,
         })
     }
+
+    ghost is_space = { λ market. market_is_space 2 market.firings FIRST DEAR CHEAP };
 }
 
 fn is_marked(set: &[bool], fact: usize) -> bool

@@ -50,7 +50,7 @@ returns-then-node-bound-clause-shown g c shown =
 
 pub returns-then-units-search-clause-search : goal.returns-then-units-search-clause-search
 returns-then-units-search-clause-search g c units is m n enough =
-    not_spent (g.S.Space.size c.args.space.now) (g.S.Space.CanMove c.args.space.now) (g.S.Space.HasRun c.args.space.now) c.requires c.loop-looked.looked c.loop-looked.invariant.searched.looked_are c.loop-looked.invariant.distinct c.loop-looked.units c.args.search c.loop-looked.invariant.counted (let same : c.loop-looked.units ≡ c.args.search = c.if-units-search.true in omega arith) m n enough
+    not_spent (g.S.Space.size c.args.space.now) (g.S.Space.CanMove c.args.space.now) (g.S.Space.HasRun c.args.space.now) (g.met.S.Space.is_space c.args.space.now) c.loop-looked.looked c.loop-looked.invariant.searched.looked_are c.loop-looked.invariant.distinct c.loop-looked.units c.args.search c.loop-looked.invariant.counted (let same : c.loop-looked.units ≡ c.args.search = c.if-units-search.true in omega arith) m n enough
 
 pub returns-in-Goal-clause-shown : goal.returns-in-Goal-clause-shown
 returns-in-Goal-clause-shown g c shown =
@@ -68,7 +68,7 @@ returns-in-UnitsSpent-clause-search g c spent is m n enough =
     let fired : c.in_ok-visit.visit.fired ≡ c.args.search - c.loop-looked.units - 1 = c.in_ok-visit.ensures.spent c.in-UnitsSpent.is in
     let units : c.loop-looked.units ≤ c.args.search = c.loop-looked.invariant.units in
     let more : length c.loop-looked.looked + 1 ≡ length (c.in-Some.node ∷ c.loop-looked.looked) = omega arith in
-    not_spent (g.S.Space.size c.args.space.now) (g.S.Space.CanMove c.args.space.now) (g.S.Space.HasRun c.args.space.now) c.requires (c.in-Some.node ∷ c.loop-looked.looked)
+    not_spent (g.S.Space.size c.args.space.now) (g.S.Space.CanMove c.args.space.now) (g.S.Space.HasRun c.args.space.now) (g.met.S.Space.is_space c.args.space.now) (c.in-Some.node ∷ c.loop-looked.looked)
     (λ x there. ⊎_elim (λ e. subst (λ y. IsNode (g.S.Space.size c.args.space.now) (g.S.Space.CanMove c.args.space.now) y) e (c.loop-looked.invariant.searched.waiting_are c.in-Some.node next.among)) (λ old. c.loop-looked.invariant.searched.looked_are x old) (contains_cases c.in-Some.node c.loop-looked.looked x there))
     (next.new, c.loop-looked.invariant.distinct) (c.loop-looked.units + 1 + c.in_ok-visit.visit.fired) c.args.search
     (subst (λ k. IsCounted (g.S.Space.HasRun c.args.space.now) k (c.loop-looked.units + 1 + c.in_ok-visit.visit.fired)) more (counted_more (g.S.Space.HasRun c.args.space.now) (length c.loop-looked.looked) c.loop-looked.units c.in_ok-visit.visit.fired firings (length c.deref.result.now) c.loop-looked.invariant.counted its few))
@@ -80,7 +80,7 @@ push_moves-requires-clause-inside g c move there =
     let set : c.deref-in-loop-looked.result.now ≡ c.in-Some.node.set.items = search rules in
     let possible : (move : Move) → Contains c.in_ok-visit.visit.moves.items move → g.S.Space.CanMove c.args.space.now c.in-Some.node.set.items move = (λ move there. subst (λ s. g.S.Space.CanMove s c.in-Some.node.set.items move) back (subst (λ t. g.S.Space.CanMove c.loop-looked.space t move) set (c.in_ok-visit.ensures.possible move there))) in
     let moves : c.deref-in-loop-looked-2.result.now ≡ c.in_ok-visit.visit.moves.items = search rules in
-    inside (g.S.Space.size c.args.space.now) (g.S.Space.CanMove c.args.space.now) (g.S.Space.HasRun c.args.space.now) c.requires c.in-Some.node.set.items move (possible move (subst (λ (ms : List Move). Contains ms move) moves there))
+    inside (g.S.Space.size c.args.space.now) (g.S.Space.CanMove c.args.space.now) (g.S.Space.HasRun c.args.space.now) (g.met.S.Space.is_space c.args.space.now) c.in-Some.node.set.items move (possible move (subst (λ (ms : List Move). Contains ms move) moves there))
 
 pub loop-looked-preserved : goal.loop-looked-preserved
 loop-looked-preserved g c =
