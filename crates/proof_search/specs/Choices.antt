@@ -6,6 +6,8 @@ use Rattle.meaning.specs.declared.types.Branch.{Branch}
 use Rattle.meaning.specs.Values.{Value}
 use Rattle.meaning.specs.Costs.{IsCost}
 use Rattle.meaning.specs.Extract.{IsQueryRival}
+use Rattle.meaning.specs.Runs.{opening, frozen_head}
+use Rattle.exposure_search.specs.Exploring.{Exploring, IsFounded}
 use Rattle.access_cost.specs.declared.least.Least.{Least}
 use Rattle.access_cost.specs.declared.least.Least.TheVariants.{Shown, SearchSpent, FiringsSpent}
 use Rattle.proof_search.specs.declared.outcome.Choice.{Choice}
@@ -17,6 +19,19 @@ abbrev pub IsLeastFor : SchemaParts → List Value → List Query → Query → 
 IsLeastFor schema known queries query branch =
     (rival : Branch) (cost other : ℕ) → IsQueryRival schema known queries query rival →
     IsCost schema branch cost → IsCost schema rival other → cost ≤ other
+
+-- The branch has a cost, which is at most so much.
+abbrev pub CostsAtMost : SchemaParts → Branch → ℕ → Type 0
+CostsAtMost schema branch most = (cost : ℕ) × IsCost schema branch cost × (cost ≤ most)
+
+-- The space is that of the query's base firings, for these queries with the query's frozen head, in runs of so many firings.
+pub record IsSpaceOf (schema : SchemaParts) (queries : List Query) (query : Query) (firings : ℕ) (space : Exploring) : Type 0 where
+  pub schema_is : space.schema ≡ schema
+  pub start : space.start ≡ opening query
+  pub queries_are : space.queries ≡ queries
+  pub head : space.head ≡ frozen_head query
+  pub budget : space.budget ≡ firings
+  pub founded : IsFounded space
 
 -- What is said of the cost of a query's branch is so: no rival costs less; or all units of the search were spent, and no pair was
 -- enough; or some run of the query is longer than the budget of firings.
