@@ -1,9 +1,10 @@
 -- Spaces of proofs, and what a search over them shows.
-use Rattle.std.proofs.Common.{◌≡◌, ℕ, ◌≤◌, List, [], ◌∷◌, ◌++◌, length, map, Bool, refl, sym, ap, ◌∙◌, subst, arith}
-use Rattle.std.specs.Prelude.{Contains}
-use Rattle.std.proofs.lemmas.List.{append-nil, length-map}
+use Rattle.std.proofs.Common.{◌≡◌, ℕ, ◌+◌, ◌<◌, ◌≤◌, List, [], ◌∷◌, ◌++◌, length, map, Bool, refl, sym, ap, ◌∙◌, subst, arith}
+use Rattle.std.specs.Prelude.{Contains, false}
+use Rattle.std.proofs.lemmas.List.{append-nil, length-append, length-map}
 use Rattle.lists.proofs.Members.{contains_got}
 use Rattle.meaning_laws.proofs.SameSets.{run_alike}
+use Rattle.meaning_laws.proofs.Running.{plain_push}
 use Rattle.meaning_laws.proofs.Everywhere.{goal_everywhere}
 use Rattle.meaning.specs.declared.types.SchemaParts.{SchemaParts}
 use Rattle.meaning.specs.declared.types.Ground.{Ground}
@@ -14,22 +15,26 @@ use Rattle.meaning.specs.declared.types.Query.{Query}
 use Rattle.meaning.specs.declared.types.Val.{Val}
 use Rattle.meaning.specs.declared.types.Val.TheVariants.{Const}
 use Rattle.meaning.specs.Matching.{GroundsOf, IsQueryAnswer}
-use Rattle.meaning.specs.Triggers.{State, IsFiringRun, ground}
-use Rattle.meaning.specs.Runs.{Proof, IsRun, IsBaseQuiet}
+use Rattle.meaning.specs.Triggers.{State, IsFiringRun, IsQuiet, fired, ground}
+use Rattle.meaning.specs.Runs.{Proof, base_state, last_part, IsRun}
 use Rattle.meaning.specs.Naming.{IsNamed, AreNamed}
 use Rattle.meaning.specs.Fitting.{QueryHasConstants, Fit, RulesFit}
 use Rattle.meaning.specs.Extract.{Exposure, exposed_facts, exposures_cost, IsExposing, HasGoalAfter}
 use Rattle.accessible_copy.specs.declared.entry.Entry.{Entry}
 use Rattle.accessible_copy.specs.Rounds.{exposure_of}
-use Rattle.accessible_copy.specs.Proving.{Proving, IsProofOf, log_of}
+use Rattle.accessible_copy.specs.Written.{firing_of}
+use Rattle.accessible_copy.specs.Settling.{Settles}
+use Rattle.accessible_copy.specs.Proving.{Proving, IsProofOf, log_of, firings_of}
+use Rattle.accessible_copy.proofs.Writing.{written_run}
+use Rattle.rule_pass.specs.States.{SomeActive}
 use Rattle.accessible_copy.proofs.Listed.{proof_once}
 use Rattle.least_search.specs.declared.node.Node.{Node}
 use Rattle.least_search.specs.Walks.{IsNode, no_facts}
 use Rattle.least_search.specs.Costs.{IsLeastCost, AreRunsWithin}
 use Rattle.exposure_search.specs.Tries.{picked, exposures_in}
-use Rattle.exposure_search.specs.Making.{bases_of, OnlyExposes}
-use Rattle.exposure_search.specs.Exploring.{Exploring, exploring_of, space_size, CanExpose, HasGoalAt, HasMatchAt, HasTry, IsFounded}
-use Rattle.exposure_search.proofs.Sets.{none_same, picked_back}
+use Rattle.exposure_search.specs.Making.{bases_of, IsBaseProof, OnlyExposes}
+use Rattle.exposure_search.specs.Exploring.{Exploring, exploring_of, space_size, CanExpose, HasGoalAt, HasMatchAt, HasTry, IsRunBeyond, IsFounded}
+use Rattle.exposure_search.specs.Sets.{none_same, picked_back}
 use Rattle.exposure_search.proofs.Bridging.{least_exposing}
 use Rattle.exposure_search.proofs.Trying.{try_run}
 use Rattle.exposure_search.proofs.Logs.{laid, lies}
@@ -70,13 +75,14 @@ match_goal space set rules have named fit head_named has =
 
 -- ---- the beginning
 
-pub begins_only : (schema : SchemaParts) (proof : Proving) (bases : List Trigger) → IsProofOf schema proof → log_of proof ≡ map Base bases → IsBaseQuiet schema proof.end → OnlyExposes schema proof
-begins_only schema proof bases is log quiet =
-    let its = laid schema proof is bases [] (log ∙ sym (append-nil (map Base bases))) in
+pub begins_only : (schema : SchemaParts) (proof : Proving) → IsBaseProof schema proof → OnlyExposes schema proof
+begins_only schema proof is =
+    let bases : List Trigger = is.bases in
+    let its = laid schema proof is.run bases [] (is.log ∙ sym (append-nil (map Base bases))) in
     record {
-      run = is;
-      log = log ∙ sym (append-nil (map Base bases)) ∙ ap (λ b. map Base b ++ []) (sym its.bases_are) ∙ ap (λ m. map Base (bases_of (log_of proof)) ++ map exposure_of m) (sym its.made_are);
-      quiet = quiet;
+      run = is.run;
+      log = is.log ∙ sym (append-nil (map Base bases)) ∙ ap (λ b. map Base b ++ []) (sym its.bases_are) ∙ ap (λ m. map Base (bases_of (log_of proof)) ++ map exposure_of m) (sym its.made_are);
+      quiet = is.quiet;
     }
 
 pub founded : (schema : SchemaParts) (proof : Proving) (queries : List Query) (head : List Val) (budget : ℕ) → OnlyExposes schema proof → IsFounded (exploring_of schema proof queries head budget)
@@ -89,8 +95,10 @@ founded schema proof queries head budget is = record {
 }
 
 -- as many firings as base firings
-pub begins_long : (proof : Proving) (bases : List Trigger) → log_of proof ≡ map Base bases → length proof.entries ≡ length (bases_of (log_of proof))
-begins_long proof bases log =
+pub begins_long : (schema : SchemaParts) (proof : Proving) → IsBaseProof schema proof → length proof.entries ≡ length (bases_of (log_of proof))
+begins_long schema proof is =
+    let bases : List Trigger = is.bases in
+    let log : log_of proof ≡ map Base bases = is.log in
     let one : length (log_of proof) ≡ length proof.entries = length-map proof.entries (λ (entry : Entry). entry.firing) in
     let two : length (map Base bases) ≡ length bases = length-map bases Base in
     let three : bases_of (log_of proof) ≡ bases = ap bases_of log ∙ based bases in
@@ -99,3 +107,33 @@ begins_long proof bases log =
     based : (bases : List Trigger) → bases_of (map Base bases) ≡ bases
     based [] = refl
     based (trigger ∷ bases) = ap (λ z. trigger ∷ z) (based bases)
+
+-- ---- the base firings of a query
+
+module _ (schema : SchemaParts) (old new : Proving) (none : old.entries ≡ []) (is : IsProofOf schema new) (its : Settles schema false old new) where
+  log_is : log_of new ≡ map Base its.more
+  log_is = its.log ∙ ap (λ (entries : List Entry). firings_of entries ++ map (firing_of false) its.more) none
+
+  pub base_settled : IsQuiet schema.rules (base_state new.end) → IsBaseProof schema new
+  base_settled quiet = record { run = is; bases = its.more; log = log_is; quiet = quiet }
+
+  part_none : (bases : List Trigger) → last_part 0 (map Base bases) ≡ 0
+  part_none [] = refl
+  part_none (trigger ∷ bases) = part_none bases
+
+  -- where a base trigger is active, the run goes on
+  pub base_beyond : (known : List (List ℕ)) (start : Proof) (budget : ℕ) → old.constants ≡ known → old.start ≡ start → (budget ≤ length new.entries) × SomeActive schema.rules (base_state new.end) → IsRunBeyond schema known start budget
+  base_beyond known start budget constants begun (low, (trigger, (rule, first))) =
+      let run : IsRun schema known 0 start (log_of new) new.end =
+          subst (λ p. IsRun schema known 0 p (log_of new) new.end) (its.start ∙ begun)
+          (subst (λ c. IsRun schema c 0 new.start (log_of new) new.end) (its.constants ∙ constants) (written_run schema new.constants 0 new.start new.entries new.end is.written)) in
+      let next : Proof = record new.end { base = (fired (base_state new.end) trigger rule).facts; next = (fired (base_state new.end) trigger rule).next } in
+      let early : last_part 0 (log_of new) ≡ 0 = ap (last_part 0) log_is ∙ part_none its.more in
+      let long : length (log_of new) ≡ length new.entries = length-map new.entries (λ (entry : Entry). entry.firing) in
+      let both : length (log_of new ++ Base trigger ∷ []) ≡ length (log_of new) + length (Base trigger ∷ []) = length-append (log_of new) (Base trigger ∷ []) in
+      record {
+        log = log_of new ++ Base trigger ∷ [];
+        end = next;
+        run = plain_push schema known 0 start (log_of new) new.end (Base trigger) next run (omega arith) (rule, first, refl);
+        beyond = omega arith;
+      }

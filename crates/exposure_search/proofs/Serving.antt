@@ -22,7 +22,7 @@ use Rattle.least_search.specs.Walks.{IsWalk, no_facts, with_fact}
 use Rattle.exposure_search.specs.Tries.{picked, IsMove, IsOpen}
 use Rattle.exposure_search.specs.Making.{IsActiveMove, IsServed}
 use Rattle.exposure_search.proofs.Steps.{got_index}
-use Rattle.exposure_search.proofs.Sets.{AreSame, got_contained, got_once, picked_at, picked_back, none_length, truth}
+use Rattle.exposure_search.specs.Sets.{AreSame, got_contained, got_once, picked_at, picked_back, none_length, truth}
 
 -- one of the moves stands for an exposure of the firing's fact that costs no more
 abbrev pub IsFiringServed : List Method → List Ground → List Move → Firing → Type 0

@@ -1,6 +1,6 @@
 -- What settling the copy of exposures shows.
 use Rattle.std.proofs.Common.{◌≡◌, ◌⊎◌, ℕ, ◌+◌, ◌<◌, ◌≤◌, List, [], ◌∷◌, ◌++◌, length, map, Bool, true, false, Option, Some, None, refl, sym, ap, ◌∙◌, subst, inl, inr, arith}
-use Rattle.std.specs.Prelude.{Contains, is_some, IfSome}
+use Rattle.std.specs.Prelude.{Contains, is_some, IfSome, IfNone}
 use Rattle.std.specs.List.{AllZip}
 use Rattle.lists.proofs.Members.{contains_got}
 use Rattle.meaning_laws.proofs.SameSets.{run_alike}
@@ -33,7 +33,7 @@ use Rattle.exposure_search.specs.Tries.{picked, IsOpen, IsTry, HasMatchFrom}
 use Rattle.exposure_search.specs.Making.{bases_of, OnlyExposes, SameBase, all_made, IsExposedBy, IsActiveMove, IsServed}
 use Rattle.exposure_search.specs.Exploring.{Exploring, exploring_of, HasGoalAt, HasRunBeyond}
 use Rattle.exposure_search.specs.Visiting.{IsVisitEnd, AreMovesAt, IsReached}
-use Rattle.exposure_search.proofs.Sets.{AreSame, none_same, turned}
+use Rattle.exposure_search.specs.Sets.{AreSame, none_same, turned}
 use Rattle.exposure_search.proofs.Bridging.{goal_same}
 use Rattle.exposure_search.proofs.Logs.{lies, settled_run, settled_long, settled_on}
 use Rattle.exposure_search.proofs.Steps.{IsWalked, walked, walk_same}
@@ -47,6 +47,10 @@ found_goal queries proof head (Some m) e (query, named, its) = (query, contains_
 pub none_found : (queries : List Query) (proof : Proof) (head : List Val) (found : Option Match) → is_some found ≡ false → IfSome found (λ (m : Match). IsGoal queries proof.copy head m.select m.assignment.vals) → found ≡ None
 none_found queries proof head None e is = refl
 none_found queries proof head (Some m) e is = absurd (cc)
+
+pub none_then : {X : Type 0} (P Q : Type 0) (found : Option X) → (P → Q) → IfNone found P → IfNone found Q
+none_then P Q None f p = f p
+none_then P Q (Some x) f p = tt
 
 -- the same beginning gives the same space
 pub same_space : (schema : SchemaParts) (queries : List Query) (head : List Val) (budget : ℕ) (old new : Proving) → SameBase old new → exploring_of schema new queries head budget ≡ exploring_of schema old queries head budget
@@ -92,7 +96,7 @@ module _ (schema : SchemaParts) (queries : List Query) (head : List Val) (budget
     (is : OnlyExposes schema proof) (its : IsProofOf schema settled) (settles : Settles schema true proof settled)
     (made : proof.exposed ≡ all_made proof.end.base path)
     (walk : IsWalk (IsOpen schema proof.constants proof.end.base) (no_facts (length proof.end.base)) path set) where
-  trail : IsWalked schema proof.constants proof.end.base path (no_facts (length proof.end.base)) set []
+  abbrev pub trail : IsWalked schema proof.constants proof.end.base path (no_facts (length proof.end.base)) set []
   trail = path_walked schema proof path set is made walk
 
   -- the copy firings are a run from the exposed facts

@@ -21,8 +21,8 @@ use Rattle.least_search.specs.declared.space.Move.{Move}
 use Rattle.least_search.specs.Walks.{IsWalk, walk_cost, no_facts, with_fact}
 use Rattle.exposure_search.specs.Tries.{picked, IsOpen}
 use Rattle.exposure_search.specs.Making.{OnlyExposes, SameBase, fact_at, made_by, all_made, IsExposedBy, IsActiveMove}
-use Rattle.exposure_search.proofs.Sets.{AreSame, same_more, none_same}
-use Rattle.exposure_search.proofs.Bridging.{exposes_same}
+use Rattle.exposure_search.specs.Sets.{AreSame, same_more, none_same}
+use Rattle.exposure_search.specs.Spaces.{exposes_same}
 use Rattle.exposure_search.proofs.Logs.{lies, goes_exposed, same_on}
 
 -- one more move that made the next exposure

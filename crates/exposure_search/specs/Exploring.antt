@@ -62,11 +62,14 @@ abbrev pub HasTry : Exploring → ℕ → ℕ → Type 0
 HasTry space firings exposures = IsTry space.schema space.constants space.base (length space.log) firings exposures
 
 -- Some run from the start has more firings than are allowed.
-pub record HasRunBeyond (space : Exploring) : Type 0 where
+pub record IsRunBeyond (schema : SchemaParts) (constants : List Value) (start : Proof) (budget : ℕ) : Type 0 where
   pub log : List Firing
   pub end : Proof
-  pub run : IsRun space.schema space.constants 0 space.start log end
-  pub beyond : space.budget < length log
+  pub run : IsRun schema constants 0 start log end
+  pub beyond : budget < length log
+
+abbrev pub HasRunBeyond : Exploring → Type 0
+HasRunBeyond space = IsRunBeyond space.schema space.constants space.start space.budget
 
 -- The base firings lead from the start, at which nothing is exposed, to the base state, in which no base trigger is active and
 -- no fact stands twice.

@@ -1,4 +1,5 @@
 pub mod Tries
+pub mod Sets
 pub mod Making
 pub mod Exploring
 pub mod Visiting

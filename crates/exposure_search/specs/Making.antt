@@ -23,6 +23,13 @@ bases_of (Base trigger ∷ log) = trigger ∷ bases_of log
 bases_of (Copy trigger ∷ log) = bases_of log
 bases_of (Expose number fact ∷ log) = bases_of log
 
+-- The log has base firings alone, and no base trigger is active.
+pub record IsBaseProof (schema : SchemaParts) (proof : Proving) : Type 0 where
+  pub run : IsProofOf schema proof
+  pub bases : List Trigger
+  pub log : log_of proof ≡ map Base bases
+  pub quiet : IsBaseQuiet schema proof.end
+
 -- The log has base firings and then exposures alone, and no base trigger is active.
 pub record OnlyExposes (schema : SchemaParts) (proof : Proving) : Type 0 where
   pub run : IsProofOf schema proof

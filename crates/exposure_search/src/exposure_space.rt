@@ -1,14 +1,11 @@
 // The space of a proof.
-ghost use Rattle.std.specs.Prelude.{◌≡◌, ◌≤◌, ◌^◌, ◌⊎◌, List, Bool, Contains, IfOk, IfSome, IfNone, length, map};
+ghost use Rattle.std.specs.Prelude.{◌≡◌, ◌≤◌, ◌^◌, ◌⊎◌, Contains, IfOk, IfSome, IfNone, length};
 ghost use Rattle.meaning.specs.declared.types.Query.{Query};
-ghost use Rattle.meaning.specs.declared.types.Trigger.{Trigger};
-ghost use Rattle.meaning.specs.declared.types.Firing.TheVariants.{Base};
-ghost use Rattle.meaning.specs.Runs.{IsBaseQuiet};
 ghost use Rattle.access_schema.specs.Meaning.{meaning_of};
 ghost use Rattle.rule_pass.specs.declared.pass.TheConstants.{MOST_FIRINGS};
-ghost use Rattle.accessible_copy.specs.Proving.{IsProofOf, log_of};
 ghost use Rattle.accessible_copy.specs.Goals.{IsCounted, IsGoal};
 ghost use Rattle.least_search.specs.Walks.{IsWalk, no_facts};
+ghost use Rattle.exposure_search.specs.Making.{IsBaseProof};
 ghost use Rattle.exposure_search.specs.Exploring.{exploring_of, space_size, CanExpose, HasGoalAt, HasMatchAt, HasTry, HasRunBeyond, IsFounded};
 ghost use Rattle.exposure_search.specs.Visiting.{IsReached};
 ghost use Rattle.exposure_search.specs.Spaces.{explored_is_space};
@@ -54,9 +51,7 @@ impl<'a> ExposureSpace<'a> {
         head: &'a Vals,
         budget: u32,
     ) -> Result<ExposureSpace<'a>, NoMemory>
-        requires run { IsProofOf (meaning_of schema.now) proof }
-        requires bases { (bases : List Trigger) × (log_of proof ≡ map Base bases) }
-        requires quiet { IsBaseQuiet (meaning_of schema.now) proof.end }
+        requires base { IsBaseProof (meaning_of schema.now) proof }
         requires counted { (query : Query) → Contains queries.now query → IsCounted query }
         requires few { length queries.now ≤ 2 ^ 32 }
         requires budget { budget ≤ MOST_FIRINGS }
@@ -82,10 +77,10 @@ impl<'a> ExposureSpace<'a> {
     /// None comes only where some run is longer than the budget, or where the set of the path has no goal.
     pub fn reach(self, path: &[Move], set: &[bool]) -> Result<Option<(Proof, Match)>, NoMemory>
         requires { IsWalk (CanExpose self) (no_facts (space_size self)) path.now set.now }
-        ensures reached { IfOk result (λ found. IfSome found (λ pair. IsReached self path.now pair.0)) }
+        ensures reached { IfOk result (λ found. IfSome found (λ pair. IsReached self.entry path.now pair.0)) }
         ensures found { IfOk result (λ found. IfSome found
-            (λ pair. IsGoal self.queries pair.0.end.copy self.head pair.1.select pair.1.assignment.vals)) }
-        ensures none { IfOk result (λ found. IfNone found (HasRunBeyond self ⊎ (HasGoalAt self set.now → ⊥))) }
+            (λ pair. IsGoal self.entry.queries pair.0.end.copy self.entry.head pair.1.select pair.1.assignment.vals)) }
+        ensures none { IfOk result (λ found. IfNone found (HasRunBeyond self.entry ⊎ (HasGoalAt self.entry set.now → ⊥))) }
     {
         let ExposureSpace { aim, mut proof } = self;
         match reach_set(&aim, &mut proof, path, set)? {

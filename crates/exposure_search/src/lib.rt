@@ -5,6 +5,7 @@
 #![tactic(auto)]
 
 mod exposure_space;
+mod founding;
 mod going;
 pub mod laws;
 mod listing;
@@ -12,3 +13,4 @@ mod looking;
 mod visiting;
 
 pub use exposure_space::ExposureSpace;
+pub use founding::base_proof;

@@ -1,3 +1,4 @@
+use Rattle.std.proofs.Common.{[]}
 use Rattle.std.proofs.lemmas.List.{get_or_read}
 use Rattle.exposure_search.proofs.going.fact_at.Goals as goal
 

@@ -1,0 +1,85 @@
+-- Visits, said of the proof before them.
+use Rattle.std.proofs.Common.{◌≡◌, ◌⊎◌, ℕ, ◌+◌, ◌≤◌, List, ◌++◌, length, take, true, sym, ap, ◌∙◌, subst, arith, Bool}
+use Rattle.std.specs.Prelude.{Contains, IfOk, Result, Ok, Err}
+use Rattle.meaning.specs.declared.types.SchemaParts.{SchemaParts}
+use Rattle.meaning.specs.declared.types.Query.{Query}
+use Rattle.meaning.specs.declared.types.Val.{Val}
+use Rattle.meaning.specs.Triggers.{IsQuiet}
+use Rattle.meaning.specs.Runs.{copy_state, HasGoal}
+use Rattle.rule_pass.specs.States.{SomeActive}
+use Rattle.accessible_copy.specs.declared.settling.Round.{Round}
+use Rattle.accessible_copy.specs.declared.settling.Round.TheVariants.{Quiet, Done, Spent}
+use Rattle.accessible_copy.specs.Proving.{Proving, IsProofOf}
+use Rattle.accessible_copy.specs.Settling.{Settles}
+use Rattle.least_search.specs.declared.space.Move.{Move}
+use Rattle.least_search.specs.declared.space.Visit.{Visit}
+use Rattle.least_search.specs.declared.space.End.{End}
+use Rattle.least_search.specs.declared.space.End.TheVariants as end
+use Rattle.least_search.specs.Walks.{IsWalk, no_facts}
+use Rattle.least_search.specs.Ends.{GoesOn}
+use Rattle.exposure_search.specs.Tries.{IsOpen}
+use Rattle.exposure_search.specs.Making.{OnlyExposes, SameBase, all_made, IsActiveMove, IsServed}
+use Rattle.exposure_search.specs.Exploring.{Exploring, exploring_of, CanExpose, HasGoalAt, HasTry, HasRunBeyond}
+use Rattle.exposure_search.specs.Visiting.{IsVisitEnd, AreMovesAt, IsReached}
+use Rattle.exposure_search.proofs.Logs.{goes_back, same_on, settled_long}
+use Rattle.exposure_search.proofs.Steps.{walk_same}
+use Rattle.exposure_search.proofs.Settled.{same_space, made_same, moves_here, visit_end, reached_here, none_reached}
+
+module _ (schema : SchemaParts) (queries : List Query) (head : List Val) (budget : ℕ) (old gone : Proving) (path : List Move) (set : List Bool)
+    (is : OnlyExposes schema gone) (same : SameBase old gone) (made : gone.exposed ≡ all_made old.end.base path)
+    (walk : IsWalk (IsOpen schema old.constants old.end.base) (no_facts (length old.end.base)) path set) where
+  -- the moves that were listed
+  pub moves_seen : (ended : End) (moves : List Move) → ((move : Move) → Contains moves move → IsActiveMove schema gone move) → (GoesOn ended → (move : Move) → IsActiveMove schema gone move → IsServed moves move) →
+      AreMovesAt (exploring_of schema old queries head budget) set ended moves
+  moves_seen ended moves active all =
+      subst (λ s. AreMovesAt s set ended moves) (same_space schema queries head budget old gone same)
+      (moves_here schema gone path set is (made_same old gone path same made) (walk_same schema old gone path set same walk) queries head budget ended moves active all)
+
+  module _ (settled : Proving) (its : IsProofOf schema settled) (settles : Settles schema true gone settled) where
+    -- how it ended
+    pub end_seen : (ended : End) (fired : ℕ) → (ended ≡ end.Goal → HasGoal queries settled.end head) → (ended ≡ end.NoGoal → IsQuiet schema.rules (copy_state settled.end)) → (ended ≡ end.NoGoal → HasGoal queries settled.end head → ⊥) →
+        (ended ≡ end.FiringsSpent → (budget ≤ length settled.entries) × SomeActive schema.rules (copy_state settled.end)) → length gone.entries + fired ≡ length settled.entries →
+        IsVisitEnd (exploring_of schema old queries head budget) path set ended fired
+    end_seen ended fired goal quiet none long counted =
+        subst (λ s. IsVisitEnd s path set ended fired) (same_space schema queries head budget old gone same)
+        (visit_end schema queries head budget gone settled path set is its settles (made_same old gone path same made) (walk_same schema old gone path set same walk) ended fired goal quiet none long counted)
+
+    -- the proof that was reached
+    pub proof_reached : IsReached (exploring_of schema old queries head budget) path settled
+    proof_reached =
+        subst (λ s. IsReached s path settled) (same_space schema queries head budget old gone same)
+        (reached_here schema queries head budget gone settled path set is its settles (made_same old gone path same made) (walk_same schema old gone path set same walk))
+
+    pub none_there : (ended : Round) → (ended ≡ Done → ⊥) → (ended ≡ Quiet → IsQuiet schema.rules (copy_state settled.end)) → (ended ≡ Spent → (budget ≤ length settled.entries) × SomeActive schema.rules (copy_state settled.end)) → (HasGoal queries settled.end head → ⊥) →
+        HasRunBeyond (exploring_of schema old queries head budget) ⊎ (HasGoalAt (exploring_of schema old queries head budget) set → ⊥)
+    none_there ended going quiet spent none =
+        subst (λ s. HasRunBeyond s ⊎ (HasGoalAt s set → ⊥)) (same_space schema queries head budget old gone same)
+        (none_reached schema queries head budget gone settled path set is its settles (made_same old gone path same made) (walk_same schema old gone path set same walk) ended going quiet spent none)
+
+    -- the copy firings were undone
+    pub gone_back : (new : Proving) (firings : ℕ) → IsProofOf schema new → new.constants ≡ settled.constants → new.start ≡ settled.start → firings ≡ length gone.entries → new.entries ≡ take firings settled.entries →
+        OnlyExposes schema new × SameBase old new × (new.exposed ≡ all_made old.end.base path)
+    gone_back new firings new_is constants start all entries =
+        let (exposes, on, exposed) = goes_back schema gone settled new is settles new_is constants start (entries ∙ ap (λ n. take n settled.entries) all) in
+        (exposes, same_on old gone new same on, exposed ∙ made)
+
+    pub no_shorter : (firings : ℕ) → firings ≡ length gone.entries → firings ≤ length settled.entries
+    no_shorter firings all = let long = settled_long schema gone settled settles in omega arith
+
+-- ---- the clauses of a visit
+
+pub visit_none : {E : Type 0} (space : Exploring) (path : List Move) (set : List Bool) (r : Result Visit E) → IfOk r (λ visit. IsVisitEnd space path set visit.end visit.fired) → IfOk r (λ visit. visit.end ≡ end.NoGoal → HasGoalAt space set → ⊥)
+visit_none space path set (Ok visit) is = is.none
+visit_none space path set (Err e) is = tt
+
+pub visit_run : {E : Type 0} (space : Exploring) (path : List Move) (set : List Bool) (r : Result Visit E) → IfOk r (λ visit. IsVisitEnd space path set visit.end visit.fired) → IfOk r (λ visit. (firings : ℕ) × HasTry space firings (length path) × (visit.fired ≤ firings))
+visit_run space path set (Ok visit) is = is.run
+visit_run space path set (Err e) is = tt
+
+pub visit_possible : {E : Type 0} (space : Exploring) (set : List Bool) (r : Result Visit E) → IfOk r (λ visit. AreMovesAt space set visit.end visit.moves.items) → IfOk r (λ visit. (move : Move) → Contains visit.moves.items move → CanExpose space set move)
+visit_possible space set (Ok visit) are = are.possible
+visit_possible space set (Err e) are = tt
+
+pub visit_complete : {E : Type 0} (space : Exploring) (set : List Bool) (r : Result Visit E) → IfOk r (λ visit. AreMovesAt space set visit.end visit.moves.items) → IfOk r (λ visit. GoesOn visit.end → (move : Move) → CanExpose space set move → IsServed visit.moves.items move)
+visit_complete space set (Ok visit) are = are.complete
+visit_complete space set (Err e) are = tt

@@ -1,0 +1,17 @@
+use Rattle.std.proofs.Common.{◌∙◌}
+use Rattle.access_schema.specs.Meaning.{meaning_of}
+use Rattle.exposure_search.proofs.Explored.{begins_only, begins_long, founded}
+use Rattle.exposure_search.proofs.exposure_space.ExposureSpace.new.Goals as goal
+
+pub invariant_of-result : goal.invariant_of-result
+invariant_of-result c = record {
+  exposes = begins_only (meaning_of c.args.schema.now) c.args.proof c.requires.base;
+  facts_are = c.in_ok-facts.ensures;
+  bases_are = c.mark-bases.ensures ∙ begins_long (meaning_of c.args.schema.now) c.args.proof c.requires.base;
+  counted = c.requires.counted;
+  few = c.requires.few;
+  low = c.requires.budget;
+}
+
+pub returns-clause-founded : goal.returns-clause-founded
+returns-clause-founded c = founded (meaning_of c.args.schema.now) c.args.proof c.args.queries.now c.args.head.now c.args.budget (begins_only (meaning_of c.args.schema.now) c.args.proof c.requires.base)

@@ -1,0 +1,39 @@
+// The proof of the base firings of a query.
+ghost use Rattle.std.specs.Prelude.{◌≡◌, ◌≤◌, IfOk, IfSome, IfNone};
+ghost use Rattle.meaning.specs.Triggers.{bound};
+ghost use Rattle.meaning.specs.Runs.{opening};
+ghost use Rattle.access_schema.specs.Meaning.{meaning_of};
+ghost use Rattle.rule_pass.specs.declared.pass.TheConstants.{MOST_FIRINGS, HIGHEST_FIRST_LABEL};
+ghost use Rattle.exposure_search.specs.Making.{IsBaseProof};
+ghost use Rattle.exposure_search.specs.Exploring.{IsRunBeyond};
+
+use access_schema::Schema;
+use accessible_copy::{Proof, Round, settle};
+use lists::{NoMemory, Texts};
+use meaning::types::Query;
+use std::alloc::Global;
+
+/// The proof of the query's base firings alone, after which no base trigger is active. None comes only where some run has more
+/// firings than the budget.
+pub fn base_proof(
+    alloc: Global,
+    schema: &Schema,
+    query: &Query,
+    known: &Texts,
+    budget: u32,
+) -> Result<Option<Proof>, NoMemory>
+    requires counted { bound query.now.atoms ≤ query.now.variables }
+    requires few { query.now.variables ≤ HIGHEST_FIRST_LABEL }
+    requires budget { budget ≤ MOST_FIRINGS }
+    ensures base { IfOk result (λ made. IfSome made (λ proof. IsBaseProof (meaning_of schema.now) proof)) }
+    ensures start { IfOk result (λ made. IfSome made (λ proof. proof.start ≡ opening query.now)) }
+    ensures constants { IfOk result (λ made. IfSome made (λ proof. proof.constants ≡ known.now)) }
+    ensures none { IfOk result (λ made. IfNone made (IsRunBeyond (meaning_of schema.now) known.now (opening query.now) budget)) }
+{
+    let mut proof = Proof::start(alloc, schema, query, known)?;
+    match settle(alloc, &mut proof, schema, false, budget)? {
+        Round::Quiet => Ok(Some(proof)),
+        Round::Done => unreachable!(),
+        Round::Spent => Ok(None),
+    }
+}
