@@ -114,8 +114,15 @@ impl Proof {
         }
     }
 
+    /// The firing with this number, and the sizes of the state before it. Takes no memory.
+    pub fn entry(&self, number: usize) -> Option<&Entry>
+        ensures { option_copied result ≡ slice_get self.now.entries number }
+    {
+        self.history.get(number)
+    }
+
     /// The sizes of the state. Takes no memory.
-    pub(crate) fn sizes(&self) -> Sizes
+    pub fn sizes(&self) -> Sizes
         ensures { result ≡ sizes_of self.now.constants self.now.end }
     {
         Sizes {

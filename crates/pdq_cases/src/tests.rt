@@ -1,5 +1,6 @@
 // Runs of `run_words` over files, sources and sinks in memory.
 
+use crate::asked::{ROOMS_OF_SMITHS, SMITHS, STAFF};
 use csv_sources::CsvFolder;
 use lists::{Numbers, Seq, Text};
 use pdq_core::run_words;
@@ -76,7 +77,8 @@ struct Outcome {
     err: Vec<u8>,
 }
 
-// A run over a folder of files in memory, where the data's reads and the writes to standard output fail as listed.
+// A run over a folder of files in memory, where the data's reads and the writes to standard output fail as listed. Standard output takes at
+// most four bytes a call.
 fn outcome_of(
     alloc: Global,
     listed: &[&str],
@@ -288,12 +290,19 @@ fn a_missing_text_is_a_fault(rt: HostRuntime) -> Result<(), Fail> {
 
 #[test]
 fn an_output_that_fails_took_a_first_part(rt: HostRuntime) -> Result<(), Fail> {
-    let files: [(&str, &[u8]); 3] = [("s", SCHEMA), ("q", QUERY), ("r.csv", DATA)];
+    let profiles: &[u8] = b"eid,onum,lname\n1,101,smith\n3,103,smith\n";
+    let directory: &[u8] = b"eid,lname\n1,smith\n2,jones\n3,smith\n";
+    let files: [(&str, &[u8]); 4] = [
+        ("s", STAFF),
+        ("q", ROOMS_OF_SMITHS),
+        ("profinfo.csv", profiles),
+        ("udirect.csv", directory),
+    ];
     let got = outcome_of(rt.alloc(), &["run", "s", "q"], &files, &[], &[2])?;
     assert_eq!(rt; got.code, 6);
-    assert_eq!(rt; got.out.as_slice(), b"b\nx\n".as_slice());
+    assert_eq!(rt; got.out.as_slice(), b"eid,".as_slice());
     assert_eq!(rt;
-        got.err.strip_prefix(PLAN),
+        got.err.strip_prefix(SMITHS),
         Some(b"write failed\n".as_slice())
     );
     Ok(())

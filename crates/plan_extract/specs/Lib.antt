@@ -1,2 +1,5 @@
 pub mod Lent
 pub mod Branches
+pub mod Resting
+pub mod Trimmed
+pub mod Passes
