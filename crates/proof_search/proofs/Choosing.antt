@@ -31,17 +31,29 @@ use Rattle.access_schema.specs.declared.schema.Schema.{Schema}
 use Rattle.access_schema.specs.Meaning.{meaning_of}
 use Rattle.access_schema.proofs.Keeping.{well_formed, rules_fit}
 use Rattle.least_search.specs.declared.node.Node.{Node}
+use Rattle.access_cost.specs.declared.least.Least.{Least}
+use Rattle.access_cost.specs.declared.least.Least.TheVariants as known_cost
+use Rattle.least_search.specs.declared.space.Move.{Move}
+use Rattle.least_search.specs.declared.search.Ended.{Ended}
+use Rattle.least_search.specs.declared.search.Ended.TheVariants as ended
+use Rattle.least_search.specs.Walks.{IsNode, walk_cost}
 use Rattle.least_search.specs.Costs.{IsLeastCost, IsEnough as ServesRuns}
 use Rattle.exposure_search.specs.Tries.{exposures_in as shown_in}
-use Rattle.exposure_search.specs.Exploring.{Exploring, space_size, CanExpose, HasGoalAt, HasMatchAt, HasTry, HasRunBeyond, IsFounded}
+use Rattle.exposure_search.specs.Exploring.{Exploring, space_size, CanExpose, HasGoalAt, HasMatchAt, HasTry, IsRunBeyond, HasRunBeyond, IsFounded}
 use Rattle.exposure_search.proofs.Explored.{least_found, tries_within, match_goal}
 use Rattle.accessible_copy.specs.declared.entry.Entry.{Entry}
 use Rattle.accessible_copy.specs.Proving.{Proving, IsProofOf, log_of}
-use Rattle.accessible_copy.specs.Rounds.{GoesOn}
 use Rattle.accessible_copy.proofs.Writing.{written_run}
-use Rattle.proof_search.specs.Searches.{IsSearch}
+use Rattle.rule_pass.specs.declared.pass.TheConstants.{MOST_FIRINGS}
+use Rattle.accessible_copy.specs.Goals.{IsGoal}
+use Rattle.exposure_search.specs.Visiting.{IsReached}
+use Rattle.plan_extract.specs.Branches.{IsBranchFor, IsProofFor}
+use Rattle.plan_extract.specs.Trimmed.{IsShown, IsTrimmedBranch}
+use Rattle.plan_extract.proofs.Shown.{same_shown}
+use Rattle.proof_search.specs.Searches.{AreSearchable}
+use Rattle.proof_search.specs.Branches.{IsQueryBranch}
 use Rattle.proof_search.specs.Chosen.{IsRunOf, exposures_in, IsEnough, NoneIsEnough, HasLongRun}
-use Rattle.proof_search.specs.Choices.{IsLeastFor, CostsAtMost, IsSpaceOf}
+use Rattle.proof_search.specs.Choices.{IsLeastFor, CostsAtMost, IsSpaceOf, IsSaidFor}
 
 same_count : (log : List Firing) → shown_in log ≡ exposures_in log
 same_count [] = refl
@@ -114,15 +126,6 @@ module _ (schema : SchemaParts) (queries : List Query) (query : Query) (firings 
 
 -- ---- runs that are too long
 
--- a proof that goes on after its firings are spent
-pub spent_long : (schema : SchemaParts) (known : List Value) (query : Query) (firings : ℕ) (proof : Proving) → IsSearch schema firings (opening query) known proof → firings ≤ length proof.entries → GoesOn schema proof → HasLongRun schema known firings query
-spent_long schema known query firings proof search low (firing, next, on) =
-    let here : IsOrderedRun schema known 0 (opening query) (log_of proof ++ firing ∷ []) next =
-    subst (λ start. IsOrderedRun schema known 0 start (log_of proof ++ firing ∷ []) next) search.begun (subst (λ constants. IsOrderedRun schema constants 0 proof.start (log_of proof ++ firing ∷ []) next) search.constants on) in
-    let long : length (log_of proof) ≡ length proof.entries = length-map proof.entries (λ (entry : Entry). entry.firing) in
-    let more : length (log_of proof ++ firing ∷ []) ≡ length (log_of proof) + 1 = length_push (log_of proof) firing in
-    (log_of proof ++ firing ∷ [], (next, ordered_is_run schema known 0 (opening query) (log_of proof ++ firing ∷ []) next here), omega arith)
-
 -- a proof with more firings
 pub beyond_long : (schema : SchemaParts) (known : List Value) (query : Query) (firings : ℕ) (proof : Proving) → IsProofOf schema proof → proof.constants ≡ known → proof.start ≡ opening query → firings < length proof.entries → HasLongRun schema known firings query
 beyond_long schema known query firings proof is constants start beyond =
@@ -130,3 +133,92 @@ beyond_long schema known query firings proof is constants start beyond =
     let its : IsRun schema known 0 (opening query) (log_of proof) proof.end = subst (λ s. IsRun schema known 0 s (log_of proof) proof.end) start (subst (λ c. IsRun schema c 0 proof.start (log_of proof) proof.end) constants run) in
     let long : length (log_of proof) ≡ length proof.entries = length-map proof.entries (λ (entry : Entry). entry.firing) in
     (log_of proof, (proof.end, its), omega arith)
+
+-- a base run that is too long
+pub base_long : (schema : SchemaParts) (known : List Value) (query : Query) (firings : ℕ) → IsRunBeyond schema known (opening query) firings → HasLongRun schema known firings query
+base_long schema known query firings beyond = (beyond.log, (beyond.end, beyond.run), beyond.beyond)
+
+-- ---- what a search says of a branch
+
+module _ (schema : Schema) (queries : List Query) (query : Query) (firings search : ℕ) (space : Exploring) (is : IsSpaceOf (meaning_of schema) queries query firings space) where
+  fits_rules : ((c : Value) → Contains schema.constants c → Contains space.constants c) → RulesFit (meaning_of schema) space.constants
+  fits_rules have = rules_fit schema space.constants have
+
+  said_here : AreSearchable (meaning_of schema) space.constants queries → Contains queries query → ((c : Value) → Contains schema.constants c → Contains space.constants c) →
+      (branch : Branch) (best : ℕ) → CostsAtMost (meaning_of schema) branch best → (end : Ended) (least : Least) →
+      (end ≡ ended.Shown → least ≡ known_cost.Shown) → ((units : ℕ) → end ≡ ended.SearchSpent units → least ≡ known_cost.SearchSpent search) → (end ≡ ended.FiringsSpent → least ≡ known_cost.FiringsSpent firings) →
+      (end ≡ ended.Shown → IsLeastCost (space_size space) (CanExpose space) (HasGoalAt space) best) →
+      ((units : ℕ) → end ≡ ended.SearchSpent units → (m n : ℕ) → ServesRuns (HasTry space) search m n → ⊥) →
+      (end ≡ ended.FiringsSpent → HasRunBeyond space) →
+      IsSaidFor (meaning_of schema) space.constants queries firings search query branch least
+  said_here searchable among have branch best costs ended.Shown least shown spent long is_least none beyond =
+      subst (IsSaidFor (meaning_of schema) space.constants queries firings search query branch) (sym (shown refl))
+      (least_for (meaning_of schema) queries query firings space is (fits_rules have) (λ q there. (searchable q there).constants) (searchable query among).fits (searchable query among).constants (well_formed schema) best (is_least refl) branch costs)
+  said_here searchable among have branch best costs (ended.SearchSpent units) least shown spent long is_least none beyond =
+      subst (IsSaidFor (meaning_of schema) space.constants queries firings search query branch) (sym (spent units refl))
+      (refl, none_enough (meaning_of schema) queries query firings space is search (none units refl))
+  said_here searchable among have branch best costs ended.FiringsSpent least shown spent long is_least none beyond =
+      subst (IsSaidFor (meaning_of schema) space.constants queries firings search query branch) (sym (long refl))
+      (refl, long_run (meaning_of schema) queries query firings space is (beyond refl))
+
+  pub said : (known : List Value) → space.constants ≡ known → AreSearchable (meaning_of schema) known queries → Contains queries query → ((c : Value) → Contains schema.constants c → Contains known c) →
+      (branch : Branch) (best : ℕ) → CostsAtMost (meaning_of schema) branch best → (end : Ended) (least : Least) →
+      (end ≡ ended.Shown → least ≡ known_cost.Shown) → ((units : ℕ) → end ≡ ended.SearchSpent units → least ≡ known_cost.SearchSpent search) → (end ≡ ended.FiringsSpent → least ≡ known_cost.FiringsSpent firings) →
+      (end ≡ ended.Shown → IsLeastCost (space_size space) (CanExpose space) (HasGoalAt space) best) →
+      ((units : ℕ) → end ≡ ended.SearchSpent units → (m n : ℕ) → ServesRuns (HasTry space) search m n → ⊥) →
+      (end ≡ ended.FiringsSpent → HasRunBeyond space) →
+      IsSaidFor (meaning_of schema) known queries firings search query branch least
+  said known same searchable among have branch best costs end least shown spent long is_least none beyond =
+      subst (λ k. IsSaidFor (meaning_of schema) k queries firings search query branch least) same
+      (said_here (subst (λ k. AreSearchable (meaning_of schema) k queries) (sym same) searchable) among (λ c there. subst (λ k. Contains k c) (sym same) (have c there)) branch best costs end least shown spent long is_least none beyond)
+
+  -- a set with a match that is not reached
+  pub not_reached_here : AreSearchable (meaning_of schema) space.constants queries → Contains queries query → ((c : Value) → Contains schema.constants c → Contains space.constants c) →
+      (set : List Bool) → HasMatchAt space set → HasRunBeyond space ⊎ (HasGoalAt space set → ⊥) → HasLongRun (meaning_of schema) space.constants firings query
+  not_reached_here searchable among have set has none =
+      not_reached (meaning_of schema) queries query firings space is (fits_rules have) (λ q there. (searchable q there).constants) (searchable query among).fits (searchable query among).constants set has none
+
+  module _ (path : List Move) (proof : Proving) (reached : IsReached space path proof) where
+    reached_run : IsProofOf (meaning_of schema) proof
+    reached_run = subst (λ s. IsProofOf s proof) is.schema_is reached.run
+
+    pub reached_for : AreSearchable (meaning_of schema) space.constants queries → Contains queries query → (head : List Val) → head ≡ frozen_head query → IsProofFor (meaning_of schema) proof head query
+    reached_for searchable among head same = record {
+      run = reached_run;
+      begun = reached.start ∙ is.start;
+      fits = (searchable query among).fits;
+      constants = subst (λ constants. QueryHasConstants constants query) (sym reached.constants) (searchable query among).constants;
+      head_is = same;
+    }
+
+    pub reached_long : firings < length proof.entries → HasLongRun (meaning_of schema) space.constants firings query
+    reached_long beyond = beyond_long (meaning_of schema) space.constants query firings proof reached_run reached.constants (reached.start ∙ is.start) beyond
+
+    pub reached_goal : (head : List Val) → head ≡ frozen_head query → (number : ℕ) (values : List Val) → IsGoal space.queries proof.end.copy space.head number values → IsGoal queries proof.end.copy head number values
+    reached_goal head same number values found =
+        subst (λ vals. IsGoal queries proof.end.copy vals number values) (is.head ∙ sym same) (subst (λ list. IsGoal list proof.end.copy space.head number values) is.queries_are found)
+
+    pub reached_branch : AreSearchable (meaning_of schema) space.constants queries → Contains queries query → (head values : List Val) (number : ℕ) (branch : Branch) → head ≡ frozen_head query → length proof.entries ≤ firings → firings ≤ MOST_FIRINGS →
+        IsGoal queries proof.end.copy head number values →
+        ((query goal : Query) → IsProofFor (meaning_of schema) proof head query → slice_get queries number ≡ Some goal → IsBranchFor (meaning_of schema) proof.constants query goal branch) →
+        length branch.steps ≤ length proof.entries → IsQueryBranch (meaning_of schema) space.constants queries query branch
+    reached_branch searchable among head values number branch same few low (goal, got, match) read short =
+        let its = subst (λ constants. IsBranchFor (meaning_of schema) constants query goal branch) reached.constants (read query goal (reached_for searchable among head same) got) in
+        record {
+          rival = record {
+            lawful = its.lawful;
+            sound = λ facts row model rows. (goal, contains_got queries number goal got, its.sound facts row model.meets rows);
+            complete = λ facts row model answer. its.complete facts row model.meets answer;
+          };
+          width = its.width;
+          few = omega arith;
+        }
+
+    pub reached_cost : (node : Node) → IsNode (space_size space) (CanExpose space) node → path ≡ node.path.items → (head values : List Val) (number : ℕ) (branch : Branch) →
+        IsTrimmedBranch (meaning_of schema) proof queries head number values branch → CostsAtMost (meaning_of schema) branch node.cost
+    reached_cost node node_is same head values number branch trimmed =
+        let shown : AllZip (IsShown (meaning_of schema)) proof.exposed reached.made = subst (λ s. AllZip (IsShown s) proof.exposed reached.made) is.schema_is reached.shown in
+        let made : trimmed.exposures ≡ reached.made = same_shown (meaning_of schema) proof.exposed trimmed.exposures reached.made trimmed.shown shown in
+        let all : exposures_cost trimmed.exposures ≡ node.cost = ap exposures_cost made ∙ reached.cost ∙ ap walk_cost same ∙ sym node_is.cost in
+        let cheap = trimmed.cheap in
+        (exposures_cost trimmed.kept, trimmed.cost, omega arith)

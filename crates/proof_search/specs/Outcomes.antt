@@ -1,12 +1,16 @@
 -- What the searches of queries come to.
-use Rattle.std.specs.Prelude.{◌≡◌, ℕ, Bool, true, false, List, Contains, take, slice_get, Some}
+use Rattle.std.specs.Prelude.{◌≡◌, ℕ, Bool, true, false, List, [], ◌∷◌, Contains, take, slice_get, Some}
 use Rattle.std.specs.List.{AllZip}
 use Rattle.meaning.specs.declared.types.SchemaParts.{SchemaParts}
 use Rattle.meaning.specs.declared.types.Query.{Query}
 use Rattle.meaning.specs.declared.types.Firing.{Firing}
 use Rattle.meaning.specs.declared.types.Val.{Val}
 use Rattle.meaning.specs.Values.{Value}
+use Rattle.meaning.specs.Costs.{IsCost}
 use Rattle.accessible_copy.specs.Proving.{Proving, log_of}
+use Rattle.no_plan_witness.specs.declared.decision.Chosen.TheVariants as chosen
+use Rattle.no_plan_witness.specs.declared.decision.Decision.{Decision}
+use Rattle.no_plan_witness.specs.declared.decision.Decision.TheVariants as decision
 use Rattle.no_plan_witness.specs.declared.refutation.Witness.{Witness}
 use Rattle.no_plan_witness.specs.Witnesses.{IsWitnessOf}
 use Rattle.proof_search.specs.declared.outcome.Choice.{Choice}
@@ -44,3 +48,23 @@ abbrev pub IsOutcome : SchemaParts → List Value → List Query → ℕ → ℕ
 IsOutcome schema known queries firings search (all.Branches choices) = AllZip (IsChoice schema known queries firings search) queries choices
 IsOutcome schema known queries firings search (all.Stuck pair) = (query : Query) × Contains queries query × IsStuckPair schema known queries query pair
 IsOutcome schema known queries firings search (all.Spent log) = IsFirstSpent schema known queries firings search log
+
+-- The decision is the plan of this branch, with its cost and what is known of it.
+abbrev pub IsPlanWith : SchemaParts → ℕ → Choice → Decision → Type 0
+IsPlanWith schema width choice (decision.Plan plan entries) =
+    (plan ≡ record { width = width; branches = choice.branch ∷ [] })
+    × ((cost : ℕ) × IsCost schema choice.branch cost × (entries ≡ chosen.Branch cost choice.least ∷ []))
+IsPlanWith schema width choice (decision.NoPlan pair) = ⊥
+IsPlanWith schema width choice (decision.Undecided select log) = ⊥
+
+-- The decision is a plan without branches.
+abbrev pub IsPlanWithout : ℕ → Decision → Type 0
+IsPlanWithout width (decision.Plan plan entries) =
+    (plan ≡ record { width = width; branches = [] }) × (entries ≡ chosen.NoRow ∷ [])
+IsPlanWithout width (decision.NoPlan pair) = ⊥
+IsPlanWithout width (decision.Undecided select log) = ⊥
+
+-- The decision is the plan of the one branch that is chosen, or of none.
+abbrev pub IsPlanOf : SchemaParts → ℕ → List Choice → Decision → Type 0
+IsPlanOf schema width [] decided = IsPlanWithout width decided
+IsPlanOf schema width (choice ∷ choices) decided = IsPlanWith schema width choice decided
