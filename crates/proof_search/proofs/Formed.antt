@@ -1,6 +1,6 @@
 -- The queries of a select can be searched, stand for its statement, and their branches make its plan.
-use Rattle.std.proofs.Common.{◌≡◌, ◌↔◌, ℕ, ◌+◌, ◌*◌, ◌<◌, ◌≤◌, max, zero, suc, List, [], ◌∷◌, length, refl, sym, ap, ◌∙◌, subst, ⊎_elim, arith}
-use Rattle.std.specs.Prelude.{Contains, slice_get}
+use Rattle.std.proofs.Common.{◌≡◌, ◌↔◌, ℕ, ◌+◌, ◌*◌, ◌<◌, ◌≤◌, max, zero, suc, List, [], ◌∷◌, length, Result, Ok, Err, refl, sym, ap, ◌∙◌, subst, ⊎_elim, arith}
+use Rattle.std.specs.Prelude.{Contains, slice_get, IfOk}
 use Rattle.std.specs.List.{AllZip}
 use Rattle.std.proofs.lemmas.List.{length-append, length-map}
 use Rattle.lists.proofs.Members.{contains_here, contains_there, contains_cases, contains_got}
@@ -83,14 +83,14 @@ no_queries schema select queries nil clashes answers = record {
 pub one_query : (schema : Schema) (select : Select) (query : Query) (queries : List Query) → queries ≡ query ∷ [] → IsConjunctive (meaning_of schema) select query → IsNumbered query →
     QueryFits (meaning_of schema) query → (Clashes select.conditions → ⊥) → ((known : List Value) → HaveLiterals known select → QueryHasConstants known query) →
     ((facts : List Fact) → IsInstance (meaning_of schema) facts → (row : Row) → AnswersQuery query facts row ↔ AnswersSelect select facts row) → AreQueriesOf schema select queries
-one_query schema select query queries one form numbered fits open constants answers = record {
+one_query schema select query queries one form numbered fits free constants answers = record {
   form = λ other among. subst (IsConjunctive (meaning_of schema) select) (only other among) form;
   numbered = λ other among. subst IsNumbered (only other among) numbered;
   fits = λ other among. subst (QueryFits (meaning_of schema)) (only other among) fits;
   constants = λ other among known have. subst (QueryHasConstants known) (only other among) (constants known have);
   few = let long = ap length one in omega arith;
   never = λ none. let clash : 0 ≡ 1 = sym (ap length none) ∙ ap length one in absurd (omega arith);
-  some = λ other among. open;
+  some = λ other among. free;
   answers = λ facts is row. (
     (λ (other, among, answer). (answers facts is row).0 (subst (λ q. AnswersQuery q facts row) (sym (only other among)) answer)),
     (λ answer. (query, subst (λ list. Contains list query) (sym one) (contains_here query []), (answers facts is row).1 answer)),
@@ -297,6 +297,11 @@ module _ (schema : Schema) (statement : Statement) (select : Select) (queries : 
         IsPlanOf (meaning_of schema) (length select.items) choices decided → IsDecision schema statement firings search decided
     unfolding Chooses
     decided_plan choices all decided is = go queries refl choices all decided is
+
+    pub ended_plan : {E : Type 0} → (choices : List Choice) → AllZip (IsChoice (meaning_of schema) (known_of schema statement) queries firings search) queries choices → (width : ℕ) → width ≡ length select.items →
+        (result : Result Decision E) → IfOk result (IsPlanOf (meaning_of schema) width choices) → IfOk result (IsDecision schema statement firings search)
+    ended_plan choices all width same (Ok decided) is = decided_plan choices all decided (subst (λ w. IsPlanOf (meaning_of schema) w choices decided) same is)
+    ended_plan choices all width same (Err e) is = tt
 
     -- the branches that are chosen have costs
     pub choice_few : (choices : List Choice) → AllZip (IsChoice (meaning_of schema) (known_of schema statement) queries firings search) queries choices → length choices ≤ 1

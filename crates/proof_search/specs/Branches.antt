@@ -1,16 +1,13 @@
 -- The branches of proofs.
-use Rattle.std.specs.Prelude.{◌≡◌, ◌≤◌, ℕ, Bool, true, false, List, [], ◌∷◌, ◌++◌, Contains, length, take, slice_get, Some}
-use Rattle.std.specs.List.{AllZip}
+use Rattle.std.specs.Prelude.{◌≡◌, ◌≤◌, ℕ, List, [], ◌∷◌, ◌++◌, length}
 use Rattle.meaning.specs.declared.types.SchemaParts.{SchemaParts}
 use Rattle.meaning.specs.declared.types.Query.{Query}
 use Rattle.meaning.specs.declared.types.Branch.{Branch}
 use Rattle.meaning.specs.declared.types.Firing.{Firing}
-use Rattle.meaning.specs.declared.types.Val.{Val}
 use Rattle.meaning.specs.Values.{Value}
 use Rattle.meaning.specs.Runs.{Proof, IsRun, IsOrderedRun, IsStuck, HasGoal, opening, frozen_head}
 use Rattle.meaning.specs.Extract.{IsQueryRival}
 use Rattle.rule_pass.specs.declared.pass.TheConstants.{MOST_FIRINGS}
-use Rattle.accessible_copy.specs.Proving.{Proving, log_of}
 use Rattle.no_plan_witness.specs.declared.refutation.Witness.{Witness}
 use Rattle.no_plan_witness.specs.Witnesses.{IsWitnessOf}
 

@@ -11,7 +11,6 @@ use Rattle.accessible_copy.specs.Proving.{Proving, log_of}
 use Rattle.no_plan_witness.specs.declared.decision.Chosen.TheVariants as chosen
 use Rattle.no_plan_witness.specs.declared.decision.Decision.{Decision}
 use Rattle.no_plan_witness.specs.declared.decision.Decision.TheVariants as decision
-use Rattle.no_plan_witness.specs.declared.refutation.Witness.{Witness}
 use Rattle.no_plan_witness.specs.Witnesses.{IsWitnessOf}
 use Rattle.proof_search.specs.declared.outcome.Choice.{Choice}
 use Rattle.proof_search.specs.declared.outcome.QueryOutcome.{QueryOutcome}

@@ -20,11 +20,11 @@ loop-query-preserved c =
     (slice_get_read c.as_slice-query-items.result.now (length c.as_slice-query-items.result.now) n query refl c.loop-query-test.true c.query-item.is) in
     elim c.match-branch-2.branch [
       | in-Branch+in_ok-push-in-Branch w ↦
-          let one : IsChoice schema known queries c.args.firings c.args.search query w.in-Branch.choice = rw w.in-Branch.is at c.in_ok-branch.ensures in
+          let one : IsChoice schema known queries c.args.firings c.args.search query w.in-Branch.choice = rw w.in-Branch.is at c.in_ok-choice.ensures in
           rw (w.choices-is, w.spent-is, w.in_ok-push-in-Branch.ensures.ok)
           (one_choice schema known queries c.args.firings c.args.search n query c.loop-query.choices got c.loop-query.spent w.in-Branch.choice c.loop-query.invariant one)
       | in-Spent w ↦
-          let one : IsSpentLog schema known queries c.args.firings query w.in-Spent.log = rw w.in-Spent.is at c.in_ok-branch.ensures in
+          let one : IsSpentLog schema known queries c.args.firings query w.in-Spent.log = rw w.in-Spent.is at c.in_ok-choice.ensures in
           rw (w.choices-is, w.spent-is, w.or-spent.ensures)
           (one_spent schema known queries c.args.firings c.args.search n query c.loop-query.choices got c.loop-query.spent w.in-Spent.log c.loop-query.invariant one)
     ]

@@ -1,30 +1,24 @@
 -- What a search over the space of a query's base firings says of the query's branches.
-use Rattle.std.proofs.Common.{◌≡◌, ◌⊎◌, ℕ, ◌+◌, ◌*◌, ◌^◌, ◌<◌, ◌≤◌, List, [], ◌∷◌, ◌++◌, Bool, length, map, Option, Some, None, refl, sym, ap, ◌∙◌, subst, ⊎_elim, arith}
+use Rattle.std.proofs.Common.{◌≡◌, ◌⊎◌, ℕ, ◌+◌, ◌<◌, ◌≤◌, List, [], ◌∷◌, Bool, length, Some, refl, sym, ap, ◌∙◌, subst, ⊎_elim, arith}
 use Rattle.std.specs.Prelude.{Contains, slice_get}
 use Rattle.std.specs.List.{AllZip}
-use Rattle.std.proofs.lemmas.List.{length_push, length-map}
+use Rattle.std.proofs.lemmas.List.{length-map}
 use Rattle.lists.proofs.Members.{contains_got}
 use Rattle.meaning.specs.declared.types.SchemaParts.{SchemaParts}
 use Rattle.meaning.specs.declared.types.Query.{Query}
 use Rattle.meaning.specs.declared.types.Branch.{Branch}
 use Rattle.meaning.specs.declared.types.Firing.{Firing}
 use Rattle.meaning.specs.declared.types.Firing.TheVariants.{Base, Copy, Expose}
-use Rattle.meaning.specs.declared.types.Ground.{Ground}
-use Rattle.meaning.specs.declared.types.Trigger.{Trigger}
 use Rattle.meaning.specs.declared.types.Val.{Val}
-use Rattle.meaning.specs.declared.types.Val.TheVariants.{Const, Label}
 use Rattle.meaning.specs.Values.{Value}
-use Rattle.meaning.specs.Costs.{IsCost}
 use Rattle.meaning.specs.Plans.{IsWellFormed}
-use Rattle.meaning.specs.Matching.{IsQueryAnswer, GroundsOf}
-use Rattle.meaning.specs.Triggers.{State, IsFiringRun, IsQuiet, ground}
-use Rattle.meaning.specs.Runs.{Proof, IsRun, IsOrderedRun, base_state, opening, opening_state, frozen_head}
-use Rattle.meaning.specs.Naming.{IsNamed, AreNamed}
+use Rattle.meaning.specs.Triggers.{IsFiringRun, IsQuiet, ground}
+use Rattle.meaning.specs.Runs.{Proof, IsRun, base_state, opening, frozen_head}
 use Rattle.meaning.specs.Fitting.{Fit, RulesFit, QueryFits, QueryHasConstants}
-use Rattle.meaning.specs.Extract.{Exposure, IsBase, IsExposing, IsQueryRival, HasGoalAfter, exposures_cost}
+use Rattle.meaning.specs.Extract.{IsBase, IsExposing, HasGoalAfter, exposures_cost}
 use Rattle.meaning_laws.proofs.Carrying.{run_fires}
 use Rattle.meaning_laws.proofs.Keeping.{run_keeps, named_more}
-use Rattle.meaning_laws.proofs.Kept.{kept_opening, ordered_is_run}
+use Rattle.meaning_laws.proofs.Kept.{kept_opening}
 use Rattle.meaning_laws.proofs.Rivals.{rival_exposes}
 use Rattle.access_cost.proofs.Summing.{one_cost}
 use Rattle.access_schema.specs.declared.schema.Schema.{Schema}
@@ -39,7 +33,7 @@ use Rattle.least_search.specs.declared.search.Ended.TheVariants as ended
 use Rattle.least_search.specs.Walks.{IsNode, walk_cost}
 use Rattle.least_search.specs.Costs.{IsLeastCost, IsEnough as ServesRuns}
 use Rattle.exposure_search.specs.Tries.{exposures_in as shown_in}
-use Rattle.exposure_search.specs.Exploring.{Exploring, space_size, CanExpose, HasGoalAt, HasMatchAt, HasTry, IsRunBeyond, HasRunBeyond, IsFounded}
+use Rattle.exposure_search.specs.Exploring.{Exploring, space_size, CanExpose, HasGoalAt, HasMatchAt, HasTry, IsRunBeyond, HasRunBeyond}
 use Rattle.exposure_search.proofs.Explored.{least_found, tries_within, match_goal}
 use Rattle.accessible_copy.specs.declared.entry.Entry.{Entry}
 use Rattle.accessible_copy.specs.Proving.{Proving, IsProofOf, log_of}
@@ -52,7 +46,7 @@ use Rattle.plan_extract.specs.Trimmed.{IsShown, IsTrimmedBranch}
 use Rattle.plan_extract.proofs.Shown.{same_shown}
 use Rattle.proof_search.specs.Searches.{AreSearchable}
 use Rattle.proof_search.specs.Branches.{IsQueryBranch}
-use Rattle.proof_search.specs.Chosen.{IsRunOf, exposures_in, IsEnough, NoneIsEnough, HasLongRun}
+use Rattle.proof_search.specs.Chosen.{IsRunOf, exposures_in, NoneIsEnough, HasLongRun}
 use Rattle.proof_search.specs.Choices.{IsLeastFor, CostsAtMost, IsSpaceOf, IsSaidFor}
 
 same_count : (log : List Firing) → shown_in log ≡ exposures_in log
