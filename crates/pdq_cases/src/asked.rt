@@ -14,14 +14,14 @@ const PROFINFO: u32 = 0;
 /// udirect(eid, lname), asked whole
 const UDIRECT: u32 = 1;
 
-const STAFF: &[u8] =
+pub const STAFF: &[u8] =
     b"relation profinfo(eid, onum, lname)\nrelation udirect(eid, lname)\nmethod prof_by_eid on profinfo(eid) cost 2\nmethod all_direct on udirect() cost 5\nrule profinfo(e, o, l) -> udirect(e, l)\nsource profinfo csv 'profinfo.csv'\nsource udirect csv 'udirect.csv'\n";
 
-const SMITHS: &[u8] =
-    b"plan 2\nbranch\naccess all_direct(new, 'smith')\naccess prof_by_eid($0, new, 'smith')\noutput $0, $1\nend\n";
+pub const SMITHS: &[u8] =
+    b"# select 1 cost 7 least\nplan 2\nbranch\naccess all_direct(new, 'smith')\naccess prof_by_eid($0, new, 'smith')\noutput $0, $1\nend\n";
 
 /// The query whose plan that is.
-const ROOMS_OF_SMITHS: &[u8] = b"SELECT DISTINCT eid, onum FROM profinfo WHERE lname = 'smith'";
+pub const ROOMS_OF_SMITHS: &[u8] = b"SELECT DISTINCT eid, onum FROM profinfo WHERE lname = 'smith'";
 
 /// The directory has two rows of the number 3.
 const DIRECTORY: [&[&str]; 4] = [

@@ -1,5 +1,6 @@
 // Runs of `run_words` over files, sources and sinks in memory.
 
+use crate::asked::{ROOMS_OF_SMITHS, SMITHS, STAFF};
 use csv_sources::CsvFolder;
 use lists::{Numbers, Seq, Text};
 use pdq_core::run_words;
@@ -16,7 +17,8 @@ const QUERY: &[u8] = b"SELECT DISTINCT b FROM r";
 
 const DATA: &[u8] = b"a,b\n1,y\n2,x\n3,y\n";
 
-const PLAN: &[u8] = b"plan 1\nbranch\naccess all_r(new, new)\noutput $1\nend\n";
+const PLAN: &[u8] =
+    b"# select 1 cost 1 least\nplan 1\nbranch\naccess all_r(new, new)\noutput $1\nend\n";
 
 pub fn numbers(alloc: Global, listed: &[u64]) -> Result<Numbers, AllocError> {
     let mut numbers = Seq::new(alloc);
@@ -76,7 +78,8 @@ struct Outcome {
     err: Vec<u8>,
 }
 
-// A run over a folder of files in memory, where the data's reads and the writes to standard output fail as listed.
+// A run over a folder of files in memory, where the data's reads and the writes to standard output fail as listed. Standard output takes at
+// most four bytes a call.
 fn outcome_of(
     alloc: Global,
     listed: &[&str],
@@ -206,8 +209,11 @@ fn a_decision_is_explained_and_told_before_a_run(rt: HostRuntime) -> Result<(), 
     let closed: &[u8] = b"relation r(a, b)\nsource r csv 'r.csv'\n";
     let none: &[u8] = b"no plan\nanswer '_2'\nfirst\nr('_1', '_2')\nsecond\nend\n";
     let spent: &[u8] = b"undecided after 0 firings\nselect 1\nend\n";
-    let cases: [(&[u8], &str, u8, &[u8]); 3] = [
+    let units: &[u8] =
+        b"# select 1 cost 1 search spent after 0\nplan 1\nbranch\naccess all_r(new, new)\noutput $1\nend\n";
+    let cases: [(&[u8], &str, u8, &[u8]); 4] = [
         (SCHEMA, "--firings=1", 0, PLAN),
+        (SCHEMA, "--search=0", 0, units),
         (closed, "--firings=1", 1, none),
         (SCHEMA, "--firings=0", 2, spent),
     ];
@@ -288,12 +294,19 @@ fn a_missing_text_is_a_fault(rt: HostRuntime) -> Result<(), Fail> {
 
 #[test]
 fn an_output_that_fails_took_a_first_part(rt: HostRuntime) -> Result<(), Fail> {
-    let files: [(&str, &[u8]); 3] = [("s", SCHEMA), ("q", QUERY), ("r.csv", DATA)];
+    let profiles: &[u8] = b"eid,onum,lname\n1,101,smith\n3,103,smith\n";
+    let directory: &[u8] = b"eid,lname\n1,smith\n2,jones\n3,smith\n";
+    let files: [(&str, &[u8]); 4] = [
+        ("s", STAFF),
+        ("q", ROOMS_OF_SMITHS),
+        ("profinfo.csv", profiles),
+        ("udirect.csv", directory),
+    ];
     let got = outcome_of(rt.alloc(), &["run", "s", "q"], &files, &[], &[2])?;
     assert_eq!(rt; got.code, 6);
-    assert_eq!(rt; got.out.as_slice(), b"b\nx\n".as_slice());
+    assert_eq!(rt; got.out.as_slice(), b"eid,".as_slice());
     assert_eq!(rt;
-        got.err.strip_prefix(PLAN),
+        got.err.strip_prefix(SMITHS),
         Some(b"write failed\n".as_slice())
     );
     Ok(())

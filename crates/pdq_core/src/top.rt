@@ -52,9 +52,7 @@ pub fn run_words<F: Files, S: Source + Send + Drop, O: Sink, E: Sink>(
                 firings,
                 search,
             },
-        ) => ended(explain_query(
-            alloc, schema, query, firings, search, files, out, err,
-        )),
+        ) => ended(explain_query(alloc, schema, query, firings, search, files, out, err)),
         Some(
             Command::Run {
                 schema,

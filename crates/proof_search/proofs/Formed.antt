@@ -44,8 +44,8 @@ use Rattle.proof_search.specs.Plans.{known_of, AreQueriesOf, IsPlanFor, HasFewSt
 use Rattle.proof_search.specs.Decisions.{IsRefutation, IsUndecided}
 use Rattle.no_plan_witness.proofs.Refuting.{witnesses_refute}
 use Rattle.proof_search.proofs.Turns.{only_is}
-use Rattle.proof_search.proofs.Shown.{zip_long}
-use Rattle.proof_search.proofs.Read.{schema_narrow}
+use Rattle.plan_extract.proofs.Shown.{zip_long}
+use Rattle.plan_extract.proofs.Read.{schema_narrow}
 
 -- ---- the queries of a select
 

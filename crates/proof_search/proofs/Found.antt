@@ -1,6 +1,6 @@
 -- What the search of a query comes to.
 use Rattle.std.proofs.Common.{◌≡◌, ℕ, ◌+◌, ◌≤◌, List, [], ◌∷◌, ◌++◌, length, take, Bool, true, false, Option, Some, None, Result, Ok, Err, sym, subst, arith}
-use Rattle.std.specs.Prelude.{Contains, slice_get, IfOk}
+use Rattle.std.specs.Prelude.{slice_get, IfOk}
 use Rattle.std.specs.List.{AllZip}
 use Rattle.std.specs.Option.{option_or}
 use Rattle.std.proofs.lemmas.List.{length-map}
@@ -8,16 +8,12 @@ use Rattle.lists.proofs.Members.{contains_got}
 use Rattle.meaning.specs.declared.types.SchemaParts.{SchemaParts}
 use Rattle.meaning.specs.declared.types.Query.{Query}
 use Rattle.meaning.specs.declared.types.Branch.{Branch}
-use Rattle.meaning.specs.declared.types.Ground.{Ground}
 use Rattle.meaning.specs.declared.types.Firing.{Firing}
 use Rattle.meaning.specs.declared.types.Val.{Val}
-use Rattle.meaning.specs.declared.types.Val.TheVariants.{Const}
 use Rattle.meaning.specs.Values.{Value}
-use Rattle.meaning.specs.Matching.{IsQueryAnswer, GroundsOf}
 use Rattle.meaning.specs.Runs.{Proof, IsOrderedRun, NoExposure, HasGoal, opening, frozen_head}
-use Rattle.meaning.specs.Fitting.{QueryFits}
+use Rattle.meaning.specs.Fitting.{QueryHasConstants}
 use Rattle.meaning_laws.proofs.Kept.{ordered_is_run}
-use Rattle.homomorphism.specs.Bindings.{at}
 use Rattle.rule_pass.specs.declared.pass.TheConstants.{MOST_FIRINGS}
 use Rattle.accessible_copy.proofs.Listed.{take_got}
 use Rattle.accessible_copy.specs.declared.entry.Entry.{Entry}
@@ -26,11 +22,12 @@ use Rattle.accessible_copy.specs.Goals.{IsGoal}
 use Rattle.accessible_copy.specs.Rounds.{IsAllQuiet, GoesOn}
 use Rattle.no_plan_witness.specs.declared.refutation.Witness.{Witness}
 use Rattle.no_plan_witness.specs.Witnesses.{IsWitnessOf}
-use Rattle.proof_search.specs.Searches.{IsSearch, AreSearchable}
-use Rattle.proof_search.specs.Branches.{IsBranchFor, IsQueryBranch, IsStuckPair, IsSpentLog, IsQueryOutcome, IsWithoutGoal, IsFirstSpent}
+use Rattle.proof_search.specs.Searches.{IsSearchable, IsSearch}
+use Rattle.plan_extract.specs.Branches.{IsBranchFor, IsProofFor}
+use Rattle.proof_search.specs.Branches.{IsQueryBranch, IsStuckPair, IsSpentLog, IsQueryOutcome, IsWithoutGoal, IsFirstSpent}
 use Rattle.proof_search.specs.declared.outcome.QueryOutcome.{QueryOutcome}
 use Rattle.proof_search.specs.declared.outcome.QueryOutcome.TheVariants as one
-use Rattle.proof_search.proofs.Shown.{zip_push}
+use Rattle.plan_extract.proofs.Shown.{zip_push}
 
 module _ (schema : SchemaParts) (known : List Value) (queries : List Query) (firings : ℕ) (query : Query) (proof : Proving) (search : IsSearch schema firings (opening query) known proof)
     (none : HasGoal queries proof.end (frozen_head query) → ⊥) where
@@ -76,32 +73,32 @@ module _ (schema : SchemaParts) (known : List Value) (queries : List Query) (fir
   ended quiet all on head same (Ok outcome) is = without quiet all on head same outcome is
   ended quiet all on head same (Err e) is = tt
 
--- a goal: the branch is a rival
-pub goal_branch : (schema : SchemaParts) (known : List Value) (queries : List Query) (query : Query) (copy : List Ground) (number : ℕ) (values : List Val) (branch : Branch) →
-    AreSearchable schema known queries → IsGoal queries copy (frozen_head query) number values →
-    ((goal : Query) → QueryFits schema goal → IsQueryAnswer Const (GroundsOf copy) goal (frozen_head query) → IsBranchFor schema known query goal branch) → length branch.steps ≤ MOST_FIRINGS → IsQueryBranch schema known queries query branch
-goal_branch schema known queries query copy number values branch searchable (goal, got, match) read few =
-    let among : Contains queries goal = contains_got queries number goal got in
-    let is = read goal (searchable goal among).fits (at values, match.facts_are, match.head_is) in
+-- a proof of a search is one for its query
+pub proof_for : (schema : SchemaParts) (known : List Value) (firings : ℕ) (query : Query) (proof : Proving) → IsSearchable schema known query → IsSearch schema firings (opening query) known proof → (head : List Val) → head ≡ frozen_head query → IsProofFor schema proof head query
+proof_for schema known firings query proof searchable search head same = record {
+  run = search.run;
+  begun = search.begun;
+  fits = searchable.fits;
+  constants = subst (λ constants. QueryHasConstants constants query) (sym search.constants) searchable.constants;
+  head_is = same;
+}
+
+-- a goal: the branch that is extracted is a rival
+pub goal_branch : (schema : SchemaParts) (known : List Value) (queries : List Query) (firings : ℕ) (query : Query) (proof : Proving) (head values : List Val) (number : ℕ) (branch : Branch) →
+    IsSearch schema firings (opening query) known proof → firings ≤ MOST_FIRINGS → IsProofFor schema proof head query → IsGoal queries proof.end.copy head number values →
+    ((query goal : Query) → IsProofFor schema proof head query → slice_get queries number ≡ Some goal → IsBranchFor schema proof.constants query goal branch) → length branch.steps ≤ length proof.entries → IsQueryBranch schema known queries query branch
+goal_branch schema known queries firings query proof head values number branch search low its (goal, got, match) read few =
+    let is = subst (λ constants. IsBranchFor schema constants query goal branch) search.constants (read query goal its got) in
+    let most = search.few in
     record {
       rival = record {
         lawful = is.lawful;
-        sound = λ facts row model rows. (goal, among, is.sound facts row model.meets rows);
+        sound = λ facts row model rows. (goal, contains_got queries number goal got, is.sound facts row model.meets rows);
         complete = λ facts row model answer. is.complete facts row model.meets answer;
       };
       width = is.width;
-      few = few;
+      few = omega arith;
     }
-
--- what is read off a search with a goal
-pub read_branch : {E : Type 0} → (schema : SchemaParts) (known : List Value) (queries : List Query) (firings : ℕ) (query : Query) (proof : Proving) → AreSearchable schema known queries →
-    IsSearch schema firings (opening query) known proof → (number : ℕ) (values : List Val) → IsGoal queries proof.end.copy (frozen_head query) number values → (result : Result Branch E) →
-    IfOk result (λ branch. (goal : Query) → QueryFits schema goal → IsQueryAnswer Const (GroundsOf proof.end.copy) goal (frozen_head query) → IsBranchFor schema proof.constants query goal branch) →
-    IfOk result (λ branch. length branch.steps ≤ MOST_FIRINGS) → IfOk result (IsQueryBranch schema known queries query)
-read_branch schema known queries firings query proof searchable search number values found (Ok branch) read few =
-    goal_branch schema known queries query proof.end.copy number values branch searchable found
-    (λ goal fits match. subst (λ constants. IsBranchFor schema constants query goal branch) search.constants (read goal fits match)) few
-read_branch schema known queries firings query proof searchable search number values found (Err e) read few = tt
 
 -- ---- the queries so far
 

@@ -26,8 +26,8 @@ use Rattle.accessible_copy.proofs.Writing.{firings_on}
 use Rattle.accessible_copy.proofs.Pushing.{goes_copy}
 use Rattle.accessible_copy.specs.Listing.{CanFire}
 use Rattle.accessible_copy.proofs.Lasting.{exposure_stays}
-use Rattle.proof_search.specs.Searches.{IsWithin, IsSearch, IsExposure, Exposes}
-use Rattle.proof_search.proofs.Shown.{end_exposed}
+use Rattle.proof_search.specs.Searches.{IsSearch, IsExposure, Exposes}
+use Rattle.plan_extract.proofs.Shown.{end_exposed}
 
 -- a proof of the empty log
 pub empty_ordered : (schema : SchemaParts) (proof : Proving) → IsProofOf schema proof → proof.entries ≡ [] → IsOrdered schema proof
@@ -154,10 +154,3 @@ module _ (schema : SchemaParts) (old : Proving) (found : List Firing) (active : 
   -- so its fact is new at first
   pub was_new : (now : Proving) → now ≡ old → Contains now.end.exposed fact → ⊥
   was_new now same there = let (method, is) = was_active in is.new (subst (λ (p : Proving). Contains p.end.exposed fact) same there)
-
--- a search of few firings is within more
-pub search_most : (schema : SchemaParts) (firings most : ℕ) (start : Proof) (known : List Value) (proof : Proving) → firings ≤ most → IsSearch schema firings start known proof → IsWithin schema most start proof.constants proof
-search_most schema firings most start known proof low search = let few = search.few in record { run = search.run; begun = search.begun; constants = refl; few = omega arith }
-
-pub within_most : (schema : SchemaParts) (firings most : ℕ) (start : Proof) (known : List Value) (proof : Proving) → firings ≤ most → IsWithin schema firings start known proof → IsWithin schema most start proof.constants proof
-within_most schema firings most start known proof low within = let few = within.few in record { run = within.run; begun = within.begun; constants = refl; few = omega arith }

@@ -2,19 +2,14 @@
 use Rattle.std.specs.Prelude.{◌≡◌, ◌≤◌, ℕ, Bool, true, false, List, [], ◌∷◌, ◌++◌, Contains, length, take, slice_get, Some}
 use Rattle.std.specs.List.{AllZip}
 use Rattle.meaning.specs.declared.types.SchemaParts.{SchemaParts}
-use Rattle.meaning.specs.declared.types.Fact.{Fact}
 use Rattle.meaning.specs.declared.types.Query.{Query}
 use Rattle.meaning.specs.declared.types.Branch.{Branch}
 use Rattle.meaning.specs.declared.types.Firing.{Firing}
 use Rattle.meaning.specs.declared.types.Val.{Val}
-use Rattle.meaning.specs.Values.{Value, Row}
-use Rattle.meaning.specs.Matching.{AnswersQuery, Meets}
-use Rattle.meaning.specs.Plans.{IsLawfulBranch}
-use Rattle.meaning.specs.Rows.{IsBranchRow}
+use Rattle.meaning.specs.Values.{Value}
 use Rattle.meaning.specs.Runs.{Proof, IsRun, IsOrderedRun, IsStuck, HasGoal, opening, frozen_head}
-use Rattle.meaning.specs.Extract.{Exposure, IsQueryRival}
+use Rattle.meaning.specs.Extract.{IsQueryRival}
 use Rattle.rule_pass.specs.declared.pass.TheConstants.{MOST_FIRINGS}
-use Rattle.accessible_copy.specs.declared.entry.Exposed.{Exposed}
 use Rattle.accessible_copy.specs.Proving.{Proving, log_of}
 use Rattle.no_plan_witness.specs.declared.refutation.Witness.{Witness}
 use Rattle.no_plan_witness.specs.Witnesses.{IsWitnessOf}
@@ -22,18 +17,6 @@ use Rattle.proof_search.specs.declared.outcome.QueryOutcome.{QueryOutcome}
 use Rattle.proof_search.specs.declared.outcome.QueryOutcome.TheVariants as one
 use Rattle.proof_search.specs.declared.outcome.Outcome.{Outcome}
 use Rattle.proof_search.specs.declared.outcome.Outcome.TheVariants as all
-
--- The exposure is of that fact, by the method with that number.
-abbrev pub IsShown : SchemaParts → Exposed → Exposure → Type 0
-IsShown schema exposed exposure = (slice_get schema.methods exposed.method ≡ Some exposure.method) × (exposed.fact ≡ exposure.fact)
-
--- The branch is lawful and as wide as the query's head; on every instance that meets the rules each of its rows is an answer of
--- the goal, and each answer of the query is one of its rows.
-pub record IsBranchFor (schema : SchemaParts) (known : List Value) (query goal : Query) (branch : Branch) : Type 0 where
-  pub lawful : IsLawfulBranch schema known branch
-  pub sound : (facts : List Fact) (row : Row) → Meets facts schema → IsBranchRow schema branch facts row → AnswersQuery goal facts row
-  pub complete : (facts : List Fact) (row : Row) → Meets facts schema → AnswersQuery query facts row → IsBranchRow schema branch facts row
-  pub width : length branch.output ≡ length query.head
 
 -- The branch is a rival for its query, among all the queries, as wide as its head, and has at most a step for each firing of a proof.
 pub record IsQueryBranch (schema : SchemaParts) (known : List Value) (queries : List Query) (query : Query) (branch : Branch) : Type 0 where

@@ -24,14 +24,8 @@ pub record IsSearchable (schema : SchemaParts) (known : List Value) (query : Que
 abbrev pub AreSearchable : SchemaParts → List Value → List Query → Type 0
 AreSearchable schema known queries = (query : Query) → Contains queries query → IsSearchable schema known query
 
--- A proof is that of its log, which is a run from the start, with these known constants and at most so many firings.
-pub record IsWithin (schema : SchemaParts) (firings : ℕ) (start : Proof) (known : List Value) (proof : Proving) : Type 0 where
-  pub run : IsProofOf schema proof
-  pub begun : proof.start ≡ start
-  pub constants : proof.constants ≡ known
-  pub few : length proof.entries ≤ firings
-
--- The same, where the run is ordered: a copy firing comes only where no exposure is active.
+-- A proof is that of its log, which is an ordered run from the start, with these known constants and at most so many firings: a copy
+-- firing comes only where no exposure is active.
 pub record IsSearch (schema : SchemaParts) (firings : ℕ) (start : Proof) (known : List Value) (proof : Proving) : Type 0 where
   pub run : IsProofOf schema proof
   pub begun : proof.start ≡ start

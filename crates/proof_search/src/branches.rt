@@ -1,25 +1,21 @@
 // The branches of queries.
 ghost use Rattle.std.specs.Prelude.{◌≡◌, ◌≤◌, ◌^◌, ℕ, true, false, List, IfOk, IfSome, Contains, length};
-ghost use Rattle.meaning.specs.Runs.{opening, frozen_head};
+ghost use Rattle.meaning.specs.Runs.{opening};
 ghost use Rattle.access_schema.specs.Meaning.{meaning_of};
 ghost use Rattle.rule_pass.specs.declared.pass.TheConstants.{MOST_FIRINGS};
 ghost use Rattle.accessible_copy.specs.Proving.{log_of};
-ghost use Rattle.accessible_copy.specs.Goals.{IsGoal};
 ghost use Rattle.accessible_copy.specs.Rounds.{IsAllQuiet, GoesOn};
 ghost use Rattle.proof_search.specs.Searches.{AreSearchable, IsSearch};
-ghost use Rattle.proof_search.specs.Branches.{IsQueryBranch, IsQueryOutcome, IsWithoutGoal, IsOutcome};
+ghost use Rattle.proof_search.specs.Branches.{IsQueryOutcome, IsWithoutGoal, IsOutcome};
 
 use crate::outcome::{Outcome, QueryOutcome};
-use crate::proving::{prove, replay};
-use crate::reading::extract;
-use crate::resting::rests_on;
+use crate::proving::prove;
 use access_schema::Schema;
-use accessible_copy::{Match, Proof, goal};
-use homomorphism::Store;
+use accessible_copy::{Proof, goal};
 use lists::{Copies, NoMemory, Seq, Texts};
-use meaning::types::{Branch, Firings, Queries, Query, Vals};
+use meaning::types::{Firings, Queries, Query, Vals};
 use no_plan_witness::witness;
-use plan_extract::frozen_values;
+use plan_extract::{extract, frozen_values};
 use std::alloc::Global;
 
 /// A branch for each of the queries, in order, each read off a proof of at most `firings` firings.
@@ -98,38 +94,10 @@ fn outcome_of(
     let head = Seq::from_vec(frozen_values(alloc, query.head.as_slice())?);
     match goal(alloc, proof, queries, &head)? {
         Some(found) => {
-            let branch = with_goal(alloc, schema, query, queries, known, proof, &found, firings)?;
+            let branch = extract(alloc, proof, schema, queries, &head, &found)?;
             Ok(QueryOutcome::Branch(branch))
         }
         None => without_goal(alloc, proof, quiet, known, &head),
-    }
-}
-
-/// The branch of a proof in which one of the queries has this match. Where a second proof, with only the exposures that the match rests
-/// on, has a match too, its branch is taken.
-fn with_goal(
-    alloc: Global,
-    schema: &Schema,
-    query: &Query,
-    queries: &Queries,
-    known: &Texts,
-    proof: &Proof,
-    found: &Match,
-    firings: u32,
-) -> Result<Branch, NoMemory>
-    requires queries { AreSearchable (meaning_of schema.now) known.now queries.now }
-    requires few { length queries.now ≤ 2 ^ 32 }
-    requires among { Contains queries.now query.now }
-    requires known { (c : List ℕ) → Contains schema.now.constants c → Contains known.now c }
-    requires firings { firings ≤ MOST_FIRINGS }
-    requires search { IsSearch (meaning_of schema.now) firings (opening query.now) known.now proof.now }
-    requires found { IsGoal queries.now proof.now.end.copy (frozen_head query.now) found.now.select found.now.assignment.vals }
-    ensures { IfOk result (IsQueryBranch (meaning_of schema.now) known.now queries.now query.now) }
-{
-    let kept = rests_on(alloc, schema, proof, queries, found)?;
-    match trimmed(alloc, schema, query, queries, known, &kept, firings)? {
-        Some(branch) => Ok(branch),
-        None => extract(alloc, schema, query, proof),
     }
 }
 
@@ -161,32 +129,4 @@ fn copied_log(alloc: Global, proof: &Proof) -> Result<Firings, NoMemory>
         log.push(firing.copy(alloc)?)?;
     }
     Ok(log)
-}
-
-/// The branch of a proof with exposures of these facts alone, where one of the queries has a match in it.
-fn trimmed(
-    alloc: Global,
-    schema: &Schema,
-    query: &Query,
-    queries: &Queries,
-    known: &Texts,
-    kept: &Store,
-    firings: u32,
-) -> Result<Option<Branch>, NoMemory>
-    requires queries { AreSearchable (meaning_of schema.now) known.now queries.now }
-    requires few { length queries.now ≤ 2 ^ 32 }
-    requires among { Contains queries.now query.now }
-    requires known { (c : List ℕ) → Contains schema.now.constants c → Contains known.now c }
-    requires firings { firings ≤ MOST_FIRINGS }
-    ensures { IfOk result (λ found. IfSome found (IsQueryBranch (meaning_of schema.now) known.now queries.now query.now)) }
-{
-    let head = Seq::from_vec(frozen_values(alloc, query.head.as_slice())?);
-    let proof = replay(alloc, schema, query, known, kept, firings)?;
-    match goal(alloc, &proof, queries, &head)? {
-        Some(_) => {
-            let branch = extract(alloc, schema, query, &proof)?;
-            Ok(Some(branch))
-        }
-        None => Ok(None),
-    }
 }

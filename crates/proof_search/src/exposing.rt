@@ -12,8 +12,7 @@ ghost use Rattle.proof_search.specs.Searches.{IsSearch, IsExposure, Exposes};
 
 use access_schema::Schema;
 use accessible_copy::{Proof, expose, exposures, mark};
-use homomorphism::Store;
-use lists::{Copies, Exact, NoMemory};
+use lists::{Exact, NoMemory};
 use meaning::types::{Firing, Ground};
 use std::alloc::Global;
 
@@ -41,51 +40,6 @@ pub fn expose_all(
             return Ok(false);
         }
         expose_each(alloc, proof, schema, found.as_slice(), firings)?;
-    }
-}
-
-/// Makes exposures of these facts alone, round after round, while the log has fewer than `firings`.
-pub fn expose_kept(
-    alloc: Global,
-    proof: &mut Proof,
-    schema: &Schema,
-    kept: &Store,
-    firings: u32,
-) -> Result<(), NoMemory>
-    requires search { IsSearch (meaning_of schema.now) firings proof.old.start proof.old.constants proof.old }
-    requires met { MeetsAll Const (GroundsOf proof.old.end.base) schema.now.rules }
-    requires part { last_part 0 (log_of proof.old) ≤ 1 }
-    ensures search { OnOk result (IsSearch (meaning_of schema.now) firings proof.old.start proof.old.constants proof.new) }
-    ensures met { OnOk result (MeetsAll Const (GroundsOf proof.new.end.base) schema.now.rules) }
-{
-    loop {
-        let found = exposures(alloc, proof, schema)?;
-        let chosen = chosen(alloc, found.as_slice(), kept)?;
-        if chosen.is_empty() || mark(proof).firings >= firings as u64 {
-            return Ok(());
-        }
-        expose_each(alloc, proof, schema, chosen.as_slice(), firings)?;
-    }
-}
-
-/// The exposures of these facts among the firings, in order.
-fn chosen(alloc: Global, found: &[Firing], kept: &Store) -> Result<Vec<Firing>, NoMemory>
-    ensures { IfOk result (λ chosen. (firing : Firing) → Contains chosen.items firing → Contains found.now firing) }
-{
-    let mut chosen = Vec::new(alloc);
-    for firing in found {
-        if is_kept(firing, kept) {
-            chosen.push(firing.copy(alloc)?)?;
-        }
-    }
-    Ok(chosen)
-}
-
-/// Whether the firing is an exposure of one of the facts.
-fn is_kept(firing: &Firing, kept: &Store) -> bool {
-    match firing {
-        Firing::Expose { fact, .. } => kept.contains(fact),
-        _ => false,
     }
 }
 

@@ -9,8 +9,6 @@ mod deciding;
 mod exposing;
 mod outcome;
 mod proving;
-mod reading;
-mod resting;
 
 pub use deciding::{MOST_UNITS, decide};
 

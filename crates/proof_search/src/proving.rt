@@ -7,12 +7,11 @@ ghost use Rattle.access_schema.specs.Meaning.{meaning_of};
 ghost use Rattle.rule_pass.specs.declared.pass.TheConstants.{MOST_FIRINGS};
 ghost use Rattle.accessible_copy.specs.Proving.{log_of};
 ghost use Rattle.accessible_copy.specs.Rounds.{IsAllQuiet, GoesOn};
-ghost use Rattle.proof_search.specs.Searches.{IsSearchable, IsWithin, IsSearch};
+ghost use Rattle.proof_search.specs.Searches.{IsSearchable, IsSearch};
 
-use crate::exposing::{expose_all, expose_kept};
+use crate::exposing::expose_all;
 use access_schema::Schema;
 use accessible_copy::{Proof, Round, settle};
-use homomorphism::Store;
 use lists::{NoMemory, Texts};
 use meaning::types::Query;
 use std::alloc::Global;
@@ -41,27 +40,6 @@ pub fn prove(
     }
     let quiet = fire_copies(alloc, &mut proof, schema, firings)?;
     Ok((proof, quiet))
-}
-
-/// A proof of a query with exposures of these facts alone, and the copy firings behind them.
-pub fn replay(
-    alloc: Global,
-    schema: &Schema,
-    query: &Query,
-    known: &Texts,
-    kept: &Store,
-    firings: u32,
-) -> Result<Proof, NoMemory>
-    requires query { IsSearchable (meaning_of schema.now) known.now query.now }
-    requires firings { firings ≤ MOST_FIRINGS }
-    ensures { IfOk result (IsWithin (meaning_of schema.now) firings (opening query.now) known.now) }
-{
-    let mut proof = Proof::start(alloc, schema, query, known)?;
-    if fire_base(alloc, &mut proof, schema, firings)? {
-        expose_kept(alloc, &mut proof, schema, kept, firings)?;
-        settle(alloc, &mut proof, schema, true, firings)?;
-    }
-    Ok(proof)
 }
 
 /// The base firings of a proof of the empty log. Whether none is active at the end.

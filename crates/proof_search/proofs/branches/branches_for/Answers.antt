@@ -1,10 +1,9 @@
-use Rattle.std.proofs.Common.{◌≡◌, ◌+◌, ◌∷◌, ◌++◌, [], Some, length, take, refl, sym, subst}
+use Rattle.std.proofs.Common.{◌≡◌, Some, length, refl, subst}
 use Rattle.std.specs.Prelude.{slice_get}
-use Rattle.std.specs.Option.{option_or}
 use Rattle.std.proofs.lemmas.Option.{slice_get_read}
 use Rattle.access_schema.specs.Meaning.{meaning_of}
 use Rattle.proof_search.specs.Branches.{IsQueryBranch, IsSpentLog}
-use Rattle.proof_search.proofs.Found.{AreSearched, one_branch, one_spent}
+use Rattle.proof_search.proofs.Found.{one_branch, one_spent}
 use Rattle.proof_search.proofs.branches.branches_for.Goals.{in-Branch+in_ok-push-in-Branch, in-Spent}
 use Rattle.proof_search.proofs.branches.branches_for.Goals as goal
 

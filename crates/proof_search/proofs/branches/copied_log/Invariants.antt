@@ -1,4 +1,4 @@
-use Rattle.std.proofs.Common.{◌≡◌, ◌-◌, ◌≤◌, take, length}
+use Rattle.std.proofs.Common.{◌≡◌, ◌-◌, take, length}
 use Rattle.accessible_copy.specs.Proving.{log_of}
 use Rattle.proof_search.proofs.branches.copied_log.Given as goal
 

@@ -2,7 +2,7 @@ use Rattle.std.proofs.Common.{◌≡◌, ◌≤◌, Some, None, false, true, len
 use Rattle.std.specs.Prelude.{Contains, slice_get}
 use Rattle.accessible_copy.specs.declared.entry.Exposed.{Exposed}
 use Rattle.accessible_copy.specs.Known.{facts_of}
-use Rattle.proof_search.proofs.Shown.{end_exposed, is_shown, all_taken, none_more, none_past}
+use Rattle.plan_extract.proofs.Shown.{end_exposed, is_shown, all_taken, none_more, none_past}
 use Rattle.proof_search.proofs.exposing.is_exposed.Goals.{in-Some+else-same, in_default}
 use Rattle.proof_search.proofs.exposing.is_exposed.Goals as goal
 
