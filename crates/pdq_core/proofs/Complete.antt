@@ -5,14 +5,15 @@ use Rattle.source_trait.specs.declared.lanes.Lane.{Lane}
 use Rattle.command_io.specs.declared.exit_status.Status.{Status}
 use Rattle.command_io.specs.Moments.{Moment}
 use Rattle.command_words.specs.Words.{Command, IsCommand}
-use Rattle.command_words.specs.Words.Command.{Schema as Print, Explain, Run, Exec, Verify}
+use Rattle.command_words.specs.Words.Command.{Schema as Print, Explain, Run, Exec, Check, Verify}
 use Rattle.pdq_core.specs.Runs.{Runs}
-use Rattle.pdq_core.specs.Runs.Runs.{no_command, help, schema as print_schema, explain, run, exec, verify}
+use Rattle.pdq_core.specs.Runs.Runs.{no_command, help, schema as print_schema, explain, run, exec, check, verify}
 use Rattle.pdq_core.specs.Complete.{IsAnswered, NoneRose, IsSupplied}
 use Rattle.pdq_core.proofs.CompleteSchema.{help_answered, schema_answered}
 use Rattle.pdq_core.proofs.CompleteExplain.{explain_answered}
 use Rattle.pdq_core.proofs.CompleteRun.{run_answered}
 use Rattle.pdq_core.proofs.CompleteExec.{exec_answered}
+use Rattle.pdq_core.proofs.CompleteCheck.{check_answered}
 use Rattle.pdq_core.proofs.CompleteVerify.{verify_answered}
 
 module _ {S : Type 0} (seen : S → Seen) (words : List (List ℕ)) (command : Command) (before after : Moment) (old new : List (Lane S)) (one : (other : Command) → IsCommand words command → IsCommand words other → command ≡ other) (is : IsCommand words command)
@@ -36,6 +37,9 @@ module _ {S : Type 0} (seen : S → Seen) (words : List (List ℕ)) (command : C
   answered status calm (exec name plan result also ends) =
       let given = its (Exec name plan) also in
       exec_answered seen name plan before after old new result calm given.schema given.plan given.schema_given given.plan_given given.lawful given.execution ends
+  answered status calm (check name query plan firings result also ends same) =
+      let given = its (Check name query plan firings) also in
+      check_answered name query plan firings before after result calm given.texts.schema given.texts.statement given.plan given.texts.schema_given given.texts.query_given given.plan_given ends
   answered status calm (verify name result also ends) =
       let given = its (Verify name) also in
       verify_answered seen name before after old new result calm given.schema given.schema_given given.serve ends

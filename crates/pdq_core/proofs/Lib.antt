@@ -6,7 +6,10 @@ pub mod CompleteSchema
 pub mod CompleteExplain
 pub mod CompleteRun
 pub mod CompleteExec
+pub mod CompleteCheck
 pub mod CompleteVerify
 pub mod Complete
+pub mod Refusals
+pub mod CheckStatuses
 pub mod Statuses
 pub mod CompleteOffers

@@ -9,21 +9,17 @@ use Rattle.no_plan_witness.specs.declared.decision.Chosen.{Chosen}
 use Rattle.proof_search.specs.Plans.{HasNoPlan}
 use Rattle.proof_search.specs.Decisions.{IsUndecided}
 use Rattle.source_trait.specs.Asking.{Seen}
-use Rattle.source_trait.specs.declared.files.FileFault.TheVariants as file
-use Rattle.source_trait.specs.declared.source.AttachFault.{AttachFault}
-use Rattle.source_trait.specs.declared.source.AttachFault.TheVariants as attach
 use Rattle.source_trait.specs.declared.lanes.Lane.{Lane}
-use Rattle.middleware.specs.declared.fault.RunFault.TheVariants as fault
 use Rattle.command_io.specs.declared.exit_status.Status.{Status}
+use Rattle.command_io.specs.declared.exit_status.Status.TheVariants as ends_in
 use Rattle.command_io.specs.declared.stop.Stop.{Stop}
-use Rattle.command_io.specs.declared.stop.Stop.TheVariants as stop
 use Rattle.command_io.specs.declared.outcome.Outcome.{Outcome}
 use Rattle.command_io.specs.Status.{status_of}
 use Rattle.command_io.specs.Inputs.{Contents, SchemaIsRead, QueryIsRead}
 use Rattle.command_io.specs.Moments.{Moment}
 use Rattle.command_io.specs.FaultLines.{Names}
 use Rattle.command_words.specs.Words.{Command, IsCommand}
-use Rattle.command_words.specs.Words.Command.{Help, Schema as Print, Explain, Run, Exec, Verify}
+use Rattle.command_words.specs.Words.Command.{Help, Schema as Print, Explain, Run, Exec, Check, Verify}
 use Rattle.run_command.specs.Deciding.{IsPlanned}
 use Rattle.run_command.specs.Deciding.Shows.{plan as shows_plan, no_plan as shows_none, undecided as shows_log}
 use Rattle.run_command.specs.Explained.{DecisionEnds}
@@ -33,8 +29,10 @@ use Rattle.run_command.specs.Ends.{StatementEnds}
 use Rattle.run_command.specs.Ends.StatementEnds.{no_decision, untold, refuted, undecided, stopped, no_text, cut, done}
 use Rattle.run_command.specs.Ends.RunEnds.{refused, read}
 use Rattle.pdq_core.specs.Runs.{Runs, ended}
-use Rattle.pdq_core.specs.Runs.Runs.{no_command, help, schema as print_schema, explain, run, exec, verify}
+use Rattle.pdq_core.specs.Runs.Runs.{no_command, help, schema as print_schema, explain, run, exec, check, verify}
 use Rattle.pdq_core.specs.Statuses.{HasPlan, RunsOn, ReadAs, Says, SaysOf}
+use Rattle.pdq_core.proofs.Refusals.{IsRefusal, refusal_is}
+use Rattle.pdq_core.proofs.CheckStatuses.{checked_says}
 
 -- the spent firings can be gone on with
 longer : (schema : Schema) (statement : Statement) (firings select : ℕ) (log : List Firing) → IsUndecided schema statement firings select log → RunsOn firings schema statement
@@ -57,36 +55,20 @@ has_plan : (schema : Schema) (statement : Statement) (firings search : ℕ) (pla
 has_plan schema statement firings search plan entries planned = (plan, planned.is.lawful, planned.is.equivalent)
 
 module _ (told : Option Contents) (name query : List ℕ) (firings : ℕ) where
-  attach_says : (rel : ℕ) (why : AttachFault) → Says (status_of (stop.Run (fault.Attach rel why))) told name query firings
-  attach_says rel attach.Missing = tt
-  attach_says rel attach.Failed = tt
-  attach_says rel (attach.BadHeader column) = tt
-  attach_says rel (attach.BadRow number) = tt
-  attach_says rel (attach.NotUtf8 number) = tt
-  attach_says rel attach.TooLarge = tt
-  attach_says rel attach.NoMemory = tt
+  refused_says : (status : Status) → IsRefusal status → Says status told name query firings
+  refused_says ends_in.Done never = absurd never
+  refused_says ends_in.No never = absurd never
+  refused_says ends_in.Undecided never = absurd never
+  refused_says ends_in.Words is = tt
+  refused_says ends_in.Text is = tt
+  refused_says ends_in.Fault is = tt
+  refused_says ends_in.Write is = tt
+  refused_says ends_in.Cap is = tt
+  refused_says ends_in.Memory is = tt
 
   -- the status of a stop says nothing of the statement
   stop_says : (end : Stop) → Says (status_of end) told name query firings
-  stop_says stop.Memory = tt
-  stop_says stop.Words = tt
-  stop_says (stop.File input file.Missing) = tt
-  stop_says (stop.File input file.TooLarge) = tt
-  stop_says (stop.File input file.Failed) = tt
-  stop_says (stop.File input file.NoMemory) = tt
-  stop_says (stop.Schema why) = tt
-  stop_says (stop.Query why) = tt
-  stop_says (stop.Plan why) = tt
-  stop_says stop.DecisionWrite = tt
-  stop_says (stop.Illegal why) = tt
-  stop_says (stop.Run fault.NoMemory) = tt
-  stop_says (stop.Run (fault.NoSource rel)) = tt
-  stop_says (stop.Run (fault.UnknownKind rel)) = tt
-  stop_says (stop.Run (fault.Attach rel why)) = attach_says rel why
-  stop_says (stop.Run (fault.CallFailed branch step)) = tt
-  stop_says (stop.Run (fault.OverCalls made wanted cap)) = tt
-  stop_says (stop.WholeFailed rel) = tt
-  stop_says stop.ResultWrite = tt
+  stop_says end = refused_says (status_of end) (refusal_is end)
 
   module _ (schema : Schema) (statement : Statement) (is : SchemaIsRead told name schema) (are : QueryIsRead told query schema statement) where
     read_as : (P : Schema → Statement → Type 0) → P schema statement → ReadAs told name query P
@@ -129,6 +111,7 @@ module _ {S : Type 0} (seen : S → Seen) (words : List (List ℕ)) (command : C
       its (Run name query firings search) (ended result) also
       (run_says before.files name query firings schema statement schema_is statement_is seen search (record { schema = name; query = query; plan = []; relations = schema.relations }) before after old new result ends)
   says status (exec name plan result also ends) = its (Exec name plan) (ended result) also tt
+  says status (check name query plan firings result also ends same) = its (Check name query plan firings) (ended result) also (checked_says name query plan firings before after result ends)
   says status (verify name result also ends) = its (Verify name) (ended result) also tt
 
 pub whole : {S : Type 0} (seen : S → Seen) → ((words : List (List ℕ)) (command other : Command) → IsCommand words command → IsCommand words other → command ≡ other) → (words : List (List ℕ)) (command : Command) (before after : Moment) (old new : List (Lane S)) (status : Status) →

@@ -6,7 +6,7 @@ use Rattle.command_words.specs.Splits.{Item, IsSet}
 use Rattle.command_words.specs.Splits.IsSet.{Once, Absent}
 use Rattle.command_words.specs.declared.table.OptionName.TheVariants.{Firings, Search}
 use Rattle.command_words.specs.Words.{IsCommand}
-use Rattle.command_words.specs.Words.Command.{Explain, Run}
+use Rattle.command_words.specs.Words.Command.{Explain, Run, Check}
 use Rattle.command_io.specs.declared.stop.Stop.{Stop}
 use Rattle.command_io.specs.declared.outcome.Outcome.{Outcome}
 use Rattle.command_io.specs.Moments.{Moment}
@@ -34,6 +34,9 @@ units_explained words schema query n units is = units_in_range is.items units is
 
 pub units_run : (words : List (List ℕ)) (schema query : List ℕ) (n units : ℕ) → IsCommand words (Run schema query n units) → units ≤ MOST_UNITS
 units_run words schema query n units is = units_in_range is.items units is.are_set.1.0
+
+pub few_checked : (words : List (List ℕ)) (schema query plan : List ℕ) (n : ℕ) → IsCommand words (Check schema query plan n) → n ≤ MOST_FIRINGS
+few_checked words schema query plan n is = in_range is.items n is.are_set.0
 
 -- the ends of `help` rest on the two outputs alone
 pub help_with_files : (before after : Moment) (result : Result Outcome Stop) →

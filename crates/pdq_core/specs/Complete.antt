@@ -31,7 +31,7 @@ use Rattle.command_io.specs.Inputs.{Contents, without_mark}
 use Rattle.command_io.specs.Moments.{Moment}
 use Rattle.command_io.specs.Writing.{TookAll}
 use Rattle.command_words.specs.Words.{Command}
-use Rattle.command_words.specs.Words.Command.{Help, Schema as Print, Explain, Run, Exec, Verify}
+use Rattle.command_words.specs.Words.Command.{Help, Schema as Print, Explain, Run, Exec, Check, Verify}
 use Rattle.run_command.specs.Deciding.{IsPlanned}
 use Rattle.exec_command.specs.Ends.{MayRun}
 use Rattle.verify_command.specs.RuleRelations.{RulesName}
@@ -155,6 +155,12 @@ pub record ExecIsSupplied {S : Type 0} (seen : S → Seen) (name its : List ℕ)
   pub lawful : MayRun schema plan
   pub execution : CanExecute seen schema plan old new
 
+-- For `check`: the texts of a schema, of a statement over it and of a plan are given.
+pub record CheckIsSupplied (told : Option Contents) (name query its : List ℕ) : Type 0 where
+  pub texts : TextsAreGiven told name query
+  pub plan : Plan
+  pub plan_given : PlanIsGiven told its plan
+
 -- For `verify`: the text is given, and the sources serve the relations that the rules name.
 pub record VerifyIsSupplied {S : Type 0} (seen : S → Seen) (name : List ℕ) (told : Option Contents) (old new : List (Lane S)) : Type 0 where
   pub schema : Schema
@@ -168,4 +174,5 @@ IsSupplied seen (Print name) before after old new = (schema : Schema) × SchemaI
 IsSupplied seen (Explain name query firings search) before after old new = TextsAreGiven before.files name query
 IsSupplied seen (Run name query firings search) before after old new = RunIsSupplied seen name query firings search before after old new
 IsSupplied seen (Exec name plan) before after old new = ExecIsSupplied seen name plan before.files old new
+IsSupplied seen (Check name query plan firings) before after old new = CheckIsSupplied before.files name query plan
 IsSupplied seen (Verify name) before after old new = VerifyIsSupplied seen name before.files old new

@@ -16,9 +16,10 @@ use Rattle.schema_command.specs.Ends.{SchemaEnds}
 use Rattle.run_command.specs.Ends.{RunEnds}
 use Rattle.run_command.specs.Explained.{ExplainEnds}
 use Rattle.exec_command.specs.Ends.{ExecEnds}
+use Rattle.check_command.specs.Ends.{CheckEnds}
 use Rattle.verify_command.specs.Ends.{VerifyEnds}
 use Rattle.command_words.specs.Words.{Command, IsCommand}
-use Rattle.command_words.specs.Words.Command.{Help, Schema, Explain, Run, Exec, Verify}
+use Rattle.command_words.specs.Words.Command.{Help, Schema, Explain, Run, Exec, Check, Verify}
 use Rattle.pdq_core.specs.Help.{HelpEnds}
 
 -- The status is that of the outcome where nothing stopped the command, and otherwise that of the stop.
@@ -49,6 +50,9 @@ pub data Runs {S : Type 0} (seen : S → Seen) (words : List (List ℕ)) (before
   -- the words are `exec SCHEMA PLAN`
   exec : (name plan : List ℕ) (result : Result Outcome Stop) → IsCommand words (Exec name plan) →
       ExecEnds seen name plan before after old new result → Runs seen words before after old new (ended result)
+  -- the words are `check SCHEMA QUERY PLAN`, with a number of firings
+  check : (name query plan : List ℕ) (firings : ℕ) (result : Result Outcome Stop) → IsCommand words (Check name query plan firings) →
+      CheckEnds name query plan firings before after result → new ≡ old → Runs seen words before after old new (ended result)
   -- the words are `verify SCHEMA`
   verify : (name : List ℕ) (result : Result Outcome Stop) → IsCommand words (Verify name) →
       VerifyEnds seen name before after old new result → Runs seen words before after old new (ended result)

@@ -1,22 +1,27 @@
--- What the status of a run of `explain` or `run` says of the statement.
-use Rattle.std.specs.Prelude.{◌<◌, ℕ, List, Contains, Option, length}
+-- What the status of a run of `explain` or `run` says of the statement, and that of `check` of the plan.
+use Rattle.std.specs.Prelude.{◌⊎◌, ◌<◌, ℕ, List, Contains, Option, length}
 use Rattle.meaning.specs.declared.types.Firing.{Firing}
+use Rattle.meaning.specs.declared.types.Branch.{Branch}
 use Rattle.meaning.specs.declared.types.Plan.{Plan}
 use Rattle.meaning.specs.declared.types.Query.{Query}
 use Rattle.meaning.specs.declared.types.Select.{Select}
 use Rattle.meaning.specs.declared.types.Statement.{Statement}
+use Rattle.meaning.specs.declared.types.Trigger.{Trigger}
 use Rattle.meaning.specs.Claims.{IsEquivalent}
 use Rattle.meaning.specs.Conjunctive.{IsConjunctive}
 use Rattle.meaning.specs.Plans.{IsLawful}
-use Rattle.meaning.specs.Runs.{Proof, IsOrderedRun, opening}
+use Rattle.meaning.specs.Judge.{IsBranchQuery}
+use Rattle.meaning.specs.Triggers.{State}
+use Rattle.meaning.specs.Runs.{Proof, IsOrderedRun, opening, IsBaseRun, opening_state}
 use Rattle.access_schema.specs.declared.schema.Schema.{Schema}
 use Rattle.access_schema.specs.Meaning.{meaning_of}
 use Rattle.proof_search.specs.Plans.{known_of, HasNoPlan}
+use Rattle.plan_check.specs.Verdicts.{IsLegalOver}
 use Rattle.command_io.specs.declared.exit_status.Status.{Status}
 use Rattle.command_io.specs.declared.exit_status.Status.TheVariants as is
-use Rattle.command_io.specs.Inputs.{Contents, SchemaIsRead, QueryIsRead}
+use Rattle.command_io.specs.Inputs.{Contents, SchemaIsRead, QueryIsRead, PlanIsRead}
 use Rattle.command_words.specs.Words.{Command}
-use Rattle.command_words.specs.Words.Command.{Explain, Run}
+use Rattle.command_words.specs.Words.Command.{Explain, Run, Check}
 
 -- Some lawful plan over the known constants is equivalent to the statement.
 abbrev pub HasPlan : Schema → Statement → Type 0
@@ -48,8 +53,50 @@ Says is.No told name query firings = ReadAs told name query HasNoPlan
 Says is.Undecided told name query firings = ReadAs told name query (RunsOn firings)
 Says _ told name query firings = Unit {0}
 
--- That is so of the commands that decide a statement.
+-- The plan is lawful over the known constants and as wide as the statement, and equivalent to it.
+pub record IsRight (schema : Schema) (statement : Statement) (plan : Plan) : Type 0 where
+  pub legal : IsLegalOver schema statement plan (known_of schema statement)
+  pub equivalent : IsEquivalent plan statement (meaning_of schema)
+
+-- It is not.
+abbrev pub IsWrong : Schema → Statement → Plan → Type 0
+IsWrong schema statement plan = IsRight schema statement plan → ⊥
+
+-- The query is that of a select of the statement or of a branch of the plan.
+abbrev pub IsTried : Schema → Statement → Plan → Query → Type 0
+IsTried schema statement plan query =
+    ((select : Select) × Contains statement.selects select × IsConjunctive (meaning_of schema) select query)
+    ⊎ ((branch : Branch) × Contains plan.branches branch × IsBranchQuery (meaning_of schema) branch query)
+
+-- From a frozen select of the statement or a frozen branch of the plan there is a base run of more firings than these.
+pub record FiresOn (firings : ℕ) (schema : Schema) (statement : Statement) (plan : Plan) : Type 0 where
+  pub query : Query
+  pub log : List Trigger
+  pub end : State
+  pub tried : IsTried schema statement plan query
+  pub run : IsBaseRun schema.rules (opening_state query) log end
+  pub long : firings < length log
+
+-- The three texts were read as a schema, a statement and a plan, of which this is so.
+pub record ReadWith (told : Option Contents) (name query its : List ℕ) (P : Schema → Statement → Plan → Type 0) : Type 0 where
+  pub schema : Schema
+  pub statement : Statement
+  pub plan : Plan
+  pub schema_is : SchemaIsRead told name schema
+  pub statement_is : QueryIsRead told query schema statement
+  pub plan_is : PlanIsRead told its plan
+  pub so : P schema statement plan
+
+-- Done says that the plan is right, no that it is not, and undecided that there is a longer base run than the firings given.
+abbrev pub SaysOfPlan : Status → Option Contents → List ℕ → List ℕ → List ℕ → ℕ → Type 0
+SaysOfPlan is.Done told name query its firings = ReadWith told name query its IsRight
+SaysOfPlan is.No told name query its firings = ReadWith told name query its IsWrong
+SaysOfPlan is.Undecided told name query its firings = ReadWith told name query its (FiresOn firings)
+SaysOfPlan _ told name query its firings = Unit {0}
+
+-- That is so of the commands that decide a statement, and of the one that judges a plan.
 abbrev pub SaysOf : Command → Option Contents → Status → Type 0
 SaysOf (Explain name query firings search) told status = Says status told name query firings
 SaysOf (Run name query firings search) told status = Says status told name query firings
+SaysOf (Check name query plan firings) told status = SaysOfPlan status told name query plan firings
 SaysOf _ told status = Unit {0}

@@ -40,7 +40,9 @@ pub fn sources_that_tell_serve<S: Source>()
 {}
 
 /// The status of `explain` and of `run` is right. `Done` says that some lawful plan is equivalent to the statement, `No` that
-/// none is, and `Undecided` that there is a longer ordered run than the firings given.
+/// none is, and `Undecided` that there is a longer ordered run than the firings given. That of `check` is right too: `Done` says that the
+/// plan is lawful and equivalent to the statement, `No` that it is not, and `Undecided` that a base run from a frozen select or branch is
+/// longer than the firings given.
 pub fn statuses_are_right<S: Source>()
     ensures { (words : List (List ℕ)) (command : Command) (before after : Moment) (old new : List (Lane S)) (status : Status) →
         Runs S.seen words before after old new status → IsCommand words command → SaysOf command before.files status }

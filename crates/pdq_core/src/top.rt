@@ -5,6 +5,7 @@ ghost use Rattle.command_io.specs.Moments.{Moment, Stays};
 ghost use Rattle.pdq_core.specs.Runs.{Runs, ended as ended_by};
 
 use crate::help::print_usage;
+use check_command::check_plan;
 use command_io::{Outcome, Status, Stop, say, status};
 use command_words::{Command, read_words};
 use exec_command::exec_plan;
@@ -65,6 +66,14 @@ pub fn run_words<F: Files, S: Source + Send + Drop, O: Sink, E: Sink>(
         Some(Command::Exec { schema, plan }) => {
             ended(exec_plan(alloc, schema, plan, files, lanes, out, err))
         }
+        Some(
+            Command::Check {
+                schema,
+                query,
+                plan,
+                firings,
+            },
+        ) => ended(check_plan(alloc, schema, query, plan, firings, files, out, err)),
         Some(Command::Verify { schema }) => {
             ended(verify_rules(alloc, schema, files, lanes, out, err))
         }

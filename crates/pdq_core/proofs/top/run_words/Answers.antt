@@ -4,9 +4,9 @@ use Rattle.source_trait.proofs.LaneSteps.{LanesStay-refl}
 use Rattle.command_io.specs.declared.stop.Stop.TheVariants as stop
 use Rattle.command_io.proofs.Lines.{said_tells}
 use Rattle.command_words.specs.Words.{IsCommand}
-use Rattle.command_words.specs.Words.Command.{Help, Schema, Explain, Run, Exec, Verify}
-use Rattle.pdq_core.specs.Runs.Runs.{no_command, help, schema, explain, run, exec, verify}
-use Rattle.pdq_core.proofs.Ways.{few_explained, few_run, units_explained, units_run, help_with_files}
+use Rattle.command_words.specs.Words.Command.{Help, Schema, Explain, Run, Exec, Check, Verify}
+use Rattle.pdq_core.specs.Runs.Runs.{no_command, help, schema, explain, run, exec, check, verify}
+use Rattle.pdq_core.proofs.Ways.{few_explained, few_run, few_checked, units_explained, units_run, help_with_files}
 use Rattle.pdq_core.proofs.top.run_words.Goals as goal
 
 pub returns-in-None-clause-run : goal.returns-in-None-clause-run
@@ -74,6 +74,20 @@ pub returns-in-Some-Exec-clause-run : goal.returns-in-Some-Exec-clause-run
 returns-in-Some-Exec-clause-run g c =
     let is : IsCommand c.args.words.now (Exec c.in-Some-Exec.schema.now c.in-Some-Exec.plan.now) = rw c.in-Some-Exec.field-0-is at c.in-Some-Exec.ensures.some in
     rw c.ended-in-Some-Exec.ensures (exec c.in-Some-Exec.schema.now c.in-Some-Exec.plan.now c.exec_plan.result is c.exec_plan.ensures.ends)
+
+pub returns-in-Some-Check-clause-run : goal.returns-in-Some-Check-clause-run
+returns-in-Some-Check-clause-run g c =
+    let is : IsCommand c.args.words.now (Check c.in-Some-Check.schema.now c.in-Some-Check.query.now c.in-Some-Check.plan.now c.in-Some-Check.firings) =
+    rw c.in-Some-Check.field-0-is at c.in-Some-Check.ensures.some in
+    rw c.ended-in-Some-Check.ensures (check c.in-Some-Check.schema.now c.in-Some-Check.query.now c.in-Some-Check.plan.now c.in-Some-Check.firings c.check_plan.result is c.check_plan.ensures.ends refl)
+
+pub returns-in-Some-Check-clause-lanes : goal.returns-in-Some-Check-clause-lanes
+returns-in-Some-Check-clause-lanes g c = LanesStay-refl g.S.Source.seen c.args.lanes.now.items
+
+pub check_plan-requires : goal.check_plan-requires
+check_plan-requires g c =
+    few_checked c.args.words.now c.in-Some-Check.schema.now c.in-Some-Check.query.now c.in-Some-Check.plan.now c.in-Some-Check.firings
+    (rw c.in-Some-Check.field-0-is at c.in-Some-Check.ensures.some)
 
 pub returns-in-Some-Verify-clause-run : goal.returns-in-Some-Verify-clause-run
 returns-in-Some-Verify-clause-run g c =
