@@ -9,5 +9,6 @@ pub mod Showing
 pub mod Listed
 pub mod Heading
 pub mod Lasting
+pub mod Labelled
 pub mod Pushing
 pub mod Rounding

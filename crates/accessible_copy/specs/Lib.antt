@@ -8,3 +8,4 @@ pub mod Methods
 pub mod Listing
 pub mod Goals
 pub mod Rounds
+pub mod Labels

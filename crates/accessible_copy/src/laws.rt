@@ -3,10 +3,11 @@ ghost use Rattle.std.specs.Prelude.{◌≡◌, ◌≤◌, ℕ, List, Contains};
 ghost use Rattle.meaning.specs.declared.types.SchemaParts.{SchemaParts};
 ghost use Rattle.meaning.specs.declared.types.Ground.{Ground};
 ghost use Rattle.meaning.specs.declared.types.Method.{Method};
-ghost use Rattle.meaning.specs.declared.types.Val.TheVariants.{Const};
+ghost use Rattle.meaning.specs.declared.types.Val.TheVariants.{Const, Label};
 ghost use Rattle.meaning.specs.Matching.{MeetsAll, GroundsOf};
 ghost use Rattle.meaning.specs.Runs.{IsRun, last_part, IsActiveExposure};
 ghost use Rattle.accessible_copy.specs.Proving.{Proving, IsProofOf, log_of};
+ghost use Rattle.accessible_copy.specs.Labels.{IsKnownOrMade};
 
 /// The log is a run from the start to the state that the proof is in.
 pub fn log_is_run()
@@ -33,4 +34,10 @@ pub fn exposure_stays()
         (Contains new.end.exposed fact → ⊥) →
         IsActiveExposure schema old.constants old.end number fact method →
         IsActiveExposure schema new.constants new.end number fact method }
+{}
+
+/// Each label of the copy is a known value, or a copy firing of the log made it: so one that no copy firing made is known.
+pub fn copied_labels_are_known_or_made()
+    ensures { (schema : SchemaParts) (proof : Proving) → IsProofOf schema proof → (fact : Ground) (k : ℕ) →
+        Contains proof.end.copy fact → Contains fact.vals (Label k) → IsKnownOrMade schema proof k }
 {}

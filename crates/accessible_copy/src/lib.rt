@@ -29,3 +29,6 @@ pub use method_index::MethodIndex;
 pub use proof::Proof;
 pub use rounds::round;
 pub use settling::{Round, settle};
+
+#[cfg(test)]
+mod tests;
