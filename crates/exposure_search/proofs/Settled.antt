@@ -1,20 +1,22 @@
 -- What settling the copy of exposures shows.
-use Rattle.std.proofs.Common.{◌≡◌, ◌⊎◌, ℕ, ◌+◌, ◌<◌, ◌≤◌, List, [], ◌∷◌, ◌++◌, length, map, Bool, true, false, Option, Some, None, refl, sym, ap, ◌∙◌, subst, inl, inr, arith}
+use Rattle.std.proofs.Common.{◌≡◌, ◌⊎◌, ℕ, ◌+◌, ◌≤◌, List, [], ◌++◌, length, map, Bool, true, false, Option, Some, None, refl, sym, ap, ◌∙◌, subst, inl, inr, ⊎_elim, arith}
 use Rattle.std.specs.Prelude.{Contains, is_some, IfSome, IfNone}
 use Rattle.std.specs.List.{AllZip}
+use Rattle.std.proofs.lemmas.List.{append-nil, length-map}
 use Rattle.lists.proofs.Members.{contains_got}
 use Rattle.meaning_laws.proofs.SameSets.{run_alike}
 use Rattle.meaning_laws.proofs.Carrying.{run_fires}
 use Rattle.meaning.specs.declared.types.SchemaParts.{SchemaParts}
-use Rattle.meaning.specs.declared.types.Ground.{Ground}
 use Rattle.meaning.specs.declared.types.Query.{Query}
 use Rattle.meaning.specs.declared.types.Val.{Val}
 use Rattle.meaning.specs.declared.types.Firing.TheVariants.{Base}
 use Rattle.meaning.specs.Triggers.{State, IsQuiet, IsFiringRun, ground}
-use Rattle.meaning.specs.Runs.{Proof, base_state, copy_state, HasGoal, IsBaseRun}
-use Rattle.meaning.specs.Extract.{Exposure, exposed_facts, IsExposing, HasGoalFrom}
+use Rattle.meaning.specs.Runs.{Proof, base_state, copy_state, HasGoal, IsBaseRun, IsRun}
+use Rattle.meaning.specs.Extract.{exposed_facts, HasGoalFrom}
 use Rattle.homomorphism.specs.Bindings.{at}
 use Rattle.rule_pass.specs.States.{SomeActive}
+use Rattle.accessible_copy.specs.declared.entry.Entry.{Entry}
+use Rattle.accessible_copy.proofs.Writing.{written_run}
 use Rattle.accessible_copy.specs.declared.goals.Match.{Match}
 use Rattle.accessible_copy.specs.declared.settling.Round.{Round}
 use Rattle.accessible_copy.specs.declared.settling.Round.TheVariants.{Quiet, Done, Spent}
@@ -30,13 +32,13 @@ use Rattle.least_search.specs.declared.space.End.TheVariants as end
 use Rattle.least_search.specs.Walks.{IsWalk, no_facts}
 use Rattle.least_search.specs.Ends.{GoesOn}
 use Rattle.exposure_search.specs.Tries.{picked, IsOpen, IsTry, HasMatchFrom}
-use Rattle.exposure_search.specs.Making.{bases_of, OnlyExposes, SameBase, all_made, IsExposedBy, IsActiveMove, IsServed}
-use Rattle.exposure_search.specs.Exploring.{Exploring, exploring_of, HasGoalAt, HasRunBeyond}
+use Rattle.exposure_search.specs.Making.{bases_of, GoesBeyond, OnlyExposes, SameBase, all_made, IsExposedBy, IsActiveMove, IsServed}
+use Rattle.exposure_search.specs.Exploring.{exploring_of, HasGoalAt, HasRunBeyond}
 use Rattle.exposure_search.specs.Visiting.{IsVisitEnd, AreMovesAt, IsReached}
-use Rattle.exposure_search.specs.Sets.{AreSame, none_same, turned}
+use Rattle.exposure_search.specs.Sets.{AreSame, none_same}
 use Rattle.exposure_search.proofs.Bridging.{goal_same}
 use Rattle.exposure_search.proofs.Logs.{lies, settled_run, settled_long, settled_on}
-use Rattle.exposure_search.proofs.Steps.{IsWalked, walked, walk_same}
+use Rattle.exposure_search.proofs.Steps.{IsWalked, walked}
 use Rattle.exposure_search.proofs.Serving.{active_open, open_active}
 
 -- a match that was found
@@ -51,6 +53,10 @@ none_found queries proof head (Some m) e is = absurd (cc)
 pub none_then : {X : Type 0} (P Q : Type 0) (found : Option X) → (P → Q) → IfNone found P → IfNone found Q
 none_then P Q None f p = f p
 none_then P Q (Some x) f p = tt
+
+pub some_always : {X : Type 0} {P : Type 0} (found : Option X) → P → IfSome found (λ x. P)
+some_always None p = tt
+some_always (Some x) p = p
 
 -- the same beginning gives the same space
 pub same_space : (schema : SchemaParts) (queries : List Query) (head : List Val) (budget : ℕ) (old new : Proving) → SameBase old new → exploring_of schema new queries head budget ≡ exploring_of schema old queries head budget
@@ -110,7 +116,7 @@ module _ (schema : SchemaParts) (queries : List Query) (head : List Val) (budget
   goal_matches (goal, among, (a, are, e)) =
       let same = trail.same in
       let (other, run, alike) = run_alike schema.rules settles.more (record { facts = exposed_facts trail.made; next = proof.end.next }) (copy_state settled.end) (record { facts = picked proof.end.base set; next = proof.end.next })
-          (record { to = same.from; from = same.to; next = refl }) copy_run in
+      (record { to = same.from; from = same.to; next = refl }) copy_run in
       record { copy = settles.more; end = other; goal = goal; run = run; among = among; answer = (a, (λ atom c. alike.to (ground a atom) (are atom c)), e) }
 
   -- a settled copy without a match
@@ -130,13 +136,23 @@ module _ (schema : SchemaParts) (queries : List Query) (head : List Val) (budget
   }
 
   -- where the firings are spent, some run is longer
-  pub runs_beyond : (budget ≤ length settled.entries) × SomeActive schema.rules (copy_state settled.end) → HasRunBeyond (exploring_of schema proof queries head budget)
-  runs_beyond (low, some) =
+  pub runs_beyond : GoesBeyond schema budget settled → HasRunBeyond (exploring_of schema proof queries head budget)
+  runs_beyond far = ⊎_elim
+      (λ more.
+      let long : length (log_of settled) ≡ length settled.entries = length-map settled.entries (λ (entry : Entry). entry.firing) in
+      record {
+        log = log_of settled;
+        end = settled.end;
+        run = subst (λ p. IsRun schema proof.constants 0 p (log_of settled) settled.end) settles.start
+            (subst (λ k. IsRun schema k 0 settled.start (log_of settled) settled.end) settles.constants (written_run schema settled.constants 0 settled.start settled.entries settled.end its.written));
+        beyond = omega arith;
+      })
+      (λ (low, some).
       let (log, last, run, long) = settled_on schema proof settled is its settles some in
-      record { log = log; end = last; run = run; beyond = omega arith }
+      record { log = log; end = last; run = run; beyond = omega arith }) far
 
   pub visit_end : (ended : End) (fired : ℕ) → (ended ≡ end.Goal → HasGoal queries settled.end head) → (ended ≡ end.NoGoal → IsQuiet schema.rules (copy_state settled.end)) → (ended ≡ end.NoGoal → HasGoal queries settled.end head → ⊥) →
-      (ended ≡ end.FiringsSpent → (budget ≤ length settled.entries) × SomeActive schema.rules (copy_state settled.end)) → length proof.entries + fired ≡ length settled.entries →
+      (ended ≡ end.FiringsSpent → GoesBeyond schema budget settled) → length proof.entries + fired ≡ length settled.entries →
       IsVisitEnd (exploring_of schema proof queries head budget) path set ended fired
   visit_end ended fired goal quiet none long counted =
       let added = settled_long schema proof settled settles in
@@ -148,11 +164,12 @@ module _ (schema : SchemaParts) (queries : List Query) (head : List Val) (budget
       }
 
   -- the proof that was reached
-  pub reached_here : IsReached (exploring_of schema proof queries head budget) path settled
-  reached_here = record {
+  pub reached_here : length settled.entries ≤ budget → IsReached (exploring_of schema proof queries head budget) path settled
+  reached_here few = record {
     run = its;
     constants = settles.constants;
     start = settles.start;
+    few = few;
     made = trail.made;
     copy = settles.more;
     log = settles.log ∙ ap (λ l. l ++ map (firing_of true) settles.more) is.log ∙ ap (λ m. map Base (bases_of (log_of proof)) ++ map exposure_of m ++ map (firing_of true) settles.more) (sym settles.exposed);
@@ -167,4 +184,16 @@ module _ (schema : SchemaParts) (queries : List Query) (head : List Val) (budget
       HasRunBeyond (exploring_of schema proof queries head budget) ⊎ (HasGoalAt (exploring_of schema proof queries head budget) set → ⊥)
   none_reached Quiet going quiet spent none = inr (none_goal (quiet refl) none)
   none_reached Done going quiet spent none = absurd (going refl)
-  none_reached Spent going quiet spent none = inl (runs_beyond (spent refl))
+  none_reached Spent going quiet spent none = inl (runs_beyond (inr (spent refl)))
+
+-- a proof without copy firings, as one that was settled by none
+pub unsettled : (schema : SchemaParts) (proof : Proving) → Settles schema true proof proof
+unsettled schema proof = record {
+  more = [];
+  log = sym (append-nil (log_of proof));
+  constants = refl;
+  start = refl;
+  exposed = refl;
+  stays = refl;
+  ordered = λ can run. run;
+}

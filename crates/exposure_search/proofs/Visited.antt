@@ -1,5 +1,5 @@
 -- Visits, said of the proof before them.
-use Rattle.std.proofs.Common.{◌≡◌, ◌⊎◌, ℕ, ◌+◌, ◌≤◌, List, ◌++◌, length, take, true, sym, ap, ◌∙◌, subst, arith, Bool}
+use Rattle.std.proofs.Common.{◌≡◌, ◌⊎◌, inl, ℕ, ◌+◌, ◌<◌, ◌≤◌, List, length, take, true, ap, ◌∙◌, subst, arith, Bool}
 use Rattle.std.specs.Prelude.{Contains, IfOk, Result, Ok, Err}
 use Rattle.meaning.specs.declared.types.SchemaParts.{SchemaParts}
 use Rattle.meaning.specs.declared.types.Query.{Query}
@@ -18,12 +18,12 @@ use Rattle.least_search.specs.declared.space.End.TheVariants as end
 use Rattle.least_search.specs.Walks.{IsWalk, no_facts}
 use Rattle.least_search.specs.Ends.{GoesOn}
 use Rattle.exposure_search.specs.Tries.{IsOpen}
-use Rattle.exposure_search.specs.Making.{OnlyExposes, SameBase, all_made, IsActiveMove, IsServed}
+use Rattle.exposure_search.specs.Making.{OnlyExposes, SameBase, GoesBeyond, all_made, IsActiveMove, IsServed}
 use Rattle.exposure_search.specs.Exploring.{Exploring, exploring_of, CanExpose, HasGoalAt, HasTry, HasRunBeyond}
 use Rattle.exposure_search.specs.Visiting.{IsVisitEnd, AreMovesAt, IsReached}
 use Rattle.exposure_search.proofs.Logs.{goes_back, same_on, settled_long}
 use Rattle.exposure_search.proofs.Steps.{walk_same}
-use Rattle.exposure_search.proofs.Settled.{same_space, made_same, moves_here, visit_end, reached_here, none_reached}
+use Rattle.exposure_search.proofs.Settled.{unsettled, runs_beyond, same_space, made_same, moves_here, visit_end, reached_here, none_reached}
 
 module _ (schema : SchemaParts) (queries : List Query) (head : List Val) (budget : ℕ) (old gone : Proving) (path : List Move) (set : List Bool)
     (is : OnlyExposes schema gone) (same : SameBase old gone) (made : gone.exposed ≡ all_made old.end.base path)
@@ -35,20 +35,26 @@ module _ (schema : SchemaParts) (queries : List Query) (head : List Val) (budget
       subst (λ s. AreMovesAt s set ended moves) (same_space schema queries head budget old gone same)
       (moves_here schema gone path set is (made_same old gone path same made) (walk_same schema old gone path set same walk) queries head budget ended moves active all)
 
+  -- where the log is too long already, some run is
+  pub path_beyond : budget < length gone.entries → HasRunBeyond (exploring_of schema old queries head budget)
+  path_beyond more =
+      subst (λ s. HasRunBeyond s) (same_space schema queries head budget old gone same)
+      (runs_beyond schema queries head budget gone gone path set is is.run (unsettled schema gone) (made_same old gone path same made) (walk_same schema old gone path set same walk) (inl more))
+
   module _ (settled : Proving) (its : IsProofOf schema settled) (settles : Settles schema true gone settled) where
     -- how it ended
     pub end_seen : (ended : End) (fired : ℕ) → (ended ≡ end.Goal → HasGoal queries settled.end head) → (ended ≡ end.NoGoal → IsQuiet schema.rules (copy_state settled.end)) → (ended ≡ end.NoGoal → HasGoal queries settled.end head → ⊥) →
-        (ended ≡ end.FiringsSpent → (budget ≤ length settled.entries) × SomeActive schema.rules (copy_state settled.end)) → length gone.entries + fired ≡ length settled.entries →
+        (ended ≡ end.FiringsSpent → GoesBeyond schema budget settled) → length gone.entries + fired ≡ length settled.entries →
         IsVisitEnd (exploring_of schema old queries head budget) path set ended fired
     end_seen ended fired goal quiet none long counted =
         subst (λ s. IsVisitEnd s path set ended fired) (same_space schema queries head budget old gone same)
         (visit_end schema queries head budget gone settled path set is its settles (made_same old gone path same made) (walk_same schema old gone path set same walk) ended fired goal quiet none long counted)
 
     -- the proof that was reached
-    pub proof_reached : IsReached (exploring_of schema old queries head budget) path settled
-    proof_reached =
+    pub proof_reached : length settled.entries ≤ budget → IsReached (exploring_of schema old queries head budget) path settled
+    proof_reached few =
         subst (λ s. IsReached s path settled) (same_space schema queries head budget old gone same)
-        (reached_here schema queries head budget gone settled path set is its settles (made_same old gone path same made) (walk_same schema old gone path set same walk))
+        (reached_here schema queries head budget gone settled path set is its settles (made_same old gone path same made) (walk_same schema old gone path set same walk) few)
 
     pub none_there : (ended : Round) → (ended ≡ Done → ⊥) → (ended ≡ Quiet → IsQuiet schema.rules (copy_state settled.end)) → (ended ≡ Spent → (budget ≤ length settled.entries) × SomeActive schema.rules (copy_state settled.end)) → (HasGoal queries settled.end head → ⊥) →
         HasRunBeyond (exploring_of schema old queries head budget) ⊎ (HasGoalAt (exploring_of schema old queries head budget) set → ⊥)

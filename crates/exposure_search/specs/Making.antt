@@ -1,5 +1,5 @@
 -- Proofs whose logs are base firings and the exposures behind them.
-use Rattle.std.specs.Prelude.{◌≡◌, ◌≤◌, ◌^◌, ℕ, List, [], ◌∷◌, ◌++◌, Contains, length, map, slice_get, slice_index_or, Some}
+use Rattle.std.specs.Prelude.{◌≡◌, ◌⊎◌, ◌<◌, ◌≤◌, ◌^◌, ℕ, List, [], ◌∷◌, ◌++◌, Contains, length, map, slice_get, slice_index_or, Some}
 use Rattle.meaning.specs.declared.types.SchemaParts.{SchemaParts}
 use Rattle.meaning.specs.declared.types.Method.{Method}
 use Rattle.meaning.specs.declared.types.Ground.{Ground}
@@ -7,8 +7,9 @@ use Rattle.meaning.specs.declared.types.Trigger.{Trigger}
 use Rattle.meaning.specs.declared.types.Firing.{Firing}
 use Rattle.meaning.specs.declared.types.Firing.TheVariants.{Base, Copy, Expose}
 use Rattle.meaning.specs.declared.types.Query.{Query}
-use Rattle.meaning.specs.Runs.{base_state, IsBaseQuiet, IsActiveExposure}
+use Rattle.meaning.specs.Runs.{base_state, copy_state, IsBaseQuiet, IsActiveExposure}
 use Rattle.meaning.specs.Extract.{Exposure}
+use Rattle.rule_pass.specs.States.{SomeActive}
 use Rattle.rule_pass.specs.declared.pass.TheConstants.{MOST_FIRINGS}
 use Rattle.accessible_copy.specs.declared.entry.Exposed.{Exposed}
 use Rattle.accessible_copy.specs.Proving.{Proving, IsProofOf, log_of}
@@ -53,6 +54,12 @@ pub record SameBase (old new : Proving) : Type 0 where
   pub start : new.start ≡ old.start
   pub bases : bases_of (log_of new) ≡ bases_of (log_of old)
   pub base : base_state new.end ≡ base_state old.end
+
+-- The log has more firings than the budget, or so many and a copy trigger is active.
+abbrev pub GoesBeyond : SchemaParts → ℕ → Proving → Type 0
+GoesBeyond schema budget proof =
+    (budget < length proof.entries)
+    ⊎ ((budget ≤ length proof.entries) × SomeActive schema.rules (copy_state proof.end))
 
 -- The base fact with that number.
 abbrev pub fact_at : List Ground → ℕ → Ground

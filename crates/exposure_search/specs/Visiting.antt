@@ -28,11 +28,13 @@ pub record AreMovesAt (space : Exploring) (set : List Bool) (ended : End) (moves
   pub possible : (move : Move) → Contains moves move → CanExpose space set move
   pub complete : GoesOn ended → (move : Move) → CanExpose space set move → IsServed moves move
 
--- The proof has the base firings of the space, then the exposures of the path, at its cost, and then copy firings.
+-- The proof has the base firings of the space, then the exposures of the path, at its cost, and then copy firings, and no more
+-- firings than the budget.
 pub record IsReached (space : Exploring) (path : List Move) (proof : Proving) : Type 0 where
   pub run : IsProofOf space.schema proof
   pub constants : proof.constants ≡ space.constants
   pub start : proof.start ≡ space.start
+  pub few : length proof.entries ≤ space.budget
   pub made : List Exposure
   pub copy : List Trigger
   pub log : log_of proof ≡ map Base space.log ++ map exposure_of proof.exposed ++ map Copy copy

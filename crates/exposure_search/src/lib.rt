@@ -14,3 +14,6 @@ mod visiting;
 
 pub use exposure_space::ExposureSpace;
 pub use founding::base_proof;
+
+#[cfg(test)]
+mod tests;

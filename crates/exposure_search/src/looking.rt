@@ -4,14 +4,13 @@ ghost use Rattle.meaning.specs.declared.types.Query.{Query};
 ghost use Rattle.meaning.specs.Triggers.{IsQuiet};
 ghost use Rattle.meaning.specs.Runs.{HasGoal, copy_state};
 ghost use Rattle.access_schema.specs.Meaning.{meaning_of};
-ghost use Rattle.rule_pass.specs.States.{SomeActive};
 ghost use Rattle.rule_pass.specs.declared.pass.TheConstants.{MOST_FIRINGS};
 ghost use Rattle.accessible_copy.specs.declared.settling.Round.TheVariants.{Quiet, Done, Spent};
 ghost use Rattle.accessible_copy.specs.Proving.{IsProofOf};
 ghost use Rattle.accessible_copy.specs.Settling.{Settles};
 ghost use Rattle.accessible_copy.specs.Goals.{IsCounted};
 ghost use Rattle.least_search.specs.declared.space.End.TheVariants as end;
-ghost use Rattle.exposure_search.specs.Making.{OnlyExposes};
+ghost use Rattle.exposure_search.specs.Making.{OnlyExposes, GoesBeyond};
 
 use access_schema::Schema;
 use accessible_copy::{Proof, Round, goal, mark, settle};
@@ -21,7 +20,7 @@ use meaning::types::{Queries, Vals};
 use std::alloc::Global;
 
 /// Makes copy firings, at most `room` and while the log has fewer than `budget`, until none is active, and looks for a match.
-/// How it ended, and how many firings were made.
+/// How it ended, and how many firings were made. Where the log has more than `budget` firings, nothing is done.
 pub(crate) fn look(
     alloc: Global,
     proof: &mut Proof,
@@ -40,14 +39,23 @@ pub(crate) fn look(
     ensures goal { IfOk result (λ seen. seen.0 ≡ end.Goal → HasGoal queries.now proof.new.end head.now) }
     ensures quiet { IfOk result (λ seen. seen.0 ≡ end.NoGoal → IsQuiet schema.now.rules (copy_state proof.new.end)) }
     ensures none { IfOk result (λ seen. seen.0 ≡ end.NoGoal → HasGoal queries.now proof.new.end head.now → ⊥) }
-    ensures long { IfOk result (λ seen. seen.0 ≡ end.FiringsSpent →
-        (budget ≤ length proof.new.entries) × SomeActive schema.now.rules (copy_state proof.new.end)) }
+    ensures long { IfOk result (λ seen. seen.0 ≡ end.FiringsSpent → GoesBeyond (meaning_of schema.now) budget proof.new) }
+    ensures few { IfOk result (λ seen. seen.0 ≡ end.Goal → length proof.new.entries ≤ budget) }
     ensures fired { IfOk result (λ seen. length proof.old.entries + seen.1 ≡ length proof.new.entries) }
     ensures room { IfOk result (λ seen. seen.1 ≤ room) }
     ensures spent { IfOk result (λ seen. seen.0 ≡ end.UnitsSpent → seen.1 ≡ room) }
 {
     let before = mark(proof).firings;
-    let ended = settle(alloc, proof, schema, true, most_firings(before, room, budget))?;
+    if before > u64::from(budget) {
+        return Ok((End::FiringsSpent, 0));
+    }
+    let ended = settle(
+        alloc,
+        proof,
+        schema,
+        true,
+        most_firings(before, room, budget),
+    )?;
     let after = mark(proof).firings;
     let found = goal(alloc, proof, queries, head)?;
     let end = end_of(&ended, found.is_some(), after >= u64::from(budget));

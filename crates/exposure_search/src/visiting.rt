@@ -1,5 +1,5 @@
 // A visit of a set: what it is looked for, and how.
-ghost use Rattle.std.specs.Prelude.{◌≡◌, ◌≤◌, ◌⊎◌, Contains, IfOk, IfSome, IfNone, OnOk, length};
+ghost use Rattle.std.specs.Prelude.{◌≡◌, ◌≤◌, ◌⊎◌, Contains, IfOk, IfSome, IfNone, length};
 ghost use Rattle.access_schema.specs.Meaning.{meaning_of};
 ghost use Rattle.accessible_copy.specs.Proving.{IsProofOf};
 ghost use Rattle.accessible_copy.specs.Goals.{IsGoal};
@@ -58,7 +58,14 @@ pub(crate) fn visit_set(
         (exploring_of (meaning_of aim.now.schema.now) proof.old aim.now.queries.now aim.now.head.now aim.now.budget)
         set.now visit.end visit.moves.items) }
 {
-    go_along(aim.alloc, proof, aim.schema, aim.facts.as_slice(), aim.bases, path)?;
+    go_along(
+        aim.alloc,
+        proof,
+        aim.schema,
+        aim.facts.as_slice(),
+        aim.bases,
+        path,
+    )?;
     let made = mark(proof);
     let seen = look(
         aim.alloc,
@@ -102,9 +109,9 @@ pub(crate) fn reach_set(
     requires ready { IsReady (meaning_of aim.now.schema.now) proof.old aim.now.facts.items aim.now.bases aim.now.queries.now aim.now.budget }
     requires walk { IsWalk (IsOpen (meaning_of aim.now.schema.now) proof.old.constants proof.old.end.base)
         (no_facts (length proof.old.end.base)) path.now set.now }
-    ensures reached { OnOk result (IsReached
+    ensures reached { IfOk result (λ found. IfSome found (λ m. IsReached
         (exploring_of (meaning_of aim.now.schema.now) proof.old aim.now.queries.now aim.now.head.now aim.now.budget)
-        path.now proof.new) }
+        path.now proof.new)) }
     ensures found { IfOk result (λ found. IfSome found
         (λ m. IsGoal aim.now.queries.now proof.new.end.copy aim.now.head.now m.select m.assignment.vals)) }
     ensures none { IfOk result (λ found. IfNone found
@@ -112,7 +119,17 @@ pub(crate) fn reach_set(
         ⊎ (HasGoalAt (exploring_of (meaning_of aim.now.schema.now) proof.old aim.now.queries.now aim.now.head.now aim.now.budget)
         set.now → ⊥))) }
 {
-    go_along(aim.alloc, proof, aim.schema, aim.facts.as_slice(), aim.bases, path)?;
+    go_along(
+        aim.alloc,
+        proof,
+        aim.schema,
+        aim.facts.as_slice(),
+        aim.bases,
+        path,
+    )?;
+    if mark(proof).firings > u64::from(aim.budget) {
+        return Ok(None);
+    }
     settle(aim.alloc, proof, aim.schema, true, aim.budget)?;
     Ok(goal(aim.alloc, proof, aim.queries, aim.head)?)
 }
