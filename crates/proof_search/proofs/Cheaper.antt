@@ -2,7 +2,6 @@
 use Rattle.std.proofs.Common.{◌≡◌, ◌⊎◌, ℕ, ◌+◌, ◌<◌, ◌≤◌, List, [], ◌∷◌, Bool, length, Some, refl, sym, ap, ◌∙◌, subst, ⊎_elim, arith}
 use Rattle.std.specs.Prelude.{Contains, slice_get}
 use Rattle.std.specs.List.{AllZip}
-use Rattle.std.proofs.lemmas.List.{length-map}
 use Rattle.lists.proofs.Members.{contains_got}
 use Rattle.meaning.specs.declared.types.SchemaParts.{SchemaParts}
 use Rattle.meaning.specs.declared.types.Query.{Query}
@@ -35,9 +34,7 @@ use Rattle.least_search.specs.Costs.{IsLeastCost, IsEnough as ServesRuns}
 use Rattle.exposure_search.specs.Tries.{exposures_in as shown_in}
 use Rattle.exposure_search.specs.Exploring.{Exploring, space_size, CanExpose, HasGoalAt, HasMatchAt, HasTry, IsRunBeyond, HasRunBeyond}
 use Rattle.exposure_search.proofs.Explored.{least_found, tries_within, match_goal}
-use Rattle.accessible_copy.specs.declared.entry.Entry.{Entry}
-use Rattle.accessible_copy.specs.Proving.{Proving, IsProofOf, log_of}
-use Rattle.accessible_copy.proofs.Writing.{written_run}
+use Rattle.accessible_copy.specs.Proving.{Proving, IsProofOf}
 use Rattle.rule_pass.specs.declared.pass.TheConstants.{MOST_FIRINGS}
 use Rattle.accessible_copy.specs.Goals.{IsGoal}
 use Rattle.exposure_search.specs.Visiting.{IsReached}
@@ -120,14 +117,6 @@ module _ (schema : SchemaParts) (queries : List Query) (query : Query) (firings 
 
 -- ---- runs that are too long
 
--- a proof with more firings
-pub beyond_long : (schema : SchemaParts) (known : List Value) (query : Query) (firings : ℕ) (proof : Proving) → IsProofOf schema proof → proof.constants ≡ known → proof.start ≡ opening query → firings < length proof.entries → HasLongRun schema known firings query
-beyond_long schema known query firings proof is constants start beyond =
-    let run : IsRun schema proof.constants 0 proof.start (log_of proof) proof.end = written_run schema proof.constants 0 proof.start proof.entries proof.end is.written in
-    let its : IsRun schema known 0 (opening query) (log_of proof) proof.end = subst (λ s. IsRun schema known 0 s (log_of proof) proof.end) start (subst (λ c. IsRun schema c 0 proof.start (log_of proof) proof.end) constants run) in
-    let long : length (log_of proof) ≡ length proof.entries = length-map proof.entries (λ (entry : Entry). entry.firing) in
-    (log_of proof, (proof.end, its), omega arith)
-
 -- a base run that is too long
 pub base_long : (schema : SchemaParts) (known : List Value) (query : Query) (firings : ℕ) → IsRunBeyond schema known (opening query) firings → HasLongRun schema known firings query
 base_long schema known query firings beyond = (beyond.log, (beyond.end, beyond.run), beyond.beyond)
@@ -184,9 +173,6 @@ module _ (schema : Schema) (queries : List Query) (query : Query) (firings searc
       constants = subst (λ constants. QueryHasConstants constants query) (sym reached.constants) (searchable query among).constants;
       head_is = same;
     }
-
-    pub reached_long : firings < length proof.entries → HasLongRun (meaning_of schema) space.constants firings query
-    reached_long beyond = beyond_long (meaning_of schema) space.constants query firings proof reached_run reached.constants (reached.start ∙ is.start) beyond
 
     pub reached_goal : (head : List Val) → head ≡ frozen_head query → (number : ℕ) (values : List Val) → IsGoal space.queries proof.end.copy space.head number values → IsGoal queries proof.end.copy head number values
     reached_goal head same number values found =

@@ -17,7 +17,7 @@ ghost use Rattle.proof_search.specs.Choices.{CostsAtMost, IsSpaceOf, IsChoice};
 use crate::outcome::Choice;
 use access_cost::{Least, cost};
 use access_schema::Schema;
-use accessible_copy::{Proof, mark};
+use accessible_copy::Proof;
 use exposure_search::{ExposureSpace, base_proof};
 use least_search::{Ended, Node, Outcome, cheapest};
 use lists::{NoMemory, Texts};
@@ -95,7 +95,7 @@ fn choose_over(
             least,
         });
     };
-    match cheaper(alloc, schema, query, queries, head, space, &node, firings)? {
+    match cheaper(alloc, schema, query, queries, head, space, &node)? {
         Some(branch) => Ok(Choice { branch, least }),
         None => Ok(Choice {
             branch: first,
@@ -126,26 +126,22 @@ fn cheaper(
     head: &Vals,
     space: ExposureSpace<'_>,
     node: &Node,
-    firings: u32,
 ) -> Result<Option<Branch>, NoMemory>
-    requires space { IsSpaceOf (meaning_of schema.now) queries.now query.now firings space }
+    requires space { IsSpaceOf (meaning_of schema.now) queries.now query.now space.budget space }
     requires queries { AreSearchable (meaning_of schema.now) space.constants queries.now }
     requires among { Contains queries.now query.now }
     requires known { (c : List ℕ) → Contains schema.now.constants c → Contains space.constants c }
     requires head { head.now ≡ frozen_head query.now }
-    requires firings { firings ≤ MOST_FIRINGS }
+    requires budget { space.budget ≤ MOST_FIRINGS }
     requires node { IsNode (space_size space) (CanExpose space) node.now }
     requires goal { HasMatchAt space node.now.set.items }
     ensures branch { IfOk result (λ found. IfSome found (IsQueryBranch (meaning_of schema.now) space.entry.constants queries.now query.now)) }
     ensures cost { IfOk result (λ found. IfSome found (λ branch. CostsAtMost (meaning_of schema.now) branch node.now.cost)) }
-    ensures none { IfOk result (λ found. IfNone found (HasLongRun (meaning_of schema.now) space.entry.constants firings query.now)) }
+    ensures none { IfOk result (λ found. IfNone found (HasLongRun (meaning_of schema.now) space.entry.constants space.entry.budget query.now)) }
 {
     let Some((proof, found)) = space.reach(&node.path, &node.set)? else {
         return Ok(None);
     };
-    if mark(&proof).firings > firings as u64 {
-        return Ok(None);
-    }
     let branch = extract(alloc, &proof, schema, queries, head, &found)?;
     Ok(Some(branch))
 }

@@ -3,7 +3,7 @@ use crate::decide;
 use access_schema::{Part, Parts, Schema, are_named};
 use lists::{Row, Seq, Text, Texts};
 use meaning::types::{Branch, Firing, Instance, Out, Place, Plan};
-use no_plan_witness::{Decision, Witness};
+use no_plan_witness::{Chosen, ChosenList, Decision, Witness};
 use sql_select::read_select;
 use std::alloc::{AllocError, Global};
 use std::test::Fail;
@@ -24,11 +24,21 @@ fn relation(alloc: Global, name: &str, columns: &[&str]) -> Result<Part, AllocEr
 }
 
 fn method(alloc: Global, name: &str, of: &str, inputs: &[&str]) -> Result<Part, AllocError> {
+    priced(alloc, name, of, inputs, 1)
+}
+
+fn priced(
+    alloc: Global,
+    name: &str,
+    of: &str,
+    inputs: &[&str],
+    cost: u64,
+) -> Result<Part, AllocError> {
     Ok(Part::Method {
         name: Text::from_str(alloc, name)?,
         relation: Text::from_str(alloc, of)?,
         inputs: texts(alloc, inputs)?,
-        cost: 1,
+        cost,
     })
 }
 
@@ -95,22 +105,27 @@ fn orders(alloc: Global, archived: bool) -> Result<Schema, AllocError> {
     built(alloc, parts)
 }
 
-/// What is decided of a query over the schema with so many firings: its plan, the two instances and the answer, or the firings.
+/// What is decided of a query over the schema with so many firings and units: its plan with what is said of each select, the two
+/// instances and the answer, or the firings.
 fn decided(
     alloc: Global,
     schema: &Schema,
     query: &str,
     firings: u32,
+    search: u32,
 ) -> Result<String, AllocError> {
-    if query.len() > 1000 || firings > 100_000 {
+    if query.len() > 1000 || firings > 100_000 || search > 1_000_000 {
         return Err(AllocError);
     }
     let Ok(statement) = read_select(alloc, query.as_bytes(), schema) else {
         return Err(AllocError);
     };
     let mut made = String::new(alloc);
-    match decide(alloc, schema, &statement, firings)? {
-        Decision::Plan(plan) => show(alloc, &mut made, &plan)?,
+    match decide(alloc, schema, &statement, firings, search)? {
+        Decision::Plan { plan, selects } => {
+            show(alloc, &mut made, &plan)?;
+            show_chosen(alloc, &mut made, &selects)?;
+        }
         Decision::NoPlan(pair) => show_pair(alloc, &mut made, schema, &pair)?,
         Decision::Undecided { select, log } => {
             made.push_str(format!(in alloc; "undecided {select}")?.as_str())?;
@@ -124,7 +139,7 @@ fn decided(
 
 /// What is decided of a query with firings enough.
 fn planned(alloc: Global, schema: &Schema, query: &str) -> Result<String, AllocError> {
-    decided(alloc, schema, query, 100)
+    decided(alloc, schema, query, 100, 1000)
 }
 
 fn show_pair(
@@ -193,6 +208,18 @@ fn show(alloc: Global, made: &mut String, plan: &Plan) -> Result<(), AllocError>
     Ok(())
 }
 
+fn show_chosen(alloc: Global, made: &mut String, selects: &ChosenList) -> Result<(), AllocError> {
+    for entry in selects.as_slice() {
+        match entry {
+            Chosen::NoRow => made.push_str("; no row")?,
+            Chosen::Branch { cost, least } => {
+                made.push_str(format!(in alloc; "; cost {cost} {least:?}")?.as_str())?;
+            }
+        }
+    }
+    Ok(())
+}
+
 fn show_branch(alloc: Global, made: &mut String, branch: &Branch) -> Result<(), AllocError> {
     for step in branch.steps.as_slice() {
         made.push_str(format!(in alloc; "; {}", step.method.as_str())?.as_str())?;
@@ -227,22 +254,25 @@ fn columns_of_one_relation(rt: HostRuntime) -> Result<(), Fail> {
     let alloc = rt.alloc();
     let schema = small(alloc, true)?;
     let cases = [
-        ("SELECT DISTINCT b FROM r", "1; all_r new new; output $1"),
+        (
+            "SELECT DISTINCT b FROM r",
+            "1; all_r new new; output $1; cost 1 Shown",
+        ),
         (
             "SELECT DISTINCT b AS x, a, b FROM r AS t",
-            "3; all_r new new; output $1 $0 $1",
+            "3; all_r new new; output $1 $0 $1; cost 1 Shown",
         ),
         (
             "SELECT DISTINCT 'k', a FROM r",
-            "2; all_r new new; output 'k' $0",
+            "2; all_r new new; output 'k' $0; cost 1 Shown",
         ),
         (
             "SELECT DISTINCT a FROM r WHERE b = 'k'",
-            "1; all_r new 'k'; output $0",
+            "1; all_r new 'k'; output $0; cost 1 Shown",
         ),
         (
             "SELECT DISTINCT a FROM r WHERE a = b",
-            "1; all_r new $0; output $0",
+            "1; all_r new $0; output $0; cost 1 Shown",
         ),
     ];
     for (query, wanted) in cases {
@@ -258,11 +288,11 @@ fn a_lookup_takes_a_constant(rt: HostRuntime) -> Result<(), Fail> {
     let cases = [
         (
             "SELECT DISTINCT b FROM r WHERE a = 'k'",
-            "1; by_a 'k' new; output $0",
+            "1; by_a 'k' new; output $0; cost 1 Shown",
         ),
         (
             "SELECT DISTINCT t.b FROM r AS s, r AS t WHERE s.a = 'k' AND s.b = t.a",
-            "1; by_a 'k' new; by_a $0 new; output $1",
+            "1; by_a 'k' new; by_a $0 new; output $1; cost 2 Shown",
         ),
     ];
     for (query, wanted) in cases {
@@ -303,11 +333,14 @@ fn firings_that_are_spent(rt: HostRuntime) -> Result<(), Fail> {
         (2, "undecided 0; base 0; expose all_direct"),
         (
             3,
-            "2; all_direct new 'Smith'; prof_by_eid $0 new 'Smith'; output $0 $1",
+            "2; all_direct new 'Smith'; prof_by_eid $0 new 'Smith'; output $0 $1; cost 2 Shown",
         ),
     ];
     for (firings, wanted) in cases {
-        assert_eq!(rt; decided(alloc, &schema, query, firings)?.as_str(), wanted);
+        assert_eq!(rt;
+            decided(alloc, &schema, query, firings, 1000)?.as_str(),
+            wanted
+        );
     }
     Ok(())
 }
@@ -323,7 +356,7 @@ fn a_query_that_never_has_an_answer(rt: HostRuntime) -> Result<(), Fail> {
             "SELECT DISTINCT a, b FROM r WHERE 'x' = 'y'"
         )?
         .as_str(),
-        "2"
+        "2; no row"
     );
     Ok(())
 }
@@ -339,7 +372,7 @@ fn a_relation_that_the_query_does_not_name(rt: HostRuntime) -> Result<(), Fail> 
             "SELECT DISTINCT eid, onum FROM profinfo WHERE lname = 'Smith'"
         )?
         .as_str(),
-        "2; all_direct new 'Smith'; prof_by_eid $0 new 'Smith'; output $0 $1"
+        "2; all_direct new 'Smith'; prof_by_eid $0 new 'Smith'; output $0 $1; cost 2 Shown"
     );
     Ok(())
 }
@@ -352,7 +385,7 @@ fn an_answer_that_needs_a_rule(rt: HostRuntime) -> Result<(), Fail> {
     let schema = orders(alloc, true)?;
     assert_eq!(rt;
         planned(alloc, &schema, query)?.as_str(),
-        "1; all_list new; archive_of $0 new; output $1"
+        "1; all_list new; archive_of $0 new; output $1; cost 2 Shown"
     );
     let schema = orders(alloc, false)?;
     assert_eq!(rt;
@@ -394,19 +427,62 @@ fn accesses_that_the_match_does_not_rest_on_are_left_out(rt: HostRuntime) -> Res
     let cases = [
         (
             "SELECT DISTINCT f.destination, c.airline, p.class, p.price FROM flight f, fare p, carrier c WHERE f.origin = 'OSL' AND f.day = 'mon' AND p.number = f.number AND p.day = f.day AND c.number = f.number",
-            "4; routes_from 'OSL' new; flight_search new 'OSL' $0 'mon'; fare_of $1 'mon' new new; carrier_of $1 new; output $0 $4 $2 $3",
+            "4; routes_from 'OSL' new; flight_search new 'OSL' $0 'mon'; fare_of $1 'mon' new new; carrier_of $1 new; output $0 $4 $2 $3; cost 4 Shown",
         ),
         (
             "SELECT DISTINCT number, day FROM flight WHERE origin = 'OSL'",
-            "2; routes_from 'OSL' new; booking_days new; flight_search new 'OSL' $0 $1; output $2 $1",
+            "2; routes_from 'OSL' new; booking_days new; flight_search new 'OSL' $0 $1; output $2 $1; cost 3 Shown",
         ),
         (
             "SELECT DISTINCT day FROM calendar",
-            "1; booking_days new; output $0",
+            "1; booking_days new; output $0; cost 1 Shown",
         ),
     ];
     for (query, wanted) in cases {
         assert_eq!(rt; planned(alloc, &schema, query)?.as_str(), wanted);
+    }
+    Ok(())
+}
+
+/// The relation `r(a, b)`, dear as a whole and cheap by `a`, and the list of all `a`.
+fn market(alloc: Global) -> Result<Schema, AllocError> {
+    let mut parts: Parts = Seq::new(alloc);
+    parts.push(relation(alloc, "r", &["a", "b"])?)?;
+    parts.push(relation(alloc, "list", &["a"])?)?;
+    parts.push(priced(alloc, "dear", "r", &[], 7)?)?;
+    parts.push(priced(alloc, "lookup", "r", &["a"], 1)?)?;
+    parts.push(priced(alloc, "listed", "list", &[], 2)?)?;
+    parts.push(key(alloc, "r", "list", &["a"])?)?;
+    built(alloc, parts)
+}
+
+/// The search visits no fact, the list, and the list with `r`: three units, and no firing.
+#[test]
+fn the_cheaper_of_two_ways_is_taken(rt: HostRuntime) -> Result<(), Fail> {
+    let alloc = rt.alloc();
+    let schema = market(alloc)?;
+    let cases = [
+        (
+            100,
+            3,
+            "1; listed new; lookup $0 new; output $1; cost 3 Shown",
+        ),
+        (
+            100,
+            2,
+            "1; dear new new; output $1; cost 7 SearchSpent { units: 2 }",
+        ),
+        (
+            2,
+            100,
+            "1; dear new new; output $1; cost 7 FiringsSpent { firings: 2 }",
+        ),
+    ];
+    for (firings, search, wanted) in cases {
+        assert_eq!(rt;
+            decided(alloc, &schema, "SELECT DISTINCT b FROM r", firings, search)?.as_str(),
+            wanted
+        );
     }
     Ok(())
 }
