@@ -1,0 +1,1 @@
+SELECT DISTINCT r.b FROM r, t WHERE r.a = t.a
