@@ -1,6 +1,6 @@
 -- Exposures in order are walks of moves at the same cost, and the other way round.
-use Rattle.std.proofs.Common.{◌≡◌, ℕ, suc, ◌+◌, ◌<◌, ◌≤◌, List, [], ◌∷◌, ◌++◌, length, Bool, true, false, Some, refl, sym, ap, ◌∙◌, subst, inl, inr, ⊎_elim, arith, append_assoc}
-use Rattle.std.specs.Prelude.{Contains, slice_get, slice_set}
+use Rattle.std.proofs.Common.{◌≡◌, ℕ, ◌+◌, ◌<◌, ◌≤◌, List, [], ◌∷◌, ◌++◌, length, Bool, true, false, Some, refl, sym, ap, ◌∙◌, subst, ⊎_elim, arith, append_assoc}
+use Rattle.std.specs.Prelude.{slice_get, slice_set}
 use Rattle.std.proofs.lemmas.List.{append-nil, length-set}
 use Rattle.std.proofs.lemmas.Option.{slice_get_within}
 use Rattle.lists.proofs.Members.{got_below}
@@ -11,14 +11,13 @@ use Rattle.meaning.specs.declared.types.Query.{Query}
 use Rattle.meaning.specs.declared.types.SchemaParts.{SchemaParts}
 use Rattle.meaning.specs.Search.{AreDistinct}
 use Rattle.meaning.specs.Triggers.{ground}
-use Rattle.meaning.specs.Runs.{IsKnownValue}
-use Rattle.meaning.specs.Extract.{Exposure, exposed_facts, Exposes, IsExposing, exposures_cost, HasGoalFrom, HasGoalAfter}
+use Rattle.meaning.specs.Extract.{Exposure, exposed_facts, IsExposing, exposures_cost, HasGoalFrom, HasGoalAfter}
 use Rattle.least_search.specs.declared.space.Move.{Move}
-use Rattle.least_search.specs.Walks.{IsWalk, walk_cost, no_facts, IsSpace, with_fact}
+use Rattle.least_search.specs.Walks.{IsWalk, walk_cost, no_facts}
 use Rattle.least_search.specs.Costs.{IsLeastCost}
-use Rattle.exposure_search.specs.Tries.{picked, IsOpen, IsTry}
+use Rattle.exposure_search.specs.Tries.{picked, IsOpen}
 use Rattle.exposure_search.specs.Spaces.{exposes_same}
-use Rattle.exposure_search.specs.Sets.{AreSame, turned, got_contained, got_once, picked_at, picked_back, same_more, none_same, none_length, within_got, truth}
+use Rattle.exposure_search.specs.Sets.{AreSame, turned, got_contained, got_once, picked_at, same_more, none_same, none_length, truth}
 
 module _ (schema : SchemaParts) (constants : List (List ℕ)) (base : List Ground) where
   -- exposures in order are a walk at the same cost

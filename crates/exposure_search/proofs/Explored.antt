@@ -1,5 +1,5 @@
 -- Spaces of proofs, and what a search over them shows.
-use Rattle.std.proofs.Common.{◌≡◌, ℕ, ◌+◌, ◌<◌, ◌≤◌, List, [], ◌∷◌, ◌++◌, length, map, Bool, refl, sym, ap, ◌∙◌, subst, arith}
+use Rattle.std.proofs.Common.{◌≡◌, ℕ, ◌+◌, ◌≤◌, List, [], ◌∷◌, ◌++◌, length, map, Bool, refl, sym, ap, ◌∙◌, subst, arith}
 use Rattle.std.specs.Prelude.{Contains, false}
 use Rattle.std.proofs.lemmas.List.{append-nil, length-append, length-map}
 use Rattle.lists.proofs.Members.{contains_got}
@@ -125,8 +125,8 @@ module _ (schema : SchemaParts) (old new : Proving) (none : old.entries ≡ []) 
   pub base_beyond : (known : List (List ℕ)) (start : Proof) (budget : ℕ) → old.constants ≡ known → old.start ≡ start → (budget ≤ length new.entries) × SomeActive schema.rules (base_state new.end) → IsRunBeyond schema known start budget
   base_beyond known start budget constants begun (low, (trigger, (rule, first))) =
       let run : IsRun schema known 0 start (log_of new) new.end =
-          subst (λ p. IsRun schema known 0 p (log_of new) new.end) (its.start ∙ begun)
-          (subst (λ c. IsRun schema c 0 new.start (log_of new) new.end) (its.constants ∙ constants) (written_run schema new.constants 0 new.start new.entries new.end is.written)) in
+      subst (λ p. IsRun schema known 0 p (log_of new) new.end) (its.start ∙ begun)
+      (subst (λ c. IsRun schema c 0 new.start (log_of new) new.end) (its.constants ∙ constants) (written_run schema new.constants 0 new.start new.entries new.end is.written)) in
       let next : Proof = record new.end { base = (fired (base_state new.end) trigger rule).facts; next = (fired (base_state new.end) trigger rule).next } in
       let early : last_part 0 (log_of new) ≡ 0 = ap (last_part 0) log_is ∙ part_none its.more in
       let long : length (log_of new) ≡ length new.entries = length-map new.entries (λ (entry : Entry). entry.firing) in

@@ -1,6 +1,6 @@
 -- Logs of base firings, exposures and copy firings, and the proofs that they lead to.
-use Rattle.std.proofs.Common.{◌≡◌, ℕ, zero, suc, ◌+◌, ◌<◌, ◌≤◌, List, [], ◌∷◌, ◌++◌, ◌-◌, length, take, map, refl, sym, ap, ◌∙◌, subst, arith, append_assoc}
-use Rattle.std.specs.Prelude.{Contains, true}
+use Rattle.std.proofs.Common.{◌≡◌, ℕ, zero, suc, ◌+◌, ◌≤◌, List, [], ◌∷◌, ◌++◌, ◌-◌, length, take, map, refl, sym, ap, ◌∙◌, subst, arith, append_assoc}
+use Rattle.std.specs.Prelude.{true}
 use Rattle.std.proofs.lemmas.List.{append-nil, length-append, map-append, length-map}
 use Rattle.lists.proofs.Members.{some_injective}
 use Rattle.meaning_laws.proofs.Running.{run_once, plain_split, plain_push}
@@ -10,7 +10,7 @@ use Rattle.meaning.specs.declared.types.Trigger.{Trigger}
 use Rattle.meaning.specs.declared.types.Firing.{Firing}
 use Rattle.meaning.specs.declared.types.Firing.TheVariants.{Base, Copy, Expose}
 use Rattle.meaning.specs.Triggers.{State, fired, IsQuiet}
-use Rattle.meaning.specs.Runs.{Proof, base_state, copy_state, Fires, part_of, last_part, IsBaseRun, IsRun, IsBaseQuiet}
+use Rattle.meaning.specs.Runs.{Proof, base_state, copy_state, last_part, IsBaseRun, IsRun, IsBaseQuiet}
 use Rattle.rule_pass.specs.States.{SomeActive}
 use Rattle.accessible_copy.specs.declared.entry.Entry.{Entry}
 use Rattle.accessible_copy.specs.declared.entry.Exposed.{Exposed}
@@ -124,9 +124,9 @@ module _ (schema : SchemaParts) where
   pub same_end : (first second : Proving) → IsProofOf schema first → IsProofOf schema second → second.constants ≡ first.constants → second.start ≡ first.start → log_of second ≡ log_of first → (second.end ≡ first.end) × (second.exposed ≡ first.exposed)
   same_end first second is its constants start log =
       let run : IsRun schema first.constants 0 first.start (log_of first) second.end =
-          subst (λ l. IsRun schema first.constants 0 first.start l second.end) log
-          (subst (λ p. IsRun schema first.constants 0 p (log_of second) second.end) start
-          (subst (λ c. IsRun schema c 0 second.start (log_of second) second.end) constants (run_of second its))) in
+      subst (λ l. IsRun schema first.constants 0 first.start l second.end) log
+      (subst (λ p. IsRun schema first.constants 0 p (log_of second) second.end) start
+      (subst (λ c. IsRun schema c 0 second.start (log_of second) second.end) constants (run_of second its))) in
       (run_once schema first.constants 0 0 first.start (log_of first) second.end first.end run (run_of first is), shown second its ∙ ap shown_of log ∙ sym (shown first is))
 
   -- a proof whose log is base firings and exposures
@@ -235,9 +235,9 @@ module _ (schema : SchemaParts) where
   pub settled_run : (old settled : Proving) → IsProofOf schema old → IsProofOf schema settled → (its : Settles schema true old settled) → IsBaseRun schema.rules (copy_state old.end) its.more (copy_state settled.end)
   settled_run old settled is of its =
       let run : IsRun schema old.constants 0 old.start (log_of old ++ map (firing_of true) its.more) settled.end =
-          subst (λ l. IsRun schema old.constants 0 old.start l settled.end) its.log
-          (subst (λ p. IsRun schema old.constants 0 p (log_of settled) settled.end) its.start
-          (subst (λ c. IsRun schema c 0 settled.start (log_of settled) settled.end) its.constants (run_of settled of))) in
+      subst (λ l. IsRun schema old.constants 0 old.start l settled.end) its.log
+      (subst (λ p. IsRun schema old.constants 0 p (log_of settled) settled.end) its.start
+      (subst (λ c. IsRun schema c 0 settled.start (log_of settled) settled.end) its.constants (run_of settled of))) in
       let (middle, front, rest) = plain_split schema old.constants 0 old.start (log_of old) (map (firing_of true) its.more) settled.end run in
       let same : middle ≡ old.end = run_once schema old.constants 0 0 old.start (log_of old) middle old.end front (run_of old is) in
       copies_run schema old.constants (last_part 0 (log_of old)) old.end its.more settled.end (subst (λ p. IsRun schema old.constants (last_part 0 (log_of old)) p (map (firing_of true) its.more) settled.end) same rest)
@@ -256,8 +256,8 @@ module _ (schema : SchemaParts) where
       (log : List Firing) × (end : Proof) × IsRun schema old.constants 0 old.start log end × (length log ≡ length settled.entries + 1)
   settled_on old settled is of its (trigger, (rule, first)) =
       let run : IsRun schema old.constants 0 old.start (log_of settled) settled.end =
-          subst (λ p. IsRun schema old.constants 0 p (log_of settled) settled.end) its.start
-          (subst (λ c. IsRun schema c 0 settled.start (log_of settled) settled.end) its.constants (run_of settled of)) in
+      subst (λ p. IsRun schema old.constants 0 p (log_of settled) settled.end) its.start
+      (subst (λ c. IsRun schema c 0 settled.start (log_of settled) settled.end) its.constants (run_of settled of)) in
       let quiet : IsBaseQuiet schema settled.end = subst (λ facts. IsQuiet schema.rules (record { facts = facts; next = settled.end.next })) (sym its.stays) (quiet_later schema.rules old.end.base old.end.next settled.end.next is.quiet) in
       let next : Proof = record settled.end { copy = (fired (copy_state settled.end) trigger rule).facts; next = (fired (copy_state settled.end) trigger rule).next } in
       let long : length (log_of settled) ≡ length settled.entries = length-map settled.entries (λ (entry : Entry). entry.firing) in

@@ -1,5 +1,5 @@
 -- Moves that stand for active exposures, and moves from a set.
-use Rattle.std.proofs.Common.{◌≡◌, ◌⊎◌, ℕ, zero, suc, ◌+◌, ◌<◌, ◌≤◌, List, [], ◌∷◌, ◌++◌, length, take, Bool, true, false, Some, refl, sym, ap, ◌∙◌, subst, inl, inr, ⊎_elim, arith}
+use Rattle.std.proofs.Common.{◌≡◌, ◌⊎◌, ℕ, ◌+◌, ◌<◌, ◌≤◌, List, [], ◌∷◌, length, take, Bool, true, Some, refl, sym, ap, ◌∙◌, subst, inl, inr, ⊎_elim, arith}
 use Rattle.std.specs.Prelude.{Contains, slice_get, slice_index_or}
 use Rattle.std.proofs.lemmas.List.{length-set}
 use Rattle.std.proofs.lemmas.Option.{slice_get_within, get_or_from_slice_get}
@@ -9,20 +9,18 @@ use Rattle.meaning.specs.declared.types.SchemaParts.{SchemaParts}
 use Rattle.meaning.specs.declared.types.Method.{Method}
 use Rattle.meaning.specs.declared.types.Ground.{Ground}
 use Rattle.meaning.specs.declared.types.Firing.{Firing}
-use Rattle.meaning.specs.declared.types.Firing.TheVariants.{Base, Copy, Expose}
+use Rattle.meaning.specs.declared.types.Firing.TheVariants.{Expose}
 use Rattle.meaning.specs.declared.types.Val.{Val}
-use Rattle.meaning.specs.Search.{AreDistinct}
 use Rattle.meaning.specs.Runs.{IsKnownValue, IsActiveExposure}
-use Rattle.meaning.specs.Extract.{Exposure, Exposes}
-use Rattle.accessible_copy.specs.Listing.{AreExposures, CanFire}
+use Rattle.accessible_copy.specs.Listing.{AreExposures}
 use Rattle.accessible_copy.specs.Proving.{Proving, IsProofOf}
 use Rattle.accessible_copy.proofs.Listed.{take_got, proof_once}
 use Rattle.least_search.specs.declared.space.Move.{Move}
 use Rattle.least_search.specs.Walks.{IsWalk, no_facts, with_fact}
-use Rattle.exposure_search.specs.Tries.{picked, IsMove, IsOpen}
+use Rattle.exposure_search.specs.Tries.{picked, IsOpen}
 use Rattle.exposure_search.specs.Making.{IsActiveMove, IsServed}
 use Rattle.exposure_search.proofs.Steps.{got_index}
-use Rattle.exposure_search.specs.Sets.{AreSame, got_contained, got_once, picked_at, picked_back, none_length, truth}
+use Rattle.exposure_search.specs.Sets.{AreSame, got_once, picked_at, none_length, truth}
 
 -- one of the moves stands for an exposure of the firing's fact that costs no more
 abbrev pub IsFiringServed : List Method → List Ground → List Move → Firing → Type 0

@@ -1,5 +1,5 @@
 -- What settling the copy of exposures shows.
-use Rattle.std.proofs.Common.{◌≡◌, ◌⊎◌, ℕ, ◌+◌, ◌<◌, ◌≤◌, List, [], ◌∷◌, ◌++◌, length, map, Bool, true, false, Option, Some, None, refl, sym, ap, ◌∙◌, subst, inl, inr, ⊎_elim, arith}
+use Rattle.std.proofs.Common.{◌≡◌, ◌⊎◌, ℕ, ◌+◌, ◌≤◌, List, [], ◌++◌, length, map, Bool, true, false, Option, Some, None, refl, sym, ap, ◌∙◌, subst, inl, inr, ⊎_elim, arith}
 use Rattle.std.specs.Prelude.{Contains, is_some, IfSome, IfNone}
 use Rattle.std.specs.List.{AllZip}
 use Rattle.std.proofs.lemmas.List.{append-nil, length-map}
@@ -7,13 +7,12 @@ use Rattle.lists.proofs.Members.{contains_got}
 use Rattle.meaning_laws.proofs.SameSets.{run_alike}
 use Rattle.meaning_laws.proofs.Carrying.{run_fires}
 use Rattle.meaning.specs.declared.types.SchemaParts.{SchemaParts}
-use Rattle.meaning.specs.declared.types.Ground.{Ground}
 use Rattle.meaning.specs.declared.types.Query.{Query}
 use Rattle.meaning.specs.declared.types.Val.{Val}
 use Rattle.meaning.specs.declared.types.Firing.TheVariants.{Base}
 use Rattle.meaning.specs.Triggers.{State, IsQuiet, IsFiringRun, ground}
 use Rattle.meaning.specs.Runs.{Proof, base_state, copy_state, HasGoal, IsBaseRun, IsRun}
-use Rattle.meaning.specs.Extract.{Exposure, exposed_facts, IsExposing, HasGoalFrom}
+use Rattle.meaning.specs.Extract.{exposed_facts, HasGoalFrom}
 use Rattle.homomorphism.specs.Bindings.{at}
 use Rattle.rule_pass.specs.States.{SomeActive}
 use Rattle.accessible_copy.specs.declared.entry.Entry.{Entry}
@@ -34,12 +33,12 @@ use Rattle.least_search.specs.Walks.{IsWalk, no_facts}
 use Rattle.least_search.specs.Ends.{GoesOn}
 use Rattle.exposure_search.specs.Tries.{picked, IsOpen, IsTry, HasMatchFrom}
 use Rattle.exposure_search.specs.Making.{bases_of, GoesBeyond, OnlyExposes, SameBase, all_made, IsExposedBy, IsActiveMove, IsServed}
-use Rattle.exposure_search.specs.Exploring.{Exploring, exploring_of, HasGoalAt, HasRunBeyond}
+use Rattle.exposure_search.specs.Exploring.{exploring_of, HasGoalAt, HasRunBeyond}
 use Rattle.exposure_search.specs.Visiting.{IsVisitEnd, AreMovesAt, IsReached}
-use Rattle.exposure_search.specs.Sets.{AreSame, none_same, turned}
+use Rattle.exposure_search.specs.Sets.{AreSame, none_same}
 use Rattle.exposure_search.proofs.Bridging.{goal_same}
 use Rattle.exposure_search.proofs.Logs.{lies, settled_run, settled_long, settled_on}
-use Rattle.exposure_search.proofs.Steps.{IsWalked, walked, walk_same}
+use Rattle.exposure_search.proofs.Steps.{IsWalked, walked}
 use Rattle.exposure_search.proofs.Serving.{active_open, open_active}
 
 -- a match that was found
@@ -117,7 +116,7 @@ module _ (schema : SchemaParts) (queries : List Query) (head : List Val) (budget
   goal_matches (goal, among, (a, are, e)) =
       let same = trail.same in
       let (other, run, alike) = run_alike schema.rules settles.more (record { facts = exposed_facts trail.made; next = proof.end.next }) (copy_state settled.end) (record { facts = picked proof.end.base set; next = proof.end.next })
-          (record { to = same.from; from = same.to; next = refl }) copy_run in
+      (record { to = same.from; from = same.to; next = refl }) copy_run in
       record { copy = settles.more; end = other; goal = goal; run = run; among = among; answer = (a, (λ atom c. alike.to (ground a atom) (are atom c)), e) }
 
   -- a settled copy without a match

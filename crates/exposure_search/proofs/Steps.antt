@@ -1,14 +1,13 @@
 -- Steps along a path: which exposures its moves make.
-use Rattle.std.proofs.Common.{◌≡◌, ℕ, zero, suc, ◌+◌, ◌<◌, ◌≤◌, List, [], ◌∷◌, ◌++◌, length, take, map, Bool, Some, refl, sym, ap, ◌∙◌, subst, arith, append_assoc, ⊎_elim}
+use Rattle.std.proofs.Common.{◌≡◌, ℕ, zero, suc, ◌+◌, ◌<◌, ◌≤◌, List, [], ◌∷◌, ◌++◌, length, take, Bool, Some, refl, sym, ap, ◌∙◌, subst, arith, append_assoc}
 use Rattle.std.specs.Prelude.{Contains, slice_get, slice_index_or}
 use Rattle.std.specs.List.{AllZip}
 use Rattle.std.proofs.lemmas.List.{append-nil, map-append}
 use Rattle.std.proofs.lemmas.Option.{slice_get_within, get_or_from_slice_get}
-use Rattle.lists.proofs.Members.{contains_got, some_injective}
+use Rattle.lists.proofs.Members.{some_injective}
 use Rattle.meaning.specs.declared.types.SchemaParts.{SchemaParts}
 use Rattle.meaning.specs.declared.types.Method.{Method}
 use Rattle.meaning.specs.declared.types.Ground.{Ground}
-use Rattle.meaning.specs.Search.{AreDistinct}
 use Rattle.meaning.specs.Triggers.{State}
 use Rattle.meaning.specs.Runs.{IsActiveExposure}
 use Rattle.meaning.specs.Extract.{Exposure, exposed_facts, Exposes, IsExposing, exposures_cost}
@@ -20,7 +19,7 @@ use Rattle.accessible_copy.proofs.Listed.{take_got}
 use Rattle.least_search.specs.declared.space.Move.{Move}
 use Rattle.least_search.specs.Walks.{IsWalk, walk_cost, no_facts, with_fact}
 use Rattle.exposure_search.specs.Tries.{picked, IsOpen}
-use Rattle.exposure_search.specs.Making.{OnlyExposes, SameBase, fact_at, made_by, all_made, IsExposedBy, IsActiveMove}
+use Rattle.exposure_search.specs.Making.{OnlyExposes, SameBase, fact_at, made_by, all_made, IsExposedBy}
 use Rattle.exposure_search.specs.Sets.{AreSame, same_more, none_same}
 use Rattle.exposure_search.specs.Spaces.{exposes_same}
 use Rattle.exposure_search.proofs.Logs.{lies, goes_exposed, same_on}
@@ -93,14 +92,17 @@ step_active schema proof base path set n move is same exposed walk at =
     let here : e.fact ≡ fact_at base move.fact = sym (get_or_from_slice_get base move.fact e.fact (record { rel = 0; vals = [] }) there) in
     let its = lies schema proof is in
     let shown : facts_of (all_made base (take n path)) ≡ proof.end.exposed = ap facts_of (sym exposed) ∙ sym its.exposed in
-    let now : Exposes schema proof.constants base proof.end.exposed e = subst (λ gs. Exposes schema proof.constants base gs e) shown exposes in
-    (e.method, subst (λ f. IsActiveExposure schema proof.constants proof.end move.method f e.method) here (record {
-      of_base = subst (λ gs. Contains gs e.fact) (sym same) now.of_base;
-      new = now.new;
-      named = named;
-      of_relation = now.of_relation;
-      inputs = now.inputs;
-    }), slice_get_within base move.fact e.fact there)
+    let now : Exposes schema proof.constants base proof.end.exposed e = subst (λ gs. Exposes schema proof.constants base gs e) shown exposes in (
+      e.method,
+      subst (λ f. IsActiveExposure schema proof.constants proof.end move.method f e.method) here (record {
+        of_base = subst (λ gs. Contains gs e.fact) (sym same) now.of_base;
+        new = now.new;
+        named = named;
+        of_relation = now.of_relation;
+        inputs = now.inputs;
+      }),
+      slice_get_within base move.fact e.fact there,
+    )
 
 pub got_index : {X : Type 0} (xs : List X) (n : ℕ) (d : X) → n < length xs → slice_get xs n ≡ Some (slice_index_or xs n d)
 got_index [] n d low = absurd (omega arith)
@@ -112,7 +114,6 @@ pub walk_same : (schema : SchemaParts) (old new : Proving) (path : List Move) (s
 walk_same schema old new path set same walk =
     subst (λ c. IsWalk (IsOpen schema c new.end.base) (no_facts (length new.end.base)) path set) (sym same.constants)
     (subst (λ b. IsWalk (IsOpen schema old.constants b) (no_facts (length b)) path set) (sym (ap (λ (s : State). s.facts) same.base)) walk)
-
 
 -- the next move of a path whose first moves made the exposures of a later proof
 module _ (schema : SchemaParts) (old now : Proving) (facts : List Ground) (path : List Move) (n : ℕ) (step : Move) (facts_are : facts ≡ old.end.base) (at : slice_get path n ≡ Some step)
@@ -133,7 +134,7 @@ module _ (schema : SchemaParts) (old now : Proving) (facts : List Ground) (path 
         exposes,
         same_on old now new same on,
         more ∙ ap (λ l. l ++ record { method = step.method; fact = fact } ∷ []) made
-        ∙ ap (λ f. all_made old.end.base (take n path) ++ record { method = step.method; fact = f } ∷ []) there
-        ∙ sym (map-append (made_by old.end.base) (take n path) (step ∷ []))
-        ∙ ap (all_made old.end.base) (sym (take_got path n step at)),
+            ∙ ap (λ f. all_made old.end.base (take n path) ++ record { method = step.method; fact = f } ∷ []) there
+            ∙ sym (map-append (made_by old.end.base) (take n path) (step ∷ []))
+            ∙ ap (all_made old.end.base) (sym (take_got path n step at)),
       )

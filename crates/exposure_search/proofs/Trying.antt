@@ -9,13 +9,12 @@ use Rattle.exposure_search.specs.Sets.{got_contained}
 use Rattle.meaning.specs.declared.types.Val.TheVariants.{Const, Label}
 use Rattle.meaning.specs.declared.types.Rule.{Rule}
 use Rattle.meaning.specs.declared.types.Ground.{Ground}
-use Rattle.meaning.specs.declared.types.Query.{Query}
 use Rattle.meaning.specs.declared.types.SchemaParts.{SchemaParts}
 use Rattle.meaning.specs.declared.types.Trigger.{Trigger}
 use Rattle.meaning.specs.declared.types.Firing.{Firing}
 use Rattle.meaning.specs.declared.types.Firing.TheVariants.{Base, Copy, Expose}
 use Rattle.meaning.specs.Matching.{OccursIn}
-use Rattle.meaning.specs.Runs.{Proof, base_state, copy_state, IsRun, IsBaseRun, IsBaseQuiet, opening, opening_state}
+use Rattle.meaning.specs.Runs.{Proof, base_state, copy_state, IsRun, IsBaseRun, IsBaseQuiet}
 use Rattle.meaning.specs.Triggers.{State, bound, assigned, fired, IsActive}
 use Rattle.meaning.specs.Extract.{Exposure, exposed_facts, IsExposing}
 use Rattle.exposure_search.specs.Tries.{IsTry, exposures_in}
@@ -111,7 +110,7 @@ module _ (schema : SchemaParts) (constants : List (List ℕ)) where
       let copy : List Trigger = try.copy in
       let last : State = try.end in
       let begun : ◌≡◌ {A = Proof} (record { base = base.facts; exposed = []; copy = []; next = base.next }) (record start { base = base.facts; next = base.next }) =
-          (λ i. record { base = base.facts; exposed = (sym none_exposed) i; copy = (sym none_copied) i; next = base.next }) in
+      (λ i. record { base = base.facts; exposed = (sym none_exposed) i; copy = (sym none_copied) i; next = base.next }) in
       let settled : Proof = record { base = base.facts; exposed = []; copy = []; next = base.next } in
       let exposed : Proof = record { base = base.facts; exposed = exposed_facts es; copy = exposed_facts es; next = base.next } in
       let end : Proof = record { base = base.facts; exposed = exposed_facts es; copy = last.facts; next = last.next } in

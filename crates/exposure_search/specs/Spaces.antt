@@ -8,7 +8,7 @@ use Rattle.meaning.specs.declared.types.Val.{Val}
 use Rattle.meaning.specs.Runs.{IsKnownValue}
 use Rattle.meaning.specs.Extract.{Exposure, exposed_facts, Exposes, IsExposing, exposures_cost}
 use Rattle.least_search.specs.declared.space.Move.{Move}
-use Rattle.least_search.specs.Walks.{IsWalk, walk_cost, no_facts, IsSpace, with_fact}
+use Rattle.least_search.specs.Walks.{IsWalk, walk_cost, no_facts, IsSpace}
 use Rattle.exposure_search.specs.Tries.{picked, IsOpen, IsTry}
 use Rattle.exposure_search.specs.Sets.{AreSame, picked_back, picked_at, same_more, none_same, within_got}
 use Rattle.exposure_search.specs.Exploring.{Exploring, space_size, CanExpose, HasTry}
@@ -65,16 +65,18 @@ module _ (schema : SchemaParts) (constants : List (List ℕ)) (base : List Groun
           },
         );
         runs = λ moves end walk.
-            let (exposures, exposing, cost, many, ends) = walk_exposing moves [] (no_facts (length base)) end (none_same base) walk in
-            (fired + length exposures + 0, record {
-              made = exposures;
-              copy = [];
-              end = record { facts = exposed_facts exposures; next = next };
-              exposing = exposing;
-              copies = refl;
-              firings_are = refl;
-              exposures_are = sym many;
-            });
+            let (exposures, exposing, cost, many, ends) = walk_exposing moves [] (no_facts (length base)) end (none_same base) walk in (
+              fired + length exposures + 0,
+              record {
+                made = exposures;
+                copy = [];
+                end = record { facts = exposed_facts exposures; next = next };
+                exposing = exposing;
+                copies = refl;
+                firings_are = refl;
+                exposures_are = sym many;
+              },
+            );
       }
 
 -- An exposure adds a fact that is not exposed, and is possible in each larger set without its fact; and a walk is a run.

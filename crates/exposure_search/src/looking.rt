@@ -49,7 +49,13 @@ pub(crate) fn look(
     if before > u64::from(budget) {
         return Ok((End::FiringsSpent, 0));
     }
-    let ended = settle(alloc, proof, schema, true, most_firings(before, room, budget))?;
+    let ended = settle(
+        alloc,
+        proof,
+        schema,
+        true,
+        most_firings(before, room, budget),
+    )?;
     let after = mark(proof).firings;
     let found = goal(alloc, proof, queries, head)?;
     let end = end_of(&ended, found.is_some(), after >= u64::from(budget));

@@ -58,7 +58,14 @@ pub(crate) fn visit_set(
         (exploring_of (meaning_of aim.now.schema.now) proof.old aim.now.queries.now aim.now.head.now aim.now.budget)
         set.now visit.end visit.moves.items) }
 {
-    go_along(aim.alloc, proof, aim.schema, aim.facts.as_slice(), aim.bases, path)?;
+    go_along(
+        aim.alloc,
+        proof,
+        aim.schema,
+        aim.facts.as_slice(),
+        aim.bases,
+        path,
+    )?;
     let made = mark(proof);
     let seen = look(
         aim.alloc,
@@ -112,7 +119,14 @@ pub(crate) fn reach_set(
         ⊎ (HasGoalAt (exploring_of (meaning_of aim.now.schema.now) proof.old aim.now.queries.now aim.now.head.now aim.now.budget)
         set.now → ⊥))) }
 {
-    go_along(aim.alloc, proof, aim.schema, aim.facts.as_slice(), aim.bases, path)?;
+    go_along(
+        aim.alloc,
+        proof,
+        aim.schema,
+        aim.facts.as_slice(),
+        aim.bases,
+        path,
+    )?;
     if mark(proof).firings > u64::from(aim.budget) {
         return Ok(None);
     }

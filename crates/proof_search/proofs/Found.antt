@@ -24,12 +24,15 @@ use Rattle.no_plan_witness.specs.declared.refutation.Witness.{Witness}
 use Rattle.no_plan_witness.specs.Witnesses.{IsWitnessOf}
 use Rattle.proof_search.specs.Searches.{IsSearchable, IsSearch}
 use Rattle.plan_extract.specs.Branches.{IsBranchFor, IsProofFor}
-use Rattle.proof_search.specs.Branches.{IsQueryBranch, IsStuckPair, IsSpentLog, IsQueryOutcome, IsWithoutGoal, IsFirstSpent}
+use Rattle.proof_search.specs.Branches.{IsQueryBranch, IsStuckPair, IsSpentLog}
+use Rattle.proof_search.specs.Choices.{IsChoice}
+use Rattle.proof_search.specs.Outcomes.{IsQueryOutcome, IsWithoutGoal, IsFirstSpent}
+use Rattle.proof_search.specs.declared.outcome.Choice.{Choice}
 use Rattle.proof_search.specs.declared.outcome.QueryOutcome.{QueryOutcome}
 use Rattle.proof_search.specs.declared.outcome.QueryOutcome.TheVariants as one
 use Rattle.plan_extract.proofs.Shown.{zip_push}
 
-module _ (schema : SchemaParts) (known : List Value) (queries : List Query) (firings : ℕ) (query : Query) (proof : Proving) (search : IsSearch schema firings (opening query) known proof)
+module _ (schema : SchemaParts) (known : List Value) (queries : List Query) (firings units : ℕ) (query : Query) (proof : Proving) (search : IsSearch schema firings (opening query) known proof)
     (none : HasGoal queries proof.end (frozen_head query) → ⊥) where
   moved : (log : List Firing) (end : Proof) → IsOrderedRun schema proof.constants 0 proof.start log end → IsOrderedRun schema known 0 (opening query) log end
   moved log end run = subst (λ start. IsOrderedRun schema known 0 start log end) search.begun (subst (λ constants. IsOrderedRun schema constants 0 proof.start log end) search.constants run)
@@ -63,13 +66,13 @@ module _ (schema : SchemaParts) (known : List Value) (queries : List Query) (fir
       }
 
   without : (quiet : Bool) → (quiet ≡ true → IsAllQuiet schema proof) → (quiet ≡ false → (firings ≤ length proof.entries) × GoesOn schema proof) → (head : List Val) → head ≡ frozen_head query →
-      (outcome : QueryOutcome) → IsWithoutGoal known proof quiet head outcome → IsQueryOutcome schema known queries firings query outcome
+      (outcome : QueryOutcome) → IsWithoutGoal known proof quiet head outcome → IsQueryOutcome schema known queries firings units query outcome
   without quiet all on head same (one.Branch branch) is = absurd is
   without quiet all on head same (one.Stuck pair) is = stuck_pair (all is.0) pair (subst (λ vals. IsWitnessOf known proof.end vals pair) same is.1)
   without quiet all on head same (one.Spent log) is = let its = on is.0 in subst (IsSpentLog schema known queries firings query) (sym is.1) (spent_log its.0 its.1)
 
   pub ended : {E : Type 0} → (quiet : Bool) → (quiet ≡ true → IsAllQuiet schema proof) → (quiet ≡ false → (firings ≤ length proof.entries) × GoesOn schema proof) → (head : List Val) → head ≡ frozen_head query →
-      (result : Result QueryOutcome E) → IfOk result (IsWithoutGoal known proof quiet head) → IfOk result (IsQueryOutcome schema known queries firings query)
+      (result : Result QueryOutcome E) → IfOk result (IsWithoutGoal known proof quiet head) → IfOk result (IsQueryOutcome schema known queries firings units query)
   ended quiet all on head same (Ok outcome) is = without quiet all on head same outcome is
   ended quiet all on head same (Err e) is = tt
 
@@ -103,21 +106,21 @@ goal_branch schema known queries firings query proof head values number branch s
 -- ---- the queries so far
 
 -- a branch for each, or a first one whose firings are spent
-abbrev pub AreSearched : SchemaParts → List Value → List Query → ℕ → List Query → List Branch → Option (List Firing) → Type 0
-AreSearched schema known queries firings taken branches None = AllZip (IsQueryBranch schema known queries) taken branches
-AreSearched schema known queries firings taken branches (Some log) = IsFirstSpent schema known queries firings log
+abbrev pub AreSearched : SchemaParts → List Value → List Query → ℕ → ℕ → List Query → List Choice → Option (List Firing) → Type 0
+AreSearched schema known queries firings search taken choices None = AllZip (IsChoice schema known queries firings search) taken choices
+AreSearched schema known queries firings search taken choices (Some log) = IsFirstSpent schema known queries firings search log
 
-module _ (schema : SchemaParts) (known : List Value) (queries : List Query) (firings number : ℕ) (query : Query) (branches : List Branch) (got : slice_get queries number ≡ Some query) where
+module _ (schema : SchemaParts) (known : List Value) (queries : List Query) (firings search number : ℕ) (query : Query) (choices : List Choice) (got : slice_get queries number ≡ Some query) where
   -- one more branch
-  pub one_branch : (spent : Option (List Firing)) (branch : Branch) → AreSearched schema known queries firings (take number queries) branches spent → IsQueryBranch schema known queries query branch →
-      AreSearched schema known queries firings (take (number + 1) queries) (branches ++ branch ∷ []) spent
-  one_branch None branch so_far is =
-      let P = IsQueryBranch schema known queries in
-      subst (λ list. AllZip P list (branches ++ branch ∷ [])) (sym (take_got queries number query got)) (zip_push P (take number queries) branches query branch so_far is)
-  one_branch (Some log) branch so_far is = so_far
+  pub one_choice : (spent : Option (List Firing)) (choice : Choice) → AreSearched schema known queries firings search (take number queries) choices spent → IsChoice schema known queries firings search query choice →
+      AreSearched schema known queries firings search (take (number + 1) queries) (choices ++ choice ∷ []) spent
+  one_choice None choice so_far is =
+      let P = IsChoice schema known queries firings search in
+      subst (λ list. AllZip P list (choices ++ choice ∷ [])) (sym (take_got queries number query got)) (zip_push P (take number queries) choices query choice so_far is)
+  one_choice (Some log) choice so_far is = so_far
 
   -- firings that are spent
-  pub one_spent : (spent : Option (List Firing)) (log : List Firing) → AreSearched schema known queries firings (take number queries) branches spent → IsSpentLog schema known queries firings query log →
-      AreSearched schema known queries firings (take (number + 1) queries) branches (option_or spent (Some log))
-  one_spent None log so_far is = record { number = number; query = query; before = branches; at = got; branches = so_far; spent = is }
+  pub one_spent : (spent : Option (List Firing)) (log : List Firing) → AreSearched schema known queries firings search (take number queries) choices spent → IsSpentLog schema known queries firings query log →
+      AreSearched schema known queries firings search (take (number + 1) queries) choices (option_or spent (Some log))
+  one_spent None log so_far is = record { number = number; query = query; before = choices; at = got; branches = so_far; spent = is }
   one_spent (Some first) log so_far is = so_far

@@ -3,3 +3,4 @@ pub mod Literals
 pub mod Searching
 pub mod Found
 pub mod Formed
+pub mod Cheaper

@@ -2,4 +2,6 @@ pub mod Searches
 pub mod Branches
 pub mod Plans
 pub mod Chosen
+pub mod Choices
+pub mod Outcomes
 pub mod Decisions

@@ -1,5 +1,5 @@
 -- What makes a plan one for a statement, and that it has none.
-use Rattle.std.specs.Prelude.{◌≡◌, ◌≤◌, ◌↔◌, List, Contains, length}
+use Rattle.std.specs.Prelude.{◌≡◌, ◌≤◌, ◌↔◌, List, [], Contains, length}
 use Rattle.meaning.specs.declared.types.Query.{Query}
 use Rattle.meaning.specs.declared.types.Branch.{Branch}
 use Rattle.meaning.specs.declared.types.Plan.{Plan}
@@ -11,7 +11,7 @@ use Rattle.meaning.specs.Instances.{IsInstance}
 use Rattle.meaning.specs.Matching.{AnswersQuery}
 use Rattle.meaning.specs.Answers.{AnswersSelect}
 use Rattle.meaning.specs.Fitting.{QueryFits, QueryHasConstants}
-use Rattle.sql_conjunctive.specs.Form.{IsNumbered, HaveLiterals}
+use Rattle.sql_conjunctive.specs.Form.{IsNumbered, HaveLiterals, Clashes}
 use Rattle.meaning.specs.Plans.{IsLawful}
 use Rattle.meaning.specs.Claims.{IsEquivalent}
 use Rattle.meaning.specs.Conjunctive.{IsConjunctive}
@@ -26,13 +26,15 @@ abbrev pub known_of : Schema → Statement → List Value
 known_of schema statement = once_after schema.constants (literals_in statement.selects)
 
 -- The queries have a select's answers together: there is at most one, which is its conjunctive form, fits and is numbered, and has
--- no constants that the select lacks.
+-- no constants that the select lacks; there is none exactly where the select's conditions make two different literals equal.
 pub record AreQueriesOf (schema : Schema) (select : Select) (queries : List Query) : Type 0 where
   pub form : (query : Query) → Contains queries query → IsConjunctive (meaning_of schema) select query
   pub numbered : (query : Query) → Contains queries query → IsNumbered query
   pub fits : (query : Query) → Contains queries query → QueryFits (meaning_of schema) query
   pub constants : (query : Query) → Contains queries query → (known : List Value) → HaveLiterals known select → QueryHasConstants known query
   pub few : length queries ≤ 1
+  pub never : queries ≡ [] → Clashes select.conditions
+  pub some : (query : Query) → Contains queries query → Clashes select.conditions → ⊥
   pub answers : (facts : List Fact) → IsInstance (meaning_of schema) facts → (row : Row) →
       ((query : Query) × Contains queries query × AnswersQuery query facts row) ↔ AnswersSelect select facts row
 

@@ -6,8 +6,9 @@ ghost use Rattle.rule_pass.specs.declared.pass.TheConstants.{MOST_FIRINGS};
 ghost use Rattle.accessible_copy.specs.Proving.{log_of};
 ghost use Rattle.accessible_copy.specs.Rounds.{IsAllQuiet, GoesOn};
 ghost use Rattle.proof_search.specs.Searches.{AreSearchable, IsSearch};
-ghost use Rattle.proof_search.specs.Branches.{IsQueryOutcome, IsWithoutGoal, IsOutcome};
+ghost use Rattle.proof_search.specs.Outcomes.{IsQueryOutcome, IsWithoutGoal, IsOutcome};
 
+use crate::choosing::choose;
 use crate::outcome::{Outcome, QueryOutcome};
 use crate::proving::prove;
 use access_schema::Schema;
@@ -18,7 +19,8 @@ use no_plan_witness::witness;
 use plan_extract::{extract, frozen_values};
 use std::alloc::Global;
 
-/// A branch for each of the queries, in order, each read off a proof of at most `firings` firings.
+/// A branch for each of the queries, in order, each read off a proof of at most `firings` firings, and searched for a cheaper one with
+/// `search` units.
 ///
 /// Where a query is stuck, its pair comes at once. Where the firings of one are spent, the others are searched too, as one of them
 /// may be stuck; if none is, the log of the first comes.
@@ -28,25 +30,26 @@ pub fn branches_for(
     queries: &Queries,
     known: &Texts,
     firings: u32,
+    search: u32,
 ) -> Result<Outcome, NoMemory>
     requires queries { AreSearchable (meaning_of schema.now) known.now queries.now }
     requires few { length queries.now ≤ 2 ^ 32 }
     requires known { (c : List ℕ) → Contains schema.now.constants c → Contains known.now c }
     requires firings { firings ≤ MOST_FIRINGS }
-    ensures { IfOk result (IsOutcome (meaning_of schema.now) known.now queries.now firings) }
+    ensures { IfOk result (IsOutcome (meaning_of schema.now) known.now queries.now firings search) }
 {
-    let mut branches = Seq::new(alloc);
+    let mut choices = Seq::new(alloc);
     let mut spent = None;
     for query in queries.as_slice() {
-        match branch_for(alloc, schema, query, queries, known, firings)? {
-            QueryOutcome::Branch(branch) => branches.push(branch)?,
+        match branch_for(alloc, schema, query, queries, known, firings, search)? {
+            QueryOutcome::Branch(choice) => choices.push(choice)?,
             QueryOutcome::Stuck(pair) => return Ok(Outcome::Stuck(pair)),
             QueryOutcome::Spent(log) => spent = spent.or(Some(log)),
         }
     }
     match spent {
         Some(log) => Ok(Outcome::Spent(log)),
-        None => Ok(Outcome::Branches(branches)),
+        None => Ok(Outcome::Branches(choices)),
     }
 }
 
@@ -58,16 +61,19 @@ fn branch_for(
     queries: &Queries,
     known: &Texts,
     firings: u32,
+    search: u32,
 ) -> Result<QueryOutcome, NoMemory>
     requires queries { AreSearchable (meaning_of schema.now) known.now queries.now }
     requires few { length queries.now ≤ 2 ^ 32 }
     requires among { Contains queries.now query.now }
     requires known { (c : List ℕ) → Contains schema.now.constants c → Contains known.now c }
     requires firings { firings ≤ MOST_FIRINGS }
-    ensures { IfOk result (IsQueryOutcome (meaning_of schema.now) known.now queries.now firings query.now) }
+    ensures { IfOk result (IsQueryOutcome (meaning_of schema.now) known.now queries.now firings search query.now) }
 {
     let (proof, quiet) = prove(alloc, schema, query, known, firings)?;
-    outcome_of(alloc, schema, query, queries, known, &proof, quiet, firings)
+    outcome_of(
+        alloc, schema, query, queries, known, &proof, quiet, firings, search,
+    )
 }
 
 /// What a search of the query comes to, and whether nothing is active at its end.
@@ -80,6 +86,7 @@ fn outcome_of(
     proof: &Proof,
     quiet: bool,
     firings: u32,
+    search: u32,
 ) -> Result<QueryOutcome, NoMemory>
     requires queries { AreSearchable (meaning_of schema.now) known.now queries.now }
     requires few { length queries.now ≤ 2 ^ 32 }
@@ -89,13 +96,16 @@ fn outcome_of(
     requires search { IsSearch (meaning_of schema.now) firings (opening query.now) known.now proof.now }
     requires quiet { quiet ≡ true → IsAllQuiet (meaning_of schema.now) proof.now }
     requires spent { quiet ≡ false → (firings ≤ length proof.now.entries) × GoesOn (meaning_of schema.now) proof.now }
-    ensures { IfOk result (IsQueryOutcome (meaning_of schema.now) known.now queries.now firings query.now) }
+    ensures { IfOk result (IsQueryOutcome (meaning_of schema.now) known.now queries.now firings search query.now) }
 {
     let head = Seq::from_vec(frozen_values(alloc, query.head.as_slice())?);
     match goal(alloc, proof, queries, &head)? {
         Some(found) => {
             let branch = extract(alloc, proof, schema, queries, &head, &found)?;
-            Ok(QueryOutcome::Branch(branch))
+            let choice = choose(
+                alloc, schema, query, queries, known, &head, branch, firings, search,
+            )?;
+            Ok(QueryOutcome::Branch(choice))
         }
         None => without_goal(alloc, proof, quiet, known, &head),
     }

@@ -5,6 +5,7 @@
 #![tactic(auto)]
 
 mod branches;
+mod choosing;
 mod deciding;
 mod exposing;
 mod outcome;

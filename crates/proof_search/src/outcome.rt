@@ -1,13 +1,25 @@
 // What searches come to.
 
-use meaning::types::{Branch, Branches, Firings};
+use access_cost::Least;
+use lists::Seq;
+use meaning::types::{Branch, Firings};
 use no_plan_witness::Witness;
+
+/// Choices in order.
+pub type Choices = Seq<Choice>;
+
+/// The branch that is chosen for a query, and what is known of its cost.
+#[derive(Drop)]
+pub struct Choice {
+    pub branch: Branch,
+    pub least: Least,
+}
 
 /// What the search of a query comes to: its branch; the pair of its proof, where nothing is active any more and there is no goal; or
 /// the log of its proof, where the firings are spent.
 #[derive(Drop)]
 pub enum QueryOutcome {
-    Branch(Branch),
+    Branch(Choice),
     Stuck(Witness),
     Spent(Firings),
 }
@@ -16,7 +28,7 @@ pub enum QueryOutcome {
 /// firings are spent.
 #[derive(Drop)]
 pub enum Outcome {
-    Branches(Branches),
+    Branches(Choices),
     Stuck(Witness),
     Spent(Firings),
 }

@@ -6,5 +6,5 @@ use Rattle.exposure_search.proofs.going.common_front.Goals as goal
 pub loop-number-preserved : goal.loop-number-preserved
 loop-number-preserved c =
     let (within, made) = front_more c.args.facts.now c.args.proof.now.exposed c.args.path.now c.loop-number.number (slice_index_or c.args.path.now c.loop-number.number (record { fact = 0; method = 0; cost = 0 })) c.loop-number.invariant.made (c.is_made.ensures (search rules))
-        (got_index c.args.path.now c.loop-number.number (record { fact = 0; method = 0; cost = 0 }) (search rules)) in
+    (got_index c.args.path.now c.loop-number.number (record { fact = 0; method = 0; cost = 0 }) (search rules)) in
     record { exposed_has = within; made = made }

@@ -1,4 +1,4 @@
-use Rattle.std.proofs.Common.{◌≡◌, ◌≤◌, ℕ, List, take}
+use Rattle.std.proofs.Common.{◌≡◌, ℕ, List, take}
 use Rattle.meaning.specs.declared.types.SchemaParts.{SchemaParts}
 use Rattle.access_schema.specs.Meaning.{meaning_of}
 use Rattle.accessible_copy.specs.Proving.{Proving}

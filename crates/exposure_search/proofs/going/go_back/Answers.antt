@@ -1,4 +1,3 @@
-use Rattle.exposure_search.specs.Making.{bases_of}
 use Rattle.access_schema.specs.Meaning.{meaning_of}
 use Rattle.exposure_search.proofs.Logs.{goes_cut_to}
 use Rattle.exposure_search.proofs.going.go_back.Goals as goal

@@ -1,4 +1,4 @@
-use Rattle.std.proofs.Common.{◌≡◌, ◌<◌, ◌≤◌, ℕ, List, Some, length, refl, sym, ap, ◌∙◌, subst, arith}
+use Rattle.std.proofs.Common.{◌<◌, ◌≤◌, Some, length, sym, ap, ◌∙◌, subst}
 use Rattle.std.specs.Prelude.{Contains, slice_get, slice_index_or}
 use Rattle.std.proofs.lemmas.List.{take_all}
 use Rattle.std.proofs.lemmas.Option.{slice_get_within}
@@ -33,11 +33,11 @@ loop-firing-preserved c =
     elim c.match-firing.branch [
       | in-Expose+in_ok-add_move w ↦
           let (active, served) = exposure_more (meaning_of c.args.schema.now) c.args.proof.now c.requires.run c.in_ok-found.found c.as_slice-firing-items.result.now c.loop-firing.moves.items w.add_move.new.moves.items c.loop-firing.firing-index
-              (record { fact = w.place_of-place.result; method = w.in-Expose.method; cost = (slice_index_or c.as_slice-methods.result.now w.in-Expose.method w.index-methods-method.result).cost }) w.in-Expose.fact w.index-methods-method.result c.in_ok-found.ensures c.as_slice-firing-items.ensures
-              (got ∙ ap (λ f. Some f) w.in-Expose.is) (subst (λ f. Contains c.in_ok-found.found f) w.in-Expose.is among)
-              (ap (λ l. slice_get l w.place_of-place.result) (sym c.requires.facts) ∙ w.place_of-place.ensures)
-              (w.index-methods-method.is ∙ ap (λ l. slice_index_or l w.in-Expose.method w.index-methods-method.result) c.as_slice-methods.ensures) (ap (λ (m : Method). m.cost) (sym w.index-methods-method.is))
-              w.in_ok-add_move.ensures.only w.in_ok-add_move.ensures.kept w.in_ok-add_move.ensures.served c.loop-firing.invariant.active c.loop-firing.invariant.served in
+          (record { fact = w.place_of-place.result; method = w.in-Expose.method; cost = (slice_index_or c.as_slice-methods.result.now w.in-Expose.method w.index-methods-method.result).cost }) w.in-Expose.fact w.index-methods-method.result c.in_ok-found.ensures c.as_slice-firing-items.ensures
+          (got ∙ ap (λ f. Some f) w.in-Expose.is) (subst (λ f. Contains c.in_ok-found.found f) w.in-Expose.is among)
+          (ap (λ l. slice_get l w.place_of-place.result) (sym c.requires.facts) ∙ w.place_of-place.ensures)
+          (w.index-methods-method.is ∙ ap (λ l. slice_index_or l w.in-Expose.method w.index-methods-method.result) c.as_slice-methods.ensures) (ap (λ (m : Method). m.cost) (sym w.index-methods-method.is))
+          w.in_ok-add_move.ensures.only w.in_ok-add_move.ensures.kept w.in_ok-add_move.ensures.served c.loop-firing.invariant.active c.loop-firing.invariant.served in
           rw w.moves-is (record { active = active; served = served })
       | in_default w ↦
           rw w.moves-is (record {

@@ -1,4 +1,4 @@
-use Rattle.std.proofs.Common.{◌≡◌, ◌+◌, length, sym, ◌∙◌, arith}
+use Rattle.std.proofs.Common.{◌≡◌, length, sym, ◌∙◌, arith}
 use Rattle.access_schema.specs.Meaning.{meaning_of}
 use Rattle.exposure_search.proofs.Logs.{settled_long}
 use Rattle.exposure_search.proofs.Settled.{found_goal}

@@ -2,8 +2,9 @@ use Rattle.std.proofs.Common.{◌≡◌, Some, length, refl, subst}
 use Rattle.std.specs.Prelude.{slice_get}
 use Rattle.std.proofs.lemmas.Option.{slice_get_read}
 use Rattle.access_schema.specs.Meaning.{meaning_of}
-use Rattle.proof_search.specs.Branches.{IsQueryBranch, IsSpentLog}
-use Rattle.proof_search.proofs.Found.{one_branch, one_spent}
+use Rattle.proof_search.specs.Branches.{IsSpentLog}
+use Rattle.proof_search.specs.Choices.{IsChoice}
+use Rattle.proof_search.proofs.Found.{one_choice, one_spent}
 use Rattle.proof_search.proofs.branches.branches_for.Goals.{in-Branch+in_ok-push-in-Branch, in-Spent}
 use Rattle.proof_search.proofs.branches.branches_for.Goals as goal
 
@@ -19,11 +20,11 @@ loop-query-preserved c =
     (slice_get_read c.as_slice-query-items.result.now (length c.as_slice-query-items.result.now) n query refl c.loop-query-test.true c.query-item.is) in
     elim c.match-branch-2.branch [
       | in-Branch+in_ok-push-in-Branch w ↦
-          let one : IsQueryBranch schema known queries query w.in-Branch.branch = rw w.in-Branch.is at c.in_ok-branch.ensures in
-          rw (w.branches-is, w.spent-is, w.in_ok-push-in-Branch.ensures.ok)
-          (one_branch schema known queries c.args.firings n query c.loop-query.branches got c.loop-query.spent w.in-Branch.branch c.loop-query.invariant one)
+          let one : IsChoice schema known queries c.args.firings c.args.search query w.in-Branch.choice = rw w.in-Branch.is at c.in_ok-choice.ensures in
+          rw (w.choices-is, w.spent-is, w.in_ok-push-in-Branch.ensures.ok)
+          (one_choice schema known queries c.args.firings c.args.search n query c.loop-query.choices got c.loop-query.spent w.in-Branch.choice c.loop-query.invariant one)
       | in-Spent w ↦
-          let one : IsSpentLog schema known queries c.args.firings query w.in-Spent.log = rw w.in-Spent.is at c.in_ok-branch.ensures in
-          rw (w.branches-is, w.spent-is, w.or-spent.ensures)
-          (one_spent schema known queries c.args.firings n query c.loop-query.branches got c.loop-query.spent w.in-Spent.log c.loop-query.invariant one)
+          let one : IsSpentLog schema known queries c.args.firings query w.in-Spent.log = rw w.in-Spent.is at c.in_ok-choice.ensures in
+          rw (w.choices-is, w.spent-is, w.or-spent.ensures)
+          (one_spent schema known queries c.args.firings c.args.search n query c.loop-query.choices got c.loop-query.spent w.in-Spent.log c.loop-query.invariant one)
     ]

@@ -25,8 +25,11 @@ extract-requires-clause-fits c other among = (c.requires.queries other among).fi
 pub extract-requires-clause-found : goal.extract-requires-clause-found
 extract-requires-clause-found c = rw c.in-Some.is at c.in_ok-found.ensures.some
 
-pub returns-in-Some : goal.returns-in-Some
-returns-in-Some c =
+pub choose-requires-clause-head : goal.choose-requires-clause-head
+choose-requires-clause-head c = c.from_vec-head.ensures ∙ c.in_ok-frozen_values.ensures ∙ ap (map (value_of Const Label)) c.as_slice.ensures
+
+pub choose-requires-clause-first : goal.choose-requires-clause-first
+choose-requires-clause-first c =
     let head : c.from_vec-head.result ≡ frozen_head c.args.query.now = c.from_vec-head.ensures ∙ c.in_ok-frozen_values.ensures ∙ ap (map (value_of Const Label)) c.as_slice.ensures in
     let found : IsGoal c.args.queries.now c.args.proof.now.end.copy c.from_vec-head.result c.in-Some.found.select c.in-Some.found.assignment.vals = rw c.in-Some.is at c.in_ok-found.ensures.some in
     goal_branch (meaning_of c.args.schema.now) c.args.known.now c.args.queries.now c.args.firings c.args.query.now c.args.proof.now c.from_vec-head.result c.in-Some.found.assignment.vals c.in-Some.found.select c.in_ok-branch-in-Some.branch
@@ -38,6 +41,6 @@ pub returns : goal.returns
 returns c =
     let head : c.from_vec-head.result ≡ frozen_head c.args.query.now = c.from_vec-head.ensures ∙ c.in_ok-frozen_values.ensures ∙ ap (map (value_of Const Label)) c.as_slice.ensures in
     let none : HasGoal c.args.queries.now c.args.proof.now.end c.from_vec-head.result → ⊥ = rw c.in-None.is at c.in_ok-found.ensures.none in
-    ended (meaning_of c.args.schema.now) c.args.known.now c.args.queries.now c.args.firings c.args.query.now c.args.proof.now c.requires.search
+    ended (meaning_of c.args.schema.now) c.args.known.now c.args.queries.now c.args.firings c.args.search c.args.query.now c.args.proof.now c.requires.search
     (λ has. none (subst (HasGoal c.args.queries.now c.args.proof.now.end) (sym head) has)) c.args.quiet c.requires.quiet c.requires.spent c.from_vec-head.result head
     c.without_goal.result c.without_goal.ensures

@@ -1,0 +1,49 @@
+-- The branch that is chosen for a query, and what is known of its cost.
+use Rattle.std.specs.Prelude.{◌≡◌, ℕ, ◌≤◌, List}
+use Rattle.meaning.specs.declared.types.SchemaParts.{SchemaParts}
+use Rattle.meaning.specs.declared.types.Query.{Query}
+use Rattle.meaning.specs.declared.types.Branch.{Branch}
+use Rattle.meaning.specs.Values.{Value}
+use Rattle.meaning.specs.Costs.{IsCost}
+use Rattle.meaning.specs.Extract.{IsQueryRival}
+use Rattle.meaning.specs.Runs.{opening, frozen_head}
+use Rattle.exposure_search.specs.Exploring.{Exploring, IsFounded}
+use Rattle.access_cost.specs.declared.least.Least.{Least}
+use Rattle.access_cost.specs.declared.least.Least.TheVariants.{Shown, SearchSpent, FiringsSpent}
+use Rattle.proof_search.specs.declared.outcome.Choice.{Choice}
+use Rattle.proof_search.specs.Branches.{IsQueryBranch}
+use Rattle.proof_search.specs.Chosen.{NoneIsEnough, HasLongRun}
+
+-- No rival for the query, among all the queries, costs less than the branch.
+abbrev pub IsLeastFor : SchemaParts → List Value → List Query → Query → Branch → Type 0
+IsLeastFor schema known queries query branch =
+    (rival : Branch) (cost other : ℕ) → IsQueryRival schema known queries query rival →
+    IsCost schema branch cost → IsCost schema rival other → cost ≤ other
+
+-- The branch has a cost, which is at most so much.
+abbrev pub CostsAtMost : SchemaParts → Branch → ℕ → Type 0
+CostsAtMost schema branch most = (cost : ℕ) × IsCost schema branch cost × (cost ≤ most)
+
+-- The space is that of the query's base firings, for these queries with the query's frozen head, in runs of so many firings.
+pub record IsSpaceOf (schema : SchemaParts) (queries : List Query) (query : Query) (firings : ℕ) (space : Exploring) : Type 0 where
+  pub schema_is : space.schema ≡ schema
+  pub start : space.start ≡ opening query
+  pub queries_are : space.queries ≡ queries
+  pub head : space.head ≡ frozen_head query
+  pub budget : space.budget ≡ firings
+  pub founded : IsFounded space
+
+-- What is said of the cost of a query's branch is so: no rival costs less; or all units of the search were spent, and no pair was
+-- enough; or some run of the query is longer than the budget of firings.
+abbrev pub IsSaidFor : SchemaParts → List Value → List Query → ℕ → ℕ → Query → Branch → Least → Type 0
+IsSaidFor schema known queries firings search query branch Shown = IsLeastFor schema known queries query branch
+IsSaidFor schema known queries firings search query branch (SearchSpent units) =
+    (units ≡ search) × NoneIsEnough schema known firings search query
+IsSaidFor schema known queries firings search query branch (FiringsSpent spent) =
+    (spent ≡ firings) × HasLongRun schema known firings query
+
+-- The branch is one for the query, and what is said of its cost is so.
+pub record IsChoice (schema : SchemaParts) (known : List Value) (queries : List Query) (firings search : ℕ) (query : Query)
+    (choice : Choice) : Type 0 where
+  pub branch : IsQueryBranch schema known queries query choice.branch
+  pub said : IsSaidFor schema known queries firings search query choice.branch choice.least
