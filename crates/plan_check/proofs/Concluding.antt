@@ -97,7 +97,6 @@ module _ (schema : Schema) (known : List Value) (plan : Plan) (lawful : IsLawful
 
 -- ---- the verdict
 
-
 pub verdict_is : (schema : Schema) (statement : Statement) (plan : Plan) (firings : ℕ) (selects branches : List (Option Query)) →
     IsLegalOver schema statement plan (known_of schema statement) → AllZip (IsSelectForm schema) statement.selects selects → AllZip (IsBranchForm (meaning_of schema)) plan.branches branches →
     (verdict : Verdict) → IsConclusion (meaning_of schema) selects branches firings verdict → IsVerdict schema statement plan firings verdict

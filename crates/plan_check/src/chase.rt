@@ -41,7 +41,11 @@ pub fn chase_query(
     let mut state = State::start(alloc, &facts, query.variables)?;
     let mut log = Triggers::new(alloc);
     let stopped = run_rules(alloc, &mut state, &schema.rules, firings, &mut log)?;
-    Ok(Chase { state, log, stopped })
+    Ok(Chase {
+        state,
+        log,
+        stopped,
+    })
 }
 
 /// The facts of the store as an instance, and the head as a row, with texts in place of the labels: in ascending order, each label takes

@@ -31,11 +31,7 @@ pub fn select_forms(
     Ok(forms)
 }
 
-fn select_form(
-    alloc: Global,
-    schema: &Schema,
-    select: &Select,
-) -> Result<Option<Query>, NoMemory>
+fn select_form(alloc: Global, schema: &Schema, select: &Select) -> Result<Option<Query>, NoMemory>
     requires fits { SelectFits (meaning_of schema.now) select.now }
     requires froms { length select.now.froms ≤ MOST_FROMS }
     ensures { IfOk result (IsSelectForm schema.now select.now) }

@@ -31,12 +31,7 @@ pub fn some_has(
 }
 
 // Whether the query, if there is one, has the head as a row.
-fn has(
-    alloc: Global,
-    form: &Option<Query>,
-    store: &Store,
-    head: &[Val],
-) -> Result<bool, NoMemory>
+fn has(alloc: Global, form: &Option<Query>, store: &Store, head: &[Val]) -> Result<bool, NoMemory>
     requires { FormIsCounted form.now }
     ensures yes { IfOk result (λ has. has ≡ true → FormHas store.now head.now form.now) }
     ensures no { IfOk result (λ has. has ≡ false → FormHas store.now head.now form.now → ⊥) }
@@ -48,12 +43,7 @@ fn has(
 }
 
 // Whether the query has the head as a row.
-fn query_has(
-    alloc: Global,
-    query: &Query,
-    store: &Store,
-    head: &[Val],
-) -> Result<bool, NoMemory>
+fn query_has(alloc: Global, query: &Query, store: &Store, head: &[Val]) -> Result<bool, NoMemory>
     requires { IsCounted query.now }
     ensures yes { IfOk result (λ has. has ≡ true → IsQueryAnswer Const (GroundsOf store.now) query.now head.now) }
     ensures no { IfOk result (λ has. has ≡ false → IsQueryAnswer Const (GroundsOf store.now) query.now head.now → ⊥) }

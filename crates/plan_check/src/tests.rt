@@ -92,7 +92,10 @@ fn shown(alloc: Global, schema: &Schema, verdict: &Verdict) -> Result<String, Al
     match verdict {
         Verdict::Equivalent => format!(in alloc; "equivalent"),
         Verdict::Illegal(fault) => {
-            format!(in alloc; "illegal {} {} {} {:?}", fault.branch, fault.step, fault.place, fault.kind)
+            format!(in alloc;
+                "illegal {} {} {} {:?}",
+                fault.branch, fault.step, fault.place, fault.kind
+            )
         }
         Verdict::Loses(instance, row) => separation(alloc, "loses", schema, instance, row),
         Verdict::Adds(instance, row) => separation(alloc, "adds", schema, instance, row),
@@ -169,11 +172,22 @@ fn plans_for_the_rooms_of_the_smiths(rt: HostRuntime) -> Result<(), Fail> {
 #[test]
 fn firings_that_are_spent(rt: HostRuntime) -> Result<(), Fail> {
     let alloc = rt.alloc();
-    let first = "plan 2\nbranch\naccess all_direct(new, 'smith')\naccess prof_by_eid($0, new, 'smith')\noutput $0, $1\nend\n";
-    let wider = "plan 2\nbranch\naccess all_direct(new, new)\naccess prof_by_eid($0, new, new)\noutput $0, $2\nend\n";
-    assert_eq!(rt; judged(alloc, SMITHS, "plan 2\nend\n", 0)?.as_str(), "undecided select 0 0");
-    assert_eq!(rt; judged(alloc, SMITHS, first, 0)?.as_str(), "undecided select 0 0");
-    assert_eq!(rt; judged(alloc, SMITHS, wider, 0)?.as_str(), "undecided select 0 0");
+    let first =
+        "plan 2\nbranch\naccess all_direct(new, 'smith')\naccess prof_by_eid($0, new, 'smith')\noutput $0, $1\nend\n";
+    let wider =
+        "plan 2\nbranch\naccess all_direct(new, new)\naccess prof_by_eid($0, new, new)\noutput $0, $2\nend\n";
+    assert_eq!(rt;
+        judged(alloc, SMITHS, "plan 2\nend\n", 0)?.as_str(),
+        "undecided select 0 0"
+    );
+    assert_eq!(rt;
+        judged(alloc, SMITHS, first, 0)?.as_str(),
+        "undecided select 0 0"
+    );
+    assert_eq!(rt;
+        judged(alloc, SMITHS, wider, 0)?.as_str(),
+        "undecided select 0 0"
+    );
     assert_eq!(rt; judged(alloc, SMITHS, first, 1)?.as_str(), "equivalent");
     Ok(())
 }
@@ -183,7 +197,13 @@ fn queries_that_never_have_an_answer(rt: HostRuntime) -> Result<(), Fail> {
     let alloc = rt.alloc();
     let never = "SELECT DISTINCT eid FROM udirect WHERE lname = 'a' AND lname = 'b'";
     let some = "plan 1\nbranch\naccess all_direct(new, new)\noutput $0\nend\n";
-    assert_eq!(rt; judged(alloc, never, "plan 1\nend\n", 0)?.as_str(), "equivalent");
-    assert_eq!(rt; judged(alloc, never, some, 0)?.as_str(), "adds '_1'; udirect '_1' '_2'");
+    assert_eq!(rt;
+        judged(alloc, never, "plan 1\nend\n", 0)?.as_str(),
+        "equivalent"
+    );
+    assert_eq!(rt;
+        judged(alloc, never, some, 0)?.as_str(),
+        "adds '_1'; udirect '_1' '_2'"
+    );
     Ok(())
 }
