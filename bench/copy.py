@@ -3,7 +3,7 @@
 
 usage: bench/copy.py [SCRATCH]
 
-Copies the crates to a scratch folder, puts bench/copy_speed.rt behind the helpers of accessible_copy's tests there, and runs the
+Copies the crates to a scratch folder, puts bench/copy_speed.tests behind the helpers of accessible_copy's tests there, and runs the
 measurements by `rt try --test`, which needs no proof. That interprets the code, some hundred times as slowly as the built program
 runs it: the growth is what counts here, and the times of one series beside one another. Prints the CPU time of each measurement.
 """
@@ -29,7 +29,7 @@ def scratch(folder):
     crate = f"{folder}/crates/accessible_copy"
     helpers = open(f"{crate}/src/tests.rt").read().split("#[test]")[0]
     with open(f"{crate}/src/tests.rt", "w") as out:
-        out.write(helpers + open(f"{TOP}/bench/copy_speed.rt").read())
+        out.write(helpers + open(f"{TOP}/bench/copy_speed.tests").read())
     return crate
 
 
