@@ -1,9 +1,0 @@
-use Rattle.reference.specs.Gathering.{KnowsAt}
-use Rattle.reference.proofs.Turns.{each_more, is_among, number_is, is_false, true_says, false_says}
-use Rattle.reference.proofs.accessible.knows_inputs.Goals as goal
-
-pub returns-then-not-knows_at : goal.returns-then-not-knows_at
-returns-then-not-knows_at c = is_false (λ all. false_says c.if-not-knows_at.ensures (all _ (is_among _ _ _ c.loop-input-test.true (number_is _ _ c.loop-input-test.true))))
-
-pub loop-input-preserved : goal.loop-input-preserved
-loop-input-preserved c = each_more (KnowsAt c.args.constants.now c.args.earlier.now c.args.row.now) _ _ _ c.loop-input-test.true (number_is _ _ c.loop-input-test.true) c.loop-input.invariant (true_says c.if-not-knows_at.ensures)
