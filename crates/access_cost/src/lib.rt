@@ -11,6 +11,3 @@ mod sum;
 pub use laws::{costs_are_unique, lawful_branches_name_methods};
 pub use least::Least;
 pub use sum::{MOST_STEPS, cost, names_methods};
-
-#[cfg(test)]
-mod tests;

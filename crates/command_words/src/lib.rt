@@ -15,6 +15,3 @@ mod usage;
 pub use command::{Command, read_words};
 pub use laws::words_are_one_command;
 pub use usage::usage_text;
-
-#[cfg(test)]
-mod tests;

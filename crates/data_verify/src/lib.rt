@@ -13,6 +13,3 @@ mod verifying;
 pub use broken::{Broken, Facts};
 pub use text::verification_text;
 pub use verifying::verify;
-
-#[cfg(test)]
-mod tests;

@@ -14,6 +14,3 @@ mod visiting;
 
 pub use exposure_space::ExposureSpace;
 pub use founding::base_proof;
-
-#[cfg(test)]
-mod tests;

@@ -25,6 +25,3 @@ pub use fault::{Run, RunFault};
 pub use lookup::find_line;
 pub use row_text::csv_text;
 pub use run_plan::execute;
-
-#[cfg(test)]
-mod tests;

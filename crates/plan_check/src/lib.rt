@@ -18,6 +18,3 @@ mod verdict;
 
 pub use judge_plan::judge;
 pub use verdict::{Side, Verdict};
-
-#[cfg(test)]
-mod tests;

@@ -21,6 +21,3 @@ pub use judge::lawful;
 pub use laws::{lawful_plans_have_no_fault, plan_texts_have_no_fault, printed_plans_are_read};
 pub use print::plan_text;
 pub use read::read_plan;
-
-#[cfg(test)]
-mod tests;

@@ -12,6 +12,3 @@ mod outcome;
 mod proving;
 
 pub use deciding::{MOST_UNITS, decide};
-
-#[cfg(test)]
-mod tests;

@@ -27,6 +27,3 @@ pub use laws::{
 };
 pub use limits::{MOST_CONDITIONS, MOST_FROMS, MOST_ITEMS};
 pub use statement::{read_select, result_names};
-
-#[cfg(test)]
-mod tests;

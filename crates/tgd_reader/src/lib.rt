@@ -20,8 +20,3 @@ pub use listed::Listing;
 pub use parts::{Declared, read_parts};
 pub use print::schema_text;
 pub use read::read_schema;
-
-#[cfg(test)]
-mod schema_tests;
-#[cfg(test)]
-mod tests;
