@@ -36,6 +36,3 @@ pub use named::are_named;
 pub use names::add_once;
 pub use part::{NamedAtom, NamedAtoms, NamedTerm, NamedTerms, Part, Parts};
 pub use schema::{Schema, SourceLine, SourceLines};
-
-#[cfg(test)]
-mod tests;

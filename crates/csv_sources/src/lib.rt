@@ -10,6 +10,3 @@ mod header;
 mod records;
 
 pub use folder::{CsvFolder, FILE_LIMIT, SUM_LIMIT};
-
-#[cfg(test)]
-mod tests;

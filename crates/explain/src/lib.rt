@@ -23,6 +23,3 @@ pub use laws::{printed_plans_say_the_plan, printed_refutations_are_read};
 pub use read::read_witness;
 pub use refutation::witness_text;
 pub use verdict::verdict_text;
-
-#[cfg(test)]
-mod tests;

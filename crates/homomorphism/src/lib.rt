@@ -25,6 +25,3 @@ pub use grounding::{Assigns, Freezing, ground_under, values_under};
 pub use rules::{body_matches, first_unmet, is_met, variables_width};
 pub use store::Store;
 pub use texts::row_under;
-
-#[cfg(test)]
-mod tests;

@@ -33,6 +33,3 @@ pub type Rows = Seq<Row>;
 
 /// Positions of columns, or numbers of relations.
 pub type Places = Seq<u32>;
-
-#[cfg(test)]
-mod tests;

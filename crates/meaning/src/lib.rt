@@ -34,6 +34,3 @@ pub fn columns_made(columns: u32, places: &[Place]) -> u32
     }
     total
 }
-
-#[cfg(test)]
-mod tests;

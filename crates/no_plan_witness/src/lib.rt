@@ -23,8 +23,3 @@ pub use find_witness::witness;
 pub use judge_witness::check_witness;
 pub use naming::Naming;
 pub use refutation::Witness;
-
-#[cfg(test)]
-mod judging_tests;
-#[cfg(test)]
-mod tests;

@@ -21,6 +21,3 @@ pub use branch::read_off;
 pub use exposures::Exposure;
 pub use extracting::extract;
 pub use frozen::{frozen_facts, frozen_values};
-
-#[cfg(test)]
-mod tests;

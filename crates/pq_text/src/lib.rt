@@ -25,6 +25,3 @@ pub use scan::{Found, front_tokens, tokens};
 pub use stand::{lexeme_of, lexemes, written};
 pub use token::{LexFault, Lexed, Stop, Style, Token, TokenKind, Tokens};
 pub use utf8::read_utf8;
-
-#[cfg(test)]
-mod tests;

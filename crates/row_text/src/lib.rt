@@ -19,6 +19,3 @@ pub use order::ascending_distinct;
 pub use packed::PackedRows;
 pub use recent::Recent;
 pub use text::csv_text;
-
-#[cfg(test)]
-mod tests;

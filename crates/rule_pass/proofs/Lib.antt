@@ -6,4 +6,3 @@ pub mod Ordered
 pub mod Bounds
 pub mod OnePass
 pub mod Parts
-pub mod Examples

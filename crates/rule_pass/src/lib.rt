@@ -20,6 +20,3 @@ pub use log::Log;
 pub use order::rule_order;
 pub use pass::{HIGHEST_FIRST_LABEL, MOST_FIRINGS, Stopped, run_in_order, run_rules};
 pub use state::State;
-
-#[cfg(test)]
-mod tests;

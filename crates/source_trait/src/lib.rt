@@ -29,6 +29,3 @@ pub use memory_source::{MemorySource, locators_differ};
 pub use sink::{Sink, SinkFault};
 pub use source::{AttachFault, CallFault, Source};
 pub use table::{Table, Tables};
-
-#[cfg(test)]
-mod tests;

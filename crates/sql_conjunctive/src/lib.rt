@@ -17,6 +17,3 @@ pub use fits::{is_instance, select_fits, statement_fits};
 pub use form::Conjunctive;
 pub use limits::MOST_FROMS;
 pub use rows::answers;
-
-#[cfg(test)]
-mod tests;

@@ -1,0 +1,19 @@
+//! Tests of the lower crates, on small values that are worked out by hand.
+//!
+//! There is nothing here but tests: a crate with tests is proved twice, so these stand in a crate above.
+#![tactic(auto)]
+
+#[cfg(test)]
+mod of_access_schema;
+#[cfg(test)]
+mod of_csv_sources;
+#[cfg(test)]
+mod of_lists;
+#[cfg(test)]
+mod of_meaning;
+#[cfg(test)]
+mod of_pq_text;
+#[cfg(test)]
+mod of_row_text;
+#[cfg(test)]
+mod of_source_trait;

@@ -1,0 +1,116 @@
+// Parts whose names are there or not, and texts that are added once.
+use access_schema::{Part, Parts, add_once, are_named};
+use lists::{NoMemory, Text, Texts};
+use std::alloc::Global;
+use std::test::Fail;
+
+fn texts(alloc: Global, all: &[&str]) -> Result<Texts, NoMemory> {
+    let mut made = Texts::new(alloc);
+    for text in all {
+        made.push(Text::from_str(alloc, text)?)?;
+    }
+    Ok(made)
+}
+
+fn relation(alloc: Global, name: &str, columns: &[&str]) -> Result<Part, NoMemory> {
+    let columns = texts(alloc, columns)?;
+    Ok(Part::Relation {
+        name: Text::from_str(alloc, name)?,
+        columns,
+    })
+}
+
+fn method(alloc: Global, name: &str, inputs: &[&str]) -> Result<Part, NoMemory> {
+    let inputs = texts(alloc, inputs)?;
+    Ok(Part::Method {
+        name: Text::from_str(alloc, name)?,
+        relation: Text::from_str(alloc, "")?,
+        inputs,
+        cost: 0,
+    })
+}
+
+fn key(alloc: Global, name: &str, columns: &[&str]) -> Result<Part, NoMemory> {
+    let columns = texts(alloc, columns)?;
+    Ok(Part::ForeignKey {
+        line: 1,
+        relation: Text::from_str(alloc, name)?,
+        target: Text::from_str(alloc, "")?,
+        target_columns: Texts::new(alloc),
+        columns,
+    })
+}
+
+fn source(alloc: Global, kind: &str) -> Result<Part, NoMemory> {
+    Ok(Part::Source {
+        relation: Text::from_str(alloc, "")?,
+        kind: Text::from_str(alloc, kind)?,
+        locator: Text::from_str(alloc, "x.csv")?,
+    })
+}
+
+/// A part by its kind, its name or the kind of its source, and its columns or inputs.
+fn part(alloc: Global, kind: &str, name: &str, columns: &[&str]) -> Result<Part, NoMemory> {
+    match kind {
+        "relation" => relation(alloc, name, columns),
+        "method" => method(alloc, name, columns),
+        "key" => key(alloc, name, columns),
+        "source" => source(alloc, name),
+        _ => Ok(Part::Constant {
+            text: Text::from_str(alloc, name)?,
+        }),
+    }
+}
+
+/// Whether the part has all names that it has to have.
+fn has_names(
+    alloc: Global,
+    kind: &str,
+    name: &str,
+    columns: &[&str],
+) -> Result<bool, NoMemory> {
+    let mut parts = Parts::new(alloc);
+    parts.push(part(alloc, kind, name, columns)?)?;
+    Ok(are_named(parts.as_slice()))
+}
+
+#[test]
+fn names_are_there_or_not(rt: HostRuntime) -> Result<(), Fail> {
+    let cases: [(&str, &str, &[&str], bool); 10] = [
+        ("relation", "r", &["a"], true),
+        ("relation", "s", &[], true),
+        ("method", "m", &[""], true),
+        ("key", "", &[""], true),
+        ("constant", "", &[], true),
+        ("source", "csv", &[], true),
+        ("relation", "", &["a"], false),
+        ("relation", "r", &["a", ""], false),
+        ("method", "", &[], false),
+        ("source", "", &[], false),
+    ];
+    for (kind, name, columns, wanted) in cases {
+        assert_eq!(rt; has_names(rt.alloc(), kind, name, columns)?, wanted, "{kind} {name}");
+    }
+    Ok(())
+}
+
+/// What is known after these texts are added, with one blank before each.
+fn added(alloc: Global, known: &[&str], more: &[&str]) -> Result<String, NoMemory> {
+    let mut known = texts(alloc, known)?.into_vec();
+    for text in more {
+        add_once(alloc, &mut known, &Text::from_str(alloc, text)?)?;
+    }
+    let mut made = String::new(alloc);
+    for text in &known {
+        made.push(' ')?;
+        made.push_str(text.as_str())?;
+    }
+    Ok(made)
+}
+
+#[test]
+fn a_text_is_added_once(rt: HostRuntime) -> Result<(), Fail> {
+    let more = ["b", "c", "", "a", "c", ""];
+    assert_eq!(rt; added(rt.alloc(), &["a", "b"], &more)?.as_str(), " a b c ");
+    Ok(())
+}

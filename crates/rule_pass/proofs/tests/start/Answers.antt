@@ -1,4 +1,0 @@
-use Rattle.rule_pass.proofs.tests.start.Goals as goal
-
-pub start-requires : goal.start-requires
-start-requires c = rw c.as_slice.ensures at (c.all_labels_below.ensures c.if-not-all_labels_below.false)
