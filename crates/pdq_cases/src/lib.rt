@@ -1,4 +1,4 @@
-//! Whole runs over the forms in memory: the worked examples of the command line, and every refusal.
+//! Whole runs over the forms in memory: which requests are told, and what no real file shows, reads, writes and calls that fail.
 //!
 //! There is nothing here but tests; they stand above all other crates, so that `pdq_core` is proved once.
 #![tactic(auto)]
@@ -6,4 +6,6 @@
 #[cfg(test)]
 mod asked;
 #[cfg(test)]
-mod tests;
+mod faults;
+#[cfg(test)]
+mod forms;
