@@ -1,10 +1,8 @@
 //! The program: the top call over the files of the system, standard output and standard error.
 //!
 //! `main` makes the files, one lane whose kind `csv` is a folder of data files, and the two outputs, and ends with the
-//! exit status of `run_words`, which says what the program does. Begin at `main`; `real` has the adapters.
+//! exit status of `run_words`, which says what the program does. Begin at `main`; `system_io` has the adapters.
 #![tactic(auto)]
-
-mod real;
 
 ghost use Rattle.std.specs.Prelude.{◌≡◌, ◌∷◌, [], List, map, drop, codes, IfOk};
 ghost use Rattle.std.specs.Iterator.{IsFinite, Drains};
@@ -16,7 +14,6 @@ ghost use Rattle.command_io.specs.Status.{code_of};
 use csv_sources::CsvFolder;
 use lists::{NoMemory, Text};
 use pdq_core::{Status, run_words};
-use real::{RealErr, RealFiles, RealOut, System};
 use source_trait::{Boxed, Kind, Lane, Sink};
 use std::alloc::Global;
 use std::env;
@@ -24,6 +21,7 @@ use std::env::Env;
 use std::io::ErrorKind;
 use std::mem::forget;
 use std::process::ExitCode;
+use system_io::{RealErr, RealFiles, RealOut, System};
 
 fn main(rt: HostRuntime) -> ExitCode {
     let alloc = rt.alloc();

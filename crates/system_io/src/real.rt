@@ -3,7 +3,7 @@ ghost use Rattle.std.specs.Prelude.{◌≡◌, ◌≢◌, ◌↔◌, ◌≤◌, 
 ghost use Rattle.std.specs.Option.{is_some};
 ghost use Rattle.std.specs.IoError.{error_kind};
 ghost use Rattle.source_trait.specs.Outside.{bytes_of};
-ghost use Rattle.pdq.specs.Heads.{head_of};
+ghost use Rattle.system_io.specs.Heads.{head_of};
 
 use lists::{Bytes, Text};
 use source_trait::{FileFault, Files, Sink, SinkFault};

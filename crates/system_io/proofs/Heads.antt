@@ -1,7 +1,7 @@
 -- What the head of a list of bytes says of the whole.
 use Rattle.std.proofs.Common.{◌≡◌, ◌≤◌, ◌<◌, ◌+◌, ℕ, List, length, take, min, Option, None, Some, IfSome, ap, ◌∙◌, arith}
 use Rattle.std.proofs.lemmas.List.{length-take, take_all}
-use Rattle.pdq.specs.Heads.{head_of}
+use Rattle.system_io.specs.Heads.{head_of}
 
 -- a head of one byte more than the limit that keeps within the limit is the whole
 head_whole : (limit : ℕ) (all head : List ℕ) → head ≡ take (limit + 1) all → length head ≤ limit → head ≡ all

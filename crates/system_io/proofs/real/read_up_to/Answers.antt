@@ -1,6 +1,6 @@
 use Rattle.std.proofs.Common.{rules}
-use Rattle.pdq.proofs.Heads.{known_whole, known_long}
-use Rattle.pdq.proofs.real.read_up_to.Goals as goal
+use Rattle.system_io.proofs.Heads.{known_whole, known_long}
+use Rattle.system_io.proofs.real.read_up_to.Goals as goal
 
 pub returns-then-len-limit-clause-too_large : goal.returns-then-len-limit-clause-too_large
 returns-then-len-limit-clause-too_large g c = λ is.
