@@ -6,8 +6,6 @@
 #[cfg(test)]
 mod of_access_schema;
 #[cfg(test)]
-mod of_csv_sources;
-#[cfg(test)]
 mod of_lists;
 #[cfg(test)]
 mod of_meaning;
@@ -15,5 +13,3 @@ mod of_meaning;
 mod of_pq_text;
 #[cfg(test)]
 mod of_row_text;
-#[cfg(test)]
-mod of_source_trait;

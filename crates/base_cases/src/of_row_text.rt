@@ -1,18 +1,8 @@
 // Rows in one buffer, compared and put together, worked out by hand.
-use csv::StringRecord;
-use lists::{Exact, NoMemory, Row, Text};
+use lists::NoMemory;
 use row_text::{PackedRows, Recent, ascending_distinct};
 use std::alloc::Global;
-use std::cmp::Ordering;
 use std::test::Fail;
-
-fn row(alloc: Global, values: &[&str]) -> Result<Row, NoMemory> {
-    let mut row = Row::new(alloc);
-    for value in values {
-        row.push(Text::from_str(alloc, value)?)?;
-    }
-    Ok(row)
-}
 
 fn rows(alloc: Global, list: &[&[&str]]) -> Result<PackedRows, NoMemory> {
     let mut rows = PackedRows::new(alloc);
@@ -76,62 +66,6 @@ fn a_double_of_a_row_that_came_lately_is_told(rt: HostRuntime) -> Result<(), Fai
     let list: [&[&str]; 5] = [&["a", "1"], &["b", "1"], &["a", "1"], &["a1", ""], &["b", "1"]];
     let kept = without_doubles(rt.alloc(), &list)?;
     assert!(rt; are(&kept, &[&["a", "1"], &["b", "1"], &["a1", ""]]));
-    Ok(())
-}
-
-/// A row, a row without values, and two fields of a record, of which the second is not there.
-fn packed(alloc: Global) -> Result<PackedRows, NoMemory> {
-    let fields = StringRecord::from_fields(alloc, &["a", "b"])?;
-    let first = PackedRows::new(alloc).with_row(row(alloc, &["1", "αβ"])?.as_slice())?;
-    first.with_row(&[])?.with_fields(&fields, &[1, 9])
-}
-
-#[test]
-fn packed_rows_keep_each_value_of_each_row(rt: HostRuntime) -> Result<(), Fail> {
-    assert!(rt; are(&packed(rt.alloc())?, &[&["1", "αβ"], &[], &["b", ""]]));
-    Ok(())
-}
-
-/// Whether the second of the rows is lent with its values.
-fn is_lent(alloc: Global, list: &[&[&str]], wanted: &[&str]) -> Result<bool, NoMemory> {
-    let packed = rows(alloc, list)?;
-    if packed.len() < 2 {
-        return Ok(false);
-    }
-    let lent = packed.at(1);
-    let same = lent.copy(alloc)?.same(&row(alloc, wanted)?);
-    Ok(same && lent.len() == wanted.len() && lent.value(0) == wanted.first().copied())
-}
-
-#[test]
-fn a_lent_row_gives_its_values(rt: HostRuntime) -> Result<(), Fail> {
-    let list: [&[&str]; 3] = [&["x"], &["1", "αβ"], &[]];
-    assert!(rt; is_lent(rt.alloc(), &list, &["1", "αβ"])?);
-    assert!(rt; !is_lent(rt.alloc(), &list, &["1"])?);
-    assert!(rt; !is_lent(rt.alloc(), &list, &["1", "αβ", ""])?);
-    Ok(())
-}
-
-/// How two rows compare once they are packed, where they are two.
-fn compared(alloc: Global, list: &[&[&str]]) -> Result<Option<Ordering>, NoMemory> {
-    let packed = rows(alloc, list)?;
-    if packed.len() < 2 {
-        return Ok(None);
-    }
-    Ok(Some(packed.at(0).cmp(&packed.at(1))))
-}
-
-#[test]
-fn lent_rows_compare_by_the_bytes_of_each_column(rt: HostRuntime) -> Result<(), Fail> {
-    let cases: [(&[&[&str]], Ordering); 4] = [
-        (&[&["a", "b"], &["a", "c"]], Ordering::Less),
-        (&[&["a", "b"], &["a"]], Ordering::Greater),
-        (&[&["ab"], &["a", "b"]], Ordering::Greater),
-        (&[&["a"], &["a"]], Ordering::Equal),
-    ];
-    for (list, wanted) in cases {
-        assert!(rt; compared(rt.alloc(), list)? == Some(wanted));
-    }
     Ok(())
 }
 

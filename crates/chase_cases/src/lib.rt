@@ -1,4 +1,4 @@
-//! Tests of the crates that fire rules, find matches and read refutations, on small values that are worked out by hand.
+//! Tests of the crates that find matches, form queries, and test and read refutations, on small values that are worked out by hand.
 //!
 //! There is nothing here but tests: a crate with tests is proved twice, so these stand in a crate above.
 #![tactic(auto)]
@@ -9,10 +9,6 @@ mod of_explain;
 mod of_homomorphism;
 #[cfg(test)]
 mod of_no_plan_witness;
-#[cfg(test)]
-mod of_plan_extract;
-#[cfg(test)]
-mod of_rule_pass;
 #[cfg(test)]
 mod of_sql_conjunctive;
 #[cfg(test)]

@@ -1,4 +1,4 @@
-// Schemas, values and facts from texts, and back.
+// Schemas, values and facts from texts.
 
 use access_schema::Schema;
 use lists::{NoMemory, Seq, Text};
@@ -36,25 +36,4 @@ pub fn vals(alloc: Global, texts: &[&str]) -> Result<Vals, NoMemory> {
 pub fn fact(alloc: Global, rel: u32, texts: &[&str]) -> Result<Ground, NoMemory> {
     let vals = vals(alloc, texts)?;
     Ok(Ground { rel, vals })
-}
-
-fn write_val(alloc: Global, made: &mut String, val: &Val) -> Result<(), NoMemory> {
-    match val {
-        Val::Label(label) => made.push_str(format!(in alloc; " #{label}")?.as_str()),
-        Val::Const(text) => made.push_str(format!(in alloc; " {}", text.as_str())?.as_str()),
-    }
-}
-
-/// Writes a number and the values, with one blank before each value, and a semicolon.
-pub fn write_row(
-    alloc: Global,
-    made: &mut String,
-    number: u32,
-    vals: &[Val],
-) -> Result<(), NoMemory> {
-    made.push_str(format!(in alloc; "{number}")?.as_str())?;
-    for val in vals {
-        write_val(alloc, made, val)?;
-    }
-    made.push_str("; ")
 }
