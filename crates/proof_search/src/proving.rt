@@ -32,14 +32,31 @@ pub fn prove(
     ensures spent { IfOk result (λ made. made.1 ≡ false → (firings ≤ length made.0.entries) × GoesOn (meaning_of schema.now) made.0) }
 {
     let mut proof = Proof::start(alloc, schema, query, known)?;
-    if !fire_base(alloc, &mut proof, schema, firings)? {
-        return Ok((proof, false));
-    }
-    if !expose_all(alloc, &mut proof, schema, firings)? {
-        return Ok((proof, false));
-    }
-    let quiet = fire_copies(alloc, &mut proof, schema, firings)?;
+    let quiet = fire_all(alloc, &mut proof, schema, firings)?;
     Ok((proof, quiet))
+}
+
+/// The firings of a proof of the empty log, those of each kind in turn. Whether nothing is active at the end.
+fn fire_all(
+    alloc: Global,
+    proof: &mut Proof,
+    schema: &Schema,
+    firings: u32,
+) -> Result<bool, NoMemory>
+    requires search { IsSearch (meaning_of schema.now) firings proof.old.start proof.old.constants proof.old }
+    requires empty { proof.old.entries ≡ [] }
+    requires firings { firings ≤ MOST_FIRINGS }
+    ensures search { OnOk result (IsSearch (meaning_of schema.now) firings proof.old.start proof.old.constants proof.new) }
+    ensures quiet { result ≡ Ok true → IsAllQuiet (meaning_of schema.now) proof.new }
+    ensures spent { result ≡ Ok false → (firings ≤ length proof.new.entries) × GoesOn (meaning_of schema.now) proof.new }
+{
+    if !fire_base(alloc, proof, schema, firings)? {
+        return Ok(false);
+    }
+    if !expose_all(alloc, proof, schema, firings)? {
+        return Ok(false);
+    }
+    fire_copies(alloc, proof, schema, firings)
 }
 
 /// The base firings of a proof of the empty log. Whether none is active at the end.
