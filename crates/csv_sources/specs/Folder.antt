@@ -1,8 +1,9 @@
 -- What a folder of data files is seen as, and which of its answers raise its own count of faults.
-use Rattle.std.specs.Prelude.{◌≡◌, ℕ, ◌+◌, Bool, false, List, [], ◌∷◌, ◌++◌, length, sum, nat_lt, if◌then◌else◌, Option, None, Some, option_map, option_and_then, IfSome, MatchOption, ◌⊎◌, Result, Ok, Err}
+use Rattle.std.specs.Prelude.{◌≡◌, ℕ, ◌+◌, Bool, false, not, ◌||◌, List, [], ◌∷◌, ◌++◌, length, map, sum, nat_eq, nat_lt, if◌then◌else◌, Option, None, Some, option_map, option_and_then, IfSome, MatchOption, ◌⊎◌, Result, Ok, Err}
+use Rattle.std.specs.List.{filter}
 use Rattle.source_trait.specs.Asking.{RowList, Seen}
 use Rattle.source_trait.specs.Failing.{next}
-use Rattle.source_trait.specs.Holding.{others_than, sizes_of}
+use Rattle.source_trait.specs.Holding.{loads_of, others_than}
 use Rattle.source_trait.specs.Outside.{bytes_of}
 use Rattle.source_trait.specs.declared.holding.Attachment.{Attachment}
 use Rattle.source_trait.specs.declared.source.AttachFault.{AttachFault}
@@ -27,9 +28,28 @@ abbrev pub passes_beside : ℕ → Option (List ℕ) → Bool
 passes_beside others None = false
 passes_beside others (Some bytes) = nat_lt SUM_LIMIT (others + length bytes)
 
--- whether attaching a relation would pass that limit, where its own file of before counts no more
-abbrev pub passes_limit : List Attachment → Contents → ℕ → List ℕ → Bool
-passes_limit attached contents rel locator = passes_beside (sum (sizes_of (others_than rel attached))) (told_bytes contents locator)
+-- the other relations, with how many bytes each counts
+abbrev pub beside : ℕ → List (ℕ × ℕ) → List (ℕ × ℕ)
+beside rel loads = filter (λ load. not (nat_eq load.0 rel)) loads
+
+-- how many bytes these count together
+abbrev pub total : List (ℕ × ℕ) → ℕ
+total loads = sum (map (λ load. load.1) loads)
+
+abbrev pub size_of : Option (List ℕ) → ℕ
+size_of None = 0
+size_of (Some bytes) = length bytes
+
+-- whether attaching relations one after another would pass that limit, where a relation's own file of before counts no more
+abbrev pub passes_limit : List (ℕ × ℕ) → Contents → List (ℕ × List ℕ) → Bool
+passes_limit loads contents [] = false
+passes_limit loads contents (next ∷ more) =
+    passes_beside (total (beside next.0 loads)) (told_bytes contents next.1)
+    || passes_limit (beside next.0 loads ++ (next.0, size_of (told_bytes contents next.1)) ∷ []) contents more
+
+-- how many bytes the files at these locators have together
+abbrev pub size_together : Contents → List (ℕ × List ℕ) → ℕ
+size_together contents list = sum (map (λ next. size_of (told_bytes contents next.1)) list)
 
 -- what an attach answers beside files of so many bytes
 abbrev pub offer_beside : ℕ → Contents → List (List ℕ) → List ℕ → Option (Result RowList AttachFault)
@@ -63,5 +83,5 @@ CountsData told rose (Err fault) old new = CountsFault told rose fault old new
 
 -- after an attach the files of the other relations count as before, and that of the relation by its bytes where it is attached
 abbrev pub CountsBytes : Option (List ℕ) → ℕ → Result (Unit {0}) AttachFault → List Attachment → List Attachment → Type 0
-CountsBytes told rel (Ok done) old new = IfSome told (λ bytes. sizes_of new ≡ sizes_of (others_than rel old) ++ length bytes ∷ [])
+CountsBytes told rel (Ok done) old new = IfSome told (λ bytes. loads_of new ≡ loads_of (others_than rel old) ++ (rel, length bytes) ∷ [])
 CountsBytes told rel (Err fault) old new = new ≡ others_than rel old

@@ -1,9 +1,9 @@
 // A source over the CSV files of a folder.
-ghost use Rattle.std.specs.Prelude.{◌≡◌, ◌≤◌, ◌+◌, [], Some, None, false, length, min, option_map, nat_lt, sum, if◌then◌else◌, IfOk, IsErrOf};
+ghost use Rattle.std.specs.Prelude.{◌≡◌, ◌≤◌, ◌+◌, Some, length, sum, if◌then◌else◌, IfOk, IsErrOf};
 ghost use Rattle.source_trait.specs.Causes.{Rose};
 ghost use Rattle.source_trait.specs.Asking.{AttachGives, CallGives, HaveArity};
-ghost use Rattle.source_trait.specs.Holding.{facts_held, attached_in, sizes_of};
-ghost use Rattle.csv_sources.specs.DataFile.{file_offer, offered};
+ghost use Rattle.source_trait.specs.Holding.{facts_held, attached_in, loads_of, sizes_of};
+ghost use Rattle.csv_sources.specs.DataFile.{file_offer};
 ghost use Rattle.csv_sources.specs.Folder.{CountsBytes, CountsData, IsFresh, offer_beside, offers, passes_beside, passes_limit, told_bytes};
 ghost use Rattle.csv_sources.specs.Loading.{LoadGives};
 
@@ -57,7 +57,7 @@ impl<F: Files + Send + Drop> Source for CsvFolder<F> {
     ghost seen = { λ c. record {
       held = Some (facts_held c.holding);
       offer = offers (F.contents c.files);
-      passes = passes_limit c.holding (F.contents c.files);
+      passes = passes_limit (loads_of c.holding) (F.contents c.files);
       asked = Some c.asked;
       attached = attached_in c.holding;
       faults = F.faults c.files + c.data_faults;

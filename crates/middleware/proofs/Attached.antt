@@ -114,9 +114,9 @@ module _ (old new : Seen) (rel : ℕ) (columns : List (List ℕ)) (locator : Lis
   own_offered : IfSome (old.offer rel columns locator) IsOk
   own_offered = go (old.offer rel columns locator) gives.offered
     where
-      go : (offer : Option (Result RowList AttachFault)) → IfSome (option_map (λ g. cond (old.passes rel locator) (Err attach.TooLarge) g) offer) IsOk → IfSome offer IsOk
+      go : (offer : Option (Result RowList AttachFault)) → IfSome (option_map (λ g. cond (old.passes ((rel, locator) ∷ [])) (Err attach.TooLarge) g) offer) IsOk → IfSome offer IsOk
       go None h = tt
-      go (Some given) h = given_ok (old.passes rel locator) given h
+      go (Some given) h = given_ok (old.passes ((rel, locator) ∷ [])) given h
 
   -- where offer and rows are told, the rows are those offered
   own_told : IfSome (old.offer rel columns locator) (λ offer. IfSome (told_rows rel new.held) (λ rows. offer ≡ Ok rows))
@@ -127,7 +127,7 @@ module _ (old new : Seen) (rel : ℕ) (columns : List (List ℕ)) (locator : Lis
       given_is false given rows h = h
 
       go : (offer : Option (Result RowList AttachFault)) (before after : Option (List Fact)) → old.offer rel columns locator ≡ offer → is_some after ≡ is_some before
-          → IfSome before (λ facts. Takes facts after rel (length columns) (option_map (λ g. cond (old.passes rel locator) (Err attach.TooLarge) g) (old.offer rel columns locator)))
+          → IfSome before (λ facts. Takes facts after rel (length columns) (option_map (λ g. cond (old.passes ((rel, locator) ∷ [])) (Err attach.TooLarge) g) (old.offer rel columns locator)))
           → IfSome offer (λ offer. IfSome (told_rows rel after) (λ rows. offer ≡ Ok rows))
       go None before after is same takes = tt
       go (Some given) before None is same takes = tt
@@ -135,9 +135,9 @@ module _ (old new : Seen) (rel : ℕ) (columns : List (List ℕ)) (locator : Lis
       go (Some given) (Some facts) (Some later) is same takes =
           let e : later ≡ without rel facts ++ facts_of rel takes.rows = some_injective later (without rel facts ++ facts_of rel takes.rows) takes.held in
           let rows : pick later rel [] [] ≡ takes.rows = ap (λ (l : List Fact). pick l rel [] []) e ∙ picked_taken rel facts takes.rows in
-          let now : cond (old.passes rel locator) (Err attach.TooLarge) given ≡ Ok takes.rows =
-          subst (λ (o : Option (Result RowList AttachFault)). IfSome (option_map (λ g. cond (old.passes rel locator) (Err attach.TooLarge) g) o) (λ o. o ≡ Ok takes.rows)) is takes.offered in
-          given_is (old.passes rel locator) given takes.rows now ∙ ap (λ (r : RowList). Ok r) (sym rows)
+          let now : cond (old.passes ((rel, locator) ∷ [])) (Err attach.TooLarge) given ≡ Ok takes.rows =
+          subst (λ (o : Option (Result RowList AttachFault)). IfSome (option_map (λ g. cond (old.passes ((rel, locator) ∷ [])) (Err attach.TooLarge) g) o) (λ o. o ≡ Ok takes.rows)) is takes.offered in
+          given_is (old.passes ((rel, locator) ∷ [])) given takes.rows now ∙ ap (λ (r : RowList). Ok r) (sym rows)
 
 -- ---- rising numbers
 

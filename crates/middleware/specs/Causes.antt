@@ -25,7 +25,7 @@ use Rattle.middleware.specs.declared.fault.RunFault.{RunFault}
 use Rattle.middleware.specs.declared.fault.RunFault.TheVariants as fault
 use Rattle.middleware.specs.PlanSources.{line_for, IsAccessed, IsPlanSource, AllHaveLines, LinesBelow}
 use Rattle.middleware.specs.Held.{HoldPlan}
-use Rattle.middleware.specs.Attaching.{AttachesInOrder, AttachesOne, AttachesEach, OnUsed}
+use Rattle.middleware.specs.Attaching.{AttachesInOrder, AttachesOne, AttachesEach}
 use Rattle.middleware.specs.Asked.{AskedTo, AsksLane, IsStepRequest, IsStepAt, IsRoundAt}
 
 -- the first lane lacks the kind, or there is no lane
@@ -138,14 +138,20 @@ pub record CapStops {S : Type 0} (seen : S → Seen) (schema : Schema) (plan : P
   pub over : cap < made + wanted
   pub asked : (instance : List Fact) → HoldPlan seen schema plan new instance → StopsBefore seen schema plan instance made wanted old new
 
+-- there is a first lane, it did so, and the others stay
+abbrev pub OnFirstLane : {S : Type 0} → List (Lane S) → List (Lane S) → (List (Kind S) → List (Kind S) → Type 0) → Type 0
+OnFirstLane [] new P = ⊥
+OnFirstLane (lane ∷ rest) [] P = ⊥
+OnFirstLane (lane ∷ rest) (after ∷ others) P = P lane.kinds.items after.kinds.items × (others ≡ rest)
+
 -- why an execution stopped, and what had been done by then
 abbrev pub StopsFor : {S : Type 0} → (S → Seen) → Schema → Plan → ℕ → List (Lane S) → List (Lane S) → RunFault → Type 0
 StopsFor seen schema plan cap old new fault.NoMemory = Unit {0}
 StopsFor seen schema plan cap old new (fault.NoSource rel) = new ≡ old
 StopsFor seen schema plan cap old new (fault.UnknownKind rel) = new ≡ old
-StopsFor seen schema plan cap old new (fault.Attach rel why) = OnUsed old new (AttachStops seen schema plan rel why)
-StopsFor seen schema plan cap old new (fault.CallFailed branch step) = OnUsed old new (CallStops seen schema plan cap branch step)
-StopsFor seen schema plan cap old new (fault.OverCalls made wanted its) = (its ≡ cap) × OnUsed old new (CapStops seen schema plan cap made wanted)
+StopsFor seen schema plan cap old new (fault.Attach rel why) = OnFirstLane old new (AttachStops seen schema plan rel why)
+StopsFor seen schema plan cap old new (fault.CallFailed branch step) = OnFirstLane old new (CallStops seen schema plan cap branch step)
+StopsFor seen schema plan cap old new (fault.OverCalls made wanted its) = (its ≡ cap) × OnFirstLane old new (CapStops seen schema plan cap made wanted)
 
 -- after a failed call the lane is stopped, and after whole rounds it is not
 abbrev pub LeavesStopped : Result Run RunFault → Bool → Type 0

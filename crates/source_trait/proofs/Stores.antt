@@ -7,7 +7,7 @@ use Rattle.std.proofs.lemmas.Bool.{cases_eq}
 use Rattle.std.proofs.lemmas.Bool.Decides.{nat_tests}
 use Rattle.meaning.specs.declared.types.Fact.{Fact}
 use Rattle.source_trait.specs.Asking.{RowList, HaveArity, facts_of, agrees, pick, without}
-use Rattle.source_trait.specs.Holding.{facts_held, attachment_in, attached_in, others_than, sizes_of, IsStore}
+use Rattle.source_trait.specs.Holding.{facts_held, attachment_in, attached_in, loads_of, others_than, IsStore}
 use Rattle.source_trait.specs.declared.holding.Attachment.{Attachment}
 
 -- what is absent stays so
@@ -151,14 +151,14 @@ pub record Grows (old new : List Attachment) (rel : ℕ) (columns : List (List �
   pub attached : attached_in new rel ≡ Some (columns, locator)
   pub others : (r : ℕ) → r ≢ rel → attached_in new r ≡ attached_in old r
   pub facts : facts_held new ≡ facts_held old ++ facts_of rel rows
-  pub sizes : sizes_of new ≡ sizes_of old ++ size ∷ []
+  pub loads : loads_of new ≡ loads_of old ++ (rel, size) ∷ []
 
 pub grows : (old : List Attachment) (a : Attachment) → attachment_in old a.rel ≡ None → Grows old (old ++ a ∷ []) a.rel a.columns a.locator a.rows a.size
 grows old a absent = record {
   attached = ap (option_map (λ (x : Attachment). (x.columns, x.locator))) (attached_push old a absent);
   others = λ r apart. ap (option_map (λ (x : Attachment). (x.columns, x.locator))) (others_push old a r apart);
   facts = facts_push old a;
-  sizes = map-append (λ (x : Attachment). x.size) old (a ∷ []);
+  loads = map-append (λ (x : Attachment). (x.rel, x.size)) old (a ∷ []);
 }
 
 pub grows_by : (old new : List Attachment) (a : Attachment) (rel : ℕ) (columns : List (List ℕ)) (locator : List ℕ) (rows : RowList) (size : ℕ) → a ≡ record { rel = rel; columns = columns; locator = locator; rows = rows; size = size }

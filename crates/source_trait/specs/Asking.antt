@@ -24,8 +24,8 @@ pub record Seen : Type 0 where
   pub held : Option (List Fact)
   -- the rows that the data at a locator give for a relation and its columns, or what is wrong with them, where that is told
   pub offer : ℕ → List (List ℕ) → List ℕ → Option (Result RowList AttachFault)
-  -- whether attaching the relation from the locator would pass the limit on all attached data
-  pub passes : ℕ → List ℕ → Bool
+  -- whether attaching these relations from these locators, one after another, would pass the limit on all attached data
+  pub passes : List (ℕ × List ℕ) → Bool
   -- the requests so far, in order, where they are told
   pub asked : Option (List Request)
   -- the columns and the locator of each attached relation
@@ -35,7 +35,7 @@ pub record Seen : Type 0 where
 
 -- the rows that an attach would take, or the fault of the data that it would answer, where that is told
 abbrev pub offered_now : Seen → ℕ → List (List ℕ) → List ℕ → Option (Result RowList AttachFault)
-offered_now seen rel columns locator = option_map (λ given. if seen.passes rel locator then Err TooLarge else given) (seen.offer rel columns locator)
+offered_now seen rel columns locator = option_map (λ given. if seen.passes ((rel, locator) ∷ []) then Err TooLarge else given) (seen.offer rel columns locator)
 
 -- each row has this many values
 abbrev pub HaveArity : ℕ → RowList → Type 0
@@ -121,6 +121,8 @@ pub record AttachGives (old new : Seen) (rel : ℕ) (columns : List (List ℕ)) 
   pub later : old.faults ≤ new.faults
   -- the offers of the data stay
   pub offers : new.offer ≡ old.offer
+  -- after an attach that succeeds, just what would have passed the limit behind it passes it
+  pub passes : OnOk result ((more : List (ℕ × List ℕ)) → new.passes more ≡ old.passes ((rel, locator) ∷ more))
   -- the requests stay
   pub asked : new.asked ≡ old.asked
 

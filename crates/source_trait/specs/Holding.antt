@@ -26,6 +26,10 @@ others_than rel list = filter (λ a. not (nat_eq a.rel rel)) list
 abbrev pub sizes_of : List Attachment → List ℕ
 sizes_of list = map (λ a. a.size) list
 
+-- the same, with their relations
+abbrev pub loads_of : List Attachment → List (ℕ × ℕ)
+loads_of list = map (λ a. (a.rel, a.size)) list
+
 -- each relation is attached once, and its rows have its arity
 abbrev pub IsStore : List Attachment → Type 0
 IsStore [] = Unit {0}

@@ -3,7 +3,7 @@ ghost use Rattle.std.specs.Prelude.{◌≡◌, ◌++◌, ◌∷◌, ◌≢◌, �
 ghost use Rattle.std.specs.List.{AllByRecursion, filter};
 ghost use Rattle.source_trait.specs.Asking.{agrees, pick, without, facts_of, HaveArity};
 ghost use Rattle.source_trait.specs.Index.{IndexesOf, OneMore};
-ghost use Rattle.source_trait.specs.Holding.{facts_held, attachment_in, attached_in, others_than, sizes_of};
+ghost use Rattle.source_trait.specs.Holding.{facts_held, attachment_in, attached_in, loads_of, others_than, sizes_of};
 
 use crate::index::{Index, find_index};
 use lists::{Copies, Text, Texts};
@@ -92,7 +92,7 @@ impl Holding {
         ensures attached { OnOk result (attached_in self.new rel ≡ Some (columns.now, locator.now)) }
         ensures others { (r : ℕ) → r ≢ rel → attached_in self.new r ≡ attached_in self.old r }
         ensures facts { OnOk result (facts_held self.new ≡ facts_held self.old ++ facts_of rel rows) }
-        ensures sizes { OnOk result (sizes_of self.new ≡ sizes_of self.old ++ size ∷ []) }
+        ensures loads { OnOk result (loads_of self.new ≡ loads_of self.old ++ (rel, size) ∷ []) }
         ensures err { OnErr result (self.new ≡ self.old) }
     {
         let attachment = copy_attachment(alloc, rel, columns, locator, rows, size)?;

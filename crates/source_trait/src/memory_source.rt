@@ -71,7 +71,7 @@ impl Source for MemorySource {
     ghost seen = { λ m. record {
       held = Some (facts_held m.holding);
       offer = λ rel columns locator. Some (offered (rows_under m.tables locator) (length columns));
-      passes = λ rel locator. false;
+      passes = λ list. false;
       asked = Some m.asked;
       attached = attached_in m.holding;
       faults = m.failures;
