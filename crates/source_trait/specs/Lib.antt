@@ -2,6 +2,7 @@ pub mod Causes
 pub mod Outside
 pub mod Asking
 pub mod Lanes
+pub mod Works
 pub mod Holding
 pub mod Index
 pub mod Failing

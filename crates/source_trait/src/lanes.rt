@@ -75,7 +75,7 @@ pub fn attach_on<S: Source + Send + Drop>(
 }
 
 /// Asks a request of the first source of this kind.
-pub fn call_on<S: Source + Send + Drop>(
+pub fn call_on<S: Source>(
     alloc: Global,
     lane: &mut Lane<S>,
     kind: &Text,
@@ -131,7 +131,7 @@ fn attach_at<S: Source + Send + Drop>(
 }
 
 // Asks a request of the source at a place.
-fn call_at<S: Source + Send + Drop>(
+fn call_at<S: Source>(
     alloc: Global,
     kinds: &mut Kinds<S>,
     place: usize,

@@ -17,6 +17,7 @@ mod memory_source;
 mod sink;
 mod source;
 mod table;
+mod work;
 
 pub use failing::FailingCalls;
 pub use files::{FileFault, Files};
@@ -29,3 +30,4 @@ pub use memory_source::{MemorySource, locators_differ};
 pub use sink::{Sink, SinkFault};
 pub use source::{AttachFault, CallFault, Source};
 pub use table::{Table, Tables};
+pub use work::{Ask, Asked};

@@ -4,7 +4,7 @@ use Rattle.source_trait.proofs.LaneSteps.{ready_at, ready_none, StepsAt-stays}
 use Rattle.source_trait.proofs.lanes.call_on.Goals as goal
 
 pub call_at-requires-clause-ready : goal.call_at-requires-clause-ready
-call_at-requires-clause-ready g c κs within = ready_at c.args.kind.now c.args.lane.now.kinds.items (λ s. CanAsk ((g.S.Source.seen s).attached c.args.rel) c.args.positions.now c.args.values.now) c.in-Some.at (search rules) c.requires.ready
+call_at-requires-clause-ready g c = ready_at c.args.kind.now c.args.lane.now.kinds.items (λ s. CanAsk ((g.S.Source.seen s).attached c.args.rel) c.args.positions.now c.args.values.now) c.in-Some.at (search rules) c.requires.ready
 
 pub returns-in-None-clause-steps : goal.returns-in-None-clause-steps
 returns-in-None-clause-steps g c = absurd (ready_none c.args.kind.now c.args.lane.now.kinds.items _ (search rules) c.requires.ready)
