@@ -8,10 +8,11 @@ loop-values-init g c = record {
   stopped = refl;
 }
 
-pub call_on-requires-clause-ready : goal.call_on-requires-clause-ready
-call_on-requires-clause-ready g c κs within =
-    lane_ready g.S.Source.seen c.args.rel c.args.positions.now c.args.requests.now c.args.kind.now c.args.lane.now.kinds.items c.loop-values.lane.kinds.items c.loop-values.values-index c.loop-values.answers.items
-    c.loop-values.invariant.steps c.values-item.result (c.requires.ready c.values-item.result (c.loop-values.values-index, omega arith, sym c.values-item.is))
+pub call_on-requires : goal.call_on-requires
+call_on-requires g c = record {
+  ready = lane_ready g.S.Source.seen c.args.rel c.args.positions.now c.args.requests.now c.args.kind.now c.args.lane.now.kinds.items c.loop-values.lane.kinds.items c.loop-values.values-index c.loop-values.answers.items
+      c.loop-values.invariant.steps c.values-item.result (c.requires.ready c.values-item.result (c.loop-values.values-index, omega arith, sym c.values-item.is));
+}
 
 pub returns-in-Err-clause-steps : goal.returns-in-Err-clause-steps
 returns-in-Err-clause-steps g c =
