@@ -90,7 +90,7 @@ const ONE: &[(u32, &[&str])] = &[(EDGE, &["x", "y"])];
 const TWO: &[(u32, &[&str])] = &[(EDGE, &["x", "y"]), (EDGE, &["y", "z"])];
 
 /// Atoms, given values, and how many matches in the circle there are.
-const COUNTED: [(&[(u32, &[&str])], &[&str], usize); 10] = [
+const COUNTED: [(&[(u32, &[&str])], &[&str], usize); 14] = [
     (ONE, &["a", ""], 2),
     (&[(EDGE, &["x", "y"]), (EDGE, &["x", "y"])], &["", ""], 4),
     (TWO, &["", "", ""], 6),
@@ -101,6 +101,26 @@ const COUNTED: [(&[(u32, &[&str])], &[&str], usize); 10] = [
     (&[(EDGE, &["x", "x"]), (EDGE, &["x", "x"])], &[""], 1),
     (&[(EDGE, &["x", "c"]), (EDGE, &["x", "c"])], &[""], 1),
     (&[(EDGE, &["x", "y"]), (MARK, &["x", "y"])], &["", ""], 0),
+    (
+        &[
+            (EDGE, &["x", "y"]),
+            (EDGE, &["y", "z"]),
+            (EDGE, &["z", "x"]),
+        ],
+        &["", "", ""],
+        4,
+    ),
+    (
+        &[(EDGE, &["x", "y"]), (EDGE, &["z", "b"])],
+        &["", "", ""],
+        4,
+    ),
+    (
+        &[(EDGE, &["x", "y"]), (EDGE, &["z", "d"])],
+        &["", "", ""],
+        0,
+    ),
+    (&[(EDGE, &["x", "a"]), (EDGE, &["y", "b"])], &["", "c"], 0),
 ];
 
 fn count_in_circle(

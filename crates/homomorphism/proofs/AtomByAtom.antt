@@ -18,6 +18,8 @@ use Rattle.homomorphism.specs.Bindings.{Agrees, IsBound, at, values_of}
 use Rattle.homomorphism.specs.Narrowing.{value_or_none}
 use Rattle.homomorphism.specs.Ways.{AreApart, AreWays}
 use Rattle.homomorphism.specs.Matches.{IsMatch, AreMatches, AreCovered}
+use Rattle.homomorphism.specs.Widening.{Widens}
+use Rattle.homomorphism.proofs.Extending.{wider}
 use Rattle.homomorphism.proofs.Members.{contains_none, distinct_append}
 use Rattle.homomorphism.proofs.Ways.{apart_take}
 use Rattle.homomorphism.proofs.Binding.{apart}
@@ -26,7 +28,7 @@ length_map : {X Y : Type 0} (f : X → Y) (xs : List X) → length (map f xs) �
 length_map f [] = refl
 length_map f (x ∷ xs) = ap suc (length_map f xs)
 
-values_agree : (given : List (Option Val)) → Agrees given (at (map value_or_none given))
+pub values_agree : (given : List (Option Val)) → Agrees given (at (map value_or_none given))
 values_agree given x v e = get_or_from_slice_get (map value_or_none given) x v (Label 0) (map_got value_or_none given x (Some v) e)
 
 -- no atoms
@@ -35,6 +37,14 @@ match_none facts given values e = subst (IsMatch facts [] given) (sym e) (record
   width = length_map value_or_none given;
   agrees = values_agree given;
   facts_are = λ atom c. absurd (contains_none atom c);
+})
+
+-- values that were found, as a list
+pub match_of : (facts : List Ground) (atoms : List Atom) (given found : List (Option Val)) (values : List Val) → Widens facts atoms given found → values ≡ map value_or_none found → IsMatch facts atoms given values
+match_of facts atoms given found values w e = subst (IsMatch facts atoms given) (sym e) (record {
+  width = length_map value_or_none found ∙ w.width;
+  agrees = wider given found w.kept (at (map value_or_none found)) (values_agree found);
+  facts_are = w.sound (at (map value_or_none found)) (values_agree found);
 })
 
 -- an assignment is its values

@@ -15,24 +15,24 @@ use Rattle.homomorphism.specs.Narrowing.{Narrows, Differs}
 use Rattle.homomorphism.proofs.Members.{contains_none}
 
 -- a place after a write
-got_set_same : {X : Type 0} (xs : List X) (k : ℕ) (x : X) → k < length xs → slice_get (slice_set xs k x) k ≡ Some x
+pub got_set_same : {X : Type 0} (xs : List X) (k : ℕ) (x : X) → k < length xs → slice_get (slice_set xs k x) k ≡ Some x
 got_set_same [] k x l = absurd (omega arith)
 got_set_same (y ∷ xs) zero x l = refl
 got_set_same (y ∷ xs) (suc k) x l = got_set_same xs k x (omega arith)
 
-got_set_other : {X : Type 0} (xs : List X) (j k : ℕ) (x : X) → (j ≡ k → ⊥) → slice_get (slice_set xs k x) j ≡ slice_get xs j
+pub got_set_other : {X : Type 0} (xs : List X) (j k : ℕ) (x : X) → (j ≡ k → ⊥) → slice_get (slice_set xs k x) j ≡ slice_get xs j
 got_set_other [] j k x differ = refl
 got_set_other (y ∷ xs) zero zero x differ = absurd (differ refl)
 got_set_other (y ∷ xs) zero (suc k) x differ = refl
 got_set_other (y ∷ xs) (suc j) zero x differ = refl
 got_set_other (y ∷ xs) (suc j) (suc k) x differ = got_set_other xs j k x (λ e. differ (ap suc e))
 
-length_set : {X : Type 0} (xs : List X) (k : ℕ) (x : X) → length (slice_set xs k x) ≡ length xs
+pub length_set : {X : Type 0} (xs : List X) (k : ℕ) (x : X) → length (slice_set xs k x) ≡ length xs
 length_set [] k x = refl
 length_set (y ∷ xs) zero x = refl
 length_set (y ∷ xs) (suc k) x = ap suc (length_set xs k x)
 
-same_or_not : (j k : ℕ) → (j ≡ k) ⊎ (j ≡ k → ⊥)
+pub same_or_not : (j k : ℕ) → (j ≡ k) ⊎ (j ≡ k → ⊥)
 same_or_not zero zero = inl refl
 same_or_not zero (suc k) = inr (λ e. omega arith)
 same_or_not (suc j) zero = inr (λ e. omega arith)
@@ -47,7 +47,7 @@ head_is x y xs ys e = cc
 tail_is : {X : Type 0} (x y : X) (xs ys : List X) → x ∷ xs ≡ y ∷ ys → xs ≡ ys
 tail_is x y xs ys e = cc
 
-none_some : {X : Type 0} (x : X) → ◌≡◌ {A = Option X} None (Some x) → ⊥
+pub none_some : {X : Type 0} (x : X) → ◌≡◌ {A = Option X} None (Some x) → ⊥
 none_some x e = cc
 
 -- a variable without a value gets one

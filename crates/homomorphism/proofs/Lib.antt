@@ -13,3 +13,6 @@ pub mod Noting
 pub mod Indexing
 pub mod Choosing
 pub mod FactByFact
+pub mod Touching
+pub mod Extending
+pub mod Runs

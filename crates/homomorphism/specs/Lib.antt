@@ -7,3 +7,4 @@ pub mod Ways
 pub mod Covering
 pub mod Texts
 pub mod Listed
+pub mod Widening

@@ -2,6 +2,7 @@
 ghost use Rattle.std.specs.Prelude.{◌≡◌, ◌≤◌, [], ◌∷◌, length, IfOk, true, false};
 ghost use Rattle.meaning.specs.Triggers.{terms_bound};
 ghost use Rattle.homomorphism.specs.Narrowing.{Narrows, Differs, NarrowsIf};
+ghost use Rattle.homomorphism.specs.Widening.{Touches};
 
 use crate::assignment::Bindings;
 use lists::{Copies, Exact, NoMemory, Seq};
@@ -51,6 +52,7 @@ fn bind(
     requires { terms_bound (term.now ∷ []) ≤ length given.old.items }
     ensures yes { IfOk result (λ same. same ≡ true → Narrows (term.now ∷ []) (val.now ∷ []) given.old.items given.new.items) }
     ensures no { IfOk result (λ same. same ≡ false → Differs (term.now ∷ []) (val.now ∷ []) given.old.items) }
+    ensures touched { Touches (term.now ∷ []) given.old.items given.new.items }
 {
     match term {
         Term::Const(text) => match val {
@@ -70,6 +72,33 @@ fn bind(
     }
 }
 
+/// Gives the variables of the terms these values, or says that they cannot have them; then some may have theirs.
+pub fn bind_all(
+    alloc: Global,
+    given: &mut Vec<Option<Val>>,
+    terms: &[Term],
+    vals: &[Val],
+) -> Result<bool, NoMemory>
+    requires { terms_bound terms.now ≤ length given.old.items }
+    ensures yes { IfOk result (λ same. same ≡ true → Narrows terms.now vals.now given.old.items given.new.items) }
+    ensures no { IfOk result (λ same. same ≡ false → Differs terms.now vals.now given.old.items) }
+    ensures touched { IfOk result (λ same. Touches terms.now given.old.items given.new.items) }
+{
+    let mut left = terms;
+    let mut other = vals;
+    while let [term, after @ ..] = left {
+        let [val, more @ ..] = other else {
+            return Ok(false);
+        };
+        if !bind(alloc, given, term, val)? {
+            return Ok(false);
+        }
+        left = after;
+        other = more;
+    }
+    Ok(other.is_empty())
+}
+
 /// The given values with those that make the terms these values, if there are such.
 pub fn unify(
     alloc: Global,
@@ -81,20 +110,8 @@ pub fn unify(
     ensures { IfOk result (λ narrow. NarrowsIf terms.now vals.now given narrow) }
 {
     let mut narrow = given.into_vec();
-    let mut left = terms;
-    let mut other = vals;
-    while let [term, after @ ..] = left {
-        let [val, more @ ..] = other else {
-            return Ok(None);
-        };
-        if !bind(alloc, &mut narrow, term, val)? {
-            return Ok(None);
-        }
-        left = after;
-        other = more;
+    if bind_all(alloc, &mut narrow, terms, vals)? {
+        return Ok(Some(Seq::from_vec(narrow)));
     }
-    if !other.is_empty() {
-        return Ok(None);
-    }
-    Ok(Some(Seq::from_vec(narrow)))
+    Ok(None)
 }

@@ -10,7 +10,6 @@ ghost use Rattle.homomorphism.specs.declared.key.Key.{Key as TheKey};
 ghost use Rattle.homomorphism.specs.Bindings.{Agrees};
 ghost use Rattle.homomorphism.specs.Listed.{keys_of, listed, MayEndIn, IsIndexOf, AreCandidates};
 
-use crate::assignment::Bindings;
 use crate::key::{Key, fact_keys};
 use lists::{Copies, NoMemory, Seq};
 use meaning::types::{Atom, Ground, Term, Val};
@@ -91,7 +90,7 @@ impl FactIndex {
         &self,
         alloc: Global,
         atom: &Atom,
-        given: &Bindings,
+        given: &[Option<Val>],
     ) -> Result<&[usize], NoMemory>
         requires { terms_bound atom.now.terms ≤ length given.now }
         ensures { IfOk result (λ numbers. (facts : List TheGround) → IsIndexOf facts self.now → AreCandidates facts atom.now given.now numbers.now) }
@@ -99,7 +98,7 @@ impl FactIndex {
         let rel = atom.rel;
         let mut best = self.numbers(&Key::Relation(rel));
         for (position, term) in atom.terms.as_slice().iter().enumerate() {
-            if let Some(val) = known(alloc, term, given.as_slice())? {
+            if let Some(val) = known(alloc, term, given)? {
                 let numbers = self.numbers(&Key::Value { rel, position, val });
                 if numbers.len() < best.len() {
                     best = numbers;

@@ -4,9 +4,10 @@ ghost use Rattle.meaning.specs.Triggers.{bound};
 ghost use Rattle.homomorphism.specs.Matches.{IsMatch, NoMatch, AreMatches, AreCovered};
 
 use crate::assignment::{Assignment, Assignments, Bindings};
-use crate::matching::{every, first};
+use crate::matching::{assignment, every};
+use crate::search::search;
 use crate::store::Store;
-use lists::{NoMemory, Seq};
+use lists::{Copies, NoMemory, Seq};
 use meaning::types::Atoms;
 use std::alloc::Global;
 
@@ -22,7 +23,10 @@ pub fn first_match(
     ensures some { IfOk result (λ found. IfSome found (λ m. IsMatch store.now atoms.now fixed.now m.vals)) }
     ensures none { IfOk result (λ found. IfNone found (NoMatch store.now atoms.now fixed.now)) }
 {
-    first(alloc, atoms.as_slice(), store, fixed)
+    if let Some(found) = search(alloc, atoms.as_slice(), store, fixed.copy(alloc)?)? {
+        return Ok(Some(assignment(alloc, found.as_slice())?));
+    }
+    Ok(None)
 }
 
 /// All assignments that agree with the fixed values and make each atom a fact of the store, each once.

@@ -4,9 +4,11 @@
 //! `first_unmet` answers none exactly where the facts meet a rule. Begin at `specs/Matches.antt`.
 #![tactic(auto)]
 
+mod arrange;
 mod assignment;
 mod bind;
 mod conditions;
+mod extend;
 mod fact_index;
 mod find;
 mod grounding;
@@ -14,6 +16,7 @@ mod instance;
 mod key;
 mod matching;
 mod rules;
+mod search;
 mod store;
 mod texts;
 

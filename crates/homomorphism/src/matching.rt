@@ -1,8 +1,8 @@
 // The assignments that make atoms facts.
-ghost use Rattle.std.specs.Prelude.{◌≡◌, ◌≤◌, ◌⊎◌, [], ◌∷◌, length, map, IfOk, IfSome, IfNone};
+ghost use Rattle.std.specs.Prelude.{◌≡◌, ◌≤◌, ◌⊎◌, [], ◌∷◌, length, map, IfOk};
 ghost use Rattle.meaning.specs.Triggers.{terms_bound, bound};
 ghost use Rattle.homomorphism.specs.Narrowing.{value_or_none};
-ghost use Rattle.homomorphism.specs.Matches.{IsMatch, NoMatch, AreMatches, AreCovered};
+ghost use Rattle.homomorphism.specs.Matches.{AreMatches, AreCovered};
 ghost use Rattle.homomorphism.specs.Ways.{IsWayIf, AreWays};
 
 use crate::assignment::{Assignment, Bindings};
@@ -51,7 +51,7 @@ fn ways(
 {
     let mut ways = Vec::new(alloc);
     let facts = store.facts();
-    for number in store.candidates(alloc, atom, given)? {
+    for number in store.candidates(alloc, atom, given.as_slice())? {
         if let Some(way) = way(alloc, atom, &facts[*number], given)? {
             ways.push(way)?;
         }
@@ -60,7 +60,7 @@ fn ways(
 }
 
 /// The values; a variable without one gets any.
-fn assignment(alloc: Global, given: &[Option<Val>]) -> Result<Assignment, NoMemory>
+pub fn assignment(alloc: Global, given: &[Option<Val>]) -> Result<Assignment, NoMemory>
     ensures { IfOk result (λ made. made.vals ≡ map value_or_none given.now) }
 {
     let mut values = Vec::new(alloc);
@@ -73,31 +73,6 @@ fn assignment(alloc: Global, given: &[Option<Val>]) -> Result<Assignment, NoMemo
     Ok(Assignment {
         vals: Seq::from_vec(values),
     })
-}
-
-/// The first match, going through the facts for one atom after another.
-pub fn first(
-    alloc: Global,
-    atoms: &[Atom],
-    store: &Store,
-    given: &Bindings,
-) -> Result<Option<Assignment>, NoMemory>
-    requires fits { bound atoms.now ≤ length given.now }
-    ensures some { IfOk result (λ found. IfSome found (λ m. IsMatch store.now atoms.now given.now m.vals)) }
-    ensures none { IfOk result (λ found. IfNone found (NoMatch store.now atoms.now given.now)) }
-{
-    let [atom, rest @ ..] = atoms else {
-        return Ok(Some(assignment(alloc, given.as_slice())?));
-    };
-    let facts = store.facts();
-    for number in store.candidates(alloc, atom, given)? {
-        if let Some(way) = way(alloc, atom, &facts[*number], given)? {
-            if let Some(values) = first(alloc, rest, store, &way)? {
-                return Ok(Some(values));
-            }
-        }
-    }
-    Ok(None)
 }
 
 /// All matches.

@@ -7,7 +7,8 @@ ghost use Rattle.homomorphism.specs.Narrowing.{Gives};
 ghost use Rattle.homomorphism.specs.Rules.{AreBodyMatches, IsMet, IsUnmet, IsUnmetMatch};
 
 use crate::assignment::{Assignment, Assignments, Bindings};
-use crate::find::{all_matches, first_match};
+use crate::find::all_matches;
+use crate::search::search;
 use crate::store::Store;
 use lists::{Copies, NoMemory, Seq};
 use meaning::types::{Atom, Rule, Term, Val};
@@ -76,10 +77,10 @@ pub fn is_met(alloc: Global, rule: &Rule, store: &Store, values: &[Val]) -> Resu
 {
     let width = variables_width(rule.head.as_slice());
     let fixed = given(alloc, values, width)?;
-    match first_match(alloc, &rule.head, store, &fixed)? {
-        Some(_) => Ok(true),
-        None => Ok(false),
+    if let Some(_values) = search(alloc, rule.head.as_slice(), store, fixed)? {
+        return Ok(true);
     }
+    Ok(false)
 }
 
 /// A match of the body at which the rule is unmet; none comes exactly where the facts meet the rule.

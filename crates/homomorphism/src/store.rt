@@ -6,11 +6,10 @@ ghost use Rattle.meaning.specs.Triggers.{terms_bound};
 ghost use Rattle.homomorphism.specs.Instances.{AreFactsOf};
 ghost use Rattle.homomorphism.specs.Listed.{AreCandidates};
 
-use crate::assignment::Bindings;
 use crate::fact_index::FactIndex;
 use crate::instance::distinct_grounds;
 use lists::{Copies, NoMemory};
-use meaning::types::{Atom, Ground, Instance};
+use meaning::types::{Atom, Ground, Instance, Val};
 use std::alloc::Global;
 use std::marker::Model;
 
@@ -153,7 +152,7 @@ impl Store {
         &self,
         alloc: Global,
         atom: &Atom,
-        given: &Bindings,
+        given: &[Option<Val>],
     ) -> Result<&[usize], NoMemory>
         requires { terms_bound atom.now.terms ≤ length given.now }
         ensures { IfOk result (λ numbers. AreCandidates self.now atom.now given.now numbers.now) }

@@ -8,13 +8,13 @@ pub known-requires : goal.known-requires
 known-requires c =
     let is = rw c.as_slice-term-items.ensures at c.term-item.is in
     let l = rw c.as_slice-term-items.ensures at c.loop-position-test.true in
-    rw c.as_slice.ensures (place_fits c.args.atom.now.terms c.loop-position.position c.term-item.result (length c.args.given.now) l is c.requires)
+    place_fits c.args.atom.now.terms c.loop-position.position c.term-item.result (length c.args.given.now) l is c.requires
 
 pub loop-position-preserved : goal.loop-position-preserved
 loop-position-preserved c =
     let is = rw c.as_slice-term-items.ensures at c.term-item.is in
     let l = rw c.as_slice-term-items.ensures at c.loop-position-test.true in
-    let known = rw c.as_slice.ensures at c.in_ok-val.ensures in
+    let known = c.in_ok-val.ensures in
     elim c.match-branch-2.branch [
       | in-Some+then-numbers-best w ↦ rw w.best-is (found_value c.args.self.now.numbers c.args.atom.now c.args.given.now w.numbers-numbers.result.now c.loop-position.position c.term-item.result w.in-Some.val l is (rw w.in-Some.is at known) w.numbers-numbers.ensures)
       | in-Some+else-numbers-best w ↦ rw w.best-is c.loop-position.invariant
