@@ -1,0 +1,3 @@
+pub mod Formulas
+pub mod Generated
+pub mod Texts

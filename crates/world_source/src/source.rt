@@ -1,0 +1,122 @@
+// The generator as a source.
+ghost use Rattle.std.specs.Prelude.{◌≡◌, ◌≤◌, ◌++◌, ◌∷◌, [], Some, false, OnOk, OnErr, IsErrOf};
+ghost use Rattle.source_trait.specs.Asking.{CallGives, CanAsk};
+ghost use Rattle.source_trait.specs.Holding.{facts_held, attached_in};
+ghost use Rattle.world_source.specs.Formulas.{offered};
+ghost use Rattle.world_source.specs.Generated.{IsFresh, Offers, offers};
+
+use crate::formula::Formula;
+use crate::generated::Relations;
+use lists::{Copies, NoMemory, Places, Row, Text, Texts};
+use row_text::PackedRows;
+use source_trait::{AttachFault, CallFault, Request, Requests, Source};
+use std::alloc::Global;
+
+/// A source of relations of two columns, whose rows are those of the formula that their locator `k/n` names.
+///
+/// It is missing where the locator is no such text, with k from 1 to 8 and n from 1 to 10,000 without leading zeros. Its calls never fail.
+#[derive(Drop)]
+pub struct WorldSource {
+    relations: Relations,
+    asked: Requests,
+}
+
+impl WorldSource {
+    /// A source to which nothing is attached. Takes no memory.
+    pub fn new(alloc: Global) -> WorldSource
+        ensures { IsFresh (⟦<WorldSource as Source>⟧.seen result) }
+    {
+        WorldSource {
+            relations: Relations::new(alloc),
+            asked: Requests::new(alloc),
+        }
+    }
+}
+
+impl Source for WorldSource {
+    ghost seen = { λ w. record {
+      held = Some (facts_held w.relations);
+      offer = offers;
+      passes = λ rel locator. false;
+      asked = Some w.asked;
+      attached = attached_in w.relations;
+      faults = 0;
+    } };
+
+    fn attach(
+        &mut self,
+        alloc: Global,
+        rel: u32,
+        columns: &Texts,
+        locator: &Text,
+    ) -> Result<(), AttachFault> {
+        self.relations.detach(rel);
+        let formula = match offered_formula(alloc, columns.len(), locator) {
+            Ok(formula) => formula,
+            Err(fault) => return Err(fault),
+        };
+        match self.relations.take(alloc, rel, columns, locator, formula) {
+            Ok(()) => Ok(()),
+            Err(_) => Err(AttachFault::NoMemory),
+        }
+    }
+
+    fn call(
+        &mut self,
+        alloc: Global,
+        rel: u32,
+        positions: &Places,
+        values: &Row,
+    ) -> Result<PackedRows, CallFault>
+        requires { CanAsk ((⟦<WorldSource as Source>⟧.seen self.old).attached rel) positions.now values.now }
+        ensures gives { CallGives (⟦<WorldSource as Source>⟧.seen self.old) (⟦<WorldSource as Source>⟧.seen self.new) rel positions.now values.now result }
+        ensures works { ¬ (IsErrOf result CallFault.Failed) }
+    {
+        let rows = match self
+            .relations
+            .ask(alloc, rel, positions.as_slice(), values.as_slice())
+        {
+            Ok(rows) => rows,
+            Err(_) => return Err(CallFault::NoMemory),
+        };
+        match note(alloc, &mut self.asked, rel, positions, values) {
+            Ok(()) => Ok(rows),
+            Err(_) => Err(CallFault::NoMemory),
+        }
+    }
+
+    fn told(&self) -> Option<&Requests> {
+        Some(&self.asked)
+    }
+}
+
+// The formula of the rows that a relation of so many columns has at the locator.
+fn offered_formula(alloc: Global, columns: usize, locator: &Text) -> Result<Formula, AttachFault>
+    ensures { Offers columns (offered locator.now columns) result }
+{
+    match Formula::at(alloc, locator) {
+        Ok(Some(formula)) if columns == 2 => Ok(formula),
+        Ok(Some(_)) => Err(AttachFault::BadHeader { column: 0 }),
+        Ok(None) => Err(AttachFault::Missing),
+        Err(_) => Err(AttachFault::NoMemory),
+    }
+}
+
+// Puts a copy of a request behind those that were asked.
+fn note(
+    alloc: Global,
+    asked: &mut Requests,
+    rel: u32,
+    positions: &Places,
+    values: &Row,
+) -> Result<(), NoMemory>
+    ensures noted { OnOk result (asked.new ≡ asked.old ++ record { rel = rel; positions = positions.now; values = values.now } ∷ []) }
+    ensures stays { OnErr result (asked.new ≡ asked.old) }
+{
+    asked.push(Request {
+        rel,
+        positions: positions.copy(alloc)?,
+        values: values.copy(alloc)?,
+    })?;
+    Ok(())
+}
