@@ -2,7 +2,9 @@ pub mod Bridging
 pub mod Trying
 pub mod Logs
 pub mod Steps
+pub mod Missing
 pub mod Serving
+pub mod Offering
 pub mod Settled
 pub mod Visited
 pub mod Explored

@@ -1,5 +1,5 @@
 -- What settling the copy of exposures shows.
-use Rattle.std.proofs.Common.{◌≡◌, ◌⊎◌, ℕ, ◌+◌, ◌≤◌, List, [], ◌++◌, length, map, Bool, true, false, Option, Some, None, refl, sym, ap, ◌∙◌, subst, inl, inr, ⊎_elim, arith}
+use Rattle.std.proofs.Common.{◌≡◌, ◌⊎◌, ℕ, ◌+◌, ◌<◌, ◌≤◌, List, [], ◌++◌, length, map, Bool, true, false, Option, Some, None, refl, sym, ap, ◌∙◌, subst, inl, inr, ⊎_elim, arith}
 use Rattle.std.specs.Prelude.{Contains, is_some, IfSome, IfNone}
 use Rattle.std.specs.List.{AllZip}
 use Rattle.std.proofs.lemmas.List.{append-nil, length-map}
@@ -89,11 +89,11 @@ module _ (schema : SchemaParts) (proof : Proving) (path : List Move) (set : List
   set_exposed = subst (λ gs. AreSame (picked proof.end.base set) gs) (sym shown) path_walked.same
 
   -- the moves from the set
-  pub moves_here : (queries : List Query) (head : List Val) (budget : ℕ) (ended : End) (moves : List Move) → ((move : Move) → Contains moves move → IsActiveMove schema proof move) →
-      (GoesOn ended → (move : Move) → IsActiveMove schema proof move → IsServed moves move) → AreMovesAt (exploring_of schema proof queries head budget) set ended moves
-  moves_here queries head budget ended moves active all = record {
+  pub moves_here : (queries : List Query) (head : List Val) (budget : ℕ) (ended : End) (below : ℕ) (moves : List Move) → ((move : Move) → Contains moves move → IsActiveMove schema proof move) →
+      (GoesOn ended → (move : Move) → IsActiveMove schema proof move → move.cost < below → IsServed moves move) → AreMovesAt (exploring_of schema proof queries head budget) set ended below moves
+  moves_here queries head budget ended below moves active all = record {
     possible = λ move among. active_open schema proof is.run path set walk set_exposed move (active move among);
-    complete = λ goes move open'. all goes move (open_active schema proof is.run path set walk set_exposed move open');
+    complete = λ goes move open' low. all goes move (open_active schema proof is.run path set walk set_exposed move open') low;
   }
 
 -- ---- the settled copy

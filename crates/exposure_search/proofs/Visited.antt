@@ -29,11 +29,11 @@ module _ (schema : SchemaParts) (queries : List Query) (head : List Val) (budget
     (is : OnlyExposes schema gone) (same : SameBase old gone) (made : gone.exposed ≡ all_made old.end.base path)
     (walk : IsWalk (IsOpen schema old.constants old.end.base) (no_facts (length old.end.base)) path set) where
   -- the moves that were listed
-  pub moves_seen : (ended : End) (moves : List Move) → ((move : Move) → Contains moves move → IsActiveMove schema gone move) → (GoesOn ended → (move : Move) → IsActiveMove schema gone move → IsServed moves move) →
-      AreMovesAt (exploring_of schema old queries head budget) set ended moves
-  moves_seen ended moves active all =
-      subst (λ s. AreMovesAt s set ended moves) (same_space schema queries head budget old gone same)
-      (moves_here schema gone path set is (made_same old gone path same made) (walk_same schema old gone path set same walk) queries head budget ended moves active all)
+  pub moves_seen : (ended : End) (below : ℕ) (moves : List Move) → ((move : Move) → Contains moves move → IsActiveMove schema gone move) → (GoesOn ended → (move : Move) → IsActiveMove schema gone move → move.cost < below → IsServed moves move) →
+      AreMovesAt (exploring_of schema old queries head budget) set ended below moves
+  moves_seen ended below moves active all =
+      subst (λ s. AreMovesAt s set ended below moves) (same_space schema queries head budget old gone same)
+      (moves_here schema gone path set is (made_same old gone path same made) (walk_same schema old gone path set same walk) queries head budget ended below moves active all)
 
   -- where the log is too long already, some run is
   pub path_beyond : budget < length gone.entries → HasRunBeyond (exploring_of schema old queries head budget)
@@ -82,10 +82,10 @@ pub visit_run : {E : Type 0} (space : Exploring) (path : List Move) (set : List 
 visit_run space path set (Ok visit) is = is.run
 visit_run space path set (Err e) is = tt
 
-pub visit_possible : {E : Type 0} (space : Exploring) (set : List Bool) (r : Result Visit E) → IfOk r (λ visit. AreMovesAt space set visit.end visit.moves.items) → IfOk r (λ visit. (move : Move) → Contains visit.moves.items move → CanExpose space set move)
-visit_possible space set (Ok visit) are = are.possible
-visit_possible space set (Err e) are = tt
+pub visit_possible : {E : Type 0} (space : Exploring) (set : List Bool) (below : ℕ) (r : Result Visit E) → IfOk r (λ visit. AreMovesAt space set visit.end below visit.moves.items) → IfOk r (λ visit. (move : Move) → Contains visit.moves.items move → CanExpose space set move)
+visit_possible space set below (Ok visit) are = are.possible
+visit_possible space set below (Err e) are = tt
 
-pub visit_complete : {E : Type 0} (space : Exploring) (set : List Bool) (r : Result Visit E) → IfOk r (λ visit. AreMovesAt space set visit.end visit.moves.items) → IfOk r (λ visit. GoesOn visit.end → (move : Move) → CanExpose space set move → IsServed visit.moves.items move)
-visit_complete space set (Ok visit) are = are.complete
-visit_complete space set (Err e) are = tt
+pub visit_complete : {E : Type 0} (space : Exploring) (set : List Bool) (below : ℕ) (r : Result Visit E) → IfOk r (λ visit. AreMovesAt space set visit.end below visit.moves.items) → IfOk r (λ visit. GoesOn visit.end → (move : Move) → CanExpose space set move → move.cost < below → IsServed visit.moves.items move)
+visit_complete space set below (Ok visit) are = are.complete
+visit_complete space set below (Err e) are = tt

@@ -14,6 +14,7 @@ use Rattle.rule_pass.specs.declared.pass.TheConstants.{MOST_FIRINGS}
 use Rattle.accessible_copy.specs.declared.entry.Exposed.{Exposed}
 use Rattle.accessible_copy.specs.Proving.{Proving, IsProofOf, log_of}
 use Rattle.accessible_copy.specs.Goals.{IsCounted}
+use Rattle.accessible_copy.specs.Methods.{IsMethodIndex}
 use Rattle.accessible_copy.specs.Rounds.{exposure_of}
 use Rattle.least_search.specs.declared.space.Move.{Move}
 
@@ -37,12 +38,13 @@ pub record OnlyExposes (schema : SchemaParts) (proof : Proving) : Type 0 where
   pub log : log_of proof ≡ map Base (bases_of (log_of proof)) ++ map exposure_of proof.exposed
   pub quiet : IsBaseQuiet schema proof.end
 
--- The proof can be visited: these are its base facts, so many base firings made them, the variables of each query are counted,
+-- The proof can be visited: these are its base facts and the methods of each relation, so many base firings made the facts, the variables of each query are counted,
 -- and the budget is one that a pass may have.
-pub record IsReady (schema : SchemaParts) (proof : Proving) (facts : List Ground) (bases : ℕ) (queries : List Query)
+pub record IsReady (schema : SchemaParts) (proof : Proving) (facts : List Ground) (methods : List (List ℕ)) (bases : ℕ) (queries : List Query)
     (budget : ℕ) : Type 0 where
   pub exposes : OnlyExposes schema proof
   pub facts_are : facts ≡ proof.end.base
+  pub methods_are : IsMethodIndex schema.methods methods
   pub bases_are : bases ≡ length (bases_of (log_of proof))
   pub counted : (query : Query) → Contains queries query → IsCounted query
   pub few : length queries ≤ 2 ^ 32
@@ -89,3 +91,7 @@ pub record IsActiveMove (schema : SchemaParts) (proof : Proving) (move : Move) :
 -- One of the moves adds the same fact and costs no more.
 abbrev pub IsServed : List Move → Move → Type 0
 IsServed moves move = (other : Move) × Contains moves other × (other.fact ≡ move.fact) × (other.cost ≤ move.cost)
+
+-- No fact is one of the relation.
+abbrev pub IsMissing : List Ground → ℕ → Type 0
+IsMissing facts rel = (fact : Ground) → Contains facts fact → fact.rel ≡ rel → ⊥

@@ -1,5 +1,5 @@
 -- What a visit of a set shows.
-use Rattle.std.specs.Prelude.{◌≡◌, ◌≤◌, ℕ, List, [], ◌++◌, Contains, Bool, length, map}
+use Rattle.std.specs.Prelude.{◌≡◌, ◌<◌, ◌≤◌, ℕ, List, [], ◌++◌, Contains, Bool, length, map}
 use Rattle.std.specs.List.{AllZip}
 use Rattle.meaning.specs.declared.types.Trigger.{Trigger}
 use Rattle.meaning.specs.declared.types.Firing.TheVariants.{Base, Copy}
@@ -23,10 +23,10 @@ pub record IsVisitEnd (space : Exploring) (path : List Move) (set : List Bool) (
   pub long : ended ≡ end.FiringsSpent → HasRunBeyond space
   pub run : (firings : ℕ) × HasTry space firings (length path) × (fired ≤ firings)
 
--- The moves are possible at the set, and where the search goes on, one serves for each that is.
-pub record AreMovesAt (space : Exploring) (set : List Bool) (ended : End) (moves : List Move) : Type 0 where
+-- The moves are possible at the set, and where the search goes on, one serves for each that is and costs less than the limit.
+pub record AreMovesAt (space : Exploring) (set : List Bool) (ended : End) (below : ℕ) (moves : List Move) : Type 0 where
   pub possible : (move : Move) → Contains moves move → CanExpose space set move
-  pub complete : GoesOn ended → (move : Move) → CanExpose space set move → IsServed moves move
+  pub complete : GoesOn ended → (move : Move) → CanExpose space set move → move.cost < below → IsServed moves move
 
 -- The proof has the base firings of the space, then the exposures of the path, at its cost, and then copy firings, and no more
 -- firings than the budget.

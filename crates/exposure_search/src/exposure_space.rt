@@ -12,7 +12,7 @@ ghost use Rattle.exposure_search.specs.Spaces.{explored_is_space};
 
 use crate::visiting::{Aim, reach_set, visit_set};
 use access_schema::Schema;
-use accessible_copy::{Match, Proof, mark};
+use accessible_copy::{Match, MethodIndex, Proof, mark};
 use least_search::{Move, Space, Visit};
 use lists::{Copies, NoMemory};
 use meaning::types::{Ground, Queries, Vals};
@@ -38,7 +38,7 @@ impl<'a> Model for ExposureSpace<'a> {
 
     ghost view = { λ s. exploring_of (meaning_of s.aim.schema.now) s.proof s.aim.queries.now s.aim.head.now s.aim.budget };
 
-    ghost invariant = { λ s. IsReady (meaning_of s.aim.schema.now) s.proof s.aim.facts.items s.aim.bases s.aim.queries.now s.aim.budget };
+    ghost invariant = { λ s. IsReady (meaning_of s.aim.schema.now) s.proof s.aim.facts.items s.aim.methods s.aim.bases s.aim.queries.now s.aim.budget };
 }
 
 impl<'a> ExposureSpace<'a> {
@@ -60,6 +60,7 @@ impl<'a> ExposureSpace<'a> {
     {
         let facts = base_facts(alloc, &proof)?;
         let bases = mark(&proof).firings;
+        let methods = MethodIndex::of(alloc, schema)?;
         let aim = Aim {
             alloc,
             schema,
@@ -68,6 +69,7 @@ impl<'a> ExposureSpace<'a> {
             budget,
             facts,
             bases,
+            methods,
         };
         Ok(ExposureSpace { aim, proof })
     }
@@ -120,7 +122,13 @@ impl<'a> Space for ExposureSpace<'a> {
         self.aim.facts.len()
     }
 
-    fn visit(&mut self, path: &[Move], set: &[bool], room: u64) -> Result<Visit, NoMemory> {
-        visit_set(&self.aim, &mut self.proof, path, set, room)
+    fn visit(
+        &mut self,
+        path: &[Move],
+        set: &[bool],
+        room: u64,
+        below: u64,
+    ) -> Result<Visit, NoMemory> {
+        visit_set(&self.aim, &mut self.proof, path, set, room, below)
     }
 }

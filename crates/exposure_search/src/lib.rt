@@ -10,6 +10,7 @@ mod going;
 pub mod laws;
 mod listing;
 mod looking;
+mod quieting;
 mod visiting;
 
 pub use exposure_space::ExposureSpace;

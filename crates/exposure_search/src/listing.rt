@@ -1,95 +1,122 @@
 // The moves from a set.
-ghost use Rattle.std.specs.Prelude.{◌≡◌, ◌≤◌, ◌⊎◌, ℕ, Contains, IfOk, IfSome, IfNone, OnOk, Some, slice_get};
+ghost use Rattle.std.specs.Prelude.{◌≡◌, ◌↔◌, ◌<◌, ◌≤◌, ℕ, IsTrue, Contains, IfOk, IfSome, IfNone, Some, slice_get};
+ghost use Rattle.meaning.specs.declared.types.Method.{Method as TheMethod};
+ghost use Rattle.meaning.specs.Runs.{IsActiveExposure};
 ghost use Rattle.access_schema.specs.Meaning.{meaning_of};
+ghost use Rattle.accessible_copy.specs.Known.{known_values};
+ghost use Rattle.accessible_copy.specs.Listing.{AreInputs, IsInput};
+ghost use Rattle.accessible_copy.specs.Methods.{IsMethodIndex};
 ghost use Rattle.accessible_copy.specs.Proving.{IsProofOf};
-ghost use Rattle.least_search.specs.declared.space.Move.{Move};
+ghost use Rattle.least_search.specs.declared.space.Move.{Move as TheMove};
 ghost use Rattle.exposure_search.specs.Making.{IsActiveMove, IsServed};
 
 use access_schema::Schema;
-use accessible_copy::{Proof, exposures};
+use accessible_copy::{MethodIndex, Proof};
 use least_search::Move;
-use lists::{Exact, NoMemory};
-use meaning::types::{Firing, Ground};
+use lists::NoMemory;
+use meaning::types::{Ground, Val};
 use std::alloc::Global;
 
-/// For each base fact that can be exposed a move by a method of least cost. `facts` are the base facts.
+/// For each base fact that can be exposed at less than `below` a move by a method of least cost. `facts` are the base facts.
 ///
-/// The exposures are listed in the order of the base facts, so the look for each fact begins where the last one was.
+/// A fact whose relation has no method at less than `below` is passed over before anything is looked up.
 pub(crate) fn active_moves(
     alloc: Global,
     proof: &Proof,
     schema: &Schema,
+    methods: &MethodIndex,
     facts: &[Ground],
+    below: u64,
 ) -> Result<Vec<Move>, NoMemory>
     requires run { IsProofOf (meaning_of schema.now) proof.now }
     requires facts { facts.now ≡ proof.now.end.base }
-    ensures active { IfOk result (λ moves. (move : Move) → Contains moves.items move →
+    requires methods { IsMethodIndex schema.now.methods methods.now }
+    ensures active { IfOk result (λ moves. (move : TheMove) → Contains moves.items move →
         IsActiveMove (meaning_of schema.now) proof.now move) }
-    ensures all { IfOk result (λ moves. (move : Move) → IsActiveMove (meaning_of schema.now) proof.now move →
-        IsServed moves.items move) }
+    ensures all { IfOk result (λ moves. (move : TheMove) → IsActiveMove (meaning_of schema.now) proof.now move →
+        move.cost < below → IsServed moves.items move) }
 {
-    let methods = schema.methods.as_slice();
-    let found = exposures(alloc, proof, schema)?;
     let mut moves = Vec::new(alloc);
-    let mut place = 0;
-    for firing in found.as_slice() {
-        if let Firing::Expose { method, fact } = firing {
-            place = place_of(facts, place, fact);
-            let cost = methods[*method as usize].cost;
-            add_move(
-                &mut moves,
-                Move {
-                    fact: place,
-                    method: *method,
-                    cost,
-                },
-            )?;
+    for (place, fact) in facts.iter().enumerate() {
+        let numbers = methods.numbers(fact.rel);
+        if let Some(step) = cheapest_move(proof, schema, numbers, place, fact, below) {
+            moves.push(step)?;
         }
     }
     Ok(moves)
 }
 
-/// The place of the fact, which is looked for from the place `from` on, and then from the first.
-fn place_of(facts: &[Ground], from: usize, fact: &Ground) -> usize
-    requires { Contains facts.now fact.now }
-    ensures { slice_get facts.now result ≡ Some fact.now }
+/// The move that exposes the fact by a method of least cost, where one can at less than `below`. These are the numbers of the
+/// methods of the fact's relation.
+fn cheapest_move(
+    proof: &Proof,
+    schema: &Schema,
+    numbers: &[u32],
+    place: usize,
+    fact: &Ground,
+    below: u64,
+) -> Option<Move>
+    requires at { slice_get proof.now.end.base place ≡ Some fact.now }
+    requires named { (number : ℕ) → Contains numbers.now number →
+        (method : TheMethod) × (slice_get schema.now.methods number ≡ Some method) × (method.rel ≡ fact.now.rel) }
+    ensures active { IfSome result (λ move. (move.fact ≡ place) × IsActiveMove (meaning_of schema.now) proof.now move) }
+    ensures least { (number : ℕ) (method : TheMethod) → Contains numbers.now number →
+        IsActiveExposure (meaning_of schema.now) proof.now.constants proof.now.end number fact.now method → method.cost < below →
+        (move : TheMove) × (result ≡ Some move) × (move.cost ≤ method.cost) }
 {
-    if let Some(place) = place_from(facts, from, fact) {
-        return place;
+    let mut best = None;
+    let mut limit = below;
+    for &number in numbers {
+        if let Some(cost) = cost_below(proof, schema, number, fact, limit) {
+            best = Some(Move {
+                fact: place,
+                method: number,
+                cost,
+            });
+            limit = u64::from(cost);
+        }
     }
-    match place_from(facts, 0, fact) {
-        Some(place) => place,
-        None => unreachable!(),
+    if best.is_some() && proof.has_exposed(fact) {
+        return None;
     }
+    best
 }
 
-/// The first place of the fact from the place `from` on.
-fn place_from(facts: &[Ground], from: usize, fact: &Ground) -> Option<usize>
-    ensures some { IfSome result (λ place. slice_get facts.now place ≡ Some fact.now) }
-    ensures none { IfNone result ((k : ℕ) → from ≤ k → slice_get facts.now k ≡ Some fact.now → ⊥) }
+/// The cost of the method, where it is less than `limit` and the fact's values at the inputs are known.
+fn cost_below(proof: &Proof, schema: &Schema, number: u32, fact: &Ground, limit: u64) -> Option<u32>
+    ensures some { IfSome result (λ cost. (method : TheMethod) × (slice_get schema.now.methods number ≡ Some method)
+        × (cost ≡ method.cost) × (cost < limit)
+        × AreInputs (known_values proof.now.constants proof.now.end.exposed) method.inputs fact.now.vals) }
+    ensures none { IfNone result ((method : TheMethod) → slice_get schema.now.methods number ≡ Some method → method.cost < limit →
+        AreInputs (known_values proof.now.constants proof.now.end.exposed) method.inputs fact.now.vals → ⊥) }
 {
-    for place in from..facts.len() {
-        if facts[place].same(fact) {
-            return Some(place);
-        }
+    let method = schema.methods.get(number as usize)?;
+    if u64::from(method.cost) < limit
+        && are_inputs(proof, method.inputs.as_slice(), fact.vals.as_slice())
+    {
+        return Some(method.cost);
     }
     None
 }
 
-/// Adds the move. Where the last move adds the same fact, the cheaper of both is kept.
-fn add_move(moves: &mut Vec<Move>, step: Move) -> Result<(), NoMemory>
-    ensures only { (move : Move) → Contains moves.new.items move → Contains moves.old.items move ⊎ (move ≡ step) }
-    ensures kept { OnOk result ((move : Move) → Contains moves.old.items move → IsServed moves.new.items move) }
-    ensures served { OnOk result (IsServed moves.new.items step) }
+/// Whether each input place has a value, which is known.
+fn are_inputs(proof: &Proof, inputs: &[u32], vals: &[Val]) -> bool
+    ensures { IsTrue result ↔ AreInputs (known_values proof.now.constants proof.now.end.exposed) inputs.now vals.now }
 {
-    if let Some(last) = moves.last_mut() {
-        if last.fact == step.fact {
-            if step.cost < last.cost {
-                *last = step;
-            }
-            return Ok(());
+    for number in 0..inputs.len() {
+        if !is_input(proof, inputs[number], vals) {
+            return false;
         }
     }
-    moves.push(step)?;
-    Ok(())
+    true
+}
+
+/// Whether the place has a value, which is known.
+fn is_input(proof: &Proof, place: u32, vals: &[Val]) -> bool
+    ensures { IsTrue result ↔ IsInput (known_values proof.now.constants proof.now.end.exposed) vals.now place }
+{
+    match vals.get(place as usize) {
+        Some(val) => proof.knows(val),
+        None => false,
+    }
 }

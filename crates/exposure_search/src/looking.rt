@@ -12,8 +12,9 @@ ghost use Rattle.accessible_copy.specs.Goals.{IsCounted};
 ghost use Rattle.least_search.specs.declared.space.End.TheVariants as end;
 ghost use Rattle.exposure_search.specs.Making.{OnlyExposes, GoesBeyond};
 
+use crate::quieting::settle_copy;
 use access_schema::Schema;
-use accessible_copy::{Proof, Round, goal, mark, settle};
+use accessible_copy::{Proof, Round, goal, mark};
 use least_search::End;
 use lists::NoMemory;
 use meaning::types::{Queries, Vals};
@@ -49,13 +50,7 @@ pub(crate) fn look(
     if before > u64::from(budget) {
         return Ok((End::FiringsSpent, 0));
     }
-    let ended = settle(
-        alloc,
-        proof,
-        schema,
-        true,
-        most_firings(before, room, budget),
-    )?;
+    let ended = settle_copy(alloc, proof, schema, most_firings(before, room, budget))?;
     let after = mark(proof).firings;
     let found = goal(alloc, proof, queries, head)?;
     let end = end_of(&ended, found.is_some(), after >= u64::from(budget));

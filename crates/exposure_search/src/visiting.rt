@@ -1,8 +1,9 @@
 // A visit of a set: what it is looked for, and how.
-ghost use Rattle.std.specs.Prelude.{◌≡◌, ◌≤◌, ◌⊎◌, Contains, IfOk, IfSome, IfNone, length};
+ghost use Rattle.std.specs.Prelude.{◌≡◌, ◌<◌, ◌≤◌, ◌⊎◌, Contains, IfOk, IfSome, IfNone, length};
 ghost use Rattle.access_schema.specs.Meaning.{meaning_of};
 ghost use Rattle.accessible_copy.specs.Proving.{IsProofOf};
 ghost use Rattle.accessible_copy.specs.Goals.{IsGoal};
+ghost use Rattle.accessible_copy.specs.Methods.{IsMethodIndex};
 ghost use Rattle.least_search.specs.declared.space.Move.{Move};
 ghost use Rattle.least_search.specs.declared.space.End.TheVariants as end;
 ghost use Rattle.least_search.specs.Walks.{IsWalk, no_facts};
@@ -16,14 +17,14 @@ use crate::going::go_along;
 use crate::listing::active_moves;
 use crate::looking::look;
 use access_schema::Schema;
-use accessible_copy::{Match, Proof, goal, mark, settle, undo};
+use accessible_copy::{Match, MethodIndex, Proof, goal, mark, settle, undo};
 use least_search::{End, Move, Visit};
 use lists::NoMemory;
 use meaning::types::{Ground, Queries, Vals};
 use std::alloc::Global;
 
 /// What is looked for: a match of one of the queries with this head, in runs of at most `budget` firings over the schema. The base
-/// facts of these runs, and how many base firings made them.
+/// facts of these runs, how many base firings made them, and the index of the schema's methods.
 #[derive(Drop)]
 pub struct Aim<'a> {
     pub alloc: Global,
@@ -33,18 +34,20 @@ pub struct Aim<'a> {
     pub budget: u32,
     pub facts: Vec<Ground>,
     pub bases: u64,
+    pub methods: MethodIndex,
 }
 
 /// Goes along the path, settles the copy there with at most `room` firings, looks for a match, undoes the copy firings, and lists
-/// the moves from there.
+/// the moves from there that cost less than `below`.
 pub(crate) fn visit_set(
     aim: &Aim,
     proof: &mut Proof,
     path: &[Move],
     set: &[bool],
     room: u64,
+    below: u64,
 ) -> Result<Visit, NoMemory>
-    requires ready { IsReady (meaning_of aim.now.schema.now) proof.old aim.now.facts.items aim.now.bases aim.now.queries.now aim.now.budget }
+    requires ready { IsReady (meaning_of aim.now.schema.now) proof.old aim.now.facts.items aim.now.methods aim.now.bases aim.now.queries.now aim.now.budget }
     requires walk { IsWalk (IsOpen (meaning_of aim.now.schema.now) proof.old.constants proof.old.end.base)
         (no_facts (length proof.old.end.base)) path.now set.now }
     ensures exposes { OnlyExposes (meaning_of aim.now.schema.now) proof.new }
@@ -56,7 +59,7 @@ pub(crate) fn visit_set(
     ensures spent { IfOk result (λ visit. visit.end ≡ end.UnitsSpent → visit.fired ≡ room) }
     ensures moves { IfOk result (λ visit. AreMovesAt
         (exploring_of (meaning_of aim.now.schema.now) proof.old aim.now.queries.now aim.now.head.now aim.now.budget)
-        set.now visit.end visit.moves.items) }
+        set.now visit.end below visit.moves.items) }
 {
     go_along(
         aim.alloc,
@@ -78,23 +81,31 @@ pub(crate) fn visit_set(
     );
     undo(proof, made);
     let (end, fired) = seen?;
-    let moves = moves_after(aim, proof, end)?;
+    let moves = moves_after(aim, proof, end, below)?;
     Ok(Visit { end, fired, moves })
 }
 
-/// The moves from a set after whose visit the search goes on.
-fn moves_after(aim: &Aim, proof: &Proof, end: End) -> Result<Vec<Move>, NoMemory>
+/// The moves from a set that cost less than `below`, after a visit from which the search goes on.
+fn moves_after(aim: &Aim, proof: &Proof, end: End, below: u64) -> Result<Vec<Move>, NoMemory>
     requires run { IsProofOf (meaning_of aim.now.schema.now) proof.now }
     requires facts { aim.now.facts.items ≡ proof.now.end.base }
+    requires methods { IsMethodIndex aim.now.schema.now.methods aim.now.methods }
     ensures active { IfOk result (λ moves. (move : Move) → Contains moves.items move →
         IsActiveMove (meaning_of aim.now.schema.now) proof.now move) }
     ensures all { IfOk result (λ moves. GoesOn end → (move : Move) →
-        IsActiveMove (meaning_of aim.now.schema.now) proof.now move → IsServed moves.items move) }
+        IsActiveMove (meaning_of aim.now.schema.now) proof.now move → move.cost < below → IsServed moves.items move) }
 {
     match end {
         End::Goal | End::UnitsSpent => Ok(Vec::new(aim.alloc)),
         End::NoGoal | End::FiringsSpent => {
-            active_moves(aim.alloc, proof, aim.schema, aim.facts.as_slice())
+            active_moves(
+                aim.alloc,
+                proof,
+                aim.schema,
+                &aim.methods,
+                aim.facts.as_slice(),
+                below,
+            )
         }
     }
 }
@@ -106,7 +117,7 @@ pub(crate) fn reach_set(
     path: &[Move],
     set: &[bool],
 ) -> Result<Option<Match>, NoMemory>
-    requires ready { IsReady (meaning_of aim.now.schema.now) proof.old aim.now.facts.items aim.now.bases aim.now.queries.now aim.now.budget }
+    requires ready { IsReady (meaning_of aim.now.schema.now) proof.old aim.now.facts.items aim.now.methods aim.now.bases aim.now.queries.now aim.now.budget }
     requires walk { IsWalk (IsOpen (meaning_of aim.now.schema.now) proof.old.constants proof.old.end.base)
         (no_facts (length proof.old.end.base)) path.now set.now }
     ensures reached { IfOk result (λ found. IfSome found (λ m. IsReached

@@ -4,9 +4,9 @@ use Rattle.std.proofs.lemmas.List.{length-map}
 use Rattle.std.specs.Prelude.{Contains, slice_set, slice_get}
 use Rattle.lists.proofs.Members.{contains_here, contains_there, contains_cases, contains_mapped}
 use Rattle.least_search.specs.declared.space.Move.{Move}
-use Rattle.least_search.specs.declared.node.Node.{Node}
+use Rattle.least_search.specs.Ways.{Way, IsWay}
 use Rattle.meaning.specs.Search.{AreDistinct}
-use Rattle.least_search.specs.Walks.{IsWalk, no_facts, IsNode, IsSubset, IsSpace}
+use Rattle.least_search.specs.Walks.{IsWalk, no_facts, IsSubset, IsSpace}
 use Rattle.least_search.specs.Frontier.{sets_of}
 use Rattle.least_search.specs.Costs.{IsEnough}
 use Rattle.least_search.proofs.Searched.{IsCounted}
@@ -177,25 +177,25 @@ module _ (n : ℕ) (CanMove : List Bool → Move → Type 0) (HasRun : ℕ → �
       length_more (y ∷ xs) x = ap suc (length_more xs x)
 
   -- some walk's set holds the sets of all these nodes
-  gather : (nodes : List Node) → ((node : Node) → Contains nodes node → IsNode n CanMove node) → (large : List Bool) × Reached large × ((node : Node) → Contains nodes node → IsSubset node.set.items large)
+  gather : (nodes : List Way) → ((node : Way) → Contains nodes node → IsWay n CanMove node) → (large : List Bool) × Reached large × ((node : Way) → Contains nodes node → IsSubset node.set large)
   unfolding Reached
   gather [] are = (no_facts n, ([], refl, sym (count_none n)), (λ node c. absurd (omega arith)))
   gather (first ∷ nodes) are =
       let (large, (moves, walk, counts), all) = gather nodes (λ node c. are node (contains_there first nodes node c)) in
-      let (larger, reached, grown, its) = merge first.path.items (no_facts n) first.set.items large (are first (contains_here first nodes)).walk (walk_within CanMove (no_facts n) moves large walk) (moves, walk, counts) in
-      (larger, reached, (λ node c. ⊎_elim (λ e. subst (λ (x : Node). IsSubset x.set.items larger) e its) (λ there. within_chain node.set.items large larger (all node there) grown) (contains_cases first nodes node c)))
+      let (larger, reached, grown, its) = merge first.path (no_facts n) first.set large (are first (contains_here first nodes)).walk (walk_within CanMove (no_facts n) moves large walk) (moves, walk, counts) in
+      (larger, reached, (λ node c. ⊎_elim (λ e. subst (λ (x : Way). IsSubset x.set larger) e its) (λ there. within_chain node.set large larger (all node there) grown) (contains_cases first nodes node c)))
 
   -- distinct sets that walks lead to are at most 2 ^ the exposures of a run
-  pub nodes_bound : (nodes : List Node) → ((node : Node) → Contains nodes node → IsNode n CanMove node) → AreDistinct (sets_of nodes) → (most : ℕ) → ((firings exposures : ℕ) → HasRun firings exposures → exposures ≤ most) → length nodes ≤ 2 ^ most
+  pub nodes_bound : (nodes : List Way) → ((node : Way) → Contains nodes node → IsWay n CanMove node) → AreDistinct (sets_of nodes) → (most : ℕ) → ((firings exposures : ℕ) → HasRun firings exposures → exposures ≤ most) → length nodes ≤ 2 ^ most
   unfolding Reached
   nodes_bound nodes are distinct most runs =
       let (large, (moves, walk, counts), all) = gather nodes are in
-      let sets : length (sets_of nodes) ≤ 2 ^ count large = sets_within large (sets_of nodes) (λ s c. let (node, among, e) = contains_mapped (λ (x : Node). x.set.items) nodes s c in subst (λ t. IsSubset t large) e (all node among)) distinct in
+      let sets : length (sets_of nodes) ≤ 2 ^ count large = sets_within large (sets_of nodes) (λ s c. let (node, among, e) = contains_mapped (λ (x : Way). x.set) nodes s c in subst (λ t. IsSubset t large) e (all node among)) distinct in
       let (firings, run) = space.runs moves large walk in
       let few : length moves ≤ most = runs firings (length moves) run in
       let few' : count large ≤ most = omega (arith, few, counts) in
       let power : 2 ^ count large ≤ 2 ^ most = power_mono (count large) most few' in
-      let same : length (sets_of nodes) ≡ length nodes = length-map nodes (λ (x : Node). x.set.items) in
+      let same : length (sets_of nodes) ≡ length nodes = length-map nodes (λ (x : Way). x.set) in
       omega arith
     where
       power_mono : (a b : ℕ) → a ≤ b → 2 ^ a ≤ 2 ^ b
@@ -208,7 +208,7 @@ module _ (n : ℕ) (CanMove : List Bool → Move → Type 0) (HasRun : ℕ → �
       power_mono (suc a) (suc b) l = let h : 2 ^ a ≤ 2 ^ b = power_mono a b (omega arith) in rw (pow-suc, pow-suc) (omega arith)
 
   -- where a pair is enough, the units are not spent
-  pub not_spent : (nodes : List Node) → ((node : Node) → Contains nodes node → IsNode n CanMove node) → AreDistinct (sets_of nodes) → (units search : ℕ) → IsCounted HasRun (length nodes) units → search ≤ units → (m most : ℕ) → IsEnough HasRun search m most → ⊥
+  pub not_spent : (nodes : List Way) → ((node : Way) → Contains nodes node → IsWay n CanMove node) → AreDistinct (sets_of nodes) → (units search : ℕ) → IsCounted HasRun (length nodes) units → search ≤ units → (m most : ℕ) → IsEnough HasRun search m most → ⊥
   not_spent nodes are distinct units search counted spent m most enough =
       let few : length nodes ≤ 2 ^ most = nodes_bound nodes are distinct most (λ f e run. (enough.runs f e run).1) in
       let made : units ≤ length nodes * (m + 1) = counted m most enough.runs in

@@ -1,7 +1,9 @@
 pub mod Sets
+pub mod Stepping
 pub mod Packing
 pub mod Queues
 pub mod Searched
 pub mod Counts
 pub mod Least
 pub mod Steps
+pub mod Keeping

@@ -1,43 +1,56 @@
--- A heap of nodes, after a push and after a pop.
-use Rattle.std.proofs.Common.{◌≡◌, ◌⊎◌, ◌≤◌, List, [], ◌∷◌, subst, ⊎_elim, arith, Contains}
+-- A heap, after a push and after a pop.
+use Rattle.std.proofs.Common.{◌≡◌, ◌⊎◌, ◌≤◌, List, [], ◌∷◌, false, refl, subst, ⊎_elim, arith, Contains}
 use Rattle.std.specs.List.Sorted.{IsPermutation}
+use Rattle.std.specs.declared.cmp.Ordering.{Ordering}
+use Rattle.std.specs.declared.cmp.Ordering.TheVariants.{Less, Equal, Greater}
+use Rattle.std.specs.declared.cmp.Reverse.{Reverse}
+use Rattle.std.specs.Ordering.{nat_cmp, is_lt, ordering_then}
 use Rattle.std.specs.BinaryHeap.{IsUpperBound}
 use Rattle.std.proofs.lemmas.List.Sorted.{IsPermutation-map, IsPermutation-sym, Contains-permutation}
 use Rattle.std.proofs.lemmas.Map.Keys.{ge_from_not_lt}
 use Rattle.lists.proofs.Members.{contains_here, contains_there, contains_cases}
-use Rattle.least_search.specs.declared.node.Node.{Node}
 use Rattle.least_search.specs.declared.waiting.Waiter.{Waiter}
-use Rattle.least_search.specs.Queues.{waiter_cmp, nodes_of}
+use Rattle.least_search.specs.Queues.{turned_cmp, waiters_of}
 
--- the nodes stay, in another order
-permuted : (before after : List Waiter) (node : Node) → IsPermutation before after → Contains (nodes_of before) node → Contains (nodes_of after) node
-permuted before after node same there = Contains-permutation (nodes_of before) (nodes_of after) node (IsPermutation-map (λ (w : Waiter). w.node) before after same) there
+-- what waits stays, in another order
+permuted : (before after : List (Reverse Waiter)) (waiter : Waiter) → IsPermutation before after → Contains (waiters_of before) waiter → Contains (waiters_of after) waiter
+permuted before after waiter same there =
+    Contains-permutation (waiters_of before) (waiters_of after) waiter (IsPermutation-map (λ (w : Reverse Waiter). w.0) before after same) there
 
--- what is in a heap and one node more
-module _ (waiter : Waiter) (before after : List Waiter) (same : IsPermutation (waiter ∷ before) after) where
-  pub push_only : (other : Node) → Contains (nodes_of after) other → (waiter.node ≡ other) ⊎ Contains (nodes_of before) other
-  push_only other there = contains_cases waiter.node (nodes_of before) other (permuted after (waiter ∷ before) other (IsPermutation-sym (waiter ∷ before) after same) there)
+-- what is in a heap and one waiter more
+module _ (waiter : Reverse Waiter) (before after : List (Reverse Waiter)) (same : IsPermutation (waiter ∷ before) after) where
+  pub push_only : (other : Waiter) → Contains (waiters_of after) other → (waiter.0 ≡ other) ⊎ Contains (waiters_of before) other
+  push_only other there = contains_cases waiter.0 (waiters_of before) other (permuted after (waiter ∷ before) other (IsPermutation-sym (waiter ∷ before) after same) there)
 
-  pub push_node : Contains (nodes_of after) waiter.node
-  push_node = permuted (waiter ∷ before) after waiter.node same (contains_here waiter.node (nodes_of before))
+  pub push_waiter : Contains (waiters_of after) waiter.0
+  push_waiter = permuted (waiter ∷ before) after waiter.0 same (contains_here waiter.0 (waiters_of before))
 
-  pub push_kept : (other : Node) → Contains (nodes_of before) other → Contains (nodes_of after) other
-  push_kept other there = permuted (waiter ∷ before) after other same (contains_there waiter.node (nodes_of before) other there)
+  pub push_kept : (other : Waiter) → Contains (waiters_of before) other → Contains (waiters_of after) other
+  push_kept other there = permuted (waiter ∷ before) after other same (contains_there waiter.0 (waiters_of before) other there)
 
--- what is in a heap without the node that was taken
-module _ (waiter : Waiter) (before after : List Waiter) (same : IsPermutation before (waiter ∷ after)) where
-  pub pop_stay : (other : Node) → Contains (nodes_of before) other → (waiter.node ≡ other) ⊎ Contains (nodes_of after) other
-  pop_stay other there = contains_cases waiter.node (nodes_of after) other (permuted before (waiter ∷ after) other same there)
+-- what is in a heap without the waiter that was taken
+module _ (waiter : Reverse Waiter) (before after : List (Reverse Waiter)) (same : IsPermutation before (waiter ∷ after)) where
+  pub pop_stay : (other : Waiter) → Contains (waiters_of before) other → (waiter.0 ≡ other) ⊎ Contains (waiters_of after) other
+  pop_stay other there = contains_cases waiter.0 (waiters_of after) other (permuted before (waiter ∷ after) other same there)
 
-  pub pop_only : (other : Node) → Contains (nodes_of after) other → Contains (nodes_of before) other
-  pop_only other there = permuted (waiter ∷ after) before other (IsPermutation-sym before (waiter ∷ after) same) (contains_there waiter.node (nodes_of after) other there)
+  pub pop_only : (other : Waiter) → Contains (waiters_of after) other → Contains (waiters_of before) other
+  pop_only other there = permuted (waiter ∷ after) before other (IsPermutation-sym before (waiter ∷ after) same) (contains_there waiter.0 (waiters_of after) other there)
 
-  pub pop_among : Contains (nodes_of before) waiter.node
-  pop_among = permuted (waiter ∷ after) before waiter.node (IsPermutation-sym before (waiter ∷ after) same) (contains_here waiter.node (nodes_of after))
+  pub pop_among : Contains (waiters_of before) waiter.0
+  pop_among = permuted (waiter ∷ after) before waiter.0 (IsPermutation-sym before (waiter ∷ after) same) (contains_here waiter.0 (waiters_of after))
 
--- no node of the heap costs less than one that is not below any
-pub pop_least : (waiter : Waiter) (after : List Waiter) → IsUpperBound waiter_cmp waiter after → (other : Node) → Contains (nodes_of after) other → waiter.node.cost ≤ other.cost
+-- what is not turned below another costs no more
+not_dearer : (waiter other : Waiter) → is_lt (ordering_then (nat_cmp other.cost waiter.cost) (nat_cmp other.number waiter.number)) ≡ false → waiter.cost ≤ other.cost
+not_dearer waiter other low = ge_from_not_lt other.cost waiter.cost (by (nat_cmp other.cost waiter.cost) low)
+  where
+    by : (o : Ordering) → is_lt (ordering_then o (nat_cmp other.number waiter.number)) ≡ false → is_lt o ≡ false
+    by Less e = e
+    by Equal e = refl
+    by Greater e = refl
+
+-- no waiter of the heap costs less than one that is not below any
+pub pop_least : (waiter : Reverse Waiter) (after : List (Reverse Waiter)) → IsUpperBound turned_cmp waiter after → (other : Waiter) → Contains (waiters_of after) other → waiter.0.cost ≤ other.cost
 pop_least waiter [] above other there = absurd (omega arith)
 pop_least waiter (first ∷ after) above other there =
-    ⊎_elim (λ e. subst (λ (x : Node). waiter.node.cost ≤ x.cost) e (ge_from_not_lt first.node.cost waiter.node.cost above.0))
-    (λ later. pop_least waiter after above.1 other later) (contains_cases first.node (nodes_of after) other there)
+    ⊎_elim (λ e. subst (λ (x : Waiter). waiter.0.cost ≤ x.cost) e (not_dearer waiter.0 first.0 above.0))
+    (λ later. pop_least waiter after above.1 other later) (contains_cases first.0 (waiters_of after) other there)

@@ -1,35 +1,102 @@
--- The step of a search: the cheapest node that waits is taken, and the sets that its moves lead to wait.
-use Rattle.std.specs.Prelude.{◌≡◌, ◌⊎◌, ℕ, ◌+◌, ◌<◌, ◌≤◌, List, [], ◌∷◌, ◌++◌, Contains, Bool, true, map, slice_set}
+-- What a search keeps: the paths that it made, those that wait, those that were looked at, and what it knows of each set.
+use Rattle.std.specs.Prelude.{◌≡◌, ◌⊎◌, ◌↔◌, ℕ, ◌+◌, ◌<◌, ◌≤◌, List, [], ◌∷◌, ◌++◌, Contains, Bool, map, length, slice_index_or, Some}
 use Rattle.least_search.specs.declared.space.Move.{Move}
 use Rattle.least_search.specs.declared.node.Node.{Node}
+use Rattle.least_search.specs.declared.waiting.Waiter.{Waiter}
+use Rattle.least_search.specs.declared.table.Seen.TheVariants.{Looked, Waits}
+use Rattle.least_search.specs.declared.table.SetTable.{SetTable}
+use Rattle.least_search.specs.declared.frontier.Frontier.{Frontier}
+use Rattle.least_search.specs.declared.frontier.Taken.{Taken}
+use Rattle.least_search.specs.Walks.{with_fact}
+use Rattle.least_search.specs.Ways.{Way, way_along, way_with}
+use Rattle.least_search.specs.Packing.{packed}
+use Rattle.least_search.specs.Table.{seen_at}
 
--- The sets of nodes.
-abbrev pub sets_of : List Node → List (List Bool)
-sets_of nodes = map (λ (node : Node). node.set.items) nodes
+-- The sets of ways.
+abbrev pub sets_of : List Way → List (List Bool)
+sets_of ways = map (λ (way : Way). way.set) ways
+
+-- The way of a node.
+abbrev pub way_of : Node → Way
+way_of node = record { path = node.path.items; set = node.set.items; cost = node.cost }
+
+-- The way along the path with that number, from the empty set of so many facts.
+abbrev pub way_at : ℕ → List (List Move) → ℕ → Way
+way_at facts paths number = way_along facts (slice_index_or paths number [])
+
+-- The ways along the paths with these numbers.
+abbrev pub ways_at : ℕ → List (List Move) → List ℕ → List Way
+ways_at facts paths numbers = map (way_at facts paths) numbers
+
+-- The ways that were looked at, and those that wait.
+abbrev pub looked_in : Frontier → List Way
+looked_in frontier = ways_at frontier.facts frontier.paths frontier.looked.items
+
+abbrev pub waiting_in : Frontier → List Way
+waiting_in frontier = ways_at frontier.facts frontier.paths (map (λ (waiter : Waiter). waiter.number) frontier.waiting)
+
+-- A way that waits leads to the set at no more than that cost.
+abbrev pub Waiting : List Way → List Bool → ℕ → Type 0
+Waiting ways set cost = (way : Way) × Contains ways way × (way.set ≡ set) × (way.cost ≤ cost)
+
+-- Each waiter has the number of a path, and its cost; and the table knows which sets were looked at, and of others at most costs
+-- at which they wait.
+pub record AreKept (facts : ℕ) (paths : List (List Move)) (waiting : List Waiter) (looked : List ℕ) (table : SetTable) : Type 0 where
+  pub waiters : (waiter : Waiter) → Contains waiting waiter →
+      (waiter.number < length paths) × (waiter.cost ≡ (way_at facts paths waiter.number).cost)
+  pub numbers : (number : ℕ) → Contains looked number → number < length paths
+  pub looked_are : (set : List Bool) →
+      (seen_at table (packed set) ≡ Some Looked) ↔ Contains (sets_of (ways_at facts paths looked)) set
+  pub waits : (set : List Bool) (cost : ℕ) → seen_at table (packed set) ≡ Some (Waits cost) →
+      Waiting (ways_at facts paths (map (λ (waiter : Waiter). waiter.number) waiting)) set cost
+
+abbrev pub IsFrontier : Frontier → Type 0
+IsFrontier frontier = AreKept frontier.facts frontier.paths frontier.waiting frontier.looked.items frontier.table
 
 -- All that waits was looked at.
-abbrev pub AreLooked : List Node → List Node → Type 0
-AreLooked looked waiting = (other : Node) → Contains waiting other → Contains (sets_of looked) other.set.items
+abbrev pub AreLooked : List Way → List Way → Type 0
+AreLooked looked waiting = (other : Way) → Contains waiting other → Contains (sets_of looked) other.set
 
--- A node is a cheapest of those that wait and were not looked at; nothing else leaves the queue that was not looked at.
-pub record IsNext (looked before after : List Node) (node : Node) : Type 0 where
-  pub new : Contains (sets_of looked) node.set.items → ⊥
-  pub among : Contains before node
-  pub least : (other : Node) → Contains after other → node.cost ≤ other.cost
-  pub stay : (other : Node) → Contains before other →
-      (node ≡ other) ⊎ (Contains after other ⊎ Contains (sets_of looked) other.set.items)
-  pub only : (other : Node) → Contains after other → Contains before other
+-- A way is a cheapest of those that wait and were not looked at; nothing else leaves the queue that was not looked at.
+pub record IsNext (looked before after : List Way) (way : Way) : Type 0 where
+  pub new : Contains (sets_of looked) way.set → ⊥
+  pub among : Contains before way
+  pub least : (other : Way) → Contains after other → way.cost ≤ other.cost
+  pub stay : (other : Way) → Contains before other →
+      (way ≡ other) ⊎ (Contains after other ⊎ Contains (sets_of looked) other.set)
+  pub only : (other : Way) → Contains after other → Contains before other
 
--- A node comes from another by one more move.
-pub record IsChild (node : Node) (move : Move) (child : Node) : Type 0 where
-  pub path : child.path.items ≡ node.path.items ++ move ∷ []
-  pub set : child.set.items ≡ slice_set node.set.items move.fact true
-  pub cost : child.cost ≡ node.cost + move.cost
+-- What was taken is the way of the path with its number.
+pub record IsTakenFrom (frontier : Frontier) (taken : Taken) : Type 0 where
+  pub within : taken.number < length frontier.paths
+  pub at : way_at frontier.facts frontier.paths taken.number ≡ way_of taken.node
 
--- What waited waits, and so do the children by these moves that cost less than the bound, and nothing else.
-pub record ArePushed (node : Node) (bound : ℕ) (moves : List Move) (before after : List Node) : Type 0 where
-  pub kept : (other : Node) → Contains before other → Contains after other
-  pub only : (other : Node) → Contains after other →
-      Contains before other ⊎ ((move : Move) × Contains moves move × IsChild node move other)
-  pub reached : (move : Move) → Contains moves move → node.cost + move.cost < bound →
-      (child : Node) × Contains after child × IsChild node move child
+-- The cheapest way to a set that was not looked at is taken, and looked at.
+pub record IsTaken (before after : Frontier) (taken : Taken) : Type 0 where
+  pub sound : IsFrontier after
+  pub facts : after.facts ≡ before.facts
+  pub next : IsNext (looked_in before) (waiting_in before) (waiting_in after) (way_of taken.node)
+  pub looked : looked_in after ≡ looked_in before ++ way_of taken.node ∷ []
+  pub from : IsTakenFrom after taken
+
+-- The set was looked at, or a way that waits leads to it at no more than that cost.
+abbrev pub IsKnown : List Way → List Way → List Bool → ℕ → Type 0
+IsKnown looked waiting set cost = Contains (sets_of looked) set ⊎ Waiting waiting set cost
+
+-- What waited waits, and perhaps the way that was taken with one more move, whose set is known at its cost.
+pub record IsAdded (before after : Frontier) (taken : Taken) (move : Move) : Type 0 where
+  pub facts : after.facts ≡ before.facts
+  pub looked : looked_in after ≡ looked_in before
+  pub from : IsTakenFrom after taken
+  pub kept : (other : Way) → Contains (waiting_in before) other → Contains (waiting_in after) other
+  pub only : (other : Way) → Contains (waiting_in after) other →
+      Contains (waiting_in before) other ⊎ (way_with (way_of taken.node) move ≡ other)
+  pub known : IsKnown (looked_in after) (waiting_in after) (with_fact taken.node.set.items move) (taken.node.cost + move.cost)
+
+-- What waited waits, with ways by some of these moves; and the set that a move leads to at less than the bound is known at its cost.
+pub record ArePushed (way : Way) (bound : ℕ) (moves : List Move) (looked before after : List Way) : Type 0 where
+  pub kept : (other : Way) → Contains before other → Contains after other
+  pub only : (other : Way) → Contains after other →
+      Contains before other ⊎ ((move : Move) × Contains moves move × (way_with way move ≡ other))
+  pub reached : (move : Move) → Contains moves move → way.cost + move.cost < bound →
+      IsKnown looked after (with_fact way.set move) (way.cost + move.cost)

@@ -1,7 +1,10 @@
 pub mod Walks
+pub mod Ways
 pub mod Ends
 pub mod Costs
-pub mod Frontier
+pub mod Paths
 pub mod Packing
 pub mod Queues
+pub mod Table
+pub mod Frontier
 pub mod Markets

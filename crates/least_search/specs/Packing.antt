@@ -1,8 +1,5 @@
 -- Sets of marks as numbers.
-use Rattle.std.specs.Prelude.{◌≡◌, ◌↔◌, ℕ, ◌+◌, ◌*◌, ◌==◌, List, [], ◌∷◌, Bool, true, false, if◌then◌else◌, length, Contains}
-use Rattle.std.specs.Ordering.{nat_cmp}
-use Rattle.std.specs.BTreeSet.{BTreeSet, contains}
-use Rattle.std.specs.Cmp.Lexicographic.{slice_cmp}
+use Rattle.std.specs.Prelude.{ℕ, ◌+◌, ◌*◌, ◌==◌, List, [], ◌∷◌, Bool, true, false, if◌then◌else◌, length}
 
 -- A mark as a binary digit.
 abbrev pub digit : Bool → ℕ
@@ -20,7 +17,3 @@ words word count (mark ∷ set) =
 -- How many marks there are, and the marks.
 abbrev pub packed : List Bool → List ℕ
 packed set = length set ∷ words 0 0 set
-
--- A tree has the keys of exactly these sets.
-abbrev pub AreKeysOf : List (List Bool) → BTreeSet (List ℕ) → Type 0
-AreKeysOf sets keys = (set : List Bool) → (contains (slice_cmp nat_cmp) keys (packed set) ≡ true) ↔ Contains sets set

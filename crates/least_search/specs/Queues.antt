@@ -1,14 +1,18 @@
--- Nodes that wait, in the order of their costs.
+-- Paths that wait, in the order of their costs.
 use Rattle.std.specs.Prelude.{List, map}
 use Rattle.std.specs.declared.cmp.Ordering.{Ordering}
-use Rattle.std.specs.Ordering.{nat_cmp, on, flip_args}
-use Rattle.least_search.specs.declared.node.Node.{Node}
+use Rattle.std.specs.declared.cmp.Reverse.{Reverse}
+use Rattle.std.specs.Ordering.{nat_cmp, ordering_then}
 use Rattle.least_search.specs.declared.waiting.Waiter.{Waiter}
 
--- A node that waits is the greater the less it costs.
+-- By cost, and then by number.
 abbrev pub waiter_cmp : Waiter → Waiter → Ordering
-waiter_cmp = flip_args (on (λ (waiter : Waiter). waiter.node.cost) nat_cmp)
+waiter_cmp a b = ordering_then (nat_cmp a.cost b.cost) (nat_cmp a.number b.number)
 
--- The nodes that wait.
-abbrev pub nodes_of : List Waiter → List Node
-nodes_of waiters = map (λ (waiter : Waiter). waiter.node) waiters
+-- What costs less is the greater.
+abbrev pub turned_cmp : Reverse Waiter → Reverse Waiter → Ordering
+turned_cmp a b = waiter_cmp b.0 a.0
+
+-- What waits.
+abbrev pub waiters_of : List (Reverse Waiter) → List Waiter
+waiters_of turned = map (λ (waiter : Reverse Waiter). waiter.0) turned

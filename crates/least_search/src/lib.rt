@@ -4,11 +4,13 @@
 //! Begin at `specs/Walks.antt` and `src/space.rt`.
 #![tactic(auto)]
 
-mod looked;
-mod marks;
+mod frontier;
 mod node;
+mod paths;
 mod search;
+mod set_key;
 mod space;
+mod table;
 mod waiting;
 
 pub use node::Node;

@@ -1,8 +1,8 @@
 // Sets of facts, each with a path of moves that leads to it.
-ghost use Rattle.std.specs.Prelude.{◌≡◌, ◌+◌, ◌<◌, ◌^◌, [], length};
+ghost use Rattle.std.specs.Prelude.{◌≡◌};
 ghost use Rattle.std.specs.Result.{IfOk};
 ghost use Rattle.least_search.specs.Walks.{no_facts};
-ghost use Rattle.least_search.specs.Frontier.{IsChild};
+ghost use Rattle.least_search.specs.Ways.{set_after};
 
 use crate::space::Move;
 use lists::NoMemory;
@@ -16,38 +16,26 @@ pub struct Node {
     pub cost: u64,
 }
 
-impl Node {
-    /// The empty set.
-    pub fn start(alloc: Global, facts: usize) -> Result<Self, NoMemory>
-        ensures path { IfOk result (λ node. node.path.items ≡ []) }
-        ensures set { IfOk result (λ node. node.set.items ≡ no_facts facts) }
-        ensures cost { IfOk result (λ node. node.cost ≡ 0) }
-    {
-        let mut set = Vec::with_capacity(alloc, facts)?;
-        for _ in 0..facts {
-            set.push(false)?;
+/// The set that a path leads to from the empty set of so many facts.
+pub(crate) fn set_along(alloc: Global, facts: usize, path: &[Move]) -> Result<Vec<bool>, NoMemory>
+    ensures { IfOk result (λ set. set.items ≡ set_after (no_facts facts) path.now) }
+{
+    let mut set = empty_set(alloc, facts)?;
+    for step in path {
+        if step.fact < set.len() {
+            set[step.fact] = true;
         }
-        Ok(Node {
-            path: Vec::new(alloc),
-            set,
-            cost: 0,
-        })
     }
+    Ok(set)
+}
 
-    /// The set with one more fact.
-    pub fn with(&self, alloc: Global, step: Move) -> Result<Self, NoMemory>
-        requires sum { self.now.cost + step.cost < 2 ^ 64 }
-        requires inside { step.fact < length self.now.set.items }
-        ensures { IfOk result (λ child. IsChild self.now step child) }
-    {
-        let mut path = Vec::from_slice(alloc, &self.path)?;
-        path.push(step)?;
-        let mut set = Vec::from_slice(alloc, &self.set)?;
-        set[step.fact] = true;
-        Ok(Node {
-            path,
-            set,
-            cost: self.cost + u64::from(step.cost),
-        })
+/// The empty set of so many facts.
+fn empty_set(alloc: Global, facts: usize) -> Result<Vec<bool>, NoMemory>
+    ensures { IfOk result (λ set. set.items ≡ no_facts facts) }
+{
+    let mut set = Vec::with_capacity(alloc, facts)?;
+    for _ in 0..facts {
+        set.push(false)?;
     }
+    Ok(set)
 }

@@ -1,17 +1,16 @@
 // The search for the least cost, set by set in ascending order of cost (Dijkstra 1959).
 ghost use Rattle.std.specs.Prelude.{◌≡◌, ◌<◌, ℕ, Contains, length, None, if◌then◌else◌};
 ghost use Rattle.std.specs.Result.{IfOk, OnOk};
-ghost use Rattle.std.specs.Option.{IfSome, MatchOption};
+ghost use Rattle.std.specs.Option.{IfSome};
 ghost use Rattle.least_search.specs.declared.space.Move.{Move as TheMove};
 ghost use Rattle.least_search.specs.declared.search.Ended.TheVariants as ended;
 ghost use Rattle.least_search.specs.Walks.{IsNode};
-ghost use Rattle.least_search.specs.Frontier.{AreLooked, IsNext, ArePushed};
+ghost use Rattle.least_search.specs.Frontier.{way_of, looked_in, waiting_in, IsFrontier, IsTakenFrom, ArePushed};
 ghost use Rattle.least_search.specs.Costs.{IsLeastCost, IsEnough, best_cost};
 
-use crate::looked::Looked;
+use crate::frontier::{Frontier, Taken};
 use crate::node::Node;
 use crate::space::{End, Move, Space};
-use crate::waiting::Waiting;
 use lists::NoMemory;
 use std::alloc::Global;
 
@@ -49,34 +48,37 @@ pub fn cheapest<S: Space>(
     ensures units { IfOk result (λ outcome. (units : ℕ) → outcome.ended ≡ ended.SearchSpent units → units ≡ search) }
     ensures firings { IfOk result (λ outcome. outcome.ended ≡ ended.FiringsSpent → S.HasLongRun space.old) }
 {
-    let mut waiting = Waiting::new(alloc);
-    waiting.push(Node::start(alloc, space.facts())?)?;
-    let mut looked = Looked::new(alloc);
+    let mut frontier = Frontier::start(alloc, space.facts())?;
     let mut units = 0;
     let mut cut = false;
     loop {
-        let Some(node) = next_set(alloc, &mut waiting, &looked)? else {
+        let Some(taken) = frontier.take(alloc)? else {
             return Ok(none_better(cut));
         };
-        if node.cost >= bound {
+        let cost = taken.node.cost;
+        if cost >= bound {
             return Ok(none_better(cut));
         }
         if units == search {
             return Ok(spent(units));
         }
-        let visit = space.visit(&node.path, &node.set, search - units - 1)?;
+        let visit = space.visit(
+            &taken.node.path,
+            &taken.node.set,
+            search - units - 1,
+            bound - cost,
+        )?;
         units = units + 1 + visit.fired;
         match visit.end {
             End::Goal => return Ok(Outcome {
-                better: Some(node),
+                better: Some(taken.node),
                 ended: how_ended(cut),
             }),
             End::UnitsSpent => return Ok(spent(units)),
             End::FiringsSpent => cut = true,
             End::NoGoal => {}
         }
-        push_moves(alloc, &visit.moves, &mut waiting, &node, bound)?;
-        looked = looked.with(alloc, node)?;
+        push_moves(alloc, &visit.moves, &mut frontier, &taken, bound)?;
     }
 }
 
@@ -110,33 +112,26 @@ fn spent(units: u64) -> Outcome
     }
 }
 
-/// Takes the cheapest node whose set was not looked at.
-fn next_set(alloc: Global, waiting: &mut Waiting, looked: &Looked) -> Result<Option<Node>, NoMemory>
-    ensures { IfOk result (λ found. MatchOption found (AreLooked looked.now waiting.old) (λ node. IsNext looked.now waiting.old waiting.new node)) }
-{
-    while let Some(node) = waiting.pop() {
-        if !looked.contains(alloc, &node.set)? {
-            return Ok(Some(node));
-        }
-    }
-    Ok(None)
-}
-
-/// Lets the sets that one move leads to wait, less those that cost as much as the bound.
+/// Lets what was taken wait with one more move each, less the moves at which the cost reaches the bound.
 fn push_moves(
     alloc: Global,
     moves: &[Move],
-    waiting: &mut Waiting,
-    node: &Node,
+    frontier: &mut Frontier,
+    taken: &Taken,
     bound: u64,
 ) -> Result<(), NoMemory>
-    requires low { node.now.cost < bound }
-    requires inside { (move : TheMove) → Contains moves.now move → move.fact < length node.now.set.items }
-    ensures { OnOk result (ArePushed node.now bound moves.now waiting.old waiting.new) }
+    requires sound { IsFrontier frontier.old }
+    requires from { IsTakenFrom frontier.old taken.now }
+    requires low { taken.now.node.cost < bound }
+    requires inside { (move : TheMove) → Contains moves.now move → move.fact < length taken.now.node.set.items }
+    ensures sound { OnOk result (IsFrontier frontier.new) }
+    ensures facts { OnOk result (frontier.new.facts ≡ frontier.old.facts) }
+    ensures looked { OnOk result (looked_in frontier.new ≡ looked_in frontier.old) }
+    ensures pushed { OnOk result (ArePushed (way_of taken.now.node) bound moves.now (looked_in frontier.old) (waiting_in frontier.old) (waiting_in frontier.new)) }
 {
     for &step in moves {
-        if u64::from(step.cost) < bound - node.cost {
-            waiting.push(node.with(alloc, step)?)?;
+        if u64::from(step.cost) < bound - taken.node.cost {
+            frontier.add(alloc, taken, step)?;
         }
     }
     Ok(())

@@ -62,8 +62,15 @@ pub trait Space {
         ensures { result ≡ size self.now };
 
     /// Goes along the path to the set, settles it with at most `room` firings, looks for a match, and lists the moves from
-    /// the set; of the moves that add the same fact, one of least cost will do. The path leads from the empty set to `set`.
-    fn visit(&mut self, path: &[Move], set: &[bool], room: u64) -> Result<Visit, NoMemory>
+    /// the set that cost less than `below`; of the moves that add the same fact, one of least cost will do. The path leads from
+    /// the empty set to `set`.
+    fn visit(
+        &mut self,
+        path: &[Move],
+        set: &[bool],
+        room: u64,
+        below: u64,
+    ) -> Result<Visit, NoMemory>
         requires { IsWalk (CanMove self.old) (no_facts (size self.old)) path.now set.now }
         ensures back { OnOk result (self.new ≡ self.old) }
         ensures goal { IfOk result (λ visit. visit.end ≡ end.Goal → HasMatch self.old set.now) }
@@ -73,7 +80,7 @@ pub trait Space {
         ensures spent { IfOk result (λ visit. visit.end ≡ end.UnitsSpent → visit.fired ≡ room) }
         ensures run { IfOk result (λ visit. (firings : ℕ) × HasRun self.old firings (length path.now) × (visit.fired ≤ firings)) }
         ensures possible { IfOk result (λ visit. (move : Move) → Contains visit.moves.items move → CanMove self.old set.now move) }
-        ensures complete { IfOk result (λ visit. GoesOn visit.end → (move : Move) → CanMove self.old set.now move →
+        ensures complete { IfOk result (λ visit. GoesOn visit.end → (move : Move) → CanMove self.old set.now move → move.cost < below →
             (other : Move) × Contains visit.moves.items other × (other.fact ≡ move.fact) × (other.cost ≤ move.cost)) };
 
     ghost is_space: { (space : Self) → IsSpace (size space) (CanMove space) (HasRun space) };

@@ -52,7 +52,13 @@ impl Space for Market {
         2
     }
 
-    fn visit(&mut self, _path: &[Move], set: &[bool], room: u64) -> Result<Visit, NoMemory> {
+    fn visit(
+        &mut self,
+        _path: &[Move],
+        set: &[bool],
+        room: u64,
+        _below: u64,
+    ) -> Result<Visit, NoMemory> {
         let moves = offers(self.alloc, set)?;
         if is_marked(set, 1) {
             return Ok(Visit {

@@ -49,4 +49,4 @@ pub returns-clause-moves : goal.returns-clause-moves
 returns-clause-moves c =
     let back = gone_back (meaning_of c.args.aim.now.schema.now) c.args.aim.now.queries.now c.args.aim.now.head.now c.args.aim.now.budget c.args.proof.now c.go_along.new.proof c.args.path.now c.args.set.now c.in_ok-go_along.ensures.exposes c.in_ok-go_along.ensures.same c.in_ok-go_along.ensures.made c.requires.walk
     c.look-seen.new.proof c.look-seen.ensures.run c.look-seen.ensures.settles c.undo.new.proof c.mark-made.result.firings (c.undo.ensures.run (meaning_of c.args.aim.now.schema.now) c.look-seen.ensures.run) c.undo.ensures.constants c.undo.ensures.start c.mark-made.ensures c.undo.ensures.log in
-    moves_seen (meaning_of c.args.aim.now.schema.now) c.args.aim.now.queries.now c.args.aim.now.head.now c.args.aim.now.budget c.args.proof.now c.undo.new.proof c.args.path.now c.args.set.now back.0 back.1 back.2 c.requires.walk c.in_ok-end.end c.in_ok-moves.moves.items c.in_ok-moves.ensures.active c.in_ok-moves.ensures.all
+    moves_seen (meaning_of c.args.aim.now.schema.now) c.args.aim.now.queries.now c.args.aim.now.head.now c.args.aim.now.budget c.args.proof.now c.undo.new.proof c.args.path.now c.args.set.now back.0 back.1 back.2 c.requires.walk c.in_ok-end.end c.args.below c.in_ok-moves.moves.items c.in_ok-moves.ensures.active c.in_ok-moves.ensures.all

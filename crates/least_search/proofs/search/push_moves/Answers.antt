@@ -1,23 +1,53 @@
-use Rattle.std.proofs.Common.{◌≡◌, ◌≤◌, ◌-◌, slice_index_or, arith}
+use Rattle.std.proofs.Common.{◌≡◌, ◌+◌, ◌≤◌, ◌-◌, List, slice_index_or, refl, ◌∙◌, subst, arith}
 use Rattle.std.proofs.lemmas.List.Elements.{Contains-get_or}
+use Rattle.least_search.specs.Ways.{Way}
+use Rattle.least_search.specs.Walks.{with_fact}
+use Rattle.least_search.specs.Frontier.{way_of, looked_in, waiting_in, IsKnown}
 use Rattle.least_search.proofs.Steps.{pushed_none, pushed_more, pushed_less, pushed_all}
 use Rattle.least_search.proofs.search.push_moves.Goals as goal
-use Rattle.least_search.proofs.search.push_moves.Goals.{then-from-bound+in_ok-with+in_ok-push, else-from-bound}
+use Rattle.least_search.proofs.search.push_moves.Goals.{then-from-bound+in_ok-add, else-from-bound}
 
-pub loop-step-init : goal.loop-step-init
-loop-step-init c = pushed_none c.args.node.now c.args.bound c.args.moves.now c.args.waiting.now
-
-pub with-requires-clause-inside : goal.with-requires-clause-inside
-with-requires-clause-inside c =
+pub add-requires-clause-inside : goal.add-requires-clause-inside
+add-requires-clause-inside c =
     c.requires.inside (slice_index_or c.args.moves.now c.loop-step.step-index (record { fact = 0; method = 0; cost = 0 }))
     (Contains-get_or c.args.moves.now c.loop-step.step-index (record { fact = 0; method = 0; cost = 0 }) c.loop-step-test.true)
+
+pub loop-step-init : goal.loop-step-init
+loop-step-init c = record {
+  sound = c.requires.sound;
+  from = c.requires.from;
+  facts = refl;
+  looked = refl;
+  pushed = pushed_none (way_of c.args.taken.now.node) c.args.bound c.args.moves.now (looked_in c.args.frontier.now) (waiting_in c.args.frontier.now);
+}
 
 pub loop-step-preserved : goal.loop-step-preserved
 loop-step-preserved c =
     elim c.if-from-bound.branch [
-      | then-from-bound+in_ok-with+in_ok-push w ↦ rw w.waiting-is (pushed_more c.args.node.now c.args.bound c.args.moves.now c.args.waiting.now c.loop-step.waiting w.push.new.self c.loop-step.step-index (record { fact = 0; method = 0; cost = 0 }) w.in_ok-with.field-0 c.loop-step-test.true c.loop-step.invariant w.in_ok-with.ensures w.in_ok-push.ensures.only w.in_ok-push.ensures.node w.in_ok-push.ensures.kept)
-      | else-from-bound w ↦ rw w.waiting-is (pushed_less c.args.node.now c.args.bound c.args.moves.now c.args.waiting.now c.loop-step.waiting c.loop-step.step-index (record { fact = 0; method = 0; cost = 0 }) c.loop-step-test.true c.loop-step.invariant (let low : c.args.bound - c.args.node.now.cost ≤ c.from.result = w.if-from-bound.false in let e : c.from.result ≡ (slice_index_or c.args.moves.now c.loop-step.step-index (record { fact = 0; method = 0; cost = 0 })).cost = c.from.ensures in omega arith))
+      | then-from-bound+in_ok-add w ↦ rw w.frontier-is (record {
+        sound = w.in_ok-add.ensures.sound;
+        from = w.in_ok-add.ensures.added.from;
+        facts = w.in_ok-add.ensures.added.facts ∙ c.loop-step.invariant.facts;
+        looked = w.in_ok-add.ensures.added.looked ∙ c.loop-step.invariant.looked;
+        pushed = pushed_more (way_of c.args.taken.now.node) c.args.bound c.args.moves.now (looked_in c.args.frontier.now) (waiting_in c.args.frontier.now) (waiting_in c.loop-step.frontier) (waiting_in w.add.new.self) c.loop-step.step-index (record { fact = 0; method = 0; cost = 0 }) c.loop-step-test.true c.loop-step.invariant.pushed
+            w.in_ok-add.ensures.added.kept w.in_ok-add.ensures.added.only
+            (subst (λ (ws : List Way). IsKnown ws (waiting_in w.add.new.self) (with_fact c.args.taken.now.node.set.items (slice_index_or c.args.moves.now c.loop-step.step-index (record { fact = 0; method = 0; cost = 0 }))) (c.args.taken.now.node.cost + (slice_index_or c.args.moves.now c.loop-step.step-index (record { fact = 0; method = 0; cost = 0 })).cost))
+            (w.in_ok-add.ensures.added.looked ∙ c.loop-step.invariant.looked) w.in_ok-add.ensures.added.known);
+      })
+      | else-from-bound w ↦ rw w.frontier-is (record {
+        sound = c.loop-step.invariant.sound;
+        from = c.loop-step.invariant.from;
+        facts = c.loop-step.invariant.facts;
+        looked = c.loop-step.invariant.looked;
+        pushed = pushed_less (way_of c.args.taken.now.node) c.args.bound c.args.moves.now (looked_in c.args.frontier.now) (waiting_in c.args.frontier.now) (waiting_in c.loop-step.frontier) c.loop-step.step-index (record { fact = 0; method = 0; cost = 0 }) c.loop-step-test.true c.loop-step.invariant.pushed
+            (let low : c.args.bound - c.args.taken.now.node.cost ≤ c.from.result = w.if-from-bound.false in let e : c.from.result ≡ (slice_index_or c.args.moves.now c.loop-step.step-index (record { fact = 0; method = 0; cost = 0 })).cost = c.from.ensures in omega arith);
+      })
     ]
 
 pub returns : goal.returns
-returns c = pushed_all c.args.node.now c.args.bound c.args.moves.now c.args.waiting.now c.loop-step.waiting c.loop-step.step-index c.loop-step-test.false c.loop-step.invariant
+returns c = record {
+  sound = c.loop-step.invariant.sound;
+  facts = c.loop-step.invariant.facts;
+  looked = c.loop-step.invariant.looked;
+  pushed = pushed_all (way_of c.args.taken.now.node) c.args.bound c.args.moves.now (looked_in c.args.frontier.now) (waiting_in c.args.frontier.now) (waiting_in c.loop-step.frontier) c.loop-step.step-index c.loop-step-test.false c.loop-step.invariant.pushed;
+}

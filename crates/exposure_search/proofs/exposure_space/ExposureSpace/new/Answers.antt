@@ -7,6 +7,7 @@ pub invariant_of-result : goal.invariant_of-result
 invariant_of-result c = record {
   exposes = begins_only (meaning_of c.args.schema.now) c.args.proof c.requires.base;
   facts_are = c.in_ok-facts.ensures;
+  methods_are = c.in_ok-methods.ensures;
   bases_are = c.mark-bases.ensures ∙ begins_long (meaning_of c.args.schema.now) c.args.proof c.requires.base;
   counted = c.requires.counted;
   few = c.requires.few;

@@ -1,4 +1,4 @@
-use Rattle.std.proofs.Common.{◌≡◌, ◌≤◌, ℕ, length, sym, subst}
+use Rattle.std.proofs.Common.{◌≡◌, ◌<◌, ◌≤◌, ℕ, length, sym, subst}
 use Rattle.std.specs.Prelude.{Contains, IfOk}
 use Rattle.least_search.specs.declared.space.Move.{Move}
 use Rattle.least_search.specs.declared.space.Visit.{Visit}
@@ -26,9 +26,9 @@ returns-clause-run c =
 pub returns-clause-possible : goal.returns-clause-possible
 returns-clause-possible c =
     subst (λ s. IfOk c.visit_set.result (λ (visit : Visit). (move : Move) → Contains visit.moves.items move → CanExpose s c.args.set.now move)) c.self.view_is
-    (visit_possible _ c.args.set.now c.visit_set.result c.visit_set.ensures.moves)
+    (visit_possible _ c.args.set.now c.args.below c.visit_set.result c.visit_set.ensures.moves)
 
 pub returns-clause-complete : goal.returns-clause-complete
 returns-clause-complete c =
-    subst (λ s. IfOk c.visit_set.result (λ (visit : Visit). GoesOn visit.end → (move : Move) → CanExpose s c.args.set.now move → IsServed visit.moves.items move)) c.self.view_is
-    (visit_complete _ c.args.set.now c.visit_set.result c.visit_set.ensures.moves)
+    subst (λ s. IfOk c.visit_set.result (λ (visit : Visit). GoesOn visit.end → (move : Move) → CanExpose s c.args.set.now move → move.cost < c.args.below → IsServed visit.moves.items move)) c.self.view_is
+    (visit_complete _ c.args.set.now c.args.below c.visit_set.result c.visit_set.ensures.moves)

@@ -1,0 +1,143 @@
+// What a search keeps of paths and sets.
+ghost use Rattle.std.specs.Prelude.{◌≡◌, ◌⊎◌, ◌≤◌, ◌+◌, ◌<◌, ◌^◌, ℕ, [], ◌↔◌, Contains, Some, length, true, false};
+ghost use Rattle.std.specs.Result.{IfOk, OnOk};
+ghost use Rattle.std.specs.Option.{MatchOption};
+ghost use Rattle.least_search.specs.declared.table.Seen.TheVariants as seen;
+ghost use Rattle.least_search.specs.Walks.{with_fact};
+ghost use Rattle.least_search.specs.Ways.{Way, way_along};
+ghost use Rattle.least_search.specs.Frontier.{way_of, way_at, looked_in, waiting_in, IsFrontier, AreLooked, IsTakenFrom, IsTaken, IsAdded};
+
+use crate::node::{Node, set_along};
+use crate::paths::Paths;
+use crate::set_key::SetKey;
+use crate::space::Move;
+use crate::table::{Seen, SetTable};
+use crate::waiting::{Waiter, Waiting};
+use lists::NoMemory;
+use std::alloc::Global;
+
+/// The paths that a search made, those of them that wait, the numbers of those that were looked at, and what is known of each set.
+#[derive(Drop)]
+pub(crate) struct Frontier {
+    facts: usize,
+    paths: Paths,
+    waiting: Waiting,
+    looked: Vec<usize>,
+    table: SetTable,
+}
+
+/// A node, with the number of its path.
+#[derive(Drop)]
+pub(crate) struct Taken {
+    pub(crate) number: usize,
+    pub(crate) node: Node,
+}
+
+impl Frontier {
+    /// The path without moves waits, over so many facts.
+    pub(crate) fn start(alloc: Global, facts: usize) -> Result<Frontier, NoMemory>
+        ensures sound { IfOk result IsFrontier }
+        ensures facts { IfOk result (λ frontier. frontier.facts ≡ facts) }
+        ensures looked { IfOk result (λ frontier. looked_in frontier ≡ []) }
+        ensures here { IfOk result (λ frontier. Contains (waiting_in frontier) (way_along facts [])) }
+        ensures only { IfOk result (λ frontier. (way : Way) → Contains (waiting_in frontier) way → way_along facts [] ≡ way) }
+    {
+        let mut waiting = Waiting::new(alloc);
+        waiting.push(Waiter { cost: 0, number: 0 })?;
+        Ok(Frontier {
+            facts,
+            paths: Paths::new(alloc),
+            waiting,
+            looked: Vec::new(alloc),
+            table: SetTable::new(alloc),
+        })
+    }
+
+    /// Takes the cheapest path that waits to a set that was not looked at, and looks at it.
+    pub(crate) fn take(&mut self, alloc: Global) -> Result<Option<Taken>, NoMemory>
+        requires { IsFrontier self.old }
+        ensures { IfOk result (λ found. MatchOption found (AreLooked (looked_in self.old) (waiting_in self.old)) (IsTaken self.old self.new)) }
+    {
+        while let Some(waiter) = self.waiting.pop() {
+            let node = self.node(alloc, &waiter)?;
+            let key = SetKey::of(alloc, &node.set)?;
+            if !is_looked(self.table.get(&key)) {
+                let number = waiter.number;
+                self.looked.push(number)?;
+                self.table.put(key, Seen::Looked)?;
+                return Ok(Some(Taken { number, node }));
+            }
+        }
+        Ok(None)
+    }
+
+    /// The node of a path that waits.
+    fn node(&self, alloc: Global, waiter: &Waiter) -> Result<Node, NoMemory>
+        requires within { waiter.now.number < length self.now.paths }
+        requires cost { waiter.now.cost ≡ (way_at self.now.facts self.now.paths waiter.now.number).cost }
+        ensures { IfOk result (λ node. way_of node ≡ way_at self.now.facts self.now.paths waiter.now.number) }
+    {
+        let path = self.paths.get(alloc, waiter.number)?;
+        let set = set_along(alloc, self.facts, &path)?;
+        Ok(Node {
+            path,
+            set,
+            cost: waiter.cost,
+        })
+    }
+
+    /// Lets the path that was taken wait with one more move, unless its set was looked at or waits at no greater cost.
+    pub(crate) fn add(&mut self, alloc: Global, taken: &Taken, step: Move) -> Result<(), NoMemory>
+        requires sound { IsFrontier self.old }
+        requires from { IsTakenFrom self.old taken.now }
+        requires sum { taken.now.node.cost + step.cost < 2 ^ 64 }
+        requires inside { step.fact < length taken.now.node.set.items }
+        ensures sound { OnOk result (IsFrontier self.new) }
+        ensures added { OnOk result (IsAdded self.old self.new taken.now step) }
+    {
+        let cost = taken.node.cost + u64::from(step.cost);
+        let set = set_with(alloc, &taken.node.set, step)?;
+        let key = SetKey::of(alloc, &set)?;
+        if is_covered(self.table.get(&key), cost) {
+            return Ok(());
+        }
+        let number = self.paths.push(taken.number, step)?;
+        self.waiting.push(Waiter { cost, number })?;
+        self.table.put(key, Seen::Waits { cost })?;
+        Ok(())
+    }
+}
+
+/// The set with the move's fact.
+fn set_with(alloc: Global, set: &[bool], step: Move) -> Result<Vec<bool>, NoMemory>
+    requires { step.fact < length set.now }
+    ensures { IfOk result (λ more. more.items ≡ with_fact set.now step) }
+{
+    let mut more = Vec::from_slice(alloc, set)?;
+    more[step.fact] = true;
+    Ok(more)
+}
+
+/// Whether the set was looked at.
+fn is_looked(known: Option<Seen>) -> bool
+    ensures yes { result ≡ true → known ≡ Some seen.Looked }
+    ensures no { result ≡ false → known ≡ Some seen.Looked → ⊥ }
+{
+    match known {
+        Some(Seen::Looked) => true,
+        Some(Seen::Waits { .. }) => false,
+        None => false,
+    }
+}
+
+/// Whether the set was looked at, or waits at no greater cost.
+fn is_covered(known: Option<Seen>, cost: u64) -> bool
+    ensures yes { result ≡ true → (known ≡ Some seen.Looked) ⊎ ((least : ℕ) × (known ≡ Some (seen.Waits least)) × (least ≤ cost)) }
+    ensures no { result ≡ false → known ≡ Some seen.Looked → ⊥ }
+{
+    match known {
+        Some(Seen::Looked) => true,
+        Some(Seen::Waits { cost: least }) => least <= cost,
+        None => false,
+    }
+}
