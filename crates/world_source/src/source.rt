@@ -37,7 +37,7 @@ impl Source for WorldSource {
     ghost seen = { λ w. record {
       held = Some (facts_held w.relations);
       offer = offers;
-      passes = λ rel locator. false;
+      passes = λ list. false;
       asked = Some w.asked;
       attached = attached_in w.relations;
       faults = 0;
