@@ -63,12 +63,7 @@ fn part(alloc: Global, kind: &str, name: &str, columns: &[&str]) -> Result<Part,
 }
 
 /// Whether the part has all names that it has to have.
-fn has_names(
-    alloc: Global,
-    kind: &str,
-    name: &str,
-    columns: &[&str],
-) -> Result<bool, NoMemory> {
+fn has_names(alloc: Global, kind: &str, name: &str, columns: &[&str]) -> Result<bool, NoMemory> {
     let mut parts = Parts::new(alloc);
     parts.push(part(alloc, kind, name, columns)?)?;
     Ok(are_named(parts.as_slice()))
@@ -89,7 +84,11 @@ fn names_are_there_or_not(rt: HostRuntime) -> Result<(), Fail> {
         ("source", "", &[], false),
     ];
     for (kind, name, columns, wanted) in cases {
-        assert_eq!(rt; has_names(rt.alloc(), kind, name, columns)?, wanted, "{kind} {name}");
+        assert_eq!(rt;
+            has_names(rt.alloc(), kind, name, columns)?,
+            wanted,
+            "{kind} {name}"
+        );
     }
     Ok(())
 }

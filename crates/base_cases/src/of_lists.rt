@@ -5,11 +5,7 @@ use std::cmp::Ordering;
 use std::test::Fail;
 
 /// How two texts compare, and whether they are the same and equal.
-fn compared(
-    alloc: Global,
-    left: &str,
-    right: &str,
-) -> Result<(Ordering, bool, bool), NoMemory> {
+fn compared(alloc: Global, left: &str, right: &str) -> Result<(Ordering, bool, bool), NoMemory> {
     let first = Text::from_str(alloc, left)?;
     let second = Text::from_str(alloc, right)?;
     Ok((first.cmp(&second), first.same(&second), first == second))
@@ -28,7 +24,11 @@ fn texts_are_compared_by_their_bytes(rt: HostRuntime) -> Result<(), Fail> {
     ] {
         let is_equal = order == Ordering::Equal;
         let wanted = (order, is_equal, is_equal);
-        assert_eq!(rt; compared(rt.alloc(), left, right)?, wanted, "{left} and {right}");
+        assert_eq!(rt;
+            compared(rt.alloc(), left, right)?,
+            wanted,
+            "{left} and {right}"
+        );
     }
     Ok(())
 }

@@ -89,10 +89,19 @@ fn copy_counted(alloc: Global, firing: Firing) -> Result<(u8, u32, usize), NoMem
 #[test]
 fn firings_are_copied(rt: HostRuntime) -> Result<(), Fail> {
     let alloc = rt.alloc();
-    assert_eq!(rt; copy_counted(alloc, Firing::Base(trigger(alloc)?))?, (0, 3, 2));
-    assert_eq!(rt; copy_counted(alloc, Firing::Copy(trigger(alloc)?))?, (1, 3, 2));
+    assert_eq!(rt;
+        copy_counted(alloc, Firing::Base(trigger(alloc)?))?,
+        (0, 3, 2)
+    );
+    assert_eq!(rt;
+        copy_counted(alloc, Firing::Copy(trigger(alloc)?))?,
+        (1, 3, 2)
+    );
     let fact = ground(alloc)?;
-    assert_eq!(rt; copy_counted(alloc, Firing::Expose { method: 1, fact })?, (2, 1, 2));
+    assert_eq!(rt;
+        copy_counted(alloc, Firing::Expose { method: 1, fact })?,
+        (2, 1, 2)
+    );
     Ok(())
 }
 
@@ -138,5 +147,8 @@ fn branches_atoms_and_operands_are_copied(rt: HostRuntime) -> Result<(), Fail> {
 #[test]
 fn each_new_place_makes_a_column(rt: HostRuntime) {
     assert_eq!(rt; columns_made(3, &[Place::New, Place::Col(1)]), 4);
-    assert_eq!(rt; columns_made(0, &[Place::New, Place::Col(0), Place::New]), 2);
+    assert_eq!(rt;
+        columns_made(0, &[Place::New, Place::Col(0), Place::New]),
+        2
+    );
 }

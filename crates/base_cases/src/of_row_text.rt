@@ -63,7 +63,13 @@ fn without_doubles(alloc: Global, list: &[&[&str]]) -> Result<PackedRows, NoMemo
 
 #[test]
 fn a_double_of_a_row_that_came_lately_is_told(rt: HostRuntime) -> Result<(), Fail> {
-    let list: [&[&str]; 5] = [&["a", "1"], &["b", "1"], &["a", "1"], &["a1", ""], &["b", "1"]];
+    let list: [&[&str]; 5] = [
+        &["a", "1"],
+        &["b", "1"],
+        &["a", "1"],
+        &["a1", ""],
+        &["b", "1"],
+    ];
     let kept = without_doubles(rt.alloc(), &list)?;
     assert!(rt; are(&kept, &[&["a", "1"], &["b", "1"], &["a1", ""]]));
     Ok(())

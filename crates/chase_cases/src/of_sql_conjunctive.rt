@@ -36,7 +36,10 @@ fn write_terms(alloc: Global, made: &mut String, terms: &Terms) -> Result<(), No
     for term in terms.as_slice() {
         match term {
             Term::Var(number) => made.push_str(format!(in alloc; " {number}")?.as_str())?,
-            Term::Const(text) => made.push_str(format!(in alloc; " '{}'", text.as_str())?.as_str())?,
+            Term::Const(text) => made.push_str(format!(in alloc;
+                " '{}'",
+                text.as_str()
+            )?.as_str())?,
         }
     }
     Ok(())
@@ -75,8 +78,14 @@ fn form_of(alloc: Global, text: &str) -> Result<String, NoMemory> {
 #[test]
 fn selects_become_queries(rt: HostRuntime) -> Result<(), Fail> {
     let cases = [
-        ("SELECT DISTINCT a FROM r WHERE a = b", "r0 0 0, head 0 of 1"),
-        ("SELECT DISTINCT a FROM r WHERE a = '1' AND a = '2'", "never"),
+        (
+            "SELECT DISTINCT a FROM r WHERE a = b",
+            "r0 0 0, head 0 of 1",
+        ),
+        (
+            "SELECT DISTINCT a FROM r WHERE a = '1' AND a = '2'",
+            "never",
+        ),
         (
             "SELECT DISTINCT a FROM r WHERE a = '1' AND '1' = a",
             "r0 '1' 0, head '1' of 1",
@@ -97,7 +106,10 @@ fn selects_become_queries(rt: HostRuntime) -> Result<(), Fail> {
             "SELECT DISTINCT a FROM r WHERE '1' = '1'",
             "r0 0 1, head 0 of 2",
         ),
-        ("SELECT DISTINCT a FROM r WHERE '1' = '1' AND '1' = ''", "never"),
+        (
+            "SELECT DISTINCT a FROM r WHERE '1' = '1' AND '1' = ''",
+            "never",
+        ),
     ];
     for (text, wanted) in cases {
         assert_eq!(rt; form_of(rt.alloc(), text)?.as_str(), wanted, "{text}");

@@ -53,7 +53,10 @@ fn a_read_or_a_write_that_fails_is_told(rt: HostRuntime) -> Result<(), Fail> {
         ([&[], &[], &[2]], 6, b"b\nx\n", b"write failed\n"),
     ];
     for (failing, code, out, err) in cases {
-        assert!(rt; ends_so(rt.alloc(), failing, code, out, err)?, "{failing:?}");
+        assert!(rt;
+            ends_so(rt.alloc(), failing, code, out, err)?,
+            "{failing:?}"
+        );
     }
     Ok(())
 }
