@@ -1,0 +1,12 @@
+pub mod Places
+pub mod Naming
+pub mod Firsts
+pub mod Chaining
+pub mod Going
+pub mod Arranging
+pub mod Walking
+pub mod Nexting
+pub mod Reordered
+pub mod Points
+pub mod Linking
+pub mod Bounds
