@@ -5,7 +5,8 @@ ghost use Rattle.meaning.specs.Matching.{IsQueryAnswer, GroundsOf};
 ghost use Rattle.accessible_copy.specs.Goals.{IsCounted};
 ghost use Rattle.plan_check.specs.Trials.{AreCounted, FormIsCounted, FormHas, SomeHas};
 
-use homomorphism::{Bindings, Store, first_match, unify};
+use connected_match::has_match;
+use homomorphism::{Bindings, Store, unify};
 use lists::{NoMemory, Seq};
 use meaning::types::{Query, Val};
 use std::alloc::Global;
@@ -50,13 +51,7 @@ fn query_has(alloc: Global, query: &Query, store: &Store, head: &[Val]) -> Resul
 {
     let given = no_values(alloc, query.variables as usize)?;
     match unify(alloc, given, query.head.as_slice(), head)? {
-        Some(narrow) => {
-            let found = first_match(alloc, &query.atoms, store, &narrow)?;
-            match found {
-                Some(_values) => Ok(true),
-                None => Ok(false),
-            }
-        }
+        Some(narrow) => Ok(has_match(alloc, &query.atoms, store, &narrow)?),
         None => Ok(false),
     }
 }
