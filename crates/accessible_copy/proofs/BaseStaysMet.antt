@@ -1,5 +1,5 @@
--- What lasts along a run.
-use Rattle.std.proofs.Common.{◌≡◌, ℕ, ◌≤◌, List, [], ◌∷◌, sym, ap, subst, inl, inr, ⊎_elim, arith}
+-- What stays along a run: base rules that are met, and exposures that are active.
+use Rattle.std.proofs.Common.{◌≡◌, ℕ, ◌≤◌, List, [], ◌∷◌, ◌++◌, length, refl, ◌∙◌, sym, ap, subst, inl, inr, ⊎_elim, arith}
 use Rattle.std.specs.Prelude.{Contains}
 use Rattle.meaning.specs.declared.types.SchemaParts.{SchemaParts}
 use Rattle.meaning.specs.declared.types.Ground.{Ground}
@@ -9,14 +9,15 @@ use Rattle.meaning.specs.declared.types.Firing.{Firing}
 use Rattle.meaning.specs.declared.types.Firing.TheVariants.{Base, Copy, Expose}
 use Rattle.meaning.specs.Matching.{MeetsAll, GroundsOf}
 use Rattle.meaning.specs.Triggers.{AreNumbered}
-use Rattle.meaning.specs.Runs.{Proof, base_state, last_part, IsRun, IsActiveExposure}
+use Rattle.meaning.specs.Runs.{Proof, base_state, part_of, last_part, IsRun, IsActiveExposure, IsBaseQuiet}
 use Rattle.std.proofs.lemmas.Bool.{cases_lt}
 use Rattle.meaning.specs.declared.types.Rule.{Rule}
 use Rattle.meaning.specs.declared.types.Trigger.{Trigger}
 use Rattle.meaning.specs.Runs.{IsFirstActive}
 use Rattle.rule_pass.proofs.OnePass.{met_quiet}
 use Rattle.meaning_laws.proofs.Deciding.{quiet_meets}
-use Rattle.accessible_copy.specs.Proving.{Proving, IsProofOf, log_of}
+use Rattle.accessible_copy.specs.declared.entry.Entry.{Entry}
+use Rattle.accessible_copy.specs.Proving.{Proving, IsProofOf, IsWritten, firings_of, exposed_by, exposed_in, log_of}
 use Rattle.accessible_copy.proofs.Writing.{written_run}
 
 module _ (schema : SchemaParts) (constants : List (List ℕ)) where
@@ -51,3 +52,27 @@ exposure_stays schema old new number fact method c b more not is = record {
 pub active_first : (schema : SchemaParts) (proof : Proving) → IsProofOf schema proof → (trigger : Trigger) (rule : Rule) → IsFirstActive schema.rules (base_state proof.end) trigger rule → last_part 0 (log_of proof) ≡ 0
 active_first schema proof is trigger rule first =
     ⊎_elim (λ low. absurd (met_quiet schema.rules (base_state proof.end) (base_meets schema proof is (omega arith)) trigger rule first.active)) (λ none. omega arith) (cases_lt 0 (last_part 0 (log_of proof)))
+
+-- where a fact is exposed, the log has come to the exposures
+module _ (schema : SchemaParts) (constants : List (List ℕ)) where
+  written_late : (part : ℕ) (proof : Proof) (entries : List Entry) (end : Proof) → IsWritten schema constants part proof entries end → part ≤ last_part part (firings_of entries)
+  written_late part proof [] end e = omega arith
+  written_late part proof (entry ∷ entries) end (order, sizes, (next, fires, more)) = let l = written_late (part_of entry.firing) next entries end more in omega arith
+
+  below : (n : ℕ) → 2 ≤ n → 1 ≤ n
+  below n low = omega arith
+
+  exposed_late : (part : ℕ) (proof : Proof) (entries : List Entry) (end : Proof) → IsWritten schema constants part proof entries end → (exposed_in entries ≡ [] → ⊥) → 1 ≤ last_part part (firings_of entries)
+  exposed_late part proof [] end e not = absurd (not refl)
+  exposed_late part proof (entry ∷ entries) end (order, sizes, (next, fires, more)) not = by entry.firing not more (λ rest. exposed_late (part_of entry.firing) next entries end more rest)
+    where
+      by : (firing : Firing) → (exposed_by firing ++ exposed_in entries ≡ [] → ⊥) → IsWritten schema constants (part_of firing) next entries end
+          → ((exposed_in entries ≡ [] → ⊥) → 1 ≤ last_part (part_of firing) (firings_of entries)) → 1 ≤ last_part (part_of firing) (firings_of entries)
+      by (Base trigger) not more step = step not
+      by (Copy trigger) not more step = below (last_part 2 (firings_of entries)) (written_late 2 next entries end more)
+      by (Expose number fact) not more step = written_late 1 next entries end more
+
+pub exposed_quiet : (schema : SchemaParts) (proof : Proving) → IsProofOf schema proof → 1 ≤ length proof.exposed → IsBaseQuiet schema proof.end
+exposed_quiet schema proof is long =
+    let late = exposed_late schema proof.constants 0 proof.start proof.entries proof.end is.written (λ none. let same = ap length (is.exposed ∙ none) in absurd (omega arith)) in
+    met_quiet schema.rules (base_state proof.end) (base_meets schema proof is late)
