@@ -6,8 +6,8 @@
 
 #[cfg(test)]
 mod asked;
-pub mod laws;
 #[cfg(test)]
 mod faults;
 #[cfg(test)]
 mod forms;
+pub mod laws;
