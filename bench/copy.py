@@ -3,7 +3,7 @@
 
 usage: bench/copy.py [SCRATCH]
 
-Copies the crates to a scratch folder, puts bench/copy_speed.tests behind the helpers of accessible_copy's tests there, and runs the
+Copies the crates to a scratch folder, puts bench/copy_speed.tests beside the helpers of accessible_copy's tests there, and runs the
 measurements by `rt try --test`, which needs no proof. That interprets the code, some hundred times as slowly as the built program
 runs it: the growth is what counts here, and the times of one series beside one another. Prints the CPU time of each measurement.
 """
@@ -11,6 +11,8 @@ import glob, math, os, shutil, subprocess, sys, tempfile
 
 TOP = os.path.realpath(f"{os.path.dirname(os.path.realpath(__file__))}/..")
 CRATES = ["lists", "meaning", "meaning_laws", "access_schema", "homomorphism", "rule_pass", "accessible_copy"]
+# The files of accessible_copy's tests that the measurements use.
+HELPERS = ["calls", "looks", "queries", "schemas", "texts"]
 # The measurements, and how many units of work each makes: firings made, relations, or sets exposed.
 UNITS = {
     "tree_250": 374, "tree_500": 746, "tree_1000": 1490, "tree_2000": 2978,
@@ -27,9 +29,9 @@ def scratch(folder):
     with open(f"{folder}/crates.txt", "w") as out:
         out.writelines(row for row in open(f"{TOP}/crates.txt") if row.split(":")[0] in CRATES)
     crate = f"{folder}/crates/accessible_copy"
-    helpers = open(f"{crate}/src/tests.rt").read().split("#[test]")[0]
+    shutil.copy2(f"{TOP}/bench/copy_speed.tests", f"{crate}/src/tests/speed.rt")
     with open(f"{crate}/src/tests.rt", "w") as out:
-        out.write(helpers + open(f"{TOP}/bench/copy_speed.tests").read())
+        out.writelines(f"mod {name};\n" for name in HELPERS + ["speed"])
     return crate
 
 

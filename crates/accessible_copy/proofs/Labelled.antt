@@ -17,7 +17,7 @@ use Rattle.meaning.specs.declared.types.Firing.{Firing}
 use Rattle.meaning.specs.declared.types.Firing.TheVariants.{Base, Copy, Expose}
 use Rattle.meaning.specs.Matching.{value_of}
 use Rattle.meaning.specs.Triggers.{State, bound, ground, assigned, AreNumbered, IsTrigger, fired}
-use Rattle.meaning.specs.Runs.{Proof, copy_state, part_of, IsRun, IsKnownValue}
+use Rattle.meaning.specs.Runs.{Proof, copy_state, IsRun, IsKnownValue}
 use Rattle.meaning_laws.proofs.Added.{added_cases}
 use Rattle.meaning_laws.proofs.Carrying.{fresh_is, occurs_below}
 use Rattle.accessible_copy.specs.Proving.{Proving, IsProofOf, log_of}

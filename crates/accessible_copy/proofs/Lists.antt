@@ -1,7 +1,10 @@
 -- Fronts of lists.
-use Rattle.std.proofs.Common.{◌≡◌, ℕ, zero, suc, List, [], ◌∷◌, ◌++◌, length, map, take, refl, sym, ap, ◌∙◌, append_assoc, arith}
-use Rattle.std.specs.Prelude.{flat_map, None, slice_get, ◌≤◌, Contains}
-use Rattle.std.proofs.lemmas.List.{append-nil, map-append}
+use Rattle.std.proofs.Common.{◌≡◌, ℕ, zero, suc, List, [], ◌∷◌, ◌++◌, length, map, take, refl, sym, ap, subst, inl, inr, ⊎_elim, ◌∙◌, append_assoc, arith}
+use Rattle.std.specs.Prelude.{◌⊎◌, flat_map, Some, None, slice_get, ◌≤◌, Contains}
+use Rattle.std.proofs.lemmas.Bool.{cases_lt}
+use Rattle.std.proofs.lemmas.Option.{slice_get_within}
+use Rattle.std.proofs.lemmas.List.{append-nil, map-append, length_push}
+use Rattle.lists.proofs.Members.{got_push, got_before, some_injective}
 use Rattle.meaning.specs.Added.{with_facts}
 use Rattle.meaning_laws.proofs.Added.{with_new}
 use Rattle.meaning.specs.declared.types.Val.{Val}
@@ -52,3 +55,12 @@ pub none_beyond : {X : Type 0} (xs : List X) (n : ℕ) → slice_get xs n ≡ No
 none_beyond [] n e = omega arith
 none_beyond (x ∷ xs) zero e = absurd (cc)
 none_beyond (x ∷ xs) (suc n) e = let l = none_beyond xs n e in omega arith
+
+-- one member more, by its place
+pub got_cases : {X : Type 0} (xs : List X) (x : X) (k : ℕ) (y : X) → slice_get (xs ++ x ∷ []) k ≡ Some y → (slice_get xs k ≡ Some y) ⊎ ((k ≡ length xs) × (x ≡ y))
+got_cases xs x k y e = ⊎_elim (λ low. inl (sym (got_before xs (x ∷ []) k low) ∙ e))
+    (λ high.
+    let within = slice_get_within (xs ++ x ∷ []) k y e in
+    let long = length_push xs x in
+    let at : k ≡ length xs = omega arith in
+    inr (at, some_injective x y (sym (got_push xs x) ∙ subst (λ n. slice_get (xs ++ x ∷ []) n ≡ Some y) at e))) (cases_lt k (length xs))

@@ -74,6 +74,10 @@ placed_cut values place count are n v c =
     let (low, e) = are (min n count) v h in
     (omega arith, got_front count values (place v) v (omega arith) e)
 
+-- a value whose place is before another one stands before that
+pub placed_early : (values : List Val) (place : Val → ℕ) (n : ℕ) (v : Val) → AreFirstPlaces values place → slice_get values n ≡ Some v → place v < n → Contains (take n values) v
+placed_early values place n v are got low = let (l, e) = placed values place v are (contains_got values n v got) in contains_got (take n values) (place v) v (got_front n values (place v) v low e)
+
 -- a value stands here exactly where its place has it
 pub tells : (b : Bool) (values : List Val) (place : Val → ℕ) (v : Val) → AreFirstPlaces values place → (IsTrue b ↔ (slice_get values (place v) ≡ Some v)) → IsTrue b ↔ Contains values v
 tells b values place v are iff = ((λ yes. contains_got values (place v) v (iff.0 yes)), (λ c. iff.1 ((placed values place v are c).1)))

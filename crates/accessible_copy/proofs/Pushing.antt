@@ -15,8 +15,8 @@ use Rattle.rule_pass.specs.States.{SomeActive}
 use Rattle.accessible_copy.specs.Proving.{Proving, IsProofOf, log_of, IsOrdered}
 use Rattle.accessible_copy.specs.Listing.{CanFire, AreExposures}
 use Rattle.accessible_copy.specs.Rounds.{GoesOn}
-use Rattle.accessible_copy.proofs.Lasting.{active_first}
-use Rattle.accessible_copy.proofs.Settled.{part_low}
+use Rattle.accessible_copy.proofs.BaseStaysMet.{active_first}
+use Rattle.accessible_copy.proofs.PassEntries.{part_low}
 
 module _ (schema : SchemaParts) (constants : List (List ℕ)) where
   -- after a copy firing no exposure is active

@@ -27,7 +27,7 @@ use Rattle.accessible_copy.specs.Listing.{CanFire, AreExposures}
 use Rattle.accessible_copy.specs.Rounds.{GoesOn, IsOneRound, exposure_of, MadeExposures, SomeExposure, MayExpose, IsDone}
 use Rattle.accessible_copy.proofs.Writing.{written_exposed, firings_on}
 use Rattle.accessible_copy.proofs.Listed.{number_is, fact_is}
-use Rattle.accessible_copy.proofs.Lasting.{exposure_stays}
+use Rattle.accessible_copy.proofs.BaseStaysMet.{exposure_stays}
 use Rattle.accessible_copy.proofs.Pushing.{goes_base, goes_copy, expose_low}
 
 -- the part of a log that goes on

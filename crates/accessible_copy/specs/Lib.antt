@@ -6,6 +6,8 @@ pub mod Settling
 pub mod Exposing
 pub mod Methods
 pub mod Listing
+pub mod Ways
+pub mod OpenFacts
 pub mod Goals
 pub mod Rounds
 pub mod Labels

@@ -1,5 +1,6 @@
 // The known values, and the exposed facts that they come from.
-ghost use Rattle.std.specs.Prelude.{◌≡◌, ◌↔◌, ◌++◌, ◌∷◌, [], IsTrue, Contains, IfOk, OnOk, OnErr, length, take, map, slice_get, option_copied};
+ghost use Rattle.std.specs.Prelude.{◌≡◌, ◌↔◌, ◌++◌, ◌∷◌, [], IsTrue, IfSome, IfNone, Contains, IfOk, OnOk, OnErr, length, take, map, slice_get, option_copied, Some};
+ghost use Rattle.meaning.specs.declared.types.Val.{Val as TheVal};
 ghost use Rattle.meaning.specs.declared.types.Val.TheVariants.{Const};
 ghost use Rattle.accessible_copy.specs.Known.{known_values, facts_of};
 
@@ -71,6 +72,15 @@ impl Known {
         ensures { option_copied result ≡ slice_get (known_values self.now.constants (facts_of self.now.exposed)) number }
     {
         self.values.as_slice().get(number)
+    }
+
+    /// The known value with this number, if it is not known by an earlier one. Takes no memory.
+    pub fn new_value(&self, number: usize) -> Option<&Val>
+        ensures some { IfSome result (λ val. slice_get (known_values self.now.constants (facts_of self.now.exposed)) number ≡ Some val.now) }
+        ensures none { IfNone result ((val : TheVal) → slice_get (known_values self.now.constants (facts_of self.now.exposed)) number ≡ Some val →
+            Contains (take number (known_values self.now.constants (facts_of self.now.exposed))) val) }
+    {
+        self.values.new_at(number)
     }
 
     /// Whether the fact is exposed. Takes no memory.

@@ -9,15 +9,18 @@ mod first_places;
 mod goals;
 mod going;
 mod history;
+mod holders;
 mod known;
 pub mod laws;
 mod listing;
 mod marks;
 mod method_index;
+mod open_facts;
 mod proof;
 mod rounds;
 mod settling;
 mod values;
+mod ways;
 
 pub use entry::{Entry, Exposed, Mark, Sizes};
 pub use exposing::expose;

@@ -1,5 +1,6 @@
 // The exposures that are active.
 ghost use Rattle.std.specs.Prelude.{◌≡◌, ◌↔◌, ℕ, IsTrue, IfOk, Contains, slice_get, Some};
+ghost use Rattle.meaning.specs.declared.types.Ground.{Ground as TheGround};
 ghost use Rattle.meaning.specs.declared.types.Method.{Method as TheMethod};
 ghost use Rattle.meaning.specs.Search.{AreDistinct};
 ghost use Rattle.access_schema.specs.Meaning.{meaning_of};
@@ -21,8 +22,39 @@ pub fn exposures(alloc: Global, proof: &Proof, schema: &Schema) -> Result<Firing
     requires { IsProofOf (meaning_of schema.now) proof.now }
     ensures { IfOk result (λ found. AreExposures (meaning_of schema.now) proof.now proof.now.end.base found) }
 {
+    if let Some(kept) = &proof.open_facts {
+        if kept.serves(schema) {
+            let numbers = kept.numbers(alloc)?;
+            return exposures_at(alloc, proof, schema, kept.methods(), numbers.as_slice());
+        }
+    }
     let methods = MethodIndex::of(alloc, schema)?;
     indexed_exposures(alloc, proof, schema, &methods)
+}
+
+/// The active exposures of the base facts with these numbers, among which is each that has one.
+fn exposures_at(
+    alloc: Global,
+    proof: &Proof,
+    schema: &Schema,
+    methods: &MethodIndex,
+    numbers: &[usize],
+) -> Result<Firings, NoMemory>
+    requires run { IsProofOf (meaning_of schema.now) proof.now }
+    requires methods { IsMethodIndex schema.now.methods methods.now }
+    requires once { AreDistinct numbers.now }
+    requires all { (n number : ℕ) (fact : TheGround) → slice_get proof.now.end.base n ≡ Some fact →
+        CanFire (meaning_of schema.now) proof.now number fact → Contains numbers.now n }
+    ensures { IfOk result (λ found. AreExposures (meaning_of schema.now) proof.now proof.now.end.base found) }
+{
+    let mut found = Vec::new(alloc);
+    for number in numbers {
+        if let Some(fact) = proof.base(*number) {
+            let mut more = exposures_of(alloc, proof, schema, methods.numbers(fact.rel), fact)?;
+            found.append(&mut more)?;
+        }
+    }
+    Ok(Seq::from_vec(found))
 }
 
 /// The same, with the index of the schema's methods at hand: each base fact that is not exposed is tried with the methods of
@@ -90,7 +122,7 @@ fn can_expose(proof: &Proof, schema: &Schema, number: u32, fact: &Ground) -> boo
 }
 
 /// Whether each input place has a value, which is known.
-fn are_inputs(known: &Known, inputs: &[u32], vals: &[Val]) -> bool
+pub(crate) fn are_inputs(known: &Known, inputs: &[u32], vals: &[Val]) -> bool
     ensures { IsTrue result ↔ AreInputs (known_values known.now.constants (facts_of known.now.exposed)) inputs.now vals.now }
 {
     for number in 0..inputs.len() {

@@ -10,6 +10,7 @@ ghost use Rattle.accessible_copy.specs.Proving.{IsProofOf, IsOrdered, log_of, si
 use crate::entry::{Entry, Sizes};
 use crate::history::History;
 use crate::known::Known;
+use crate::open_facts::OpenFacts;
 use access_schema::Schema;
 use homomorphism::{Freezing, ground_under};
 use lists::{NoMemory, Seq, Texts};
@@ -19,6 +20,8 @@ use std::alloc::Global;
 use std::marker::Model;
 
 /// Base facts, exposed facts and copy facts, the next label, the known values, and the log of the firings.
+///
+/// `open_facts` is what is kept to list exposures fast, from the first exposure on. Contracts do not see it.
 #[derive(Drop)]
 pub struct Proof {
     pub(crate) opening: State,
@@ -26,12 +29,14 @@ pub struct Proof {
     pub(crate) copy: State,
     pub(crate) known: Known,
     pub(crate) history: History,
+    pub(crate) open_facts: Option<OpenFacts>,
 }
 
 impl Model for Proof {
-    ghost use Rattle.std.specs.Prelude.{◌≡◌, []};
+    ghost use Rattle.std.specs.Prelude.{◌≡◌, [], IfSome};
     ghost use Rattle.accessible_copy.specs.Known.{facts_of};
     ghost use Rattle.accessible_copy.specs.Proving.{Proving};
+    ghost use Rattle.accessible_copy.specs.OpenFacts.{AreOpenFacts};
 
     ghost Value = { Proving };
 
@@ -43,7 +48,8 @@ impl Model for Proof {
       end = record { base = p.base.facts; exposed = facts_of p.known.exposed; copy = p.copy.facts; next = p.base.next };
     } };
 
-    ghost invariant = { λ p. p.copy.next ≡ p.base.next };
+    ghost invariant = { λ p. (p.copy.next ≡ p.base.next)
+        × IfSome p.open_facts (λ kept. AreOpenFacts p.base.facts p.known.constants p.known.exposed kept) };
 }
 
 impl Proof {
@@ -69,6 +75,7 @@ impl Proof {
             copy: State::start(alloc, &Seq::new(alloc), query.variables)?,
             known: Known::start(alloc, known)?,
             history: History::new(alloc),
+            open_facts: None,
         })
     }
 

@@ -13,7 +13,7 @@ ghost use Rattle.accessible_copy.specs.Rounds.{IsAllQuiet, GoesOn, SomeExposure,
 ghost use Rattle.accessible_copy.specs.Listing.{CanFire, AreExposures};
 
 use crate::exposing::expose;
-use crate::going::goes_on;
+use crate::going::{base_goes_on, goes_on};
 use crate::listing::exposures;
 use crate::proof::Proof;
 use crate::settling::{Round, settle};
@@ -49,7 +49,7 @@ pub fn round(
     ensures ended { result ≡ Ok Done → budget ≤ length proof.new.entries → IsAllQuiet (meaning_of schema.now) proof.new }
     ensures spent { result ≡ Ok Spent → (budget ≤ length proof.new.entries) × GoesOn (meaning_of schema.now) proof.new }
 {
-    if let Some(_) = active(alloc, &proof.base, &schema.rules)? {
+    if base_goes_on(alloc, proof, schema)? {
         return settle_part(alloc, proof, schema, false, budget);
     }
     let found = exposures(alloc, proof, schema)?;

@@ -12,6 +12,7 @@ ghost use Rattle.accessible_copy.specs.declared.settling.Round.TheVariants.{Quie
 ghost use Rattle.accessible_copy.specs.Proving.{IsProofOf};
 ghost use Rattle.accessible_copy.specs.Settling.{Settles, kind_state};
 
+use crate::open_facts::put;
 use crate::proof::Proof;
 use access_schema::Schema;
 use lists::NoMemory;
@@ -73,6 +74,7 @@ pub(crate) fn settle_base(
     ensures going { result ≡ Ok Done → ⊥ }
 {
     let order = rule_order(alloc, &schema.rules)?;
+    put(&mut proof.open_facts, None);
     let held = proof.sizes();
     proof.history.begin(false, held);
     let stopped = run_in_order(

@@ -1,5 +1,6 @@
 // Values in order, which know where each stands first.
-ghost use Rattle.std.specs.Prelude.{◌≡◌, ◌↔◌, ◌∷◌, [], ◌++◌, IsTrue, Contains, OnOk, OnErr, length, take, slice_get, Some};
+ghost use Rattle.std.specs.Prelude.{◌≡◌, ◌↔◌, ◌∷◌, [], ◌++◌, IsTrue, IfSome, IfNone, Contains, OnOk, OnErr, length, take, slice_get, option_copied, Some};
+ghost use Rattle.meaning.specs.declared.types.Val.{Val as TheVal};
 
 use crate::first_places::FirstPlaces;
 use lists::{Copies, Exact, NoMemory};
@@ -59,6 +60,27 @@ impl Values {
         ensures { IsTrue result ↔ Contains self.now val.now }
     {
         is_at(self.list.as_slice(), self.places.get(val), val)
+    }
+
+    /// The value with this number. Takes no memory.
+    pub fn get(&self, number: usize) -> Option<&Val>
+        ensures { option_copied result ≡ slice_get self.now number }
+    {
+        self.list.get(number)
+    }
+
+    /// The value with this number, if it does not stand before. Takes no memory.
+    pub fn new_at(&self, number: usize) -> Option<&Val>
+        ensures some { IfSome result (λ val. slice_get self.now number ≡ Some val.now) }
+        ensures none { IfNone result ((val : TheVal) → slice_get self.now number ≡ Some val → Contains (take number self.now) val) }
+    {
+        match self.get(number) {
+            Some(val) => {
+                let place = self.places.get(val);
+                if place < number { None } else { Some(val) }
+            }
+            None => None,
+        }
     }
 
     /// One more value. Where memory is refused, nothing changes.

@@ -21,7 +21,7 @@ use Rattle.accessible_copy.specs.Rounds.{exposure_of}
 use Rattle.accessible_copy.specs.Settling.{Settles}
 use Rattle.accessible_copy.specs.Exposing.{with_exposure}
 use Rattle.accessible_copy.proofs.Writing.{written_run, firings_on}
-use Rattle.accessible_copy.proofs.Settled.{part_low}
+use Rattle.accessible_copy.proofs.PassEntries.{part_low}
 use Rattle.exposure_search.specs.Making.{bases_of, OnlyExposes, SameBase}
 use Rattle.exposure_search.proofs.Trying.{quiet_later}
 

@@ -30,7 +30,7 @@ use Rattle.middleware.specs.Branches.{IsAskable}
 use Rattle.middleware.specs.Rounds.{CanAskAll}
 use Rattle.middleware.specs.Sources.{IsPlaced, AttachBreaks}
 use Rattle.middleware.proofs.Answering.{twice, asked_nothing}
-use Rattle.middleware.proofs.LaneRuns.{placed, StepsOn-only, OnlyFirst-refl, OnlyFirst-trans}
+use Rattle.middleware.proofs.LaneRuns.{placed, later_source, earlier_source, StepsOn-only, OnlyFirst-refl, OnlyFirst-trans}
 
 -- ---- what is picked after the data of a relation were replaced
 
@@ -163,21 +163,11 @@ all_below (x ∷ xs) n each = (each x (contains_here x xs), all_below xs n (λ p
 -- ---- one attach, and several, on the lane
 
 module _ {S : Type 0} (seen : S → Seen) where
-  -- a source is there later on where it was before
-  stays_forward : (old mid : List (Kind S)) (kind : List ℕ) (b : S) → KindsStay seen old mid → source_of old kind ≡ Some b → (m : S) × (source_of mid kind ≡ Some m)
-  stays_forward [] mid kind b stay e = absurd (cc)
-  stays_forward (x ∷ xs) [] kind b stay e = absurd stay
-  stays_forward (x ∷ xs) (y ∷ ys) kind b stay e = go (pointwise nat_eq x.name kind) (ap (λ (n : List ℕ). pointwise nat_eq n kind) (sym stay.0.name)) e (λ f. stays_forward xs ys kind b stay.1 f)
-    where
-      go : (t : Bool) → t ≡ pointwise nat_eq y.name kind → cond t (Some x.object) (source_of xs kind) ≡ Some b → (source_of xs kind ≡ Some b → (m : S) × (source_of ys kind ≡ Some m)) → (m : S) × (cond (pointwise nat_eq y.name kind) (Some y.object) (source_of ys kind) ≡ Some m)
-      go true test e later = (y.object, ap (λ c. cond c (Some y.object) (source_of ys kind)) (sym test))
-      go false test e later = let (m, at) = later e in (m, ap (λ c. cond c (Some y.object) (source_of ys kind)) (sym test) ∙ at)
-
   module _ (schema : Schema) where
     -- requests of nothing, and then of more
     pub asked_after : (requests : List Request) (old mid new : List (Kind S)) → KindsStay seen old mid → AskedJust seen schema [] old mid → AskedJust seen schema requests mid new → AskedJust seen schema requests old new
     asked_after requests old mid new stay h k kind before after was now =
-        let (between, at) = stays_forward old mid kind before stay was in
+        let (between, at, less) = later_source seen old mid kind before stay was in
         k kind between after at now ∙ ap (option_map (λ (asked : List Request). asked ++ of_kind schema kind requests)) (h kind before between was at)
         ∙ twice [] (of_kind schema kind requests) ((seen before).asked)
 
@@ -277,7 +267,7 @@ module _ {S : Type 0} (seen : S → Seen) where
         → (after : S) × (source_of new kind ≡ Some after) × ((seen after).attached rel ≡ (seen before).attached rel) × (told_rows rel (seen after).held ≡ told_rows rel (seen before).held)
     order_keeps [] rel apart old new e kind before was = (before, ap (λ (l : List (Kind S)). source_of l kind) e ∙ was, refl, refl)
     order_keeps (r ∷ rels) rel apart old new (mid, one, rest) kind before was =
-        let (between, at) = stays_forward old mid kind before (one_stays r (Ok tt) old mid one) was in
+        let (between, at, less) = later_source seen old mid kind before (one_stays r (Ok tt) old mid one) was in
         let other : rel ≢ r = λ e. apart (subst (λ x. Contains (r ∷ rels) x) (sym e) (contains_here r rels)) in
         let (after, now, attached, told) = order_keeps rels rel (λ c. apart (contains_there r rels rel c)) mid new rest kind between at in
         elim (one_source r (Ok tt) old mid one kind before between was at) [
@@ -335,7 +325,7 @@ module _ {S : Type 0} (seen : S → Seen) where
 
         second : IsAttachedSo rel relation line mid new → IsAttachedSo rel relation line old new
         second later =
-            let (b, at) = stays_back old mid line.kind later.before (one_stays r (Ok tt) old mid one) later.was in
+            let (b, at, less) = earlier_source seen old mid line.kind later.before (one_stays r (Ok tt) old mid one) later.was in
             let offers : (seen later.before).offer ≡ (seen b).offer = one_offers r (Ok tt) old mid one line.kind b later.before at later.was in
             record {
               before = b;
@@ -346,16 +336,6 @@ module _ {S : Type 0} (seen : S → Seen) where
               offered = subst (λ (f : ℕ → List (List ℕ) → List ℕ → Option (Result RowList AttachFault)). IfSome (f rel relation.columns line.locator) IsOk) offers later.offered;
               told = subst (λ (f : ℕ → List (List ℕ) → List ℕ → Option (Result RowList AttachFault)). IfSome (f rel relation.columns line.locator) (λ offer. IfSome (told_rows rel (seen later.after).held) (λ rows. offer ≡ Ok rows))) offers later.told;
             }
-          where
-            stays_back : (old mid : List (Kind S)) (kind : List ℕ) (m : S) → KindsStay seen old mid → source_of mid kind ≡ Some m → (b : S) × (source_of old kind ≡ Some b)
-            stays_back [] [] kind m stay e = absurd (cc)
-            stays_back [] (y ∷ ys) kind m stay e = absurd stay
-            stays_back (x ∷ xs) [] kind m stay e = absurd stay
-            stays_back (x ∷ xs) (y ∷ ys) kind m stay e = go (pointwise nat_eq y.name kind) (ap (λ (n : List ℕ). pointwise nat_eq n kind) stay.0.name) e (λ f. stays_back xs ys kind m stay.1 f)
-              where
-                go : (t : Bool) → t ≡ pointwise nat_eq x.name kind → cond t (Some y.object) (source_of ys kind) ≡ Some m → (source_of ys kind ≡ Some m → (b : S) × (source_of xs kind ≡ Some b)) → (b : S) × (cond (pointwise nat_eq x.name kind) (Some x.object) (source_of xs kind) ≡ Some b)
-                go true test e later = (x.object, ap (λ c. cond c (Some x.object) (source_of xs kind)) (sym test))
-                go false test e later = let (b, at) = later e in (b, ap (λ c. cond c (Some x.object) (source_of xs kind)) (sym test) ∙ at)
 
     -- the same after requests were asked
     pub attached_after : (rel : ℕ) (relation : Relation) (line : SourceLine) (requests : List Request) (old mid new : List (Kind S)) → AsksLane seen schema requests mid new → IsAttachedSo rel relation line old mid → IsAttached seen rel relation line old new

@@ -6,19 +6,19 @@ use Rattle.std.proofs.lemmas.Bool.{cases_eq}
 use Rattle.std.proofs.lemmas.Slice.Eq.{bytes_eq-Decides}
 use Rattle.lists.proofs.Members.{some_injective}
 use Rattle.source_trait.specs.Asking.{Seen}
-use Rattle.source_trait.specs.Lanes.{names_of, place_from, AtKind, StepsAt, StepsOn, KindsStay}
+use Rattle.source_trait.specs.Lanes.{names_of, place_from, source_of, AtKind, StepsAt, StepsOn, KindsStay}
 use Rattle.source_trait.specs.declared.lanes.Kind.{Kind}
 use Rattle.source_trait.proofs.LaneSteps.{some_place, StepsOn-names, KindsStay-names}
 use Rattle.middleware.specs.Attaching.{OnlyFirst}
 
-set_other : {X : Type 0} (xs : List X) (p q : ℕ) (y : X) → q ≢ p → slice_get (slice_set xs p y) q ≡ slice_get xs q
+pub set_other : {X : Type 0} (xs : List X) (p q : ℕ) (y : X) → q ≢ p → slice_get (slice_set xs p y) q ≡ slice_get xs q
 set_other [] p q y apart = refl
 set_other (x ∷ xs) zero zero y apart = absurd (apart refl)
 set_other (x ∷ xs) zero (suc q) y apart = refl
 set_other (x ∷ xs) (suc p) zero y apart = refl
 set_other (x ∷ xs) (suc p) (suc q) y apart = set_other xs p q y (λ e. apart (ap suc e))
 
-set_same : {X : Type 0} (xs : List X) (p : ℕ) (x y : X) → slice_get xs p ≡ Some x → slice_get (slice_set xs p y) p ≡ Some y
+pub set_same : {X : Type 0} (xs : List X) (p : ℕ) (x y : X) → slice_get xs p ≡ Some x → slice_get (slice_set xs p y) p ≡ Some y
 set_same [] p x y h = absurd (cc)
 set_same (z ∷ xs) zero x y h = refl
 set_same (z ∷ xs) (suc p) x y h = set_same xs p x y h
@@ -157,6 +157,41 @@ module _ {S : Type 0} where
   stays_got seen (x ∷ xs) [] place before stay got = absurd stay
   stays_got seen (x ∷ xs) (y ∷ ys) zero before stay got = (y, refl, stay.0.name ∙ ap (λ (k : Kind S). k.name) (some_injective x before got))
   stays_got seen (x ∷ xs) (y ∷ ys) (suc place) before stay got = stays_got seen xs ys place before stay.1 got
+
+  abbrev IsLater : (S → Seen) → S → Option S → Type 0
+  IsLater seen b found = (a : S) × (found ≡ Some a) × ((seen b).faults ≤ (seen a).faults)
+
+  abbrev IsEarlier : (S → Seen) → S → Option S → Type 0
+  IsEarlier seen a found = (b : S) × (found ≡ Some b) × ((seen b).faults ≤ (seen a).faults)
+
+  -- a source is there later on where it was before, and its count of faults did not fall
+  pub later_source : (seen : S → Seen) (old new : List (Kind S)) (kind : List ℕ) (b : S) → KindsStay seen old new → source_of old kind ≡ Some b
+      → IsLater seen b (source_of new kind)
+  later_source seen [] new kind b stay e = absurd (cc)
+  later_source seen (x ∷ xs) [] kind b stay e = absurd stay
+  later_source seen (x ∷ xs) (y ∷ ys) kind b stay e =
+      go (pointwise nat_eq x.name kind) (ap (λ (n : List ℕ). pointwise nat_eq n kind) (sym stay.0.name)) e (λ f. later_source seen xs ys kind b stay.1 f)
+    where
+      go : (t : Bool) → t ≡ pointwise nat_eq y.name kind → cond t (Some x.object) (source_of xs kind) ≡ Some b → (source_of xs kind ≡ Some b → IsLater seen b (source_of ys kind))
+          → IsLater seen b (cond (pointwise nat_eq y.name kind) (Some y.object) (source_of ys kind))
+      go true test e later =
+          (y.object, ap (λ c. cond c (Some y.object) (source_of ys kind)) (sym test), subst (λ (s : S). (seen s).faults ≤ (seen y.object).faults) (some_injective x.object b e) stay.0.later)
+      go false test e later = let (a, at, less) = later e in (a, ap (λ c. cond c (Some y.object) (source_of ys kind)) (sym test) ∙ at, less)
+
+  -- a source was there before where it is there now
+  pub earlier_source : (seen : S → Seen) (old new : List (Kind S)) (kind : List ℕ) (a : S) → KindsStay seen old new → source_of new kind ≡ Some a
+      → IsEarlier seen a (source_of old kind)
+  earlier_source seen [] [] kind a stay e = absurd (cc)
+  earlier_source seen [] (y ∷ ys) kind a stay e = absurd stay
+  earlier_source seen (x ∷ xs) [] kind a stay e = absurd stay
+  earlier_source seen (x ∷ xs) (y ∷ ys) kind a stay e =
+      go (pointwise nat_eq y.name kind) (ap (λ (n : List ℕ). pointwise nat_eq n kind) stay.0.name) e (λ f. earlier_source seen xs ys kind a stay.1 f)
+    where
+      go : (t : Bool) → t ≡ pointwise nat_eq x.name kind → cond t (Some y.object) (source_of ys kind) ≡ Some a → (source_of ys kind ≡ Some a → IsEarlier seen a (source_of xs kind))
+          → IsEarlier seen a (cond (pointwise nat_eq x.name kind) (Some x.object) (source_of xs kind))
+      go true test e later =
+          (x.object, ap (λ c. cond c (Some x.object) (source_of xs kind)) (sym test), subst (λ (s : S). (seen x.object).faults ≤ (seen s).faults) (some_injective y.object a e) stay.0.later)
+      go false test e later = let (b, at, less) = later e in (b, ap (λ c. cond c (Some x.object) (source_of xs kind)) (sym test) ∙ at, less)
 
   -- one after the other, where the relation goes on
   pub OnlyFirst-trans : (seen : S → Seen) (each : List ℕ → S → S → Type 0) → ((n : List ℕ) (s t u : S) → each n s t → each n t u → each n s u) → (old mid new : List (Kind S))

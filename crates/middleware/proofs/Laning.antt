@@ -182,7 +182,7 @@ module _ (places : List Place) (method : Method) (rows : RowList) (room : ℕ) w
 -- ---- a lane whose sources are asked
 
 module _ {S : Type 0} (seen : S → Seen) where
-  tells_refl : (o : Option S) → TellsSame seen o o
+  pub tells_refl : (o : Option S) → TellsSame seen o o
   tells_refl None = tt
   tells_refl (Some s) = (refl, refl, refl, refl)
 
@@ -193,6 +193,17 @@ module _ {S : Type 0} (seen : S → Seen) where
   tells_trans (Some x) None c h k = absurd h
   tells_trans (Some x) (Some y) None h k = absurd k
   tells_trans (Some x) (Some y) (Some z) h k = (k.0 ∙ h.0, k.1 ∙ h.1, k.2 ∙ h.2, k.3 ∙ h.3)
+
+  -- a step of one source that tells the same leaves what the source of each kind tells
+  pub stepped_tells : (kind other : List ℕ) (old new : List (Kind S)) (step : S → S → Type 0) → ((s t : S) → step s t → TellsSame seen (Some s) (Some t))
+      → StepsOn old new kind step → TellsSame seen (source_of old other) (source_of new other)
+  stepped_tells kind other old new step same steps =
+      let (place, is, at) = placed old new kind step steps in
+      elim (StepsAt-source old new step place other at) [
+        | inl stayed ↦ subst (λ (o : Option S). TellsSame seen (source_of old other) o) (sym stayed) (tells_refl (source_of old other))
+        | inr moved ↦
+            subst (λ (o : Option S). TellsSame seen o (source_of new other)) (sym moved.was) (subst (λ (o : Option S). TellsSame seen (Some moved.before) o) (sym moved.now) (same moved.before moved.after moved.steps))
+      ]
 
   module _ (schema : Schema) where
     pub AsksLane-refl : (kinds : List (Kind S)) → AsksLane seen schema [] kinds kinds
@@ -245,20 +256,9 @@ module _ {S : Type 0} (seen : S → Seen) where
       stay = StepsOn-stays old new step seen line.kind (λ s t h. (does s t h).later) steps;
       asked = λ kind before after was now. by_kind kind before after was now (pointwise nat_eq line.kind kind) refl;
       only = StepsOn-only old new line.kind step (λ kind s t. (seen t).attached ≡ (seen s).attached) (λ s t h. (does s t h).attached) steps;
-      tells = tells;
+      tells = λ kind. stepped_tells line.kind kind old new step (λ s t h. let d = does s t h in (d.held, d.attached, d.offers, d.passes)) steps;
     }
       where
-        tells : (kind : List ℕ) → TellsSame seen (source_of old kind) (source_of new kind)
-        tells kind =
-            let (place, is, at) = placed old new line.kind step steps in
-            elim (StepsAt-source old new step place kind at) [
-              | inl same ↦ subst (λ (o : Option S). TellsSame seen (source_of old kind) o) (sym same) (tells_refl (source_of old kind))
-              | inr moved ↦
-                  let d = does moved.before moved.after moved.steps in
-                  let here : TellsSame seen (Some moved.before) (Some moved.after) = (d.held, d.attached, d.offers, d.passes) in
-                  subst (λ (o : Option S). TellsSame seen o (source_of new kind)) (sym moved.was) (subst (λ (o : Option S). TellsSame seen (Some moved.before) o) (sym moved.now) here)
-            ]
-
         by_kind : (kind : List ℕ) (before after : S) → source_of old kind ≡ Some before → source_of new kind ≡ Some after → (b : Bool) → pointwise nat_eq line.kind kind ≡ b
             → (seen after).asked ≡ option_map (λ asked. asked ++ of_kind schema kind (requests_of rel positions list)) ((seen before).asked)
         by_kind kind before after was now true test =

@@ -6,6 +6,12 @@ pub mod Distinct
 pub mod Existing
 pub mod Alike
 pub mod Laning
+pub mod LaneAnswers
+pub mod LaneWorks
+pub mod LaneRounds
+pub mod LaneStarts
+pub mod LaneResults
+pub mod LanesAttached
 pub mod Finding
 pub mod Branching
 pub mod Attached

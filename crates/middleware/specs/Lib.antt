@@ -9,5 +9,7 @@ pub mod Rounds
 pub mod Live
 pub mod Parts
 pub mod Branches
+pub mod LaneAttaching
+pub mod LaneRounds
 pub mod Sources
 pub mod Running

@@ -25,7 +25,7 @@ use Rattle.accessible_copy.specs.Rounds.{IsAllQuiet, GoesOn}
 use Rattle.accessible_copy.proofs.Writing.{firings_on}
 use Rattle.accessible_copy.proofs.Pushing.{goes_copy}
 use Rattle.accessible_copy.specs.Listing.{CanFire}
-use Rattle.accessible_copy.proofs.Lasting.{exposure_stays}
+use Rattle.accessible_copy.proofs.BaseStaysMet.{exposure_stays}
 use Rattle.proof_search.specs.Searches.{IsSearch, IsExposure, Exposes}
 use Rattle.plan_extract.proofs.Shown.{end_exposed}
 

@@ -10,7 +10,7 @@ use Rattle.access_schema.specs.Meaning.{meaning_of}
 use Rattle.accessible_copy.specs.Known.{facts_of}
 use Rattle.accessible_copy.specs.Proving.{Proving, IsProofOf, log_of, sizes_of}
 use Rattle.accessible_copy.specs.contracts.proof.Proof.{the_view}
-use Rattle.accessible_copy.proofs.Showing.{copy_new, fact_below, facts_push, taken_back}
+use Rattle.accessible_copy.proofs.ExposureEntries.{copy_new, fact_below, facts_push, taken_back}
 use Rattle.accessible_copy.proofs.exposing.add_exposure.Goals as goal
 
 pub push-requires : goal.push-requires

@@ -6,7 +6,7 @@ use Rattle.meaning.specs.Matching.{IsQueryAnswer, GroundsOf}
 use Rattle.accessible_copy.specs.Proving.{Proving}
 use Rattle.accessible_copy.specs.Goals.{IsHeadMatch}
 use Rattle.accessible_copy.proofs.Listed.{got_here}
-use Rattle.accessible_copy.proofs.Heading.{NoGoal, none_first, none_more, none_all}
+use Rattle.accessible_copy.proofs.HeadMatches.{NoGoal, none_first, none_more, none_all}
 use Rattle.accessible_copy.proofs.goals.goal.Goals as goal
 
 pub loop-number-init : goal.loop-number-init

@@ -1,5 +1,5 @@
 use Rattle.std.proofs.Common.{take}
-use Rattle.accessible_copy.proofs.Heading.{NoGoal}
+use Rattle.accessible_copy.proofs.HeadMatches.{NoGoal}
 use Rattle.accessible_copy.proofs.goals.goal.Given as goal
 
 abbrev pub invariant-loop-number : goal.invariant-loop-number

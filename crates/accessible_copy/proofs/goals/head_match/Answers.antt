@@ -5,7 +5,7 @@ use Rattle.meaning.specs.Matching.{IsQueryAnswer, GroundsOf}
 use Rattle.homomorphism.specs.Narrowing.{Narrows, Differs}
 use Rattle.homomorphism.specs.Matches.{NoMatch}
 use Rattle.rule_pass.proofs.Steps.{none_then}
-use Rattle.accessible_copy.proofs.Heading.{head_none, head_differs}
+use Rattle.accessible_copy.proofs.HeadMatches.{head_none, head_differs}
 use Rattle.accessible_copy.proofs.goals.head_match.Goals as goal
 
 pub returns-in_ok-first_match-in-Some-clause-none : goal.returns-in_ok-first_match-in-Some-clause-none

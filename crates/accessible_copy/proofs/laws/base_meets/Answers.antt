@@ -1,4 +1,4 @@
-use Rattle.accessible_copy.proofs.Lasting.{base_meets}
+use Rattle.accessible_copy.proofs.BaseStaysMet.{base_meets}
 use Rattle.accessible_copy.proofs.laws.base_meets.Goals as goal
 
 pub returns : goal.returns

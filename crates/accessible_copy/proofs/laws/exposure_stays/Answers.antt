@@ -1,4 +1,4 @@
-use Rattle.accessible_copy.proofs.Lasting.{exposure_stays}
+use Rattle.accessible_copy.proofs.BaseStaysMet.{exposure_stays}
 use Rattle.accessible_copy.proofs.laws.exposure_stays.Goals as goal
 
 pub returns : goal.returns

@@ -5,8 +5,8 @@ use Rattle.rule_pass.proofs.Bounds.{orderly}
 use Rattle.accessible_copy.specs.Written.{Written, logged}
 use Rattle.accessible_copy.specs.Proving.{IsProofOf, sizes_of}
 use Rattle.accessible_copy.specs.contracts.proof.Proof.{the_view}
-use Rattle.accessible_copy.proofs.Lasting.{active_first}
-use Rattle.accessible_copy.proofs.Settled.{written_labels, base_settled}
+use Rattle.accessible_copy.proofs.BaseStaysMet.{active_first}
+use Rattle.accessible_copy.proofs.PassEntries.{written_labels, base_settled}
 use Rattle.accessible_copy.proofs.settling.settle_base.Goals as goal
 
 pub rule_order-requires : goal.rule_order-requires
@@ -35,7 +35,7 @@ raise-requires c =
     let s = base_settled (meaning_of c.args.schema.now) view c.sizes-held.result c.run_in_order-stopped.new.log c.run_in_order-stopped.new.state is part sizes goes in
     let later = s.later in
     let next = c.next-next.ensures.next in
-    let even = c.proof.invariant in
+    let even = c.proof.invariant.0 in
     record { later = omega arith }
 
 pub returns-clause-run : goal.returns-clause-run

@@ -1,7 +1,7 @@
 use Rattle.std.proofs.Common.{replicate}
 use Rattle.std.specs.Prelude.{None}
 use Rattle.homomorphism.specs.Narrowing.{Narrows, Differs}
-use Rattle.accessible_copy.proofs.Heading.{head_none, head_differs}
+use Rattle.accessible_copy.proofs.HeadMatches.{head_none, head_differs}
 use Rattle.plan_check.proofs.rows.query_has.Goals as goal
 
 pub returns-in_ok-has_match-in-Some-clause-no : goal.returns-in_ok-has_match-in-Some-clause-no

@@ -1,0 +1,90 @@
+-- The active exposures of facts by their numbers, number by number.
+use Rattle.std.proofs.Common.{◌≡◌, ℕ, zero, suc, ◌<◌, List, [], ◌∷◌, ◌++◌, Some, None, refl, sym, ap, ◌∙◌, subst, ⊎_elim, arith}
+use Rattle.std.specs.Prelude.{Contains, slice_get, slice_index_or}
+use Rattle.std.specs.List.{AllPairs}
+use Rattle.std.proofs.lemmas.List.Elements.{Contains-append_left, Contains-push, Contains-push_cases}
+use Rattle.lists.proofs.Members.{contains_cases, contains_got, some_injective}
+use Rattle.homomorphism.proofs.Members.{contains_none, distinct_push}
+use Rattle.meaning.specs.declared.types.SchemaParts.{SchemaParts}
+use Rattle.meaning.specs.declared.types.Ground.{Ground}
+use Rattle.meaning.specs.declared.types.Firing.{Firing}
+use Rattle.meaning.specs.Search.{AreDistinct}
+use Rattle.accessible_copy.specs.Proving.{Proving}
+use Rattle.accessible_copy.specs.Listing.{CanFire, AreExposures, AreExposuresOf}
+use Rattle.accessible_copy.proofs.Listed.{from_none, from_more}
+
+-- places of members
+pub place_of : {X : Type 0} (xs : List X) (x : X) → Contains xs x → (n : ℕ) × (slice_get xs n ≡ Some x)
+place_of [] x c = absurd (contains_none x c)
+place_of (y ∷ xs) x c = ⊎_elim (λ same. (0, ap (λ z. Some z) same)) (λ h. let (n, got) = place_of xs x h in (suc n, got)) (contains_cases y xs x c)
+
+-- distinct members have one place each
+one_place : {X : Type 0} (xs : List X) (a b : ℕ) (x : X) → AreDistinct xs → slice_get xs a ≡ Some x → slice_get xs b ≡ Some x → a ≡ b
+one_place [] a b x are at there = absurd (cc)
+one_place (y ∷ xs) zero zero x are at there = refl
+one_place (y ∷ xs) zero (suc b) x (new, are) at there = absurd (new (subst (Contains xs) (sym (some_injective y x at)) (contains_got xs b x there)))
+one_place (y ∷ xs) (suc a) zero x (new, are) at there = absurd (new (subst (Contains xs) (sym (some_injective y x there)) (contains_got xs a x at)))
+one_place (y ∷ xs) (suc a) (suc b) x (new, are) at there = ap suc (one_place xs a b x are at there)
+
+-- ascending numbers are distinct
+pub ascending_distinct : (xs : List ℕ) → AllPairs (λ x y. x < y) xs → AreDistinct xs
+ascending_distinct [] ascend = tt
+ascending_distinct (x ∷ xs) ascend = (
+  (λ (k, low, same). let less : x < slice_index_or xs k x = ascend 0 (suc k) x (omega arith) (omega arith) in absurd (omega arith)),
+  ascending_distinct xs (λ i j d l m. ascend (suc i) (suc j) d (omega arith) (omega arith)),
+)
+
+-- the exposures found are those of the facts with the numbers so far
+pub record AreFound (schema : SchemaParts) (proof : Proving) (numbers : List ℕ) (found : List Firing) : Type 0 where
+  pub facts : List Ground
+  pub once : AreDistinct facts
+  pub numbered : (fact : Ground) → Contains facts fact → (n : ℕ) × Contains numbers n × (slice_get proof.end.base n ≡ Some fact)
+  pub listed : (n : ℕ) (fact : Ground) → Contains numbers n → slice_get proof.end.base n ≡ Some fact → Contains facts fact
+  pub are : AreExposures schema proof facts found
+
+module _ (schema : SchemaParts) (proof : Proving) where
+  pub found_none : AreFound schema proof [] []
+  found_none = record {
+    facts = [];
+    once = tt;
+    numbered = λ fact c. absurd (contains_none fact c);
+    listed = λ n fact c got. absurd (contains_none n c);
+    are = from_none schema proof;
+  }
+
+  pub found_nothing : (numbers : List ℕ) (number : ℕ) (found : List Firing) → slice_get proof.end.base number ≡ None → AreFound schema proof numbers found → AreFound schema proof (numbers ++ number ∷ []) found
+  found_nothing numbers number found none is = record {
+    facts = is.facts;
+    once = is.once;
+    numbered = λ fact c. let (n, among, got) = is.numbered fact c in (n, Contains-append_left numbers (number ∷ []) n among, got);
+    listed = λ n fact c got. ⊎_elim (λ h. is.listed n fact h got)
+        (λ same. let both : Some fact ≡ None = sym got ∙ subst (λ k. slice_get proof.end.base k ≡ None) same none in absurd (cc)) (Contains-push_cases numbers number n c);
+    are = is.are;
+  }
+
+  pub found_more : (numbers : List ℕ) (number : ℕ) (fact : Ground) (methods : List ℕ) (found more : List Firing) → AreDistinct proof.end.base → (Contains numbers number → ⊥) → slice_get proof.end.base number ≡ Some fact
+      → AreExposuresOf schema proof fact methods more → ((method : ℕ) → CanFire schema proof method fact → Contains methods method) → AreFound schema proof numbers found → AreFound schema proof (numbers ++ number ∷ []) (found ++ more)
+  found_more numbers number fact methods found more once new at of below is = record {
+    facts = is.facts ++ fact ∷ [];
+    once = distinct;
+    numbered = λ other c. ⊎_elim (λ h. let (n, among, got) = is.numbered other h in (n, Contains-append_left numbers (number ∷ []) n among, got))
+        (λ same. (number, Contains-push numbers number, subst (λ f. slice_get proof.end.base number ≡ Some f) same at)) (Contains-push_cases is.facts fact other c);
+    listed = λ n other c got. ⊎_elim (λ h. Contains-append_left is.facts (fact ∷ []) other (is.listed n other h got))
+        (λ same. subst (λ f. Contains (is.facts ++ fact ∷ []) f) (some_injective fact other (sym at ∙ subst (λ k. slice_get proof.end.base k ≡ Some other) (sym same) got)) (Contains-push is.facts fact))
+        (Contains-push_cases numbers number n c);
+    are = from_more schema proof is.facts fact found more methods distinct is.are of below;
+  }
+    where
+      distinct : AreDistinct (is.facts ++ fact ∷ [])
+      distinct = distinct_push is.facts fact is.once (λ c. let (n, among, got) = is.numbered fact c in new (subst (λ k. Contains numbers k) (one_place proof.end.base n number fact once got at) among))
+
+  -- where all that can be exposed are numbered, these are all
+  pub found_all : (numbers : List ℕ) (found : List Firing) → ((n number : ℕ) (fact : Ground) → slice_get proof.end.base n ≡ Some fact → CanFire schema proof number fact → Contains numbers n)
+      → AreFound schema proof numbers found → AreExposures schema proof proof.end.base found
+  found_all numbers found all is = record {
+    each = λ firing c.
+        let (number, fact, e, among, can) = is.are.each firing c in
+        let (n, listed, got) = is.numbered fact among in (number, fact, e, contains_got proof.end.base n fact got, can);
+    all = λ number fact c can. let (n, got) = place_of proof.end.base fact c in is.are.all number fact (is.listed n fact (all n number fact got can) got) can;
+    once = is.are.once;
+  }

@@ -1,0 +1,8 @@
+use Rattle.std.proofs.Common.{ℕ, ◌<◌}
+use Rattle.std.specs.Prelude.{Contains}
+use Rattle.accessible_copy.specs.Known.{known_values, facts_of}
+use Rattle.accessible_copy.specs.OpenFacts.{IsOpen}
+use Rattle.accessible_copy.proofs.open_facts.OpenFacts.all_open.Given as goal
+
+abbrev pub invariant-loop-number : goal.invariant-loop-number
+invariant-loop-number l = (n : ℕ) → n < l.number → IsOpen l.self.ways.items l.facts (known_values l.known.constants (facts_of l.known.exposed)) (facts_of l.known.exposed) n → Contains l.numbers.items n

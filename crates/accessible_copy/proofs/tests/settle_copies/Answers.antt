@@ -1,5 +1,0 @@
-use Rattle.rule_pass.proofs.Bounds.{orderly}
-use Rattle.accessible_copy.proofs.tests.settle_copies.Goals as goal
-
-pub active-requires : goal.active-requires
-active-requires c = orderly c.args.schema.now

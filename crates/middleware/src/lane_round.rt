@@ -1,0 +1,104 @@
+// One round of requests, shared by several lanes.
+ghost use Rattle.std.specs.Prelude.{◌≡◌, ◌<◌, ◌≤◌, ℕ, List, IfOk, IfErr, OnOk, length, map};
+ghost use Rattle.meaning.specs.declared.types.Fact.{Fact};
+ghost use Rattle.access_schema.specs.declared.schema.Schema.{Schema};
+ghost use Rattle.lane_pool.specs.Work.{AllReady, FansOut};
+ghost use Rattle.source_trait.specs.Works.{MayAsk, Works};
+ghost use Rattle.source_trait.specs.declared.work.Asked.TheVariants as asked;
+ghost use Rattle.middleware.specs.LaneRounds.{started, requests_in, HaveTheirKinds, AsksEach, AsksSome, AreAnswers, LanesHold, picked, NoneStopped, FirstRefused, AskCause};
+
+use crate::ask::Answers;
+use lane_pool::fan_out;
+use lists::{NoMemory, Seq};
+use source_trait::{Ask, Asked, Lane, Source};
+use std::alloc::Global;
+use std::thread::Threads;
+
+/// Why a round of requests has no answers. A request counts from 0.
+#[derive(Clone, Copy, Debug, PartialEq, Eq)]
+pub enum AskFault {
+    NoMemory,
+    /// The first request in the list whose call failed.
+    CallFailed { request: u32 },
+}
+
+impl From<NoMemory> for AskFault {
+    ghost use Rattle.std.specs.Prelude.{◌≡◌};
+    ghost use Rattle.middleware.specs.declared.lane_round.AskFault.TheVariants as fault;
+
+    ghost from_gives = { λ _ e. e ≡ fault.NoMemory };
+
+    fn from(_: NoMemory) -> Self {
+        AskFault::NoMemory
+    }
+}
+
+/// Asks each request once, by one of the lanes, and answers in the order of the requests. The lanes ask at once, in threads of `rt`;
+/// one lane alone asks the requests in their order. A lane with a refused call asks no more in this round.
+pub fn ask_round<R: Threads + Sync, S: Source + Send + Drop>(
+    rt: &R,
+    alloc: Global,
+    asks: &[Ask],
+    lanes: &mut [Lane<S>],
+) -> Result<Answers, AskFault>
+    requires sizes { (0 < length lanes.old) × (length lanes.old ≤ 8) × (length asks.now ≤ 1_000_000) }
+    requires ready { AllReady (MayAsk S.seen) asks.now lanes.old }
+    ensures asks { IfOk result (λ answers. (schema : Schema) → HaveTheirKinds schema asks.now → AsksEach S.seen schema (requests_in asks.now) lanes.old lanes.new) }
+    ensures answers { IfOk result (λ answers. AreAnswers S.seen lanes.old asks.now answers) }
+    ensures picks { IfOk result (λ answers. (facts : List ℕ → List Fact) → LanesHold S.seen lanes.old facts → answers ≡ picked facts asks.now) }
+    ensures going { OnOk result (NoneStopped lanes.new) }
+    ensures refused { IfErr result (λ fault. (schema : Schema) → HaveTheirKinds schema asks.now → AsksSome S.seen schema (requests_in asks.now) lanes.old lanes.new) }
+    ensures cause { IfErr result (λ fault. (schema : Schema) → HaveTheirKinds schema asks.now → AskCause S.seen schema asks.now fault lanes.old lanes.new) }
+{
+    let answers = ask_lanes(rt, alloc, asks, lanes)?;
+    rows_of(alloc, answers)
+}
+
+// Each lane asks until its first refused call. Of more lanes than requests, those past the number of requests ask nothing.
+fn ask_lanes<R: Threads + Sync, S: Source + Send + Drop>(
+    rt: &R,
+    alloc: Global,
+    asks: &[Ask],
+    lanes: &mut [Lane<S>],
+) -> Result<Vec<Asked>, NoMemory>
+    requires sizes { (0 < length lanes.old) × (length lanes.old ≤ 8) × (length asks.now ≤ 1_000_000) }
+    requires ready { AllReady (MayAsk S.seen) asks.now lanes.old }
+    ensures asked { IfOk result (λ answers. FansOut (Works S.seen) asks.now answers.items (map started lanes.old) lanes.new) }
+    ensures refused { IfErr result (λ _. lanes.new ≡ map started lanes.old) }
+{
+    start(lanes);
+    let count = lanes.len().min(asks.len());
+    if count == 0 {
+        return Ok(Vec::new(alloc));
+    }
+    let (used, _idle) = lanes.split_at_mut(count);
+    fan_out(rt, alloc, used, asks)
+}
+
+// No lane is stopped as a round begins.
+fn start<S>(lanes: &mut [Lane<S>])
+    ensures { lanes.new ≡ map started lanes.old }
+{
+    for lane in lanes.iter_mut() {
+        lane.stopped = false;
+    }
+}
+
+// The rows of the answers, or why the first that has none was refused. A lane skips requests behind a refused one alone.
+fn rows_of(alloc: Global, answers: Vec<Asked>) -> Result<Answers, AskFault>
+    requires { length answers.items ≤ 1_000_000 }
+    ensures rows { IfOk result (λ rows. map asked.Rows rows ≡ answers.items) }
+    ensures first { IfErr result (λ fault. FirstRefused fault answers.items) }
+{
+    let mut rows = Vec::with_capacity(alloc, answers.len())?;
+    let mut number: u32 = 0;
+    for answer in answers {
+        match answer {
+            Asked::Rows(found) => rows.push_reserved(found),
+            Asked::Failed => return Err(AskFault::CallFailed { request: number }),
+            Asked::NoMemory | Asked::Skipped => return Err(AskFault::NoMemory),
+        }
+        number += 1;
+    }
+    Ok(Seq::from_vec(rows))
+}
