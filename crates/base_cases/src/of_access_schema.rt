@@ -69,26 +69,25 @@ fn has_names(alloc: Global, kind: &str, name: &str, columns: &[&str]) -> Result<
     Ok(are_named(parts.as_slice()))
 }
 
+/// Parts, each with whether it has its names.
+const NAMED: [(&str, &str, &[&str], bool); 10] = [
+    ("relation", "r", &["a"], true),
+    ("relation", "s", &[], true),
+    ("method", "m", &[""], true),
+    ("key", "", &[""], true),
+    ("constant", "", &[], true),
+    ("source", "csv", &[], true),
+    ("relation", "", &["a"], false),
+    ("relation", "r", &["a", ""], false),
+    ("method", "", &[], false),
+    ("source", "", &[], false),
+];
+
 #[test]
 fn names_are_there_or_not(rt: HostRuntime) -> Result<(), Fail> {
-    let cases: [(&str, &str, &[&str], bool); 10] = [
-        ("relation", "r", &["a"], true),
-        ("relation", "s", &[], true),
-        ("method", "m", &[""], true),
-        ("key", "", &[""], true),
-        ("constant", "", &[], true),
-        ("source", "csv", &[], true),
-        ("relation", "", &["a"], false),
-        ("relation", "r", &["a", ""], false),
-        ("method", "", &[], false),
-        ("source", "", &[], false),
-    ];
-    for (kind, name, columns, wanted) in cases {
-        assert_eq!(rt;
-            has_names(rt.alloc(), kind, name, columns)?,
-            wanted,
-            "{kind} {name}"
-        );
+    for (kind, name, columns, wanted) in &NAMED {
+        let has = has_names(rt.alloc(), kind, name, columns)?;
+        assert_eq!(rt; has, *wanted, "{kind}");
     }
     Ok(())
 }
