@@ -1,7 +1,8 @@
 //! The program: the top call over the files of the system, standard output and standard error.
 //!
-//! `main` makes the files, one lane whose kind `csv` is a folder of data files, and the two outputs, and ends with the
-//! exit status of `run_words`, which says what the program does. Begin at `main`; `system_io` has the adapters.
+//! `main` makes the files, one lane whose kind `csv` is a folder of data files and whose kind `world` is a source of
+//! generated rows, and the two outputs, and ends with the exit status of `run_words`, which says what the program does.
+//! Begin at `main`; `system_io` has the adapters.
 #![tactic(auto)]
 
 ghost use Rattle.std.specs.Prelude.{◌≡◌, ◌∷◌, [], List, map, drop, codes, IfOk};
@@ -22,6 +23,7 @@ use std::io::ErrorKind;
 use std::mem::forget;
 use std::process::ExitCode;
 use system_io::{RealErr, RealFiles, RealOut, System};
+use world_source::WorldSource;
 
 fn main(rt: HostRuntime) -> ExitCode {
     let alloc = rt.alloc();
@@ -30,13 +32,16 @@ fn main(rt: HostRuntime) -> ExitCode {
     let Ok(words) = words_of(&rt) else {
         return want_of_memory(&mut err);
     };
-    let Ok(object) = Box::new(
+    let Ok(folder) = Box::new(
         alloc,
         CsvFolder::new(alloc, RealFiles::new(System::new(rt))),
     ) else {
         return want_of_memory(&mut err);
     };
-    let Ok(lanes) = lanes_of(alloc, Boxed { object }) else {
+    let Ok(generator) = Box::new(alloc, WorldSource::new(alloc)) else {
+        return want_of_memory(&mut err);
+    };
+    let Ok(lanes) = lanes_of(alloc, Boxed { object: folder }, Boxed { object: generator }) else {
         return want_of_memory(&mut err);
     };
     let mut lanes = lanes;
@@ -85,14 +90,18 @@ fn words_after_first<I: Iterator<Item = String> + Drop>(
     Ok(words)
 }
 
-// One lane with this source under the kind `csv`.
-fn lanes_of(alloc: Global, object: Boxed) -> Result<Vec<Lane<Boxed>>, NoMemory>
-    ensures { IfOk result (λ lanes. map (λ lane. names_of lane.kinds.items) lanes.items ≡ (codes "csv" ∷ []) ∷ []) }
+// One lane with the one source under the kind `csv`, and the other under the kind `world`.
+fn lanes_of(alloc: Global, folder: Boxed, generator: Boxed) -> Result<Vec<Lane<Boxed>>, NoMemory>
+    ensures { IfOk result (λ lanes. map (λ lane. names_of lane.kinds.items) lanes.items ≡ (codes "csv" ∷ codes "world" ∷ []) ∷ []) }
 {
     let mut kinds = Vec::new(alloc);
     kinds.push(Kind {
         name: Text::from_str(alloc, "csv")?,
-        object,
+        object: folder,
+    })?;
+    kinds.push(Kind {
+        name: Text::from_str(alloc, "world")?,
+        object: generator,
     })?;
     let mut lanes = Vec::new(alloc);
     lanes.push(Lane::new(kinds))?;

@@ -1,25 +1,29 @@
 -- Sources that tell and offer an instance serve, and hold it once they are attached.
-use Rattle.std.proofs.Common.{◌≡◌, inl, inr, ◌<◌, ℕ, List, [], ◌∷◌, length, map, Option, None, Some, Result, Ok, Err, Bool, true, false, cond, ◌&&◌, nat_eq, refl, sym, ◌∙◌, ap, subst, arith}
+use Rattle.std.proofs.Common.{◌≡◌, ◌≢◌, inl, inr, ℕ, List, [], ◌∷◌, ◌++◌, map, Option, None, Some, Result, Ok, Err, Bool, true, false, cond, ◌&&◌, nat_eq, refl, sym, ◌∙◌, ap, subst, arith, append_assoc, true≢false}
 use Rattle.std.specs.Prelude.{Contains, IfSome, IsSome, IsSomeAnd, IsOk, option_map, if◌then◌else◌}
 use Rattle.std.specs.List.{filter}
+use Rattle.std.specs.Bool.{Decides}
+use Rattle.std.specs.Cmp.Lexicographic.{pointwise}
 use Rattle.std.proofs.lemmas.Bool.Decides.{nat_tests}
-use Rattle.lists.proofs.Members.{contains_here, contains_there, contains_cases, contains_map, contains_mapped}
+use Rattle.std.proofs.lemmas.Slice.Eq.{bytes_eq-Decides}
+use Rattle.lists.proofs.Members.{some_injective, contains_here, contains_there, contains_cases, contains_map, contains_mapped}
 use Rattle.meaning.specs.declared.types.Fact.{Fact}
 use Rattle.meaning.specs.declared.types.Plan.{Plan}
 use Rattle.access_schema.specs.declared.schema.Schema.{Schema}
+use Rattle.access_schema.specs.declared.schema.SourceLine.{SourceLine}
 use Rattle.source_trait.specs.Asking.{RowList, Seen, AttachGives, facts_of, pick}
 use Rattle.source_trait.specs.Lanes.{source_of, AtKind}
 use Rattle.source_trait.specs.declared.source.AttachFault.{AttachFault}
 use Rattle.source_trait.specs.declared.source.AttachFault.TheVariants.{TooLarge}
 use Rattle.source_trait.specs.declared.lanes.Kind.{Kind}
 use Rattle.source_trait.specs.declared.lanes.Lane.{Lane}
-use Rattle.source_trait.proofs.LaneSteps.{StepsOn-keeps, AtKind-map}
-use Rattle.middleware.specs.PlanSources.{IsAccessed}
-use Rattle.middleware.specs.Attaching.{AttachesInOrder, AllAttached, TellsSame}
+use Rattle.source_trait.proofs.LaneSteps.{StepsOn-keeps, StepsOn-others, StepsOn-source, AtKind-map}
+use Rattle.middleware.specs.PlanSources.{line_for, IsAccessed}
+use Rattle.middleware.specs.Attaching.{AttachesInOrder, AttachesOne, AllAttached, TellsSame}
 use Rattle.middleware.specs.Held.{SameFacts, HoldPlan}
 use Rattle.command_io.specs.declared.delivery.TheConstants.{CALLS}
 use Rattle.verify_command.specs.Verifying.{used}
-use Rattle.pdq_core.specs.Complete.{NoSourceRose, Serve, KeepsCap, CanExecute, OffersFacts, OfferInstance}
+use Rattle.pdq_core.specs.Complete.{NoSourceRose, Serve, KeepsCap, CanExecute, OffersFacts, OfferInstance, OfferUntold, placed, located}
 
 -- ---- the rows of a relation are its facts
 
@@ -118,20 +122,103 @@ module _ {S : Type 0} (seen : S → Seen) (schema : Schema) where
   at_source : (P : S → Type 0) (found : Option S) (s : S) → found ≡ Some s → IsSomeAnd found P → P s
   at_source P found s is h = subst (λ (o : Option S). IsSomeAnd o P) is h
 
+  -- ---- the limit
+
+  located_append : (kind : List ℕ) (xs ys : List ℕ) → located schema kind (xs ++ ys) ≡ located schema kind xs ++ located schema kind ys
+  located_append kind [] ys = refl
+  located_append kind (x ∷ xs) ys =
+      ap (λ (l : List (ℕ × List ℕ)). placed kind x (line_for x schema.sources) ++ l) (located_append kind xs ys)
+      ∙ sym (append_assoc (placed kind x (line_for x schema.sources)) (located schema kind xs) (located schema kind ys))
+
+  -- what passes after one attach is what would have passed with it before
+  one_passes : (rel : ℕ) (old new : List (Kind S)) → AttachesOne seen schema rel (Ok tt) old new → (kind : List ℕ) (t : S) → source_of new kind ≡ Some t →
+      (s : S) × (source_of old kind ≡ Some s) × ((more : List (ℕ × List ℕ)) → (seen t).passes more ≡ (seen s).passes (placed kind rel (line_for rel schema.sources) ++ more))
+  one_passes rel old new one kind t now = go (pointwise nat_eq one.line.kind kind) refl (bytes_eq-Decides one.line.kind kind)
+    where
+      on_line : (b : Bool) → pointwise nat_eq one.line.kind kind ≡ b → placed kind rel (line_for rel schema.sources) ≡ cond b ((rel, one.line.locator) ∷ []) []
+      on_line b test = ap (placed kind rel) one.line_is ∙ ap (λ (c : Bool). cond c ((rel, one.line.locator) ∷ []) []) test
+
+      go : (b : Bool) → pointwise nat_eq one.line.kind kind ≡ b → Decides (pointwise nat_eq one.line.kind kind) (one.line.kind ≡ kind) →
+          (s : S) × (source_of old kind ≡ Some s) × ((more : List (ℕ × List ℕ)) → (seen t).passes more ≡ (seen s).passes (placed kind rel (line_for rel schema.sources) ++ more))
+      go true test says =
+          let same : one.line.kind ≡ kind = says.0 test in
+          let moved = StepsOn-source old new (Attaches rel one.relation.columns one.line.locator) one.line.kind one.steps in
+          let gives : Attaches rel one.relation.columns one.line.locator moved.before moved.after = moved.steps in
+          let last : moved.after ≡ t = some_injective moved.after t (sym moved.now ∙ ap (source_of new) same ∙ now) in (
+            moved.before,
+            ap (source_of old) (sym same) ∙ moved.was,
+            λ more. ap (λ (s : S). (seen s).passes more) (sym last) ∙ gives.passes more
+                ∙ ap (λ (l : List (ℕ × List ℕ)). (seen moved.before).passes (l ++ more)) (sym (on_line true test)),
+          )
+      go false test says =
+          let apart : kind ≢ one.line.kind = λ e. true≢false (sym (says.1 (sym e)) ∙ test) in
+          let stayed = StepsOn-others old new (Attaches rel one.relation.columns one.line.locator) one.line.kind kind apart one.steps in
+          (t, sym stayed ∙ now, λ more. ap (λ (l : List (ℕ × List ℕ)). (seen t).passes (l ++ more)) (sym (on_line false test)))
+
+  -- and the same of several
+  order_passes : (rels : List ℕ) (old middle : List (Kind S)) → AttachesInOrder seen schema rels old middle → (kind : List ℕ) (t : S) → source_of middle kind ≡ Some t →
+      (s : S) × (source_of old kind ≡ Some s) × ((more : List (ℕ × List ℕ)) → (seen t).passes more ≡ (seen s).passes (located schema kind rels ++ more))
+  order_passes [] old middle e kind t now = (t, ap (λ (l : List (Kind S)). source_of l kind) (sym e) ∙ now, λ more. refl)
+  order_passes (rel ∷ rels) old middle (next, one, rest) kind t now =
+      let (u, between, later) = order_passes rels next middle rest kind t now in
+      let (s, was, first) = one_passes rel old next one kind u between in
+      let its = placed kind rel (line_for rel schema.sources) in
+      (s, was, λ more. later more ∙ first (located schema kind rels ++ more) ∙ ap (λ (l : List (ℕ × List ℕ)). (seen s).passes l) (sym (append_assoc its (located schema kind rels) more)))
+
+  -- the relation itself is the last of those of its kind
+  located_last : (rels : List ℕ) (rel : ℕ) (line : SourceLine) → line_for rel schema.sources ≡ Some line →
+      located schema line.kind (rels ++ rel ∷ []) ≡ located schema line.kind rels ++ (rel, line.locator) ∷ []
+  located_last rels rel line is =
+      let same : pointwise nat_eq line.kind line.kind ≡ true = (bytes_eq-Decides line.kind line.kind).1 refl in
+      let its : placed line.kind rel (line_for rel schema.sources) ≡ (rel, line.locator) ∷ [] =
+      ap (placed line.kind rel) is ∙ ap (λ (c : Bool). cond c ((rel, line.locator) ∷ []) []) same in
+      located_append line.kind rels (rel ∷ []) ∙ ap (λ (l : List (ℕ × List ℕ)). located schema line.kind rels ++ (l ++ [])) its
+
   -- they serve
   pub offers_serve : (IsNeeded : ℕ → Type 0) (old new : List (Kind S)) (instance : List Fact) → OfferInstance seen schema IsNeeded old instance → NoSourceRose seen old new →
       Serve seen schema IsNeeded old new
   offers_serve IsNeeded old new instance offer calm = record {
     lines = offer.lines;
     kinds = offer.kinds_are;
-    offers = λ rels middle are order rel needed relation line source relation_is line_is found.
+    offers = λ rels rel middle up are needed order relation line source relation_is line_is found.
         let these : AtKind old line.kind (OffersThese rel relation.columns line.locator) =
         AtKind-map line.kind old _ (OffersThese rel relation.columns line.locator) (λ s o. (o.rows, o.offered)) (offer.facts rel relation line needed relation_is line_is) in
         let later = order_keeps (OffersThese rel relation.columns line.locator) (offer_stays rel relation.columns line.locator) rels old middle order line.kind these in
         let (rows, is) = at_source (OffersThese rel relation.columns line.locator) (source_of middle line.kind) source found later in
-        rows_offered ((seen source).offer rel relation.columns line.locator) ((seen source).passes rel line.locator) rows is (offer.limitless source rel line.locator);
+        let (first, was, same) = order_passes rels old middle order line.kind source found in
+        let keeps = at_source (λ s. (seen s).passes (located schema line.kind (rels ++ rel ∷ [])) ≡ false) (source_of old line.kind) first was (offer.fits rels rel line up are needed line_is) in
+        let room : (seen source).passes ((rel, line.locator) ∷ []) ≡ false =
+        same ((rel, line.locator) ∷ []) ∙ ap (λ (l : List (ℕ × List ℕ)). (seen first).passes l) (sym (located_last rels rel line line_is)) ∙ keeps in
+        rows_offered ((seen source).offer rel relation.columns line.locator) ((seen source).passes ((rel, line.locator) ∷ [])) rows is room;
     faults = calm;
   }
+
+  -- ---- nothing told
+
+  abbrev OffersNothing : ℕ → List ℕ → S → Type 0
+  OffersNothing rel locator s = (columns : List (List ℕ)) → (seen s).offer rel columns locator ≡ None
+
+  nothing_stays : (rel : ℕ) (locator : List ℕ) (r : ℕ) (c : List (List ℕ)) (l : List ℕ) (s t : S) → OffersNothing rel locator s → Attaches r c l s t → OffersNothing rel locator t
+  nothing_stays rel locator r c l s t none gives = λ columns.
+      ap (λ (o : ℕ → List (List ℕ) → List ℕ → Option (Result RowList AttachFault)). o rel columns locator) gives.offers ∙ none columns
+
+  there : (P : S → Type 0) (found : Option S) → IsSomeAnd found P → IsSome found
+  there P None h = absurd h
+  there P (Some s) h = refl
+
+  -- they serve too
+  pub untold_serve : (IsNeeded : ℕ → Type 0) (old new : List (Kind S)) → OfferUntold seen schema IsNeeded old → NoSourceRose seen old new → Serve seen schema IsNeeded old new
+  untold_serve IsNeeded old new offer calm = record {
+    lines = offer.lines;
+    kinds = λ rel line needed line_is. there _ (source_of old line.kind) (offer.untold rel line needed line_is);
+    offers = λ rels rel middle up are needed order relation line source relation_is line_is found.
+        let later = order_keeps (OffersNothing rel line.locator) (nothing_stays rel line.locator) rels old middle order line.kind (offer.untold rel line needed line_is) in
+        let none = at_source (OffersNothing rel line.locator) (source_of middle line.kind) source found later relation.columns in
+        rw none tt;
+    faults = calm;
+  }
+
+  -- ---- what is held
 
   taken : (rel : ℕ) (instance : List Fact) (rows : RowList) (held : Option (List Fact)) → IsSome held → IfSome held (λ facts. given rows ≡ given (pick facts rel [] [])) →
       SameFacts rel (facts_of rel rows) instance → IsSomeAnd held (λ facts. SameFacts rel facts instance)
@@ -158,10 +245,9 @@ module _ {S : Type 0} (seen : S → Seen) (schema : Schema) where
       (taken rel instance first.rows (seen each.after).held told rows_are first.same)
 
   -- so the plan can be executed
-  pub offers_execute : (plan : Plan) (old new : List (Lane S)) (instance : List Fact) → 0 < length old → OfferInstance seen schema (IsAccessed schema plan) (used old) instance →
+  pub offers_execute : (plan : Plan) (old new : List (Lane S)) (instance : List Fact) → OfferInstance seen schema (IsAccessed schema plan) (used old) instance →
       NoSourceRose seen (used old) (used new) → KeepsCap schema plan instance CALLS → CanExecute seen schema plan old new
-  offers_execute plan old new instance some offer calm within = record {
-    lane = some;
+  offers_execute plan old new instance offer calm within = record {
     serve = offers_serve (IsAccessed schema plan) (used old) (used new) instance offer calm;
     within = λ attached. record { instance = instance; held = offered_held plan (used old) (used new) instance offer attached; within = within };
   }

@@ -12,6 +12,7 @@ use Rattle.source_trait.specs.declared.lanes.Kind.{Kind}
 use Rattle.source_trait.specs.declared.lanes.Lane.{Lane}
 use Rattle.source_trait.proofs.LaneSteps.{StepsOn-stays, StepsOn-source, KindsStay-refl, KindsStay-trans}
 use Rattle.middleware.proofs.Attached.{order_stays}
+use Rattle.middleware.proofs.Lacking.{rises_strictly}
 use Rattle.data_verify.specs.declared.broken.Broken.{Broken}
 use Rattle.command_io.specs.declared.stop.Stop.{Stop}
 use Rattle.command_io.specs.declared.stop.Stop.TheVariants as stop
@@ -27,7 +28,7 @@ use Rattle.pdq_core.specs.Runs.{ended}
 use Rattle.pdq_core.specs.Complete.{IsAnswered, NoneRose, SchemaIsGiven, Serve}
 use Rattle.pdq_core.specs.Complete.IsAnswered.{done, no}
 use Rattle.pdq_core.proofs.CompleteTexts.{same_schema, schema_stop, result_stop, stop_answered}
-use Rattle.pdq_core.proofs.CompleteSources.{in_first, none_rose, none_refused}
+use Rattle.pdq_core.proofs.CompleteSources.{in_first, rises_take, none_rose, none_refused}
 
 module _ {S : Type 0} (seen : S → Seen) where
   module _ (schema : Schema) where
@@ -53,7 +54,7 @@ module _ {S : Type 0} (seen : S → Seen) where
           let some = serve.kinds rel first.line first.named first.line_is in
           absurd (cc)
       verify_stop result (not_attached rels rel why are breaks apart) =
-          absurd (none_refused seen schema (RulesName schema) old new serve (take breaks.n rels) breaks.middle rel why
+          absurd (none_refused seen schema (RulesName schema) old new serve (take breaks.n rels) breaks.middle rel why (rises_take rels breaks.n rel (rises_strictly rels are.ascends) breaks.at)
           (λ other among. (are.exactly other).0 (in_first breaks.n rels other among)) ((are.exactly rel).0 (contains_got rels breaks.n rel breaks.at)) apart breaks.attached breaks.refused)
       verify_stop result (not_asked rels rel middle are order breaks) =
           let one = breaks.failed in

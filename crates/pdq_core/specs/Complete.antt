@@ -1,5 +1,6 @@
 -- What a run without faults is given, command by command, and the statuses with which it ends.
-use Rattle.std.specs.Prelude.{◌≡◌, ◌≤◌, ◌<◌, ◌+◌, ◌++◌, ℕ, List, Contains, false, Option, Some, IfSome, IsSome, IsOk, Ok, length, slice_get}
+use Rattle.std.specs.Prelude.{◌≡◌, ◌≤◌, ◌+◌, ◌++◌, ℕ, List, [], ◌∷◌, Contains, false, Option, None, Some, IfSome, IsSome, IsOk, Ok, length, nat_eq, slice_get, if◌then◌else◌}
+use Rattle.std.specs.Cmp.Lexicographic.{pointwise}
 use Rattle.meaning.specs.declared.types.Fact.{Fact}
 use Rattle.meaning.specs.declared.types.Plan.{Plan}
 use Rattle.meaning.specs.declared.types.Relation.{Relation}
@@ -13,7 +14,7 @@ use Rattle.sql_select.specs.Statements.{IsStatementText}
 use Rattle.plan_form.specs.Grammar.{IsPlanText}
 use Rattle.no_plan_witness.specs.declared.decision.Chosen.{Chosen}
 use Rattle.explain.specs.Printing.{planned_text}
-use Rattle.source_trait.specs.Asking.{RowList, Seen, offered_now, facts_of}
+use Rattle.source_trait.specs.Asking.{RowList, Rises, Seen, offered_now, facts_of}
 use Rattle.source_trait.specs.Causes.{Rose}
 use Rattle.source_trait.specs.Lanes.{source_of, AtKind}
 use Rattle.source_trait.specs.Outside.{bytes_of}
@@ -88,9 +89,9 @@ pub record Serve {S : Type 0} (seen : S → Seen) (schema : Schema) (IsNeeded : 
   -- each of the relations has a source line, of a kind that the lane has
   pub lines : (rel : ℕ) → IsNeeded rel → IsSome (line_for rel schema.sources)
   pub kinds : (rel : ℕ) (line : SourceLine) → IsNeeded rel → line_for rel schema.sources ≡ Some line → IsSome (source_of old line.kind)
-  -- whichever of them are attached before it, what is offered of each is rows
-  pub offers : (rels : List ℕ) (middle : List (Kind S)) → ((other : ℕ) → Contains rels other → IsNeeded other) →
-      AttachesInOrder seen schema rels old middle → (rel : ℕ) → IsNeeded rel → OffersRows seen schema middle rel
+  -- as they are attached in ascending order, what is then offered of the next one is rows
+  pub offers : (rels : List ℕ) (rel : ℕ) (middle : List (Kind S)) → Rises (rels ++ rel ∷ []) → ((other : ℕ) → Contains rels other → IsNeeded other) → IsNeeded rel →
+      AttachesInOrder seen schema rels old middle → OffersRows seen schema middle rel
   pub faults : NoSourceRose seen old new
 
 -- No round of the plan on the instance passes the cap on requests.
@@ -104,9 +105,9 @@ pub record HoldWithin {S : Type 0} (seen : S → Seen) (schema : Schema) (plan :
   pub held : HoldPlan seen schema plan kinds instance
   pub within : KeepsCap schema plan instance cap
 
--- There is a lane, its sources serve the plan's relations, and where all of these came to be attached, no round passes the cap.
+-- The sources of the used lane serve the plan's relations, and where all of these came to be attached, no round passes the cap. So
+-- without a lane a plan can be executed that accesses no relation.
 pub record CanExecute {S : Type 0} (seen : S → Seen) (schema : Schema) (plan : Plan) (old new : List (Lane S)) : Type 0 where
-  pub lane : 0 < length old
   pub serve : Serve seen schema (IsAccessed schema plan) (used old) (used new)
   pub within : AllAttached seen schema plan (used old) (used new) → HoldWithin seen schema plan CALLS (used new)
 
@@ -119,13 +120,31 @@ pub record OffersFacts (seen : Seen) (rel : ℕ) (columns : List (List ℕ)) (lo
   pub offered : seen.offer rel columns locator ≡ Some (Ok rows)
   pub same : SameFacts rel (facts_of rel rows) instance
 
--- The sources of a lane offer the instance as far as these relations go, and never pass a limit on all attached data.
+-- the relation with its locator, where its source line has the kind
+abbrev pub placed : List ℕ → ℕ → Option SourceLine → List (ℕ × List ℕ)
+placed kind rel None = []
+placed kind rel (Some line) = if pointwise nat_eq line.kind kind then (rel, line.locator) ∷ [] else []
+
+-- those of these relations whose source lines have the kind, each with its locator
+abbrev pub located : Schema → List ℕ → List ℕ → List (ℕ × List ℕ)
+located schema kind [] = []
+located schema kind (rel ∷ rels) = placed kind rel (line_for rel schema.sources) ++ located schema kind rels
+
+-- The sources of a lane offer the instance as far as these relations go, which pass no limit on all attached data.
 pub record OfferInstance {S : Type 0} (seen : S → Seen) (schema : Schema) (IsNeeded : ℕ → Type 0) (kinds : List (Kind S)) (instance : List Fact) : Type 0 where
   pub lines : (rel : ℕ) → IsNeeded rel → IsSome (line_for rel schema.sources)
   pub kinds_are : (rel : ℕ) (line : SourceLine) → IsNeeded rel → line_for rel schema.sources ≡ Some line → IsSome (source_of kinds line.kind)
-  pub limitless : (source : S) (rel : ℕ) (locator : List ℕ) → (seen source).passes rel locator ≡ false
+  -- as they are attached in ascending order, those of a kind pass no limit
+  pub fits : (rels : List ℕ) (rel : ℕ) (line : SourceLine) → Rises (rels ++ rel ∷ []) → ((other : ℕ) → Contains rels other → IsNeeded other) → IsNeeded rel →
+      line_for rel schema.sources ≡ Some line → AtKind kinds line.kind (λ source. (seen source).passes (located schema line.kind (rels ++ rel ∷ [])) ≡ false)
   pub facts : (rel : ℕ) (relation : Relation) (line : SourceLine) → IsNeeded rel → slice_get schema.relations rel ≡ Some relation → line_for rel schema.sources ≡ Some line →
       AtKind kinds line.kind (λ source. OffersFacts (seen source) rel relation.columns line.locator instance)
+
+-- The sources of a lane tell nothing of what they offer of these relations.
+pub record OfferUntold {S : Type 0} (seen : S → Seen) (schema : Schema) (IsNeeded : ℕ → Type 0) (kinds : List (Kind S)) : Type 0 where
+  pub lines : (rel : ℕ) → IsNeeded rel → IsSome (line_for rel schema.sources)
+  pub untold : (rel : ℕ) (line : SourceLine) → IsNeeded rel → line_for rel schema.sources ≡ Some line →
+      AtKind kinds line.kind (λ source. (columns : List (List ℕ)) → (seen source).offer rel columns line.locator ≡ None)
 
 -- ---- commands
 

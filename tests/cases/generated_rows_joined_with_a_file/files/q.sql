@@ -1,0 +1,1 @@
+SELECT DISTINCT r.a, c.b FROM r, c WHERE r.b = c.a
