@@ -30,6 +30,9 @@ def scratch(folder):
         out.writelines(row for row in open(f"{TOP}/crates.txt") if row.split(":")[0] in CRATES)
     crate = f"{folder}/crates/accessible_copy"
     shutil.copy2(f"{TOP}/bench/copy_speed.tests", f"{crate}/src/tests/speed.rt")
+    for path in glob.glob(f"{crate}/src/tests/*.rt"):
+        if os.path.basename(path)[:-3] not in HELPERS + ["speed"]:
+            os.remove(path)
     with open(f"{crate}/src/tests.rt", "w") as out:
         out.writelines(f"mod {name};\n" for name in HELPERS + ["speed"])
     return crate

@@ -23,7 +23,7 @@ offers rel columns locator = Some (offered locator (length columns))
 pub record IsFresh (seen : Seen) : Type 0 where
   pub held : seen.held ≡ Some []
   pub offer : seen.offer ≡ offers
-  pub passes : (rel : ℕ) (locator : List ℕ) → seen.passes rel locator ≡ false
+  pub passes : (list : List (ℕ × List ℕ)) → seen.passes list ≡ false
   pub asked : seen.asked ≡ Some []
   pub attached : (rel : ℕ) → seen.attached rel ≡ None
   pub faults : seen.faults ≡ 0

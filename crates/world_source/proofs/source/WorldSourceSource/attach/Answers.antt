@@ -30,5 +30,6 @@ returns-in-Ok-take c =
       column = tt;
       later = omega arith;
       offers = refl;
+      passes = λ _. refl;
       asked = refl;
     }

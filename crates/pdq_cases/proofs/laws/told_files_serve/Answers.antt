@@ -1,0 +1,15 @@
+use Rattle.middleware.specs.PlanSources.{IsAccessed}
+use Rattle.verify_command.specs.RuleRelations.{RulesName}
+use Rattle.verify_command.specs.Verifying.{used}
+use Rattle.pdq_cases.proofs.Folders.{files_offer}
+use Rattle.pdq_cases.proofs.laws.told_files_serve.Goals as goal
+
+pub returns-clause-plan : goal.returns-clause-plan
+returns-clause-plan g c = λ schema plan old new instance kind folder files faults there fresh give calm within.
+    c.sources_that_tell_serve.ensures.plan schema plan old new instance
+    (files_offer g.S.Source.seen schema (IsAccessed schema plan) (used old) instance kind folder files faults there fresh give) calm within
+
+pub returns-clause-rules : goal.returns-clause-rules
+returns-clause-rules g c = λ schema old new instance kind folder files faults there fresh give calm.
+    c.sources_that_tell_serve.ensures.rules schema old new instance
+    (files_offer g.S.Source.seen schema (RulesName schema) (used old) instance kind folder files faults there fresh give) calm
