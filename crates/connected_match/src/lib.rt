@@ -10,6 +10,3 @@ mod order;
 mod walk;
 
 pub use matching::has_match;
-
-#[cfg(test)]
-mod tests;

@@ -13,6 +13,3 @@ mod texts;
 
 pub use source::WorldSource;
 pub use texts::{WorldTexts, world};
-
-#[cfg(test)]
-mod tests;
