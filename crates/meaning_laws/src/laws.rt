@@ -26,6 +26,7 @@ ghost use Rattle.meaning.specs.Claims.{IsModel, IsEquivalent, Refutes};
 ghost use Rattle.meaning.specs.Costs.{IsCost, IsRival, IsLeast};
 ghost use Rattle.meaning.specs.Homomorphisms.{image, renamed, Carries};
 ghost use Rattle.meaning.specs.Triggers.{AreNumbered, State, LabelsBelow, IsTrigger, IsQuiet, fired, IsFiringRun};
+ghost use Rattle.meaning.specs.RuleOrder.{IsFed};
 ghost use Rattle.meaning.specs.Runs.{IsBaseRun, Proof, NoExposure, Fires, part_of, IsRun, IsOrderedRun, opening, opening_state, frozen_head, HasGoal, IsStuck, last_part};
 ghost use Rattle.meaning.specs.Naming.{IsNaming, IsNamed, AreNamed};
 ghost use Rattle.meaning.specs.Fitting.{QueryHasConstants, Fit, RulesFit, QueryFits, IsKept};
@@ -373,4 +374,11 @@ pub fn branch_cost()
     ensures { (schema : SchemaParts) (exposures : List Exposure) (head : List Val) →
         ((e : Exposure) → Contains exposures e → Contains schema.methods e.method) →
         IsCost schema (branch_of exposures head) (exposures_cost exposures) }
+{}
+
+/// Where no chain of feeding has more than so many steps, some firings lead from each state to a quiet one.
+pub fn quiet_is_reached()
+    ensures { (rules : List Rule) (limit : ℕ) (state : State) → AreNumbered rules →
+        ((rel n : ℕ) → IsFed rules rel n → n ≤ limit) →
+        (log : List Trigger) × (end : State) × IsFiringRun rules state log end × IsQuiet rules end }
 {}
