@@ -1,5 +1,5 @@
--- the grandchildren of the person 1, and where they were born
-SELECT DISTINCT g.name, p.name AS place, p.region
-FROM parent a, parent b, person g, place p
-WHERE a.parent = '1' AND b.parent = a.child
-  AND g.id = b.child AND p.name = g.birthplace
+-- the children of the daughters of the person 1, and in which region they live now
+SELECT DISTINCT g.name, g.home, p.region
+FROM birth a, birth b, person g, place p
+WHERE a.mother = '1' AND b.mother = a.child
+  AND g.id = b.child AND p.name = g.home
