@@ -1,5 +1,6 @@
 -- from Oslo to Lisbon with one stop, on one day: where the stop is, and with whom
-SELECT DISTINCT f.day, c.name AS stop, n.name AS country, f.number AS first, fc.airline AS first_with, g.number AS second, gc.airline AS second_with
+SELECT DISTINCT f.day, c.name AS stop, n.name AS country,
+  f.number AS first, fc.airline AS first_with, g.number AS second, gc.airline AS second_with
 FROM flight f, flight g, airport a, city c, country n, carrier fc, carrier gc
 WHERE f.origin = 'OSL' AND g.destination = 'LIS'
   AND g.origin = f.destination AND g.day = f.day
