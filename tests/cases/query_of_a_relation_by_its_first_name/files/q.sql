@@ -1,0 +1,1 @@
+SELECT DISTINCT r.a FROM r s

@@ -1,0 +1,5 @@
+plan 1
+branch
+access all_r(new, new) # all
+output $0
+end

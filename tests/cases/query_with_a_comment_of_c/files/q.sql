@@ -1,0 +1,1 @@
+/* all */ SELECT DISTINCT a FROM r
