@@ -261,6 +261,7 @@ added_way old new taken step cost number facts looked kept from number_is pushed
         within = omega arith;
         at = (let e : way_at new.facts new.paths taken.number ≡ way_at old.facts (old.paths ++ (slice_index_or old.paths taken.number [] ++ step ∷ []) ∷ []) taken.number = cc in e)
             ∙ ap (way_along old.facts) (get_or_append_left old.paths ((slice_index_or old.paths taken.number [] ++ step ∷ []) ∷ []) [] taken.number low) ∙ way;
+        key = from.key;
       };
       kept = λ other c. subst (λ (ws : List Way). Contains ws other) (sym waits) (still_waits old.facts old.paths taken.number step old.waiting new.waiting cost old.looked.items old.table kept only' here' stay cost_is low other c);
       only = λ other c. ⊎_elim (λ h. inl h) (λ e. inr (sym made ∙ e)) (waits_now old.facts old.paths taken.number step old.waiting new.waiting cost old.looked.items old.table kept only' here' stay cost_is low other (subst (λ (ws : List Way). Contains ws other) waits c));

@@ -1,8 +1,15 @@
 -- Sets of marks.
-use Rattle.std.proofs.Common.{◌≡◌, ℕ, zero, suc, ◌+◌, [], ◌∷◌, ◌++◌, false, refl, ap, arith}
+use Rattle.std.proofs.Common.{◌≡◌, ℕ, zero, suc, List, [], ◌∷◌, Bool, true, false, Some, slice_get, refl, ap}
+use Rattle.std.specs.Prelude.{replicate, slice_set}
 use Rattle.least_search.specs.Walks.{no_facts}
 
--- the empty set of one more fact
-pub none_more : (n : ℕ) → no_facts n ++ false ∷ [] ≡ no_facts (n + 1)
-none_more zero = refl
-none_more (suc n) = let e : suc n + 1 ≡ suc (n + 1) = omega arith in rw e (ap (λ s. false ∷ s) (none_more n))
+-- the empty set has no mark
+pub none_is : (n : ℕ) → replicate n false ≡ no_facts n
+none_is zero = refl
+none_is (suc n) = ap (λ s. false ∷ s) (none_is n)
+
+-- a mark that is there
+pub marked_again : (set : List Bool) (fact : ℕ) → slice_get set fact ≡ Some true → slice_set set fact true ≡ set
+marked_again [] fact e = refl
+marked_again (mark ∷ set) zero e = let h : true ≡ mark = cc in ap (λ m. m ∷ set) h
+marked_again (mark ∷ set) (suc fact) e = ap (λ s. mark ∷ s) (marked_again set fact e)

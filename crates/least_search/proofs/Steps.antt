@@ -2,7 +2,6 @@
 use Rattle.std.proofs.Common.{◌≡◌, ◌⊎◌, ℕ, ◌+◌, ◌*◌, ◌-◌, ◌<◌, ◌≤◌, List, [], ◌∷◌, ◌++◌, length, Bool, true, false, sym, refl, ap, ◌∙◌, subst, inl, inr, ⊎_elim, arith}
 use Rattle.std.specs.Prelude.{Contains, slice_set, slice_index_or, take, if◌then◌else◌}
 use Rattle.std.proofs.lemmas.List.{take_more, take_all}
-use Rattle.std.proofs.lemmas.Option.{slice_get_within}
 use Rattle.std.proofs.lemmas.List.Elements.{Contains-append_left, Contains-push, Contains-push_cases}
 use Rattle.lists.proofs.Members.{contains_here, contains_there, contains_cases, contains_mapped}
 use Rattle.least_search.proofs.Counts.{push_walk}
@@ -11,7 +10,7 @@ use Rattle.least_search.specs.Ways.{Way, IsWay, way_along, way_with}
 use Rattle.least_search.specs.declared.search.Ended.{Ended}
 use Rattle.least_search.specs.declared.search.Ended.TheVariants as ended
 use Rattle.meaning.specs.Search.{AreDistinct}
-use Rattle.least_search.specs.Walks.{walk_cost, no_facts, with_fact, IsSpace}
+use Rattle.least_search.specs.Walks.{walk_cost, no_facts, with_fact}
 use Rattle.least_search.specs.Frontier.{sets_of, IsNext, IsKnown, ArePushed}
 use Rattle.least_search.proofs.Searched.{IsCovered, IsSearched, IsCounted}
 
@@ -39,10 +38,6 @@ way_longer n CanMove way move is can =
       walk = push_walk CanMove (no_facts n) way.path way.set move is.walk can;
       cost = ap (λ m. m + move.cost) is.cost ∙ sym (cost_push way.path move);
     }
-
--- a move that is listed adds a fact within the set
-pub inside : (n : ℕ) (CanMove : List Bool → Move → Type 0) (HasRun : ℕ → ℕ → Type 0) → IsSpace n CanMove HasRun → (set : List Bool) (move : Move) → CanMove set move → move.fact < length set
-inside n CanMove HasRun space set move can = slice_get_within set move.fact false (space.new set move can)
 
 module _ (n : ℕ) (CanMove : List Bool → Move → Type 0) (HasGoal : List Bool → Type 0) (bound : ℕ) where
   -- before the first look

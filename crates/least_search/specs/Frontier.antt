@@ -66,10 +66,11 @@ pub record IsNext (looked before after : List Way) (way : Way) : Type 0 where
       (way ≡ other) ⊎ (Contains after other ⊎ Contains (sets_of looked) other.set)
   pub only : (other : Way) → Contains after other → Contains before other
 
--- What was taken is the way of the path with its number.
+-- What was taken is the way of the path with its number, with the key of its set.
 pub record IsTakenFrom (frontier : Frontier) (taken : Taken) : Type 0 where
   pub within : taken.number < length frontier.paths
   pub at : way_at frontier.facts frontier.paths taken.number ≡ way_of taken.node
+  pub key : taken.key ≡ packed taken.node.set.items
 
 -- The cheapest way to a set that was not looked at is taken, and looked at.
 pub record IsTaken (before after : Frontier) (taken : Taken) : Type 0 where

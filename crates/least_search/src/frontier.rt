@@ -5,9 +5,10 @@ ghost use Rattle.std.specs.Option.{MatchOption};
 ghost use Rattle.least_search.specs.declared.table.Seen.TheVariants as seen;
 ghost use Rattle.least_search.specs.Walks.{with_fact};
 ghost use Rattle.least_search.specs.Ways.{Way, way_along};
+ghost use Rattle.least_search.specs.Packing.{packed};
 ghost use Rattle.least_search.specs.Frontier.{way_of, way_at, looked_in, waiting_in, IsFrontier, AreLooked, IsTakenFrom, IsTaken, IsAdded};
 
-use crate::node::{Node, set_along};
+use crate::node::{Marked, Node, set_along};
 use crate::paths::Paths;
 use crate::set_key::SetKey;
 use crate::space::Move;
@@ -26,11 +27,12 @@ pub(crate) struct Frontier {
     table: SetTable,
 }
 
-/// A node, with the number of its path.
+/// A node, with the number of its path and the key of its set.
 #[derive(Drop)]
 pub(crate) struct Taken {
     pub(crate) number: usize,
     pub(crate) node: Node,
+    pub(crate) key: SetKey,
 }
 
 impl Frontier {
@@ -59,63 +61,65 @@ impl Frontier {
         ensures { IfOk result (λ found. MatchOption found (AreLooked (looked_in self.old) (waiting_in self.old)) (IsTaken self.old self.new)) }
     {
         while let Some(waiter) = self.waiting.pop() {
-            let node = self.node(alloc, &waiter)?;
-            let key = SetKey::of(alloc, &node.set)?;
-            if !is_looked(self.table.get(&key)) {
-                let number = waiter.number;
-                self.looked.push(number)?;
+            let taken = self.along(alloc, &waiter)?;
+            if !is_looked(self.table.get(&taken.key)) {
+                let key = taken.key.copy(alloc)?;
+                self.looked.push(waiter.number)?;
                 self.table.put(key, Seen::Looked)?;
-                return Ok(Some(Taken { number, node }));
+                return Ok(Some(taken));
             }
         }
         Ok(None)
     }
 
-    /// The node of a path that waits.
-    fn node(&self, alloc: Global, waiter: &Waiter) -> Result<Node, NoMemory>
+    /// The node of a path that waits, with its key.
+    fn along(&self, alloc: Global, waiter: &Waiter) -> Result<Taken, NoMemory>
         requires within { waiter.now.number < length self.now.paths }
         requires cost { waiter.now.cost ≡ (way_at self.now.facts self.now.paths waiter.now.number).cost }
-        ensures { IfOk result (λ node. way_of node ≡ way_at self.now.facts self.now.paths waiter.now.number) }
+        ensures number { IfOk result (λ taken. taken.number ≡ waiter.now.number) }
+        ensures way { IfOk result (λ taken. way_of taken.node ≡ way_at self.now.facts self.now.paths waiter.now.number) }
+        ensures key { IfOk result (λ taken. taken.key ≡ packed taken.node.set.items) }
     {
         let path = self.paths.get(alloc, waiter.number)?;
-        let set = set_along(alloc, self.facts, &path)?;
-        Ok(Node {
-            path,
-            set,
-            cost: waiter.cost,
+        let Marked { set, key } = set_along(alloc, self.facts, &path)?;
+        Ok(Taken {
+            number: waiter.number,
+            node: Node {
+                path,
+                set,
+                cost: waiter.cost,
+            },
+            key,
         })
     }
 
     /// Lets the path that was taken wait with one more move, unless its set was looked at or waits at no greater cost.
-    pub(crate) fn add(&mut self, alloc: Global, taken: &Taken, step: Move) -> Result<(), NoMemory>
+    ///
+    /// The key is that of the set with the move's fact.
+    pub(crate) fn add(
+        &mut self,
+        alloc: Global,
+        taken: &Taken,
+        step: Move,
+        key: &SetKey,
+    ) -> Result<(), NoMemory>
         requires sound { IsFrontier self.old }
         requires from { IsTakenFrom self.old taken.now }
         requires sum { taken.now.node.cost + step.cost < 2 ^ 64 }
-        requires inside { step.fact < length taken.now.node.set.items }
+        requires key { key.now ≡ packed (with_fact taken.now.node.set.items step) }
         ensures sound { OnOk result (IsFrontier self.new) }
         ensures added { OnOk result (IsAdded self.old self.new taken.now step) }
     {
         let cost = taken.node.cost + u64::from(step.cost);
-        let set = set_with(alloc, &taken.node.set, step)?;
-        let key = SetKey::of(alloc, &set)?;
-        if is_covered(self.table.get(&key), cost) {
+        if is_covered(self.table.get(key), cost) {
             return Ok(());
         }
+        let kept = key.copy(alloc)?;
         let number = self.paths.push(taken.number, step)?;
         self.waiting.push(Waiter { cost, number })?;
-        self.table.put(key, Seen::Waits { cost })?;
+        self.table.put(kept, Seen::Waits { cost })?;
         Ok(())
     }
-}
-
-/// The set with the move's fact.
-fn set_with(alloc: Global, set: &[bool], step: Move) -> Result<Vec<bool>, NoMemory>
-    requires { step.fact < length set.now }
-    ensures { IfOk result (λ more. more.items ≡ with_fact set.now step) }
-{
-    let mut more = Vec::from_slice(alloc, set)?;
-    more[step.fact] = true;
-    Ok(more)
 }
 
 /// Whether the set was looked at.

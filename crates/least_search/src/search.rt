@@ -1,15 +1,17 @@
 // The search for the least cost, set by set in ascending order of cost (Dijkstra 1959).
-ghost use Rattle.std.specs.Prelude.{◌≡◌, ◌<◌, ℕ, Contains, length, None, if◌then◌else◌};
+ghost use Rattle.std.specs.Prelude.{◌≡◌, ◌<◌, ◌+◌, ◌^◌, ℕ, Contains, None, Some, false, slice_get, if◌then◌else◌};
 ghost use Rattle.std.specs.Result.{IfOk, OnOk};
 ghost use Rattle.std.specs.Option.{IfSome};
 ghost use Rattle.least_search.specs.declared.space.Move.{Move as TheMove};
 ghost use Rattle.least_search.specs.declared.search.Ended.TheVariants as ended;
 ghost use Rattle.least_search.specs.Walks.{IsNode};
-ghost use Rattle.least_search.specs.Frontier.{way_of, looked_in, waiting_in, IsFrontier, IsTakenFrom, ArePushed};
+ghost use Rattle.least_search.specs.Frontier.{way_of, looked_in, waiting_in, IsFrontier, IsTakenFrom, IsAdded, ArePushed};
+ghost use Rattle.least_search.specs.Packing.{packed};
 ghost use Rattle.least_search.specs.Costs.{IsLeastCost, IsEnough, best_cost};
 
 use crate::frontier::{Frontier, Taken};
 use crate::node::Node;
+use crate::set_key::SetKey;
 use crate::space::{End, Move, Space};
 use lists::NoMemory;
 use std::alloc::Global;
@@ -123,16 +125,41 @@ fn push_moves(
     requires sound { IsFrontier frontier.old }
     requires from { IsTakenFrom frontier.old taken.now }
     requires low { taken.now.node.cost < bound }
-    requires inside { (move : TheMove) → Contains moves.now move → move.fact < length taken.now.node.set.items }
+    requires free { (move : TheMove) → Contains moves.now move → slice_get taken.now.node.set.items move.fact ≡ Some false }
     ensures sound { OnOk result (IsFrontier frontier.new) }
     ensures facts { OnOk result (frontier.new.facts ≡ frontier.old.facts) }
     ensures looked { OnOk result (looked_in frontier.new ≡ looked_in frontier.old) }
     ensures pushed { OnOk result (ArePushed (way_of taken.now.node) bound moves.now (looked_in frontier.old) (waiting_in frontier.old) (waiting_in frontier.new)) }
 {
+    let mut key = taken.key.copy(alloc)?;
     for &step in moves {
         if u64::from(step.cost) < bound - taken.node.cost {
-            frontier.add(alloc, taken, step)?;
+            add_move(alloc, frontier, taken, step, &mut key)?;
         }
     }
     Ok(())
+}
+
+/// Lets what was taken wait with one more move, at a cost that a number has place for. The key is that of its set, and is used to look
+/// the larger set up.
+fn add_move(
+    alloc: Global,
+    frontier: &mut Frontier,
+    taken: &Taken,
+    step: Move,
+    key: &mut SetKey,
+) -> Result<(), NoMemory>
+    requires sound { IsFrontier frontier.old }
+    requires from { IsTakenFrom frontier.old taken.now }
+    requires sum { taken.now.node.cost + step.cost < 2 ^ 64 }
+    requires free { slice_get taken.now.node.set.items step.fact ≡ Some false }
+    requires key { key.old ≡ packed taken.now.node.set.items }
+    ensures sound { OnOk result (IsFrontier frontier.new) }
+    ensures added { OnOk result (IsAdded frontier.old frontier.new taken.now step) }
+    ensures key { key.new ≡ packed taken.now.node.set.items }
+{
+    key.mark(step.fact);
+    let added = frontier.add(alloc, taken, step, key);
+    key.unmark(step.fact);
+    added
 }

@@ -12,7 +12,7 @@ use Rattle.least_search.specs.Frontier.{sets_of, way_of, looked_in, waiting_in, 
 use Rattle.least_search.proofs.Searched.{IsSearched, IsCounted}
 use Rattle.least_search.proofs.Least.{least}
 use Rattle.least_search.proofs.Counts.{not_spent}
-use Rattle.least_search.proofs.Steps.{first_searched, fewer, taken, taken_least, looked_at, not_cut, contains_none, counted_more, sets_push, distinct_push, inside, pushed_only, pushed_reached}
+use Rattle.least_search.proofs.Steps.{first_searched, fewer, taken, taken_least, looked_at, not_cut, contains_none, counted_more, sets_push, distinct_push, pushed_only, pushed_reached}
 use Rattle.least_search.proofs.search.cheapest.Goals as goal
 use Rattle.least_search.proofs.search.cheapest.Goals.{in-FiringsSpent, in-NoGoal}
 
@@ -77,12 +77,12 @@ returns-in-UnitsSpent-clause-search g c spent told m n enough =
     (subst (λ k. IsCounted (g.S.Space.HasRun c.args.space.now) k (c.loop-frontier.units + 1 + c.in_ok-visit.visit.fired)) more (counted_more (g.S.Space.HasRun c.args.space.now) (length (looked_in c.loop-frontier.frontier)) c.loop-frontier.units c.in_ok-visit.visit.fired firings (length c.deref.result.now) c.loop-frontier.invariant.counted its few))
     (omega arith) m n enough
 
-pub push_moves-requires-clause-inside : goal.push_moves-requires-clause-inside
-push_moves-requires-clause-inside g c move there =
+pub push_moves-requires-clause-free : goal.push_moves-requires-clause-free
+push_moves-requires-clause-free g c move there =
     let set : c.deref-in-loop-frontier.result.now ≡ c.in-Some.taken.node.set.items = search rules in
     let possible : (move : Move) → Contains c.in_ok-visit.visit.moves.items move → g.S.Space.CanMove c.args.space.now c.in-Some.taken.node.set.items move = (λ move there. subst (λ s. g.S.Space.CanMove s c.in-Some.taken.node.set.items move) c.loop-frontier.invariant.back (subst (λ t. g.S.Space.CanMove c.loop-frontier.space t move) set (c.in_ok-visit.ensures.possible move there))) in
     let moves : c.deref-in-loop-frontier-2.result.now ≡ c.in_ok-visit.visit.moves.items = search rules in
-    inside (g.S.Space.size c.args.space.now) (g.S.Space.CanMove c.args.space.now) (g.S.Space.HasRun c.args.space.now) (g.met.S.Space.is_space c.args.space.now) c.in-Some.taken.node.set.items move (possible move (subst (λ (ms : List Move). Contains ms move) moves there))
+    (g.met.S.Space.is_space c.args.space.now).new c.in-Some.taken.node.set.items move (possible move (subst (λ (ms : List Move). Contains ms move) moves there))
 
 pub loop-frontier-preserved : goal.loop-frontier-preserved
 loop-frontier-preserved g c =

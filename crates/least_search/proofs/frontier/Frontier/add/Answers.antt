@@ -9,11 +9,8 @@ use Rattle.least_search.proofs.frontier.Frontier.add.Goals as goal
 
 pub returns-then-is_covered-clause-added : goal.returns-then-is_covered-clause-added
 returns-then-is_covered-clause-added c =
-    let set : c.in_ok-set.set.items ≡ with_fact c.deref.result.now c.args.step = c.in_ok-set.ensures in
-    let read : c.deref.result.now ≡ c.args.taken.now.node.set.items = search rules in
-    let read' : c.deref-2.result.now ≡ c.in_ok-set.set.items = search rules in
-    let key : c.in_ok-key.key ≡ packed (with_fact c.args.taken.now.node.set.items c.args.step) = c.in_ok-key.ensures ∙ ap packed (read' ∙ set ∙ ap (λ s. with_fact s c.args.step) read) in
-    let known : c.get.result ≡ seen_at c.args.self.now.table c.in_ok-key.key = search rules in
+    let key : c.args.key.now ≡ packed (with_fact c.args.taken.now.node.set.items c.args.step) = c.requires.key in
+    let known : c.get.result ≡ seen_at c.args.self.now.table c.args.key.now = search rules in
     let covered : c.is_covered.result ≡ true = search rules in
     let sound : AreKept c.args.self.now.facts c.args.self.now.paths c.args.self.now.waiting c.args.self.now.looked.items c.args.self.now.table = c.requires.sound in
     record {
@@ -31,18 +28,15 @@ returns-then-is_covered-clause-added c =
 
 pub returns-clause-sound : goal.returns-clause-sound
 returns-clause-sound c =
-    let set : c.in_ok-set.set.items ≡ with_fact c.deref.result.now c.args.step = c.in_ok-set.ensures in
-    let read : c.deref.result.now ≡ c.args.taken.now.node.set.items = search rules in
-    let read' : c.deref-2.result.now ≡ c.in_ok-set.set.items = search rules in
     let way : way_at c.args.self.now.facts c.args.self.now.paths c.args.taken.now.number ≡ way_of c.args.taken.now.node = c.requires.from.at in
-    let key : c.in_ok-key.key ≡ packed (with_fact (way_at c.args.self.now.facts c.args.self.now.paths c.args.taken.now.number).set c.args.step)
-    = c.in_ok-key.ensures ∙ ap packed (read' ∙ set ∙ ap (λ s. with_fact s c.args.step) (read ∙ ap (λ (w : Way). w.set) (sym way))) in
-    let known : c.get.result ≡ seen_at c.args.self.now.table c.in_ok-key.key = search rules in
+    let key : c.in_ok-kept.kept ≡ packed (with_fact (way_at c.args.self.now.facts c.args.self.now.paths c.args.taken.now.number).set c.args.step)
+    = c.in_ok-kept.ensures ∙ c.requires.key ∙ ap (λ (w : Way). packed (with_fact w.set c.args.step)) (sym way) in
+    let known : c.get.result ≡ seen_at c.args.self.now.table c.in_ok-kept.kept = search (rules, c.in_ok-kept.ensures) in
     let uncovered : c.is_covered.result ≡ false = search rules in
     let cost : c.args.taken.now.node.cost + c.from.result ≡ (way_at c.args.self.now.facts c.args.self.now.paths c.args.taken.now.number).cost + c.args.step.cost
     = (let e : c.from.result ≡ c.args.step.cost = c.from.ensures in ap (λ k. c.args.taken.now.node.cost + k) e ∙ ap (λ (w : Way). w.cost + c.args.step.cost) (sym way)) in
     added_here c.args.self.now.facts c.args.self.now.paths c.args.taken.now.number c.args.step c.args.self.now.waiting c.push-2.new.self (c.args.taken.now.node.cost + c.from.result) c.args.self.now.looked.items c.args.self.now.table c.put.new.self c.requires.sound
-    c.in_ok-number.number c.push.new.self c.in_ok-number.ensures.number c.in_ok-number.ensures.pushed c.in_ok-push.ensures.only c.in_ok-push.ensures.waiter c.in_ok-push.ensures.kept cost c.requires.from.within c.in_ok-key.key key
+    c.in_ok-number.number c.push.new.self c.in_ok-number.ensures.number c.in_ok-number.ensures.pushed c.in_ok-push.ensures.only c.in_ok-push.ensures.waiter c.in_ok-push.ensures.kept cost c.requires.from.within c.in_ok-kept.kept key
     (λ done. c.is_covered.ensures.no uncovered (known ∙ done)) (record { here = c.in_ok-put.ensures.here; others = c.in_ok-put.ensures.others })
 
 pub returns-clause-added : goal.returns-clause-added

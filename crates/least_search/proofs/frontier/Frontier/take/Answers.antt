@@ -1,4 +1,4 @@
-use Rattle.std.proofs.Common.{◌≡◌, ◌≤◌, List, [], ◌∷◌, ◌++◌, false, true, Some, Contains, sym, ap, ◌∙◌, subst, inl, inr, ⊎_elim, rules}
+use Rattle.std.proofs.Common.{◌≡◌, ◌<◌, ◌≤◌, ℕ, length, List, [], ◌∷◌, ◌++◌, false, true, Some, Contains, sym, ap, ◌∙◌, subst, inl, inr, ⊎_elim, rules}
 use Rattle.least_search.specs.declared.table.Seen.TheVariants.{Looked}
 use Rattle.least_search.specs.Ways.{Way}
 use Rattle.least_search.specs.Packing.{packed}
@@ -12,11 +12,10 @@ pub returns-then-not-is_looked : goal.returns-then-not-is_looked
 returns-then-not-is_looked c =
     let sound = c.loop-waiter.invariant.sound in
     let leaves : Leaves c.loop-waiter.self.waiting c.pop.new.self c.in-Some.waiter = record { stay = c.in-Some.ensures.stay; only = c.in-Some.ensures.only } in
-    let way : way_of c.in_ok-node.node ≡ way_at c.loop-waiter.self.facts c.loop-waiter.self.paths c.in-Some.waiter.number = c.in_ok-node.ensures in
-    let read : c.deref.result.now ≡ c.in_ok-node.node.set.items = search rules in
-    let key : c.in_ok-key.key ≡ packed c.in_ok-node.node.set.items = c.in_ok-key.ensures ∙ ap packed read in
+    let way : way_of c.in_ok-taken.taken.node ≡ way_at c.loop-waiter.self.facts c.loop-waiter.self.paths c.in-Some.waiter.number = c.in_ok-taken.ensures.way in
+    let key : c.in_ok-key.key ≡ packed c.in_ok-taken.taken.node.set.items = c.in_ok-key.ensures ∙ c.in_ok-taken.ensures.key in
     let key_is : c.in_ok-key.key ≡ packed (way_at c.loop-waiter.self.facts c.loop-waiter.self.paths c.in-Some.waiter.number).set = key ∙ ap (λ (w : Way). packed w.set) way in
-    let known : c.get.result ≡ seen_at c.loop-waiter.self.table c.in_ok-key.key = search rules in
+    let known : c.get.result ≡ seen_at c.loop-waiter.self.table c.in_ok-taken.taken.key = search rules in
     let looked : looked_in c.loop-waiter.self ≡ looked_in c.args.self.now = same_ways c.loop-waiter.self c.args.self.now c.loop-waiter.invariant.facts c.loop-waiter.invariant.paths c.loop-waiter.invariant.looked in
     let unlooked : c.is_looked.result ≡ false = search rules in
     let low = (sound.waiters c.in-Some.waiter c.in-Some.ensures.among).0 in
@@ -26,32 +25,35 @@ returns-then-not-is_looked c =
           c.put.new.self c.push.new.self.items low (record { here = c.in_ok-put.ensures.here; others = c.in_ok-put.ensures.others }) pushed;
       facts = c.loop-waiter.invariant.facts;
       next = record {
-        new = λ there. c.is_looked.ensures.no unlooked (known ∙ ap (seen_at c.loop-waiter.self.table) key ∙ (sound.looked_are c.in_ok-node.node.set.items).1 (subst (λ (ws : List Way). Contains (sets_of ws) c.in_ok-node.node.set.items) (sym looked) there));
-        among = c.loop-waiter.invariant.only (way_of c.in_ok-node.node) (subst (λ w. Contains (waiting_in c.loop-waiter.self) w) (sym way) (way_waits c.loop-waiter.self.facts c.loop-waiter.self.paths c.loop-waiter.self.waiting c.in-Some.waiter c.in-Some.ensures.among));
+        new = λ there. c.is_looked.ensures.no unlooked (known ∙ ap (seen_at c.loop-waiter.self.table) c.in_ok-taken.ensures.key ∙ (sound.looked_are c.in_ok-taken.taken.node.set.items).1 (subst (λ (ws : List Way). Contains (sets_of ws) c.in_ok-taken.taken.node.set.items) (sym looked) there));
+        among = c.loop-waiter.invariant.only (way_of c.in_ok-taken.taken.node) (subst (λ w. Contains (waiting_in c.loop-waiter.self) w) (sym way) (way_waits c.loop-waiter.self.facts c.loop-waiter.self.paths c.loop-waiter.self.waiting c.in-Some.waiter c.in-Some.ensures.among));
         least = λ other there. subst (λ (w : Way). w.cost ≤ other.cost) (sym way) (way_dearer c.loop-waiter.self.facts c.loop-waiter.self.paths c.loop-waiter.self.waiting c.pop.new.self c.in-Some.waiter leaves c.loop-waiter.self.looked.items c.loop-waiter.self.table sound c.in-Some.ensures.among c.in-Some.ensures.least other there);
         stay = λ other there. ⊎_elim (λ waits. ⊎_elim (λ e. inl (way ∙ e)) (λ still. inr (inl still)) (way_stays c.loop-waiter.self.facts c.loop-waiter.self.paths c.loop-waiter.self.waiting c.pop.new.self c.in-Some.waiter leaves other waits)) (λ done. inr (inr done)) (c.loop-waiter.invariant.stay other there);
         only = λ other there. c.loop-waiter.invariant.only other (way_before c.loop-waiter.self.facts c.loop-waiter.self.paths c.loop-waiter.self.waiting c.pop.new.self c.in-Some.waiter leaves other there);
       };
-      looked = looked_more c.loop-waiter.self.facts c.loop-waiter.self.paths c.loop-waiter.self.looked.items c.push.new.self.items c.in-Some.waiter.number (looked_in c.args.self.now) (way_of c.in_ok-node.node) looked way pushed;
-      from = record { within = low; at = sym way };
+      looked = looked_more c.loop-waiter.self.facts c.loop-waiter.self.paths c.loop-waiter.self.looked.items c.push.new.self.items c.in-Some.waiter.number (looked_in c.args.self.now) (way_of c.in_ok-taken.taken.node) looked way pushed;
+      from = record {
+        within = subst (λ (n : ℕ). n < length c.loop-waiter.self.paths) (sym c.in_ok-taken.ensures.number) low;
+        at = ap (way_at c.loop-waiter.self.facts c.loop-waiter.self.paths) c.in_ok-taken.ensures.number ∙ sym way;
+        key = c.in_ok-taken.ensures.key;
+      };
     }
 
 pub loop-waiter-preserved : goal.loop-waiter-preserved
 loop-waiter-preserved c =
     let sound = c.loop-waiter.invariant.sound in
     let leaves : Leaves c.loop-waiter.self.waiting c.pop.new.self c.in-Some.waiter = record { stay = c.in-Some.ensures.stay; only = c.in-Some.ensures.only } in
-    let way : way_of c.in_ok-node.node ≡ way_at c.loop-waiter.self.facts c.loop-waiter.self.paths c.in-Some.waiter.number = c.in_ok-node.ensures in
-    let read : c.deref.result.now ≡ c.in_ok-node.node.set.items = search rules in
-    let key : c.in_ok-key.key ≡ packed c.in_ok-node.node.set.items = c.in_ok-key.ensures ∙ ap packed read in
-    let key_is : c.in_ok-key.key ≡ packed (way_at c.loop-waiter.self.facts c.loop-waiter.self.paths c.in-Some.waiter.number).set = key ∙ ap (λ (w : Way). packed w.set) way in
-    let known : c.get.result ≡ seen_at c.loop-waiter.self.table c.in_ok-key.key = search rules in
+    let way : way_of c.in_ok-taken.taken.node ≡ way_at c.loop-waiter.self.facts c.loop-waiter.self.paths c.in-Some.waiter.number = c.in_ok-taken.ensures.way in
+    let key : c.in_ok-taken.taken.key ≡ packed c.in_ok-taken.taken.node.set.items = c.in_ok-taken.ensures.key in
+    let key_is : c.in_ok-taken.taken.key ≡ packed (way_at c.loop-waiter.self.facts c.loop-waiter.self.paths c.in-Some.waiter.number).set = key ∙ ap (λ (w : Way). packed w.set) way in
+    let known : c.get.result ≡ seen_at c.loop-waiter.self.table c.in_ok-taken.taken.key = search rules in
     let looked : looked_in c.loop-waiter.self ≡ looked_in c.args.self.now = same_ways c.loop-waiter.self c.args.self.now c.loop-waiter.invariant.facts c.loop-waiter.invariant.paths c.loop-waiter.invariant.looked in
     let was : c.is_looked.result ≡ true = search rules in
-    let done : seen_at c.loop-waiter.self.table c.in_ok-key.key ≡ Some Looked = sym known ∙ c.is_looked.ensures.yes was in
-    let there : Contains (sets_of (looked_in c.args.self.now)) c.in_ok-node.node.set.items =
-    subst (λ (ws : List Way). Contains (sets_of ws) c.in_ok-node.node.set.items) looked ((sound.looked_are c.in_ok-node.node.set.items).0 (ap (seen_at c.loop-waiter.self.table) (sym key) ∙ done)) in
+    let done : seen_at c.loop-waiter.self.table c.in_ok-taken.taken.key ≡ Some Looked = sym known ∙ c.is_looked.ensures.yes was in
+    let there : Contains (sets_of (looked_in c.args.self.now)) c.in_ok-taken.taken.node.set.items =
+    subst (λ (ws : List Way). Contains (sets_of ws) c.in_ok-taken.taken.node.set.items) looked ((sound.looked_are c.in_ok-taken.taken.node.set.items).0 (ap (seen_at c.loop-waiter.self.table) (sym key) ∙ done)) in
     record {
-      sound = passed_over c.loop-waiter.self.facts c.loop-waiter.self.paths c.loop-waiter.self.waiting c.pop.new.self c.in-Some.waiter leaves c.loop-waiter.self.looked.items c.loop-waiter.self.table sound c.in_ok-key.key key_is done;
+      sound = passed_over c.loop-waiter.self.facts c.loop-waiter.self.paths c.loop-waiter.self.waiting c.pop.new.self c.in-Some.waiter leaves c.loop-waiter.self.looked.items c.loop-waiter.self.table sound c.in_ok-taken.taken.key key_is done;
       facts = c.loop-waiter.invariant.facts;
       paths = c.loop-waiter.invariant.paths;
       looked = c.loop-waiter.invariant.looked;
