@@ -23,7 +23,7 @@ use Rattle.meaning.specs.Matching.{value_of, AreFacts, OccursIn, Extends, MeetsA
 use Rattle.meaning.specs.Triggers.{joined, bound, IsNumbered, AreNumbered, State, assigned, ground, IsTrigger, IsActive}
 
 -- equality of labelled facts is decidable
-Val-discrete : (v w : Val) → Dec (v ≡ w)
+pub Val-discrete : (v w : Val) → Dec (v ≡ w)
 Val-discrete (Const c) (Const d) = elim (List-discrete ℕ_discrete c d) [ yes e ↦ yes (ap Const e) | no n ↦ no (λ e. n (const_is e)) ]
   where
     const_is : Const c ≡ Const d → c ≡ d

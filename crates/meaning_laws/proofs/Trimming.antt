@@ -2,9 +2,9 @@
 use Rattle.std.proofs.Common.{◌≡◌, ◌⊎◌, ℕ, ◌≤◌, List, [], ◌∷◌, ◌++◌, refl, sym, ap, ◌∙◌, subst, inl, inr, ⊎_elim, arith, append_assoc}
 use Rattle.std.specs.Prelude.{Contains, map, slice_get, Some}
 use Rattle.std.proofs.lemmas.List.Elements.{Contains-append_cases, Contains-append_left, Contains-append_right, Contains-push, Contains-push_cases}
-use Rattle.lists.proofs.Members.{contains_here, contains_there, contains_cases, contains_mapped, contains_map, some_injective}
+use Rattle.lists.proofs.Members.{contains_here, contains_there, contains_cases, contains_got, contains_mapped, contains_map, some_injective}
 use Rattle.meaning_laws.proofs.Added.{added_cases, added_left, added_right}
-use Rattle.meaning_laws.proofs.Deciding.{dec_contains}
+use Rattle.meaning_laws.proofs.Deciding.{dec_contains, Val-discrete}
 use Rattle.meaning.specs.declared.types.Val.{Val}
 use Rattle.meaning.specs.declared.types.Val.TheVariants.{Const}
 use Rattle.meaning.specs.declared.types.Atom.{Atom}
@@ -17,7 +17,7 @@ use Rattle.meaning.specs.Matching.{AreFacts, GroundsOf, IsQueryAnswer}
 use Rattle.meaning.specs.Triggers.{State, ground, assigned, IsTrigger, fired, IsFiringRun}
 use Rattle.meaning.specs.Runs.{IsKnownValue}
 use Rattle.meaning.specs.Extract.{Exposure, exposed_facts, Exposes, IsExposing, exposures_cost}
-use Rattle.meaning_laws.specs.Trims.{AreIn, Serves, ServesExposing}
+use Rattle.meaning_laws.specs.Trims.{AreIn, Serves, ServesExposing, Asks, BodiesFollow, AreClosed}
 
 -- the facts of a trigger's body and head
 pub body_facts : Trigger → Rule → List Ground
@@ -53,17 +53,22 @@ serves_keep rules state trigger rule needed after wanted kept is serves split bo
     (last, (rule, record { numbered = is.numbered; width = is.width; fresh = omega arith; body = body_in trigger rule.body small.facts (λ fact c. has fact (body fact c)) }, run), leaves)
 
 -- the facts of a list that stood before, where each stood before or is new
-pub older : (facts old new : List Ground) → ((fact : Ground) → Contains facts fact → Contains old fact ⊎ Contains new fact) → (part : List Ground) × AreIn part old × ((fact : Ground) → Contains facts fact → Contains part fact ⊎ Contains new fact)
-older [] old new either = ([], (λ f c. absurd (omega arith)), (λ f c. absurd (omega arith)))
+pub older : (facts old new : List Ground) → ((fact : Ground) → Contains facts fact → Contains old fact ⊎ Contains new fact) → (part : List Ground) × AreIn part old × AreIn part facts × ((fact : Ground) → Contains facts fact → Contains part fact ⊎ Contains new fact)
+older [] old new either = ([], (λ f c. absurd (omega arith)), (λ f c. c), (λ f c. absurd (omega arith)))
 older (first ∷ facts) old new either =
-    let (part, within, all) = older facts old new (λ f c. either f (contains_there first facts f c)) in
+    let (part, within, inside, all) = older facts old new (λ f c. either f (contains_there first facts f c)) in
     ⊎_elim (λ here. (
       first ∷ part,
       (λ f c. ⊎_elim (λ e. subst (λ g. Contains old g) e here) (λ h. within f h) (contains_cases first part f c)),
+      (λ f c. ⊎_elim (λ e. subst (λ g. Contains (first ∷ facts) g) e (contains_here first facts)) (λ h. contains_there first facts f (inside f h)) (contains_cases first part f c)),
       (λ f c. ⊎_elim (λ e. inl (subst (λ g. Contains (first ∷ part) g) e (contains_here first part))) (λ h. ⊎_elim (λ i. inl (contains_there first part f i)) (λ i. inr i) (all f h)) (contains_cases first facts f c)),
     ))
-    (λ there. (part, within, (λ f c. ⊎_elim (λ e. inr (subst (λ g. Contains new g) e there)) (λ h. all f h) (contains_cases first facts f c))))
+    (λ there. (part, within, (λ f c. contains_there first facts f (inside f c)), (λ f c. ⊎_elim (λ e. inr (subst (λ g. Contains new g) e there)) (λ h. all f h) (contains_cases first facts f c))))
     (either first (contains_here first facts))
+
+-- the relations of these facts are of a kind
+abbrev pub AreOf : (ℕ → Type 0) → List Ground → Type 0
+AreOf Wanted facts = (fact : Ground) → Contains facts fact → Wanted fact.rel
 
 -- whether all facts of a list stand in another
 all_in : (facts larger : List Ground) → AreIn facts larger ⊎ ((fact : Ground) × Contains facts fact × (Contains larger fact → ⊥))
@@ -73,18 +78,21 @@ all_in (first ∷ facts) larger = elim (dec_contains larger first) [
   | no out ↦ inr (first, contains_here first facts, out)
 ]
 
--- a run of firings can be cut down to those that the wanted facts rest on
-pub firings_trim : (rules : List Rule) (state end : State) (log : List Trigger) (wanted : List Ground) → IsFiringRun rules state log end → AreIn wanted end.facts → (kept : List Trigger) × (needed : List Ground) × AreIn needed state.facts × Serves rules state.next needed kept wanted
+-- a run of firings can be cut down to those that the wanted facts rest on, and these to facts of a kind of relations
+pub kinds_trim : (rules : List Rule) (Wanted : ℕ → Type 0) → BodiesFollow rules Wanted → (state end : State) (log : List Trigger) (wanted : List Ground) → IsFiringRun rules state log end → AreIn wanted end.facts → AreOf Wanted wanted →
+    (kept : List Trigger) × (needed : List Ground) × AreIn needed state.facts × AreOf Wanted needed × Serves rules state.next needed kept wanted
 unfolding body_facts head_facts
-firings_trim rules state end [] wanted run within = ([], wanted, subst (λ (s : State). AreIn wanted s.facts) run within, serves_none rules state.next wanted)
-firings_trim rules state end (trigger ∷ log) wanted (rule, is, more) within =
-    let (kept, after, among, serves) = firings_trim rules (fired state trigger rule) end log wanted more within in
-    ⊎_elim (λ all. (kept, after, all, serves_skip rules state trigger rule after wanted kept is serves))
-    (λ some.
-    let (part, old, split) = older after state.facts (head_facts trigger rule) (λ f c. added_cases state.facts (map (ground (assigned trigger)) rule.head) f (among f c)) in (
+kinds_trim rules Wanted follow state end [] wanted run within of_kind = ([], wanted, subst (λ (s : State). AreIn wanted s.facts) run within, of_kind, serves_none rules state.next wanted)
+kinds_trim rules Wanted follow state end (trigger ∷ log) wanted (rule, is, more) within of_kind =
+    let (kept, after, among, kinds, serves) = kinds_trim rules Wanted follow (fired state trigger rule) end log wanted more within of_kind in
+    ⊎_elim (λ all. (kept, after, all, kinds, serves_skip rules state trigger rule after wanted kept is serves))
+    (λ (made, there, new).
+    let (part, old, inside, split) = older after state.facts (head_facts trigger rule) (λ f c. added_cases state.facts (map (ground (assigned trigger)) rule.head) f (among f c)) in
+    let bodies = body_of_kind made (kinds made there) (⊎_elim (λ h. absurd (new h)) (λ h. h) (added_cases state.facts (map (ground (assigned trigger)) rule.head) made (among made there))) in (
       trigger ∷ kept,
       body_facts trigger rule ++ part,
       (λ f c. ⊎_elim (λ b. body_of f b) (λ p. old f p) (Contains-append_cases (body_facts trigger rule) part f c)),
+      (λ f c. ⊎_elim (λ b. bodies f b) (λ p. kinds f (inside f p)) (Contains-append_cases (body_facts trigger rule) part f c)),
       serves_keep rules state trigger rule (body_facts trigger rule ++ part) after wanted kept is serves
           (λ f c. ⊎_elim (λ p. inl (Contains-append_right (body_facts trigger rule) part f p)) (λ n. inr n) (split f c))
           (λ f c. Contains-append_left (body_facts trigger rule) part f c),
@@ -93,6 +101,19 @@ firings_trim rules state end (trigger ∷ log) wanted (rule, is, more) within =
   where
     body_of : (f : Ground) → Contains (map (ground (assigned trigger)) rule.body) f → Contains state.facts f
     body_of f c = let (atom, among, e) = contains_mapped (ground (assigned trigger)) rule.body f c in subst (λ g. Contains state.facts g) e (is.body atom among)
+
+    -- the body of a firing that makes a fact of the kind
+    body_of_kind : (made : Ground) → Wanted made.rel → Contains (map (ground (assigned trigger)) rule.head) made → AreOf Wanted (map (ground (assigned trigger)) rule.body)
+    body_of_kind made wants there f c =
+        let (head, of_head, makes) = contains_mapped (ground (assigned trigger)) rule.head made there in
+        let (body, of_body, reads) = contains_mapped (ground (assigned trigger)) rule.body f c in
+        subst (λ (g : Ground). Wanted g.rel) reads (follow rule head body (contains_got rules trigger.rule rule is.numbered) of_head of_body (subst (λ (g : Ground). Wanted g.rel) (sym makes) wants))
+
+-- a run of firings can be cut down to those that the wanted facts rest on
+pub firings_trim : (rules : List Rule) (state end : State) (log : List Trigger) (wanted : List Ground) → IsFiringRun rules state log end → AreIn wanted end.facts → (kept : List Trigger) × (needed : List Ground) × AreIn needed state.facts × Serves rules state.next needed kept wanted
+firings_trim rules state end log wanted run within =
+    let (kept, needed, among, kinds, serves) = kinds_trim rules (λ rel. Unit {0}) (λ rule head body c d e w. tt) state end log wanted run within (λ f c. tt) in
+    (kept, needed, among, serves)
 
 -- the same for exposures
 pub exposing_none : (schema : SchemaParts) (constants : List (List ℕ)) (base before : List Ground) → ServesExposing schema constants base before [] []
@@ -119,106 +140,209 @@ exposing_keep schema constants base before e values after kept is serves split i
       (λ v c. ⊎_elim (λ old. ⊎_elim (λ k. inl k) (λ (f, among, i). inr (f, Contains-append_left exposed (e.fact ∷ []) f among, i)) (known v old)) (λ here. inr (e.fact, Contains-push exposed e.fact, here)) (split v c)),
 )
 
+-- of the values of a list some that were known before; the others, one of which is given, are of a fact
+pub record Older (constants : List (List ℕ)) (before : List Ground) (vals after : List Val) : Type 0 where
+  pub part : List Val
+  pub inside : (v : Val) → Contains part v → Contains after v
+  pub known : (v : Val) → Contains part v → IsKnownValue constants before v
+  pub split : (v : Val) → Contains after v → Contains part v ⊎ Contains vals v
+  pub new : Val
+  pub among : Contains after new
+  pub here : Contains vals new
+
 -- the values of a list that were known before, where each was known or is of the fact; and whether all were
 values_older : (constants : List (List ℕ)) (before : List Ground) (vals after : List Val) → ((v : Val) → Contains after v → IsKnownValue constants before v ⊎ Contains vals v) →
-    ((v : Val) → Contains after v → IsKnownValue constants before v) ⊎ ((part : List Val) × ((v : Val) → Contains part v → IsKnownValue constants before v) × ((v : Val) → Contains after v → Contains part v ⊎ Contains vals v))
+    ((v : Val) → Contains after v → IsKnownValue constants before v) ⊎ Older constants before vals after
 values_older constants before vals [] either = inl (λ v c. absurd (omega arith))
 values_older constants before vals (first ∷ after) either =
     ⊎_elim (λ known. ⊎_elim
     (λ all. inl (λ v c. ⊎_elim (λ e. subst (λ u. IsKnownValue constants before u) e known) (λ h. all v h) (contains_cases first after v c)))
-    (λ (part, old, split). inr (
-      first ∷ part,
-      (λ v c. ⊎_elim (λ e. subst (λ u. IsKnownValue constants before u) e known) (λ h. old v h) (contains_cases first part v c)),
-      (λ v c. ⊎_elim (λ e. inl (subst (λ u. Contains (first ∷ part) u) e (contains_here first part))) (λ h. ⊎_elim (λ i. inl (contains_there first part v i)) (λ i. inr i) (split v h)) (contains_cases first after v c)),
-    ))
+    (λ (rest : Older constants before vals after). inr (record {
+      part = first ∷ rest.part;
+      inside = λ v c. ⊎_elim (λ e. subst (λ u. Contains (first ∷ after) u) e (contains_here first after)) (λ h. contains_there first after v (rest.inside v h)) (contains_cases first rest.part v c);
+      known = λ v c. ⊎_elim (λ e. subst (λ u. IsKnownValue constants before u) e known) (λ h. rest.known v h) (contains_cases first rest.part v c);
+      split = λ v c. ⊎_elim (λ e. inl (subst (λ u. Contains (first ∷ rest.part) u) e (contains_here first rest.part))) (λ h. ⊎_elim (λ i. inl (contains_there first rest.part v i)) (λ i. inr i) (rest.split v h)) (contains_cases first after v c);
+      new = rest.new;
+      among = contains_there first after rest.new rest.among;
+      here = rest.here;
+    }))
     (values_older constants before vals after (λ v c. either v (contains_there first after v c))))
     (λ here. ⊎_elim
-    (λ all. inr (after, all, (λ v c. ⊎_elim (λ e. inr (subst (λ u. Contains vals u) e here)) (λ h. inl h) (contains_cases first after v c))))
-    (λ (part, old, split). inr (part, old, (λ v c. ⊎_elim (λ e. inr (subst (λ u. Contains vals u) e here)) (λ h. split v h) (contains_cases first after v c))))
+    (λ all. inr (record {
+      part = after;
+      inside = λ v c. contains_there first after v c;
+      known = all;
+      split = λ v c. ⊎_elim (λ e. inr (subst (λ u. Contains vals u) e here)) (λ h. inl h) (contains_cases first after v c);
+      new = first;
+      among = contains_here first after;
+      here = here;
+    }))
+    (λ (rest : Older constants before vals after). inr (record {
+      part = rest.part;
+      inside = λ v c. contains_there first after v (rest.inside v c);
+      known = rest.known;
+      split = λ v c. ⊎_elim (λ e. inr (subst (λ u. Contains vals u) e here)) (λ h. rest.split v h) (contains_cases first after v c);
+      new = first;
+      among = contains_here first after;
+      here = here;
+    }))
     (values_older constants before vals after (λ v c. either v (contains_there first after v c))))
     (either first (contains_here first after))
 
--- the values at the inputs
-input_values : (constants : List (List ℕ)) (before : List Ground) (vals : List Val) (inputs : List ℕ) → ((p : ℕ) → Contains inputs p → (value : Val) × (slice_get vals p ≡ Some value) × IsKnownValue constants before value) →
-    (values : List Val) × ((v : Val) → Contains values v → IsKnownValue constants before v) × ((p : ℕ) (v : Val) → Contains inputs p → slice_get vals p ≡ Some v → Contains values v)
-input_values constants before vals [] are = ([], (λ v c. absurd (omega arith)), (λ p v c e. absurd (omega arith)))
-input_values constants before vals (first ∷ inputs) are =
-    let (values, known, all) = input_values constants before vals inputs (λ p c. are p (contains_there first inputs p c)) in
-    let (value, at, old) = are first (contains_here first inputs) in (
-      value ∷ values,
-      (λ v c. ⊎_elim (λ e. subst (λ u. IsKnownValue constants before u) e old) (λ h. known v h) (contains_cases value values v c)),
-      (λ p v c e. ⊎_elim
-          (λ same. let is : value ≡ v = some_injective value v (sym at ∙ (ap (λ q. slice_get vals q) same ∙ e)) in subst (λ u. Contains (value ∷ values) u) is (contains_here value values))
-          (λ h. contains_there value values v (all p v h e)) (contains_cases first inputs p c)),
-    )
+-- whether a value is a constant of the list
+constant_or : (constants : List (List ℕ)) (v : Val) → ((c : List ℕ) × Contains constants c × (v ≡ Const c)) ⊎ ((c : List ℕ) → Contains constants c → v ≡ Const c → ⊥)
+constant_or [] v = inr (λ c among e. absurd (let none : Contains [] c = among in omega arith))
+constant_or (first ∷ constants) v = elim (Val-discrete v (Const first)) [
+  | yes e ↦ inl (first, contains_here first constants, e)
+  | no differ ↦ ⊎_elim (λ (c, among, e). inl (c, contains_there first constants c among, e))
+      (λ none. inr (λ c among e. ⊎_elim (λ (same : first ≡ c). differ (e ∙ ap Const (sym same))) (λ h. none c h e) (contains_cases first constants c among))) (constant_or constants v)
+]
 
--- what a pass back over the exposures gives
-pub record Trimmed (schema : SchemaParts) (constants : List (List ℕ)) (base before : List Ground) (exposures : List Exposure) (wanted : List Ground) : Type 0 where
+-- the values at the inputs that are no constants of the list
+pub record InputValues (constants : List (List ℕ)) (before : List Ground) (vals : List Val) (inputs : List ℕ) : Type 0 where
+  pub values : List Val
+  pub known : (v : Val) → Contains values v → IsKnownValue constants before v
+  pub of_inputs : (v : Val) → Contains values v → (p : ℕ) × Contains inputs p × (slice_get vals p ≡ Some v) × ((c : List ℕ) → Contains constants c → v ≡ Const c → ⊥)
+  pub all : (p : ℕ) (v : Val) → Contains inputs p → slice_get vals p ≡ Some v → Contains values v ⊎ ((c : List ℕ) × Contains constants c × (v ≡ Const c))
+
+input_values : (constants : List (List ℕ)) (before : List Ground) (vals : List Val) (inputs : List ℕ) → ((p : ℕ) → Contains inputs p → (value : Val) × (slice_get vals p ≡ Some value) × IsKnownValue constants before value) →
+    InputValues constants before vals inputs
+input_values constants before vals [] are = record {
+  values = [];
+  known = λ v c. absurd (omega arith);
+  of_inputs = λ v c. absurd (omega arith);
+  all = λ p v c e. absurd (omega arith);
+}
+input_values constants before vals (first ∷ inputs) are =
+    let rest = input_values constants before vals inputs (λ p c. are p (contains_there first inputs p c)) in
+    let (value, at, old) = are first (contains_here first inputs) in
+    with_value rest value at old
+  where
+    with_value : InputValues constants before vals inputs → (value : Val) → slice_get vals first ≡ Some value → IsKnownValue constants before value → InputValues constants before vals (first ∷ inputs)
+    with_value rest value at old = ⊎_elim
+        (λ constant. record {
+          values = rest.values;
+          known = rest.known;
+          of_inputs = λ v c. let (p, i, there, unknown) = rest.of_inputs v c in (p, contains_there first inputs p i, there, unknown);
+          all = λ p v c e. ⊎_elim
+              (λ same. let is : value ≡ v = some_injective value v (sym at ∙ (ap (λ q. slice_get vals q) same ∙ e)) in inr (subst (λ u. (k : List ℕ) × Contains constants k × (u ≡ Const k)) is constant))
+              (λ h. rest.all p v h e) (contains_cases first inputs p c);
+        })
+        (λ unknown. record {
+          values = value ∷ rest.values;
+          known = λ v c. ⊎_elim (λ e. subst (λ u. IsKnownValue constants before u) e old) (λ h. rest.known v h) (contains_cases value rest.values v c);
+          of_inputs = λ v c. ⊎_elim
+              (λ e. (first, contains_here first inputs, at ∙ ap (λ u. Some u) e, (λ k among is. unknown k among (e ∙ is))))
+              (λ h. let (p, i, there, its) = rest.of_inputs v h in (p, contains_there first inputs p i, there, its)) (contains_cases value rest.values v c);
+          all = λ p v c e. ⊎_elim
+              (λ same. let is : value ≡ v = some_injective value v (sym at ∙ (ap (λ q. slice_get vals q) same ∙ e)) in inl (subst (λ u. Contains (value ∷ rest.values) u) is (contains_here value rest.values)))
+              (λ h. ⊎_elim (λ i. inl (contains_there value rest.values v i)) (λ k. inr k) (rest.all p v h e)) (contains_cases first inputs p c);
+        })
+        (constant_or constants value)
+
+-- what a pass back over the exposures gives, if the facts that matter are these
+pub record Trimmed (schema : SchemaParts) (constants : List (List ℕ)) (Relevant : Ground → Type 0) (base before : List Ground) (exposures : List Exposure) (wanted : List Ground) : Type 0 where
   pub kept : List Exposure
   pub values : List Val
   pub wanted_in : AreIn wanted (before ++ exposed_facts kept)
   pub known : (v : Val) → Contains values v → IsKnownValue constants before v
   pub serves : ServesExposing schema constants base before values kept
   pub cheap : exposures_cost kept ≤ exposures_cost exposures
+  pub relevant : (e : Exposure) → Contains kept e → Relevant e.fact
+  pub asked : (v : Val) → Contains values v → (fact : Ground) × Relevant fact × Asks schema constants fact v
 
 -- a value known after one more exposure was known before, or is of its fact
 known_or : (constants : List (List ℕ)) (before : List Ground) (fact : Ground) (v : Val) → IsKnownValue constants (before ++ fact ∷ []) v → IsKnownValue constants before v ⊎ Contains fact.vals v
 known_or constants before fact v known =
     ⊎_elim (λ c. inl (inl c)) (λ (f, among, i). ⊎_elim (λ old. inl (inr (f, old, i))) (λ same. inr (subst (λ (g : Ground). Contains g.vals v) (sym same) i)) (Contains-push_cases before fact f among)) known
 
-trimmed_keep : (schema : SchemaParts) (constants : List (List ℕ)) (base before : List Ground) (e : Exposure) (exposures : List Exposure) (wanted : List Ground) → Exposes schema constants base before e →
-    (part : List Val) → ((v : Val) → Contains part v → IsKnownValue constants before v) → (r : Trimmed schema constants base (before ++ e.fact ∷ []) exposures wanted) → ((v : Val) → Contains r.values v → Contains part v ⊎ Contains e.fact.vals v) → Trimmed schema constants base before (e ∷ exposures) wanted
-trimmed_keep schema constants base before e exposures wanted is part known r split =
-    let rests : exposures_cost r.kept ≤ exposures_cost exposures = r.cheap in
-    let (inputs, old, all) = input_values constants before e.fact.vals e.method.inputs is.inputs in
-    record {
-      kept = e ∷ r.kept;
-      values = inputs ++ part;
-      wanted_in = λ f c. subst (λ gs. Contains gs f) (append_assoc before (e.fact ∷ []) (exposed_facts r.kept)) (r.wanted_in f c);
-      known = λ v c. ⊎_elim (λ h. old v h) (λ h. known v h) (Contains-append_cases inputs part v c);
-      serves = exposing_keep schema constants base before e (inputs ++ part) r.values r.kept is r.serves
-          (λ v c. ⊎_elim (λ h. inl (Contains-append_right inputs part v h)) (λ h. inr h) (split v c))
-          (λ p v i at. inl (Contains-append_left inputs part v (all p v i at)));
-      cheap = omega arith;
-    }
+module _ (schema : SchemaParts) (constants : List (List ℕ)) (Relevant : Ground → Type 0) (base : List Ground) where
+  trimmed_keep : (before : List Ground) (e : Exposure) (exposures : List Exposure) (wanted : List Ground) → Exposes schema constants base before e → Relevant e.fact →
+      (r : Trimmed schema constants Relevant base (before ++ e.fact ∷ []) exposures wanted) → (part : List Val) → ((v : Val) → Contains part v → Contains r.values v) → ((v : Val) → Contains part v → IsKnownValue constants before v) →
+      ((v : Val) → Contains r.values v → Contains part v ⊎ Contains e.fact.vals v) → Trimmed schema constants Relevant base before (e ∷ exposures) wanted
+  trimmed_keep before e exposures wanted is matters r part inside known split =
+      let rests : exposures_cost r.kept ≤ exposures_cost exposures = r.cheap in
+      let inputs = input_values constants before e.fact.vals e.method.inputs is.inputs in
+      record {
+        kept = e ∷ r.kept;
+        values = inputs.values ++ part;
+        wanted_in = λ f c. subst (λ gs. Contains gs f) (append_assoc before (e.fact ∷ []) (exposed_facts r.kept)) (r.wanted_in f c);
+        known = λ v c. ⊎_elim (λ h. inputs.known v h) (λ h. known v h) (Contains-append_cases inputs.values part v c);
+        serves = exposing_keep schema constants base before e (inputs.values ++ part) r.values r.kept is r.serves
+            (λ v c. ⊎_elim (λ h. inl (Contains-append_right inputs.values part v h)) (λ h. inr h) (split v c))
+            (λ p v i at. ⊎_elim (λ h. inl (Contains-append_left inputs.values part v h)) (λ k. inr k) (inputs.all p v i at));
+        cheap = omega arith;
+        relevant = λ one c. ⊎_elim (λ same. subst (λ (x : Exposure). Relevant x.fact) same matters) (λ h. r.relevant one h) (contains_cases e r.kept one c);
+        asked = λ v c. ⊎_elim
+            (λ h. let (p, i, at, unknown) = inputs.of_inputs v h in (e.fact, matters, record { method = e.method; place = p; of_schema = is.of_schema; of_relation = is.of_relation; input = i; at = at; unknown = unknown }))
+            (λ h. r.asked v (inside v h)) (Contains-append_cases inputs.values part v c);
+      }
 
-trimmed_skip : (schema : SchemaParts) (constants : List (List ℕ)) (base before : List Ground) (e : Exposure) (exposures : List Exposure) (wanted : List Ground) → (r : Trimmed schema constants base (before ++ e.fact ∷ []) exposures wanted) → ((v : Val) → Contains r.values v → IsKnownValue constants before v) → (Contains wanted e.fact → ⊥) → Trimmed schema constants base before (e ∷ exposures) wanted
-trimmed_skip schema constants base before e exposures wanted r known out =
-    let rests : exposures_cost r.kept ≤ exposures_cost exposures = r.cheap in
-    record {
-      kept = r.kept;
-      values = r.values;
-      wanted_in = λ f c. ⊎_elim (λ b. ⊎_elim (λ h. Contains-append_left before (exposed_facts r.kept) f h) (λ same. absurd (out (subst (λ g. Contains wanted g) (sym same) c))) (Contains-push_cases before e.fact f b)) (λ h. Contains-append_right before (exposed_facts r.kept) f h) (Contains-append_cases (before ++ e.fact ∷ []) (exposed_facts r.kept) f (r.wanted_in f c));
-      known = known;
-      serves = exposing_skip schema constants base before e.fact r.values r.kept r.serves;
-      cheap = omega arith;
-    }
+  trimmed_skip : (before : List Ground) (e : Exposure) (exposures : List Exposure) (wanted : List Ground) → (r : Trimmed schema constants Relevant base (before ++ e.fact ∷ []) exposures wanted) →
+      ((v : Val) → Contains r.values v → IsKnownValue constants before v) → (Contains wanted e.fact → ⊥) → Trimmed schema constants Relevant base before (e ∷ exposures) wanted
+  trimmed_skip before e exposures wanted r known out =
+      let rests : exposures_cost r.kept ≤ exposures_cost exposures = r.cheap in
+      record {
+        kept = r.kept;
+        values = r.values;
+        wanted_in = λ f c. ⊎_elim (λ b. ⊎_elim (λ h. Contains-append_left before (exposed_facts r.kept) f h) (λ same. absurd (out (subst (λ g. Contains wanted g) (sym same) c))) (Contains-push_cases before e.fact f b)) (λ h. Contains-append_right before (exposed_facts r.kept) f h) (Contains-append_cases (before ++ e.fact ∷ []) (exposed_facts r.kept) f (r.wanted_in f c));
+        known = known;
+        serves = exposing_skip schema constants base before e.fact r.values r.kept r.serves;
+        cheap = omega arith;
+        relevant = r.relevant;
+        asked = r.asked;
+      }
 
--- exposures can be cut down to those that the wanted facts rest on
-pub exposures_trim : (schema : SchemaParts) (constants : List (List ℕ)) (base before : List Ground) (exposures : List Exposure) (wanted : List Ground) → IsExposing schema constants base before exposures → AreIn wanted (before ++ exposed_facts exposures) → Trimmed schema constants base before exposures wanted
-exposures_trim schema constants base before [] wanted is within =
-    record { kept = []; values = []; wanted_in = within; known = λ v c. absurd (omega arith); serves = exposing_none schema constants base before; cheap = omega arith }
-exposures_trim schema constants base before (e ∷ exposures) wanted (first, rest) within =
-    let r = exposures_trim schema constants base (before ++ e.fact ∷ []) exposures wanted rest (subst (λ gs. AreIn wanted gs) (sym (append_assoc before (e.fact ∷ []) (exposed_facts exposures))) within) in
-    choose r
-  where
-    choose : Trimmed schema constants base (before ++ e.fact ∷ []) exposures wanted → Trimmed schema constants base before (e ∷ exposures) wanted
-    choose r =
-        ⊎_elim
-        (λ known. elim (dec_contains wanted e.fact) [
-          | yes is ↦ trimmed_keep schema constants base before e exposures wanted first r.values known r (λ v c. inl c)
-          | no out ↦ trimmed_skip schema constants base before e exposures wanted r known out
-        ])
-        (λ (part, known, split). trimmed_keep schema constants base before e exposures wanted first part known r split)
-        (values_older constants before e.fact.vals r.values (λ v c. known_or constants before e.fact v (r.known v c)))
+  -- exposures can be cut down to those that the wanted facts rest on, which are relevant
+  pub exposures_trim : ((fact other : Ground) (v : Val) → Relevant fact → Asks schema constants fact v → Contains base other → Contains other.vals v → Relevant other) →
+      (before : List Ground) (exposures : List Exposure) (wanted : List Ground) → ((fact : Ground) → Contains wanted fact → Contains base fact → Relevant fact) →
+      IsExposing schema constants base before exposures → AreIn wanted (before ++ exposed_facts exposures) → Trimmed schema constants Relevant base before exposures wanted
+  exposures_trim follow before [] wanted matter is within = record {
+    kept = [];
+    values = [];
+    wanted_in = within;
+    known = λ v c. absurd (omega arith);
+    serves = exposing_none schema constants base before;
+    cheap = omega arith;
+    relevant = λ e c. absurd (omega arith);
+    asked = λ v c. absurd (omega arith);
+  }
+  exposures_trim follow before (e ∷ exposures) wanted matter (first, rest) within =
+      let r = exposures_trim follow (before ++ e.fact ∷ []) exposures wanted matter rest (subst (λ gs. AreIn wanted gs) (sym (append_assoc before (e.fact ∷ []) (exposed_facts exposures))) within) in
+      choose r
+    where
+      choose : Trimmed schema constants Relevant base (before ++ e.fact ∷ []) exposures wanted → Trimmed schema constants Relevant base before (e ∷ exposures) wanted
+      choose r =
+          ⊎_elim
+          (λ known. elim (dec_contains wanted e.fact) [
+            | yes is ↦ trimmed_keep before e exposures wanted first (matter e.fact is first.of_base) r r.values (λ v c. c) known (λ v c. inl c)
+            | no out ↦ trimmed_skip before e exposures wanted r known out
+          ])
+          (λ (old : Older constants before e.fact.vals r.values).
+          let (asker, matters, asks) = r.asked old.new old.among in
+          trimmed_keep before e exposures wanted first (follow asker e.fact old.new matters asks first.of_base old.here) r old.part old.inside old.known old.split)
+          (values_older constants before e.fact.vals r.values (λ v c. known_or constants before e.fact v (r.known v c)))
+
+-- exposures and copy firings can be cut down to those that a match rests on, at no greater cost, and these are relevant
+pub relevant_trim : (schema : SchemaParts) (constants : List (List ℕ)) (base : List Ground) (queries : List Query) (Wanted : ℕ → Type 0) (Relevant : Ground → Type 0) → AreClosed schema constants base queries Wanted Relevant →
+    (next : ℕ) (exposures : List Exposure) (copy : List Trigger) (end : State) (goal : Query) (head : List Val) →
+    IsExposing schema constants base [] exposures → IsFiringRun schema.rules (record { facts = exposed_facts exposures; next = next }) copy end → Contains queries goal → IsQueryAnswer Const (GroundsOf end.facts) goal head →
+    (kept : List Exposure) × (less : List Trigger) × (last : State) × IsExposing schema constants base [] kept × IsFiringRun schema.rules (record { facts = exposed_facts kept; next = next }) less last × IsQueryAnswer Const (GroundsOf last.facts) goal head
+    × (exposures_cost kept ≤ exposures_cost exposures) × ((e : Exposure) → Contains kept e → Relevant e.fact)
+relevant_trim schema constants base queries Wanted Relevant closed next exposures copy end goal head is run matched (a, are, e) =
+    let (less, needed, from, kinds, serves) = kinds_trim schema.rules Wanted closed.bodies (record { facts = exposed_facts exposures; next = next }) end copy (map (ground a) goal.atoms) run
+    (λ f c. let (atom, among, same) = contains_mapped (ground a) goal.atoms f c in subst (λ g. Contains end.facts g) same (are atom among))
+    (λ f c. let (atom, among, same) = contains_mapped (ground a) goal.atoms f c in subst (λ (g : Ground). Wanted g.rel) same (closed.atoms goal atom matched among)) in
+    let r = exposures_trim schema constants Relevant base closed.inputs [] exposures needed (λ f c of_base. closed.facts f of_base (kinds f c)) is from in
+    let (last, its, leaves) = serves (record { facts = exposed_facts r.kept; next = next }) (omega arith) r.wanted_in in
+    (r.kept, less, last, r.serves [] (λ f c. c) r.known, its, (a, (λ atom c. leaves (ground a atom) (contains_map (ground a) goal.atoms atom c)), e), r.cheap, r.relevant)
 
 -- exposures and copy firings can be cut down to those that a match rests on, at no greater cost
 pub match_trim : (schema : SchemaParts) (constants : List (List ℕ)) (base : List Ground) (next : ℕ) (exposures : List Exposure) (copy : List Trigger) (end : State) (goal : Query) (head : List Val) →
     IsExposing schema constants base [] exposures → IsFiringRun schema.rules (record { facts = exposed_facts exposures; next = next }) copy end → IsQueryAnswer Const (GroundsOf end.facts) goal head →
     (kept : List Exposure) × (less : List Trigger) × (last : State) × IsExposing schema constants base [] kept × IsFiringRun schema.rules (record { facts = exposed_facts kept; next = next }) less last × IsQueryAnswer Const (GroundsOf last.facts) goal head × (exposures_cost kept ≤ exposures_cost exposures)
-match_trim schema constants base next exposures copy end goal head is run (a, are, e) =
-    let (less, needed, from, serves) = firings_trim schema.rules (record { facts = exposed_facts exposures; next = next }) end copy (map (ground a) goal.atoms) run
-    (λ f c. let (atom, among, same) = contains_mapped (ground a) goal.atoms f c in subst (λ g. Contains end.facts g) same (are atom among)) in
-    let r = exposures_trim schema constants base [] exposures needed is from in
-    let (last, its, leaves) = serves (record { facts = exposed_facts r.kept; next = next }) (omega arith) r.wanted_in in
-    (r.kept, less, last, r.serves [] (λ f c. c) r.known, its, (a, (λ atom c. leaves (ground a atom) (contains_map (ground a) goal.atoms atom c)), e), r.cheap)
+match_trim schema constants base next exposures copy end goal head is run answer =
+    let all : AreClosed schema constants base (goal ∷ []) (λ rel. Unit {0}) (λ fact. Unit {0}) =
+    record { atoms = λ query atom c d. tt; bodies = λ rule head body c d f w. tt; facts = λ fact c w. tt; inputs = λ fact other v r asks c d. tt } in
+    let (kept, less, last, exposing, its, matches, cheap, relevant) = relevant_trim schema constants base (goal ∷ []) (λ rel. Unit {0}) (λ fact. Unit {0}) all next exposures copy end goal head is run (contains_here goal []) answer in
+    (kept, less, last, exposing, its, matches, cheap)

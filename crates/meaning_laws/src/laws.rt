@@ -34,7 +34,7 @@ ghost use Rattle.meaning.specs.Conjunctive.{SelectFits, IsConjunctive, StandFor}
 ghost use Rattle.meaning.specs.Extract.{Exposure, exposed_facts, branch_of, IsDerivation, IsHeadKnown, IsExposing, exposures_cost, IsBase, IsQueryRival, HasGoalAfter, HasGoalFrom};
 ghost use Rattle.meaning.specs.Judge.{IsBranchQuery};
 ghost use Rattle.meaning.specs.Search.{AreDistinct, AreSets};
-ghost use Rattle.meaning_laws.specs.Trims.{AreIn, Serves};
+ghost use Rattle.meaning_laws.specs.Trims.{AreIn, Serves, AreClosed};
 
 /// The rows of a lawful plan depend on the accessible part alone, and grow with it.
 pub fn rows_grow()
@@ -381,4 +381,21 @@ pub fn quiet_is_reached()
     ensures { (rules : List Rule) (limit : ℕ) (state : State) → AreNumbered rules →
         ((rel n : ℕ) → IsFed rules rel n → n ≤ limit) →
         (log : List Trigger) × (end : State) × IsFiringRun rules state log end × IsQuiet rules end }
+{}
+
+/// Where the wanted relations and the relevant base facts are closed, the exposures that a match is cut down to are of relevant
+/// facts.
+pub fn relevant_trims()
+    ensures { (schema : SchemaParts) (constants : List Value) (base : List Ground) (queries : List Query)
+        (wanted : List ℕ) (relevant : List Ground) (next : ℕ) (exposures : List Exposure) (copy : List Trigger)
+        (end : State) (goal : Query) (head : List Val) →
+        AreClosed schema constants base queries (Contains wanted) (Contains relevant) →
+        IsExposing schema constants base [] exposures →
+        IsFiringRun schema.rules (record { facts = exposed_facts exposures; next = next }) copy end →
+        Contains queries goal → IsQueryAnswer Const (GroundsOf end.facts) goal head →
+        (kept : List Exposure) × (less : List Trigger) × (last : State)
+        × IsExposing schema constants base [] kept
+        × IsFiringRun schema.rules (record { facts = exposed_facts kept; next = next }) less last
+        × IsQueryAnswer Const (GroundsOf last.facts) goal head × (exposures_cost kept ≤ exposures_cost exposures)
+        × ((e : Exposure) → Contains kept e → Contains relevant e.fact) }
 {}
