@@ -2,7 +2,6 @@
 use Rattle.std.proofs.Common.{◌≡◌, ℕ, zero, suc, ◌+◌, ◌<◌, List, [], ◌∷◌, ◌++◌, length, Option, Some, Bool, true, false, refl, sym, ap, ◌∙◌, subst, ◌⊎◌, ⊎_elim, cond, arith, Contains, slice_get, slice_index_or, map, append_assoc}
 use Rattle.std.specs.Prelude.{if◌then◌else◌}
 use Rattle.std.specs.List.{filter}
-use Rattle.std.specs.BTreeMap.{BTreeMap}
 use Rattle.std.proofs.lemmas.Option.{slice_get-get_or}
 use Rattle.lists.proofs.Members.{contains_here, contains_there, contains_cases, map_got}
 use Rattle.meaning.specs.declared.types.Term.{Term}
@@ -18,14 +17,15 @@ use Rattle.homomorphism.specs.declared.key.Key.TheVariants.{Relation, Value}
 use Rattle.homomorphism.specs.declared.fact_index.FactIndex.{FactIndex}
 use Rattle.homomorphism.specs.Bindings.{Agrees}
 use Rattle.homomorphism.specs.Ways.{AreWays}
+use Rattle.homomorphism.specs.declared.key_lists.KeyLists.{KeyLists}
 use Rattle.homomorphism.specs.Listed.{value_keys, has_key, numbers_from, listed, IsIndexOf, AreCandidates}
 use Rattle.homomorphism.proofs.Indexing.{has_key_decides, of_values, numbers_below}
 
 -- the list is that of some key, which the atom has under each assignment that agrees
-abbrev pub IsFound : BTreeMap Key (List ℕ) → Atom → List (Option Val) → List ℕ → Type 0
+abbrev pub IsFound : KeyLists → Atom → List (Option Val) → List ℕ → Type 0
 IsFound numbers atom given best = (key : Key) × (best ≡ listed numbers key) × ((a : ℕ → Val) → Agrees given a → has_key key (ground a atom) ≡ true)
 
-module _ (numbers : BTreeMap Key (List ℕ)) (atom : Atom) (given : List (Option Val)) where
+module _ (numbers : KeyLists) (atom : Atom) (given : List (Option Val)) where
   pub found_relation : (best : List ℕ) → best ≡ listed numbers (Relation atom.rel) → IsFound numbers atom given best
   found_relation best e = (
     Relation atom.rel,
@@ -46,7 +46,7 @@ module _ (numbers : BTreeMap Key (List ℕ)) (atom : Atom) (given : List (Option
       got : (a : ℕ → Val) → Agrees given a → slice_get (map (value_of Const a) atom.terms) position ≡ Some val
       got a ag = map_got (value_of Const a) atom.terms position term (slice_get-get_or atom.terms position term l ∙ ap Some (sym is)) ∙ ap Some (known a ag)
 
-  pub found_candidates : (best : List ℕ) (index : FactIndex) → index.numbers ≡ numbers → IsFound numbers atom given best → (facts : List Ground) → IsIndexOf facts index → AreCandidates facts atom given best
+  pub found_candidates : (best : List ℕ) (index : FactIndex) → index.lists ≡ numbers → IsFound numbers atom given best → (facts : List Ground) → IsIndexOf facts index → AreCandidates facts atom given best
   found_candidates best index same (key, e, has) facts r = (key, e ∙ ap (λ n. listed n key) (sym same) ∙ r.lists key, has)
 
 -- the facts with these numbers

@@ -16,7 +16,8 @@ use Rattle.homomorphism.specs.declared.key.Key.{Key}
 use Rattle.homomorphism.specs.declared.key.Key.TheVariants.{Relation, Value}
 use Rattle.meaning.specs.contracts.types.GroundOrd.TheImpl.Laws.{total-law as ground_law}
 use Rattle.homomorphism.specs.contracts.key.KeyOrd.TheImpl.Laws.{total-law as key_law}
-use Rattle.homomorphism.specs.Listed.{key_cmp, ground_cmp}
+use Rattle.homomorphism.specs.Listed.{key_cmp}
+use Rattle.homomorphism.specs.Present.{ground_cmp}
 
 both_equal : (a b : Ordering) → ordering_then a b ≡ Equal → (a ≡ Equal) × (b ≡ Equal)
 both_equal Less b e = absurd (cc)

@@ -1,15 +1,7 @@
 -- An index of facts, with one fact more and one fact fewer.
-use Rattle.std.proofs.Common.{◌≡◌, ◌⊎◌, ◌↔◌, ℕ, zero, suc, ◌+◌, ◌<◌, List, [], ◌∷◌, ◌++◌, length, Option, Some, None, Bool, true, false, cond, refl, sym, ap, ◌∙◌, subst, inl, inr, ⊎_elim, arith, Contains, slice_get}
+use Rattle.std.proofs.Common.{◌≡◌, ◌⊎◌, ℕ, zero, suc, ◌+◌, ◌<◌, List, [], ◌∷◌, ◌++◌, length, Option, Some, None, Bool, true, false, refl, sym, ap, ◌∙◌, subst, inl, inr, ⊎_elim, arith, Contains, slice_get}
 use Rattle.std.specs.Prelude.{Decides, nat_eq, ◌&&◌, if◌then◌else◌}
-use Rattle.std.specs.List.{list_any}
-use Rattle.std.specs.Ordering.{is_eq}
-use Rattle.std.specs.BTreeMap.{BTreeMap, is_at}
-use Rattle.std.specs.BTreeSet.{BTreeSet, contains}
-use Rattle.std.specs.declared.cmp.Ordering.{Ordering}
-use Rattle.std.specs.declared.cmp.Ordering.TheVariants.{Less, Equal, Greater}
 use Rattle.std.proofs.lemmas.Bool.Decides.{Decides-eqb, Decides-and, Decides-like}
-use Rattle.std.proofs.lemmas.Cmp.{tied_itself}
-use Rattle.std.proofs.lemmas.List.Elements.{Contains-append_left, Contains-push, Contains-push_cases}
 use Rattle.lists.proofs.Members.{contains_here, contains_there, contains_cases, some_injective}
 use Rattle.meaning_laws.proofs.Added.{val_decides}
 use Rattle.meaning.specs.declared.types.Val.{Val}
@@ -19,8 +11,9 @@ use Rattle.meaning.specs.Search.{AreDistinct}
 use Rattle.homomorphism.specs.declared.key.Key.{Key}
 use Rattle.homomorphism.specs.declared.key.Key.TheVariants.{Relation, Value}
 use Rattle.homomorphism.specs.declared.fact_index.FactIndex.{FactIndex}
-use Rattle.homomorphism.specs.Listed.{value_keys, keys_of, is_val, has_key, numbers_from, listed, ground_cmp, MayEndIn, IsIndexOf}
-use Rattle.homomorphism.proofs.Exact.{ground_exact, ground_total}
+use Rattle.homomorphism.specs.declared.key_lists.KeyLists.{KeyLists}
+use Rattle.homomorphism.specs.Listed.{value_keys, keys_of, is_val, has_key, numbers_from, listed, MayEndIn, IsIndexOf}
+use Rattle.homomorphism.specs.Present.{IsPresence}
 use Rattle.homomorphism.proofs.Members.{contains_none}
 
 -- the keys of a row
@@ -150,15 +143,11 @@ ends_as facts fact number key e = ⊎_elim (λ c. inr (c, push_with key facts fa
 
 module _ (facts : List Ground) (fact : Ground) (number : ℕ) (is : number ≡ length facts) (was now : FactIndex) where
   -- the fact is added
-  pub index_added : (noted : (key : Key) → Contains (keys_of fact) key → listed now.numbers key ≡ listed was.numbers key ++ number ∷ []) →
-      (part : (key : Key) → MayEndIn (Contains (keys_of fact) key) number (listed was.numbers key) (listed now.numbers key)) →
-      ((other : Ground) → contains ground_cmp now.present other ≡ cond (is_at (ground_cmp fact) other) true (contains ground_cmp was.present other)) →
-      IsIndexOf facts was → IsIndexOf (facts ++ fact ∷ []) now
-  index_added noted part put r = record {
-    members = λ other. (
-      (λ e. by other (ground_cmp fact other) refl (sym (put other) ∙ e)),
-      (λ c. put other ∙ ⊎_elim (λ h. before other (is_at (ground_cmp fact) other) ((r.members other).1 h)) (λ e. here other e) (Contains-push_cases facts fact other c)),
-    );
+  pub index_added : (noted : (key : Key) → Contains (keys_of fact) key → listed now.lists key ≡ listed was.lists key ++ number ∷ []) →
+      (part : (key : Key) → MayEndIn (Contains (keys_of fact) key) number (listed was.lists key) (listed now.lists key)) →
+      IsPresence (facts ++ fact ∷ []) now.present → IsIndexOf facts was → IsIndexOf (facts ++ fact ∷ []) now
+  index_added noted part present r = record {
+    members = present;
     lists = λ key. ⊎_elim (λ c. noted key c ∙ ap (λ l. l ++ number ∷ []) (r.lists key) ∙ sym (push_with key facts fact number is c))
         (λ no. ⊎_elim (λ e. e ∙ r.lists key ∙ sym (push_without key facts fact no)) (λ (c, e). absurd (clash (sym ((has_key_decides key fact).1 c) ∙ no))) (part key)) (has_or_not key fact);
   }
@@ -166,70 +155,37 @@ module _ (facts : List Ground) (fact : Ground) (number : ℕ) (is : number ≡ l
       clash : true ≡ false → ⊥
       clash e = cc
 
-      by : (other : Ground) (o : Ordering) → ground_cmp fact other ≡ o → cond (is_eq o) true (contains ground_cmp was.present other) ≡ true → Contains (facts ++ fact ∷ []) other
-      by other Less e t = Contains-append_left facts (fact ∷ []) other ((r.members other).0 t)
-      by other Greater e t = Contains-append_left facts (fact ∷ []) other ((r.members other).0 t)
-      by other Equal e t = subst (Contains (facts ++ fact ∷ [])) (ground_exact fact other e) (Contains-push facts fact)
-
-      before : (other : Ground) (t : Bool) → contains ground_cmp was.present other ≡ true → cond t true (contains ground_cmp was.present other) ≡ true
-      before other true e = refl
-      before other false e = e
-
-      here : (other : Ground) → fact ≡ other → cond (is_at (ground_cmp fact) other) true (contains ground_cmp was.present other) ≡ true
-      here other e = ap (λ o. cond (is_eq o) true (contains ground_cmp was.present other)) (ap (ground_cmp fact) (sym e) ∙ tied_itself ground_total fact)
-
   -- the fact is not added after all
-  pub index_refused : (mid : FactIndex) → ((key : Key) → MayEndIn (Contains (keys_of fact) key) number (listed was.numbers key) (listed mid.numbers key)) →
-      ((key : Key) (before : List ℕ) → (Contains before number → ⊥) → MayEndIn (Contains (keys_of fact) key) number before (listed mid.numbers key) → listed now.numbers key ≡ before) →
-      now.present.keys ≡ was.present.keys → IsIndexOf facts was → IsIndexOf facts now
-  index_refused mid part struck same r = record {
-    members = λ other. subst (λ keys. (list_any (is_at (ground_cmp other)) keys ≡ true) ↔ Contains facts other) (sym same) (r.members other);
-    lists = λ key. struck key (numbers_from 0 key facts) (not_numbered key facts number is) (subst (λ l. MayEndIn (Contains (keys_of fact) key) number l (listed mid.numbers key)) (r.lists key) (part key));
+  pub index_refused : (mid : KeyLists) → ((key : Key) → MayEndIn (Contains (keys_of fact) key) number (listed was.lists key) (listed mid key)) →
+      ((key : Key) (before : List ℕ) → (Contains before number → ⊥) → MayEndIn (Contains (keys_of fact) key) number before (listed mid key) → listed now.lists key ≡ before) →
+      IsPresence facts now.present → IsIndexOf facts was → IsIndexOf facts now
+  index_refused mid part struck present r = record {
+    members = present;
+    lists = λ key. struck key (numbers_from 0 key facts) (not_numbered key facts number is) (subst (λ l. MayEndIn (Contains (keys_of fact) key) number l (listed mid key)) (r.lists key) (part key));
   }
 
   -- the last fact is taken out
-  pub index_removed : ((key : Key) (before : List ℕ) → (Contains before number → ⊥) → MayEndIn (Contains (keys_of fact) key) number before (listed was.numbers key) → listed now.numbers key ≡ before) →
-      ((other : Ground) → contains ground_cmp now.present other ≡ cond (is_at (ground_cmp fact) other) false (contains ground_cmp was.present other)) →
-      (Contains facts fact → ⊥) → IsIndexOf (facts ++ fact ∷ []) was → IsIndexOf facts now
-  index_removed struck put new r = record {
-    members = λ other. (
-      (λ e. by other (ground_cmp fact other) refl (sym (put other) ∙ e)),
-      (λ c. put other ∙ stays other (ground_cmp fact other) refl c),
-    );
+  pub index_removed : ((key : Key) (before : List ℕ) → (Contains before number → ⊥) → MayEndIn (Contains (keys_of fact) key) number before (listed was.lists key) → listed now.lists key ≡ before) →
+      IsPresence facts now.present → IsIndexOf (facts ++ fact ∷ []) was → IsIndexOf facts now
+  index_removed struck present r = record {
+    members = present;
     lists = λ key. struck key (numbers_from 0 key facts) (not_numbered key facts number is)
         (subst (λ l. MayEndIn (Contains (keys_of fact) key) number (numbers_from 0 key facts) l) (sym (r.lists key)) (ends_as facts fact number key is));
   }
-    where
-      apart : (o : Ordering) → (o ≡ Equal → ⊥) → (other : Ground) → ground_cmp fact other ≡ o → fact ≡ other → ⊥
-      apart o unequal other e same = unequal (sym e ∙ ap (ground_cmp fact) (sym same) ∙ tied_itself ground_total fact)
-
-      by : (other : Ground) (o : Ordering) → ground_cmp fact other ≡ o → cond (is_eq o) false (contains ground_cmp was.present other) ≡ true → Contains facts other
-      by other Less e t = ⊎_elim (λ h. h) (λ same. absurd (apart Less (λ e. cc) other e same)) (Contains-push_cases facts fact other ((r.members other).0 t))
-      by other Greater e t = ⊎_elim (λ h. h) (λ same. absurd (apart Greater (λ e. cc) other e same)) (Contains-push_cases facts fact other ((r.members other).0 t))
-      by other Equal e t = absurd (cc)
-
-      stays : (other : Ground) (o : Ordering) → ground_cmp fact other ≡ o → Contains facts other → cond (is_eq o) false (contains ground_cmp was.present other) ≡ true
-      stays other Less e c = (r.members other).1 (Contains-append_left facts (fact ∷ []) other c)
-      stays other Greater e c = (r.members other).1 (Contains-append_left facts (fact ∷ []) other c)
-      stays other Equal e c = absurd (new (subst (Contains facts) (sym (ground_exact fact other e)) c))
 
 -- the same of keys and of a copy that the code has made
 module _ (fact copy : Ground) (keys : List Key) (number : ℕ) (was now : FactIndex) (ks : keys ≡ keys_of fact) (cs : copy ≡ fact) where
-  pub added_as : ((key : Key) → Contains keys key → listed now.numbers key ≡ listed was.numbers key ++ number ∷ []) →
-      ((key : Key) → MayEndIn (Contains keys key) number (listed was.numbers key) (listed now.numbers key)) →
-      (before : BTreeSet Ground) → before ≡ was.present →
-      ((other : Ground) → contains ground_cmp now.present other ≡ cond (is_at (ground_cmp copy) other) true (contains ground_cmp before other)) →
-      (facts : List Ground) → IsIndexOf facts was → number ≡ length facts → IsIndexOf (facts ++ fact ∷ []) now
-  added_as noted part before same put facts r is = index_added facts fact number is was now
+  pub added_as : ((key : Key) → Contains keys key → listed now.lists key ≡ listed was.lists key ++ number ∷ []) →
+      ((key : Key) → MayEndIn (Contains keys key) number (listed was.lists key) (listed now.lists key)) →
+      (facts : List Ground) → IsPresence (facts ++ fact ∷ []) now.present → IsIndexOf facts was → number ≡ length facts → IsIndexOf (facts ++ fact ∷ []) now
+  added_as noted part facts present r is = index_added facts fact number is was now
       (λ key c. noted key (subst (λ k. Contains k key) (sym ks) c))
-      (λ key. subst (λ k. MayEndIn (Contains k key) number (listed was.numbers key) (listed now.numbers key)) ks (part key))
-      (λ other. put other ∙ ap (λ f. cond (is_at (ground_cmp f) other) true (contains ground_cmp before other)) cs ∙ ap (λ s. cond (is_at (ground_cmp fact) other) true (contains ground_cmp s other)) same)
-      r
+      (λ key. subst (λ k. MayEndIn (Contains k key) number (listed was.lists key) (listed now.lists key)) ks (part key)) present r
 
-  pub refused_as : (mid : BTreeMap Key (List ℕ)) → ((key : Key) → MayEndIn (Contains keys key) number (listed was.numbers key) (listed mid key)) →
-      ((key : Key) (before : List ℕ) → (Contains before number → ⊥) → MayEndIn (Contains (keys_of copy) key) number before (listed mid key) → listed now.numbers key ≡ before) →
-      now.present.keys ≡ was.present.keys → (facts : List Ground) → IsIndexOf facts was → number ≡ length facts → IsIndexOf facts now
-  refused_as mid part struck same facts r is = index_refused facts fact number is was now (record { present = was.present; numbers = mid })
-      (λ key. subst (λ k. MayEndIn (Contains k key) number (listed was.numbers key) (listed mid key)) ks (part key))
+  pub refused_as : (mid : KeyLists) → ((key : Key) → MayEndIn (Contains keys key) number (listed was.lists key) (listed mid key)) →
+      ((key : Key) (before : List ℕ) → (Contains before number → ⊥) → MayEndIn (Contains (keys_of copy) key) number before (listed mid key) → listed now.lists key ≡ before) →
+      (facts : List Ground) → IsPresence facts now.present → IsIndexOf facts was → number ≡ length facts → IsIndexOf facts now
+  refused_as mid part struck facts present r is = index_refused facts fact number is was now mid
+      (λ key. subst (λ k. MayEndIn (Contains k key) number (listed was.lists key) (listed mid key)) ks (part key))
       (λ key before none h. struck key before none (subst (λ f. MayEndIn (Contains (keys_of f) key) number before (listed mid key)) (sym cs) h))
-      same r
+      present r

@@ -9,6 +9,8 @@ pub mod Covering
 pub mod Instances
 pub mod Exact
 pub mod Numbering
+pub mod Present
+pub mod Coded
 pub mod Noting
 pub mod Indexing
 pub mod Choosing

@@ -1,26 +1,26 @@
 -- A number that is added to the lists of keys one after another, and taken from them.
 use Rattle.std.proofs.Common.{◌≡◌, ◌⊎◌, ℕ, List, [], ◌∷◌, ◌++◌, length, refl, sym, ap, ◌∙◌, subst, inl, inr, ⊎_elim, arith, Contains}
-use Rattle.std.specs.BTreeMap.{BTreeMap}
 use Rattle.std.proofs.lemmas.List.Elements.{Contains-append_left, Contains-push, Contains-push_cases}
 use Rattle.meaning.specs.declared.types.Val.{Val}
 use Rattle.meaning.specs.declared.types.Ground.{Ground}
 use Rattle.meaning.specs.Search.{AreDistinct}
 use Rattle.homomorphism.specs.declared.key.Key.{Key}
 use Rattle.homomorphism.specs.declared.key.Key.TheVariants.{Relation, Value}
+use Rattle.homomorphism.specs.declared.key_lists.KeyLists.{KeyLists}
 use Rattle.homomorphism.specs.Listed.{listed, keys_of, value_keys, MayEndIn}
 use Rattle.homomorphism.proofs.Exact.{key_cases}
 use Rattle.homomorphism.proofs.Members.{contains_none, contains_else, distinct_parts}
 use Rattle.homomorphism.proofs.Numbering.{value_keys_push}
 
 -- the keys that are left have their lists, and the others the number in addition
-pub record Noting (all left : List Key) (number : ℕ) (was now : BTreeMap Key (List ℕ)) : Type 0 where
+pub record Noting (all left : List Key) (number : ℕ) (was now : KeyLists) : Type 0 where
   pub inside : (key : Key) → Contains left key → Contains all key
   pub distinct : AreDistinct left
   pub rest : (key : Key) → Contains left key → listed now key ≡ listed was key
   pub part : (key : Key) → MayEndIn (Contains all key) number (listed was key) (listed now key)
   pub noted : (key : Key) → Contains all key → (Contains left key → ⊥) → listed now key ≡ listed was key ++ number ∷ []
 
-pub noting_start : (all : List Key) (number : ℕ) (was : BTreeMap Key (List ℕ)) → AreDistinct all → Noting all all number was was
+pub noting_start : (all : List Key) (number : ℕ) (was : KeyLists) → AreDistinct all → Noting all all number was was
 noting_start all number was once = record {
   inside = λ key c. c;
   distinct = once;
@@ -29,7 +29,7 @@ noting_start all number was once = record {
   noted = λ key c none. absurd (none c);
 }
 
-module _ (all left rest : List Key) (key : Key) (number : ℕ) (was now next : BTreeMap Key (List ℕ)) (split : left ≡ rest ++ key ∷ []) (r : Noting all left number was now) where
+module _ (all left rest : List Key) (key : Key) (number : ℕ) (was now next : KeyLists) (split : left ≡ rest ++ key ∷ []) (r : Noting all left number was now) where
   pub noting_refused : ((other : Key) → listed next other ≡ listed now other) → (other : Key) → MayEndIn (Contains all other) number (listed was other) (listed next other)
   noting_refused same other = ⊎_elim (λ e. inl (same other ∙ e)) (λ (c, e). inr (c, same other ∙ e)) (r.part other)
 
@@ -57,7 +57,7 @@ module _ (all left rest : List Key) (key : Key) (number : ℕ) (was now next : B
       now_noted = here ∙ ap (λ l. l ++ number ∷ []) (r.rest key within)
 
 -- what a key's list is once the number is taken from its end
-strike_one : (P Q : Key → Type 0) (key : Key) (number : ℕ) (now next : BTreeMap Key (List ℕ)) → ((k : Key) → P k → (k ≡ key → ⊥) → Q k) →
+strike_one : (P Q : Key → Type 0) (key : Key) (number : ℕ) (now next : KeyLists) → ((k : Key) → P k → (k ≡ key → ⊥) → Q k) →
     ((before : List ℕ) → listed now key ≡ before ++ number ∷ [] → listed next key ≡ before) →
     ((Contains (listed now key) number → ⊥) → listed next key ≡ listed now key) →
     ((other : Key) → (other ≡ key → ⊥) → listed next other ≡ listed now other) →
@@ -70,12 +70,12 @@ strike_one P Q key number now next less there not_there others k before none h =
     here either = ⊎_elim (λ e. not_there (λ c. none (subst (λ l. Contains l number) e c)) ∙ e) (λ e. there before e) either
 
 -- the number is at most at the ends of the lists of the values that are left
-abbrev pub Striking : Ground → List Val → ℕ → BTreeMap Key (List ℕ) → BTreeMap Key (List ℕ) → Type 0
+abbrev pub Striking : Ground → List Val → ℕ → KeyLists → KeyLists → Type 0
 Striking fact vals number was now =
     (key : Key) (before : List ℕ) → (Contains before number → ⊥) → MayEndIn (Contains (keys_of fact) key) number before (listed was key) →
     MayEndIn (Contains (value_keys fact.rel 0 vals) key) number before (listed now key)
 
-module _ (fact : Ground) (number : ℕ) (was now next : BTreeMap Key (List ℕ)) where
+module _ (fact : Ground) (number : ℕ) (was now next : KeyLists) where
   pub striking_start : ((before : List ℕ) → listed was (Relation fact.rel) ≡ before ++ number ∷ [] → listed next (Relation fact.rel) ≡ before) →
       ((Contains (listed was (Relation fact.rel)) number → ⊥) → listed next (Relation fact.rel) ≡ listed was (Relation fact.rel)) →
       ((other : Key) → (other ≡ Relation fact.rel → ⊥) → listed next other ≡ listed was other) → Striking fact fact.vals number was next

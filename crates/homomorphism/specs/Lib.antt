@@ -6,5 +6,7 @@ pub mod Narrowing
 pub mod Ways
 pub mod Covering
 pub mod Texts
+pub mod Codes
+pub mod Present
 pub mod Listed
 pub mod Widening

@@ -1,17 +1,20 @@
 -- The numbers of the facts that have a key, which is a relation, or a relation with a value at a position.
-use Rattle.std.specs.Prelude.{◌≡◌, ◌↔◌, ◌⊎◌, ℕ, ◌+◌, List, [], ◌∷◌, ◌++◌, Contains, Option, Some, None, Bool, true, false, ◌&&◌, nat_eq, slice_get, if◌then◌else◌, unwrap_or}
+use Rattle.std.specs.Prelude.{◌≡◌, ◌⊎◌, ℕ, ◌+◌, List, [], ◌∷◌, ◌++◌, Option, Some, None, Bool, true, false, ◌&&◌, nat_eq, slice_get, if◌then◌else◌, unwrap_or}
 use Rattle.std.specs.declared.cmp.Ordering.{Ordering}
-use Rattle.std.specs.BTreeMap.{BTreeMap, get}
-use Rattle.std.specs.BTreeSet.{contains}
+use Rattle.std.specs.BTreeMap.{BTreeMap, get, is_at}
+use Rattle.std.specs.Ordering.{nat_cmp}
 use Rattle.meaning.specs.declared.types.Val.{Val}
 use Rattle.meaning.specs.declared.types.Ground.{Ground}
-use Rattle.meaning.specs.contracts.types.GroundOrd.TheImpl as ground_ord
 use Rattle.meaning.specs.declared.types.Atom.{Atom}
 use Rattle.meaning.specs.Added.{is_same_val}
 use Rattle.meaning.specs.Triggers.{ground}
 use Rattle.homomorphism.specs.Bindings.{Agrees}
+use Rattle.homomorphism.specs.Codes.{key_code}
+use Rattle.homomorphism.specs.Present.{IsPresence}
 use Rattle.homomorphism.specs.declared.key.Key.{Key}
 use Rattle.homomorphism.specs.declared.key.Key.TheVariants.{Relation, Value}
+use Rattle.homomorphism.specs.declared.key_lists.KeyList.{KeyList}
+use Rattle.homomorphism.specs.declared.key_lists.KeyLists.{KeyLists}
 use Rattle.homomorphism.specs.declared.fact_index.FactIndex.{FactIndex}
 use Rattle.homomorphism.specs.contracts.key.KeyOrd.TheImpl as key_ord
 
@@ -43,17 +46,23 @@ numbers_from first key (fact ∷ facts) =
 abbrev pub key_cmp : Key → Key → Ordering
 key_cmp = (key_ord.ghosts).cmp
 
-abbrev pub ground_cmp : Ground → Ground → Ordering
-ground_cmp = (ground_ord.ghosts).cmp
+-- The numbers of a list, if it is that of the key.
+unfoldable pub own_list : Key → Option KeyList → List ℕ
+own_list key None = []
+own_list key (Some list) = if is_at (key_cmp key) list.key then list.numbers else []
 
--- The list of a key, which is empty where there is none.
-abbrev pub listed : BTreeMap Key (List ℕ) → Key → List ℕ
-listed numbers key = unwrap_or (get key_cmp numbers key) []
+-- The list at the key's code, if it is that of the key.
+unfoldable pub coded_list : BTreeMap ℕ KeyList → Key → List ℕ
+coded_list coded key = own_list key (get nat_cmp coded (key_code key))
+
+-- The list of a key: the one that it has among the others, or else the one at its code.
+unfoldable pub listed : KeyLists → Key → List ℕ
+listed lists key = unwrap_or (get key_cmp lists.others key) (coded_list lists.coded key)
 
 -- An index of facts tells which facts there are, and has for each key exactly the numbers of the facts that have it.
 pub record IsIndexOf (facts : List Ground) (index : FactIndex) : Type 0 where
-  pub members : (fact : Ground) → (contains ground_cmp index.present fact ≡ true) ↔ Contains facts fact
-  pub lists : (key : Key) → listed index.numbers key ≡ numbers_from 0 key facts
+  pub members : IsPresence facts index.present
+  pub lists : (key : Key) → listed index.lists key ≡ numbers_from 0 key facts
 
 -- A list is as before, or, where a condition holds, ends in the number in addition.
 abbrev pub MayEndIn : Type 0 → ℕ → List ℕ → List ℕ → Type 0

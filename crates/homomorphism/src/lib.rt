@@ -7,6 +7,7 @@
 mod arrange;
 mod assignment;
 mod bind;
+mod code;
 mod conditions;
 mod extend;
 mod fact_index;
@@ -14,7 +15,9 @@ mod find;
 mod grounding;
 mod instance;
 mod key;
+mod key_lists;
 mod matching;
+mod presence;
 mod rules;
 mod search;
 mod store;

@@ -88,7 +88,7 @@ impl Store {
     pub fn contains(&self, fact: &Ground) -> bool
         ensures { IsTrue result ↔ Contains self.now fact.now }
     {
-        self.index.contains(fact)
+        self.index.contains(self.facts.as_slice(), fact)
     }
 
     /// Adds the fact as the last one where it is not there yet, and says whether it did. Where memory is refused,

@@ -16,7 +16,7 @@ loop-position-preserved c =
     let l = rw c.as_slice-term-items.ensures at c.loop-position-test.true in
     let known = c.in_ok-val.ensures in
     elim c.match-branch-2.branch [
-      | in-Some+then-numbers-best w ↦ rw w.best-is (found_value c.args.self.now.numbers c.args.atom.now c.args.given.now w.numbers-numbers.result.now c.loop-position.position c.term-item.result w.in-Some.val l is (rw w.in-Some.is at known) w.numbers-numbers.ensures)
+      | in-Some+then-numbers-best w ↦ rw w.best-is (found_value c.args.self.now.lists c.args.atom.now c.args.given.now w.numbers-numbers.result.now c.loop-position.position c.term-item.result w.in-Some.val l is (rw w.in-Some.is at known) w.numbers-numbers.ensures)
       | in-Some+else-numbers-best w ↦ rw w.best-is c.loop-position.invariant
       | in_default w ↦ rw w.best-is c.loop-position.invariant
     ]

@@ -1,0 +1,29 @@
+-- Codes: numbers that tell nearly all keys, and nearly all facts, apart. No proof rests on that they do.
+use Rattle.std.specs.Prelude.{◌+◌, ◌*◌, ◌%◌, ◌^◌, ℕ, List}
+use Rattle.std.specs.List.{fold}
+use Rattle.row_text.specs.Hash.{mix}
+use Rattle.meaning.specs.declared.types.Val.{Val}
+use Rattle.meaning.specs.declared.types.Val.TheVariants.{Const, Label}
+use Rattle.meaning.specs.declared.types.Ground.{Ground}
+use Rattle.homomorphism.specs.declared.key.Key.{Key}
+use Rattle.homomorphism.specs.declared.key.Key.TheVariants.{Relation, Value}
+
+-- A number mixed into a code.
+abbrev pub mixed : ℕ → ℕ → ℕ
+mixed code number = ((code * 1099511628211) % 2 ^ 64 + number) % 2 ^ 64
+
+-- The code of a text is a hash, and that of a label its number.
+abbrev pub val_code : Val → ℕ
+val_code (Const text) = mix 14695981039346656037 text
+val_code (Label label) = label
+
+-- A code with those of values mixed in, one after another.
+abbrev pub vals_code : ℕ → List Val → ℕ
+vals_code code vals = fold (λ h val. mixed h (val_code val)) code vals
+
+unfoldable pub fact_code : Ground → ℕ
+fact_code fact = vals_code fact.rel fact.vals
+
+unfoldable pub key_code : Key → ℕ
+key_code (Relation rel) = rel
+key_code (Value rel position val) = mixed (mixed (mixed 1 rel) position) (val_code val)

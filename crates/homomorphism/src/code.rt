@@ -1,0 +1,50 @@
+// Codes of keys and facts: numbers that tell nearly all of them apart.
+ghost use Rattle.std.specs.Prelude.{◌≡◌};
+ghost use Rattle.homomorphism.specs.Codes.{mixed, val_code, fact_code, key_code};
+
+use crate::key::Key;
+use meaning::types::{Ground, Val};
+use row_text::mix;
+
+/// A code of the value: of a text a hash, and of a label its number. Takes no memory.
+fn val_code(val: &Val) -> u64
+    ensures { result ≡ val_code val.now }
+{
+    match val {
+        Val::Const(text) => mix(14695981039346656037, text.as_bytes()),
+        Val::Label(label) => u64::from(*label),
+    }
+}
+
+/// A code with a number mixed in. Takes no memory.
+fn mixed(code: u64, number: u64) -> u64
+    ensures { result ≡ mixed code number }
+{
+    code.wrapping_mul(1099511628211).wrapping_add(number)
+}
+
+/// A code of the fact, made of its relation and the codes of its values. Takes no memory.
+#[tactic(auto, unfolding(crate::specs::Codes::fact_code))]
+pub fn fact_code(fact: &Ground) -> u64
+    ensures { result ≡ fact_code fact.now }
+{
+    let mut code = u64::from(fact.rel);
+    for val in fact.vals.as_slice() {
+        code = mixed(code, val_code(val));
+    }
+    code
+}
+
+/// A code of the key. Takes no memory.
+#[tactic(auto, unfolding(crate::specs::Codes::key_code))]
+pub fn key_code(key: &Key) -> u64
+    ensures { result ≡ key_code key.now }
+{
+    match key {
+        Key::Relation(rel) => u64::from(*rel),
+        Key::Value { rel, position, val } => {
+            let place = mixed(mixed(1, u64::from(*rel)), *position as u64);
+            mixed(place, val_code(val))
+        }
+    }
+}

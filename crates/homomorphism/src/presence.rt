@@ -1,0 +1,87 @@
+// Which facts there are, by their codes.
+ghost use Rattle.std.specs.Prelude.{◌≡◌, ◌↔◌, ◌<◌, ℕ, IsTrue, [], ◌∷◌, ◌++◌, length, List, Contains, Some, OnErr, OnOk};
+ghost use Rattle.std.specs.BTreeMap.{get};
+ghost use Rattle.std.specs.Ordering.{nat_cmp};
+ghost use Rattle.meaning.specs.declared.types.Ground.{Ground as TheGround};
+ghost use Rattle.homomorphism.specs.Present.{IsFirst, IsPresence};
+
+use crate::code::fact_code;
+use lists::{Copies, Exact, NoMemory};
+use meaning::types::Ground;
+use std::alloc::Global;
+use std::collections::{BTreeMap, BTreeSet};
+
+/// For each code the number of the first fact that has it; and the facts whose code an earlier one had, in order.
+///
+/// Both are ordered trees. However many facts agree in their codes, a look-up takes the logarithm of their number.
+#[derive(Drop)]
+pub struct Presence {
+    firsts: BTreeMap<u64, usize>,
+    others: BTreeSet<Ground>,
+}
+
+impl Presence {
+    /// That of no facts. Takes no memory.
+    pub fn new(alloc: Global) -> Presence
+        ensures { IsPresence [] result }
+    {
+        Presence {
+            firsts: BTreeMap::new(alloc),
+            others: BTreeSet::new(alloc),
+        }
+    }
+
+    /// Whether the fact is one of these. Takes no memory.
+    pub fn contains(&self, facts: &[Ground], fact: &Ground) -> bool
+        ensures { IsPresence facts.now self.now → IsTrue result ↔ Contains facts.now fact.now }
+    {
+        self.is_first(facts, fact) || self.others.contains(fact)
+    }
+
+    /// Adds a fact that gets this number. Where memory is refused, nothing changes.
+    pub fn add(&mut self, alloc: Global, fact: &Ground, number: usize) -> Result<(), NoMemory>
+        ensures added { OnOk result ((facts : List TheGround) → IsPresence facts self.old → number ≡ length facts → IsPresence (facts ++ fact.now ∷ []) self.new) }
+        ensures refused { OnErr result ((facts : List TheGround) → IsPresence facts self.old → IsPresence facts self.new) }
+    {
+        let code = fact_code(fact);
+        if self.firsts.contains_key(&code) {
+            self.others.insert(fact.copy(alloc)?)?;
+        } else {
+            self.firsts.insert(code, number)?;
+        }
+        Ok(())
+    }
+
+    /// Takes out the last fact, which has this number. Takes no memory.
+    pub fn remove(&mut self, fact: &Ground, number: usize)
+        ensures { (facts : List TheGround) → IsPresence (facts ++ fact.now ∷ []) self.old → number ≡ length facts → (Contains facts fact.now → ⊥) → IsPresence facts self.new }
+    {
+        self.remove_first(fact_code(fact), number);
+        self.others.remove(fact);
+    }
+
+    /// Whether the fact is the first one of its code. Takes no memory.
+    fn is_first(&self, facts: &[Ground], fact: &Ground) -> bool
+        ensures { IsTrue result ↔ IsFirst facts.now self.now fact.now }
+    {
+        match self.firsts.get(&fact_code(fact)) {
+            Some(number) => match facts.get(*number) {
+                Some(first) => first.same(fact),
+                None => false,
+            },
+            None => false,
+        }
+    }
+
+    /// Takes the code out, if its first fact has this number. Takes no memory.
+    fn remove_first(&mut self, code: u64, number: usize)
+        ensures kept { (other n : ℕ) → n < number → get nat_cmp self.old.firsts other ≡ Some n → get nat_cmp self.new.firsts other ≡ Some n }
+        ensures others { self.new.others ≡ self.old.others }
+    {
+        if let Some(first) = self.firsts.get(&code) {
+            if *first == number {
+                self.firsts.remove(&code);
+            }
+        }
+    }
+}
