@@ -1,5 +1,5 @@
 -- A hash index answers the rows that have the values.
-use Rattle.std.proofs.Common.{◌≡◌, ◌≢◌, ◌<◌, ◌≤◌, ◌+◌, ◌-◌, ◌%◌, ◌&&◌, ◌⊎◌, inl, inr, ℕ, zero, suc, List, [], ◌∷◌, ◌++◌, length, take, get_or, set, Option, None, Some, slice_get, Bool, true, false, not, nat_eq, cond, refl, sym, ◌∙◌, ap, subst, arith}
+use Rattle.std.proofs.Common.{◌≡◌, ◌≢◌, ◌<◌, ◌≤◌, ◌+◌, ◌-◌, ◌%◌, ◌&&◌, ◌⊎◌, inl, inr, ℕ, zero, suc, List, [], ◌∷◌, ◌++◌, length, take, get_or, set, Option, None, Some, unwrap_or, slice_get, Bool, true, false, not, nat_eq, cond, refl, sym, ◌∙◌, ap, subst, arith}
 use Rattle.std.specs.List.{AllByRecursion, filter}
 use Rattle.std.specs.Option.{IsSomeAnd}
 use Rattle.std.specs.Cmp.Lexicographic.{pointwise, bytes_decides}
@@ -12,8 +12,9 @@ use Rattle.std.proofs.lemmas.Bool.Decides.{nat_tests}
 use Rattle.row_text.specs.Hash.{mix}
 use Rattle.source_trait.specs.Asking.{RowList, agrees}
 use Rattle.source_trait.specs.Holding.{attachment_in, others_than}
-use Rattle.source_trait.specs.Index.{AreChains, AreIndexes, Indexes, IndexesOf, Leads, OneMore, codes_of, index_in, key_hash, mix_some, row_hash}
+use Rattle.source_trait.specs.Index.{AreChains, AreIndexes, Indexes, IndexesOf, Leads, OneMore, chain_of, chains_of, codes_of, index_in, key_chain, key_hash, mix_some, row_hash, row_values}
 use Rattle.source_trait.specs.declared.holding.Attachment.{Attachment}
+use Rattle.source_trait.specs.declared.crowded.Crowded.{Crowded}
 use Rattle.source_trait.specs.declared.index.Index.{Index}
 use Rattle.source_trait.proofs.Stores.{others_push, others_stay}
 
@@ -41,6 +42,27 @@ agree_hash (p ∷ ps) (v ∷ vs) row h same = by (slice_get row p) refl (agree_h
         let is : w ≡ v = (bytes_decides w v).0 both.0 in
         later (mix h v) both.1 ∙ ap (λ x. row_hash (mix h x) ps row) (sym is) ∙ ap (λ o. row_hash (mix_some h o) ps row) (sym e)
 
+-- values that a row has are the row's
+pub agree_values : (ps : List ℕ) (vs row : List (List ℕ)) → agrees ps vs row ≡ true → take (length ps) vs ≡ row_values ps row
+agree_values [] vs row same = refl
+agree_values (p ∷ ps) [] row same = absurd (cc)
+agree_values (p ∷ ps) (v ∷ vs) row same = by (slice_get row p) refl (agree_values ps vs row)
+  where
+    by : (o : Option (List ℕ)) → slice_get row p ≡ o → (agrees ps vs row ≡ true → take (length ps) vs ≡ row_values ps row) → v ∷ take (length ps) vs ≡ unwrap_or (slice_get row p) [] ∷ row_values ps row
+    by None e later = let same2 = rw e at same in absurd (cc)
+    by (Some w) e later =
+        let same2 = rw e at same in
+        let both = and_true (pointwise nat_eq w v) (agrees ps vs row) same2 in
+        let is : w ≡ v = (bytes_decides w v).0 both.0 in
+        ap (λ (l : List (List ℕ)). v ∷ l) (later both.1) ∙ ap (λ (x : List ℕ). x ∷ row_values ps row) (sym is) ∙ ap (λ (o : Option (List ℕ)). unwrap_or o [] ∷ row_values ps row) (sym e)
+
+-- values that a row has have the row's chain
+pub agree_chain : (ps : List ℕ) (vs row : List (List ℕ)) (count : ℕ) (crowded : Crowded) → agrees ps vs row ≡ true
+    → key_chain ps count crowded vs ≡ chain_of crowded (row_hash 0 ps row % count) (row_values ps row)
+agree_chain ps vs row count crowded same =
+    ap (λ h. chain_of crowded (h % count) (take (length ps) vs)) (agree_hash ps vs row 0 same)
+    ∙ ap (λ (values : List (List ℕ)). chain_of crowded (row_hash 0 ps row % count) values) (agree_values ps vs row same)
+
 -- rows that do not pass add nothing to those that do
 filter_skip : (P : List (List ℕ) → Bool) (rows : RowList) (i n : ℕ) → i + n ≤ length rows → ((k : ℕ) → i ≤ k → k < i + n → P (get_or rows k []) ≡ false) → filter P (take (i + n) rows) ≡ filter P (take i rows)
 filter_skip P rows i zero within none = let e : i + zero ≡ i = omega arith in rw e refl
@@ -57,18 +79,61 @@ filter_skip P rows i (suc n) within none =
 pub code_at : (ps : List ℕ) (count : ℕ) (rows : RowList) (k : ℕ) → k < length rows → get_or (codes_of ps count rows) k 0 ≡ row_hash 0 ps (get_or rows k []) % count
 code_at ps count rows k below = get_or-map (λ row. row_hash 0 ps row % count) rows k [] 0 below
 
+-- the chain of a row
+pub chain_at : (ps : List ℕ) (count : ℕ) (crowded : Crowded) (rows : RowList) (k : ℕ) → k < length rows
+    → get_or (chains_of ps count crowded rows) k 0 ≡ chain_of crowded (row_hash 0 ps (get_or rows k []) % count) (row_values ps (get_or rows k []))
+chain_at ps count crowded rows k below = get_or-map (λ row. chain_of crowded (row_hash 0 ps row % count) (row_values ps row)) rows k [] 0 below
+
+pub many_chains : (ps : List ℕ) (count : ℕ) (crowded : Crowded) (rows : RowList) → length (chains_of ps count crowded rows) ≡ length rows
+many_chains ps count crowded rows = length-map rows (λ row. chain_of crowded (row_hash 0 ps row % count) (row_values ps row))
+
 -- where a chain leads on, no row on the way has the values
-pub lead_on : (ps : List ℕ) (vs : List (List ℕ)) (rows : RowList) (count start place code : ℕ) (found : RowList) → Leads (codes_of ps count rows) code start place → code ≡ key_hash 0 ps vs % count
+pub lead_on : (ps : List ℕ) (vs : List (List ℕ)) (rows : RowList) (count : ℕ) (crowded : Crowded) (start place code : ℕ) (found : RowList) → Leads (chains_of ps count crowded rows) code start place → code ≡ key_chain ps count crowded vs
     → found ≡ filter (agrees ps vs) (take start rows) → found ≡ filter (agrees ps vs) (take place rows)
-lead_on ps vs rows count start place code found leads is so_far =
-    let long : length (codes_of ps count rows) ≡ length rows = length-map rows (λ row. row_hash 0 ps row % count) in
+lead_on ps vs rows count crowded start place code found leads is so_far =
+    let long : length (chains_of ps count crowded rows) ≡ length rows = many_chains ps count crowded rows in
     let whole : start + (place - start) ≡ place = omega (arith, leads.onward) in
     so_far ∙ sym (ap (λ m. filter (agrees ps vs) (take m rows)) (sym whole) ∙ filter_skip (agrees ps vs) rows start (place - start) (omega (arith, leads.within, leads.onward, long))
     (λ k low high. by (agrees ps vs (get_or rows k [])) k refl low (omega (arith, high, whole)) (omega (arith, high, whole, leads.within, long))))
   where
     by : (b : Bool) → (k : ℕ) → agrees ps vs (get_or rows k []) ≡ b → start ≤ k → k < place → k < length rows → b ≡ false
-    by true k same low high below = absurd (leads.skips k low high (code_at ps count rows k below ∙ ap (λ h. h % count) (sym (agree_hash ps vs (get_or rows k []) 0 same)) ∙ sym is))
+    by true k same low high below = absurd (leads.skips k low high (chain_at ps count crowded rows k below ∙ sym (agree_chain ps vs (get_or rows k []) count crowded same) ∙ sym is))
     by false k same low high below = refl
+
+-- the rows before a place of the chain that have the values were found
+pub record FoundTo (ps : List ℕ) (vs : List (List ℕ)) (rows : RowList) (count : ℕ) (crowded : Crowded) (place : ℕ) (found : RowList) : Type 0 where
+  pub is : found ≡ filter (agrees ps vs) (take place rows)
+  pub within : place ≤ length rows
+  pub meets : place < length rows → get_or (chains_of ps count crowded rows) place 0 ≡ key_chain ps count crowded vs
+
+leads_to : (ps : List ℕ) (vs : List (List ℕ)) (rows : RowList) (count : ℕ) (crowded : Crowded) (start place code : ℕ) (found : RowList) → Leads (chains_of ps count crowded rows) code start place → code ≡ key_chain ps count crowded vs
+    → found ≡ filter (agrees ps vs) (take start rows) → FoundTo ps vs rows count crowded place found
+leads_to ps vs rows count crowded start place code found leads is so_far =
+    let long : length (chains_of ps count crowded rows) ≡ length rows = many_chains ps count crowded rows in
+    record {
+      is = lead_on ps vs rows count crowded start place code found leads is so_far;
+      within = omega (arith, leads.within, long);
+      meets = λ below. leads.meets (omega (arith, below, long)) ∙ is;
+    }
+
+pub found_first : (ps : List ℕ) (vs : List (List ℕ)) (rows : RowList) (count : ℕ) (crowded : Crowded) (heads next : List ℕ) (code place : ℕ) → code < length heads → AreChains (chains_of ps count crowded rows) heads next → code ≡ key_chain ps count crowded vs
+    → place ≡ get_or heads code 0 → FoundTo ps vs rows count crowded place []
+found_first ps vs rows count crowded heads next code place low chains is at =
+    leads_to ps vs rows count crowded 0 place code [] (subst (λ m. Leads (chains_of ps count crowded rows) code 0 m) (sym at) (chains.first code low)) is refl
+
+pub found_more : (ps : List ℕ) (vs : List (List ℕ)) (rows : RowList) (count : ℕ) (crowded : Crowded) (heads next : List ℕ) (number place : ℕ) (found : RowList) → FoundTo ps vs rows count crowded number found → AreChains (chains_of ps count crowded rows) heads next
+    → number < length rows → place ≡ get_or next number 0 → FoundTo ps vs rows count crowded place (found ++ filter (agrees ps vs) (get_or rows number [] ∷ []))
+found_more ps vs rows count crowded heads next number place found so_far chains below at =
+    let long : length (chains_of ps count crowded rows) ≡ length rows = many_chains ps count crowded rows in
+    leads_to ps vs rows count crowded (number + 1) place (get_or (chains_of ps count crowded rows) number 0) (found ++ filter (agrees ps vs) (get_or rows number [] ∷ []))
+    (subst (λ m. Leads (chains_of ps count crowded rows) (get_or (chains_of ps count crowded rows) number 0) (number + 1) m) (sym at) (chains.later number (omega (arith, below, long))))
+    (so_far.meets below)
+    (ap (λ (l : RowList). l ++ filter (agrees ps vs) (get_or rows number [] ∷ [])) so_far.is ∙ sym (filter_more (agrees ps vs) rows number [] below))
+
+pub found_all : (ps : List ℕ) (vs : List (List ℕ)) (rows : RowList) (count : ℕ) (crowded : Crowded) (place : ℕ) (found : RowList) → FoundTo ps vs rows count crowded place found → length rows ≤ place → found ≡ filter (agrees ps vs) rows
+found_all ps vs rows count crowded place found so_far end =
+    let whole : place ≡ length rows = omega (arith, so_far.within, end) in
+    so_far.is ∙ ap (λ m. filter (agrees ps vs) (take m rows)) whole ∙ ap (filter (agrees ps vs)) (take-length rows)
 
 -- what a read of a list gave, whatever stands for the places behind its end
 read_at : {X : Type 0} (xs : List X) (i : ℕ) (v d : X) → i < length xs → v ≡ get_or xs i v → v ≡ get_or xs i d
@@ -82,42 +147,6 @@ all_at count (code ∷ codes) (suc i) all below = all_at count codes i all.1 (om
 pub codes_small : (ps : List ℕ) (count : ℕ) (rows : RowList) → 0 < count → AllByRecursion (λ code. code < count) (codes_of ps count rows)
 codes_small ps count [] some = tt
 codes_small ps count (row ∷ rows) some = (omega (arith, some), codes_small ps count rows some)
-
--- the rows before a place of the chain that have the values were found
-pub record FoundTo (ps : List ℕ) (vs : List (List ℕ)) (rows : RowList) (count place : ℕ) (found : RowList) : Type 0 where
-  pub is : found ≡ filter (agrees ps vs) (take place rows)
-  pub within : place ≤ length rows
-  pub meets : place < length rows → get_or (codes_of ps count rows) place 0 ≡ key_hash 0 ps vs % count
-
-leads_to : (ps : List ℕ) (vs : List (List ℕ)) (rows : RowList) (count start place code : ℕ) (found : RowList) → Leads (codes_of ps count rows) code start place → code ≡ key_hash 0 ps vs % count
-    → found ≡ filter (agrees ps vs) (take start rows) → FoundTo ps vs rows count place found
-leads_to ps vs rows count start place code found leads is so_far =
-    let long : length (codes_of ps count rows) ≡ length rows = length-map rows (λ row. row_hash 0 ps row % count) in
-    record {
-      is = lead_on ps vs rows count start place code found leads is so_far;
-      within = omega (arith, leads.within, long);
-      meets = λ below. leads.meets (omega (arith, below, long)) ∙ is;
-    }
-
-pub found_first : (ps : List ℕ) (vs : List (List ℕ)) (rows : RowList) (count : ℕ) (heads next : List ℕ) (code place : ℕ) → count ≡ length heads → 0 < count → AreChains (codes_of ps count rows) heads next → code ≡ key_hash 0 ps vs % count
-    → place ≡ get_or heads code 0 → FoundTo ps vs rows count place []
-found_first ps vs rows count heads next code place many some chains is at =
-    let low : code < length heads = omega (arith, is, some, many) in
-    leads_to ps vs rows count 0 place code [] (subst (λ m. Leads (codes_of ps count rows) code 0 m) (sym at) (chains.first code low)) is refl
-
-pub found_more : (ps : List ℕ) (vs : List (List ℕ)) (rows : RowList) (count : ℕ) (heads next : List ℕ) (number place : ℕ) (found : RowList) → FoundTo ps vs rows count number found → AreChains (codes_of ps count rows) heads next
-    → number < length rows → place ≡ get_or next number 0 → FoundTo ps vs rows count place (found ++ filter (agrees ps vs) (get_or rows number [] ∷ []))
-found_more ps vs rows count heads next number place found so_far chains below at =
-    let long : length (codes_of ps count rows) ≡ length rows = length-map rows (λ r. row_hash 0 ps r % count) in
-    leads_to ps vs rows count (number + 1) place (get_or (codes_of ps count rows) number 0) (found ++ filter (agrees ps vs) (get_or rows number [] ∷ []))
-    (subst (λ m. Leads (codes_of ps count rows) (get_or (codes_of ps count rows) number 0) (number + 1) m) (sym at) (chains.later number (omega (arith, below, long))))
-    (so_far.meets below)
-    (ap (λ (l : RowList). l ++ filter (agrees ps vs) (get_or rows number [] ∷ [])) so_far.is ∙ sym (filter_more (agrees ps vs) rows number [] below))
-
-pub found_all : (ps : List ℕ) (vs : List (List ℕ)) (rows : RowList) (count place : ℕ) (found : RowList) → FoundTo ps vs rows count place found → length rows ≤ place → found ≡ filter (agrees ps vs) rows
-found_all ps vs rows count place found so_far end =
-    let whole : place ≡ length rows = omega (arith, so_far.within, end) in
-    so_far.is ∙ ap (λ m. filter (agrees ps vs) (take m rows)) whole ∙ ap (filter (agrees ps vs)) (take-length rows)
 
 -- one place more at the front of the chains
 pub first_more : (codes : List ℕ) (code n head : ℕ) → n < length codes → Leads codes code (n + 1) head → get_or codes n 0 ≢ code → Leads codes code n head

@@ -3,3 +3,4 @@ pub mod LaneSteps
 pub mod Works
 pub mod Tables
 pub mod Indexing
+pub mod Crowding

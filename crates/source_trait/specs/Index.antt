@@ -1,11 +1,15 @@
--- A hash index of rows on positions, by chains of rows that hash alike (Knuth, The Art of Computer Programming 3, 6.4).
-use Rattle.std.specs.Prelude.{◌≡◌, ◌≢◌, ◌<◌, ◌≤◌, ◌+◌, ◌%◌, ◌&&◌, ℕ, List, [], ◌∷◌, ◌++◌, ◌⊎◌, length, map, Option, None, Some, IsSomeAnd, slice_get, slice_index, nat_eq, if◌then◌else◌}
+-- A hash index of rows on positions, by chains of rows that hash alike (Knuth, The Art of Computer Programming 3, 6.4), or where
+-- many do, of rows with the same values.
+use Rattle.std.specs.Prelude.{◌≡◌, ◌≢◌, ◌<◌, ◌≤◌, ◌+◌, ◌%◌, ◌&&◌, ℕ, false, List, [], ◌∷◌, ◌++◌, ◌⊎◌, length, map, take, Option, None, Some, IfSome, IsSomeAnd, unwrap_or, slice_get, slice_index, slice_index_or, nat_eq, if◌then◌else◌}
 use Rattle.std.specs.List.{AllByRecursion}
 use Rattle.std.specs.Cmp.Lexicographic.{pointwise}
+use Rattle.std.specs.BTreeMap.{BTreeMap, get}
 use Rattle.row_text.specs.Hash.{mix}
+use Rattle.row_text.specs.RowText.{row_cmp}
 use Rattle.source_trait.specs.Asking.{RowList}
 use Rattle.source_trait.specs.Holding.{attachment_in}
 use Rattle.source_trait.specs.declared.holding.Attachment.{Attachment}
+use Rattle.source_trait.specs.declared.crowded.Crowded.{Crowded}
 use Rattle.source_trait.specs.declared.index.Index.{Index}
 
 -- a hash with a value mixed in, if there is one
@@ -41,13 +45,37 @@ pub record AreChains (codes heads next : List ℕ) : Type 0 where
   pub first : (code : ℕ) → code < length heads → Leads codes code 0 (slice_index heads code)
   pub later : (k : ℕ) → k < length codes → Leads codes (slice_index codes k) (k + 1) (slice_index next k)
 
--- the codes of rows: their hashes, cut down to the number of chains
+-- the codes of rows: their hashes, cut down to the number of codes
 abbrev pub codes_of : List ℕ → ℕ → RowList → List ℕ
 codes_of positions count rows = map (λ row. row_hash 0 positions row % count) rows
 
--- the index has some chains, and they are those of the rows
+-- a row's values at the positions
+abbrev pub row_values : List ℕ → List (List ℕ) → List (List ℕ)
+row_values positions row = map (λ p. unwrap_or (slice_get row p) []) positions
+
+-- the chain of values with a code: that of the code, or where the code is crowded their own
+abbrev pub chain_of : Crowded → ℕ → List (List ℕ) → ℕ
+chain_of crowded code values = if slice_index_or crowded.codes.items code false then unwrap_or (get row_cmp crowded.chains values) code else code
+
+-- the chains of rows
+abbrev pub chains_of : List ℕ → ℕ → Crowded → RowList → List ℕ
+chains_of positions count crowded rows = map (λ row. chain_of crowded (row_hash 0 positions row % count) (row_values positions row)) rows
+
+-- the chain of values that are asked for, one a position
+abbrev pub key_chain : List ℕ → ℕ → Crowded → List (List ℕ) → ℕ
+key_chain positions count crowded values = chain_of crowded (key_hash 0 positions values % count) (take (length positions) values)
+
+-- each chain of values has a number below the bound
+abbrev pub AreChainsBelow : ℕ → BTreeMap (List (List ℕ)) ℕ → Type 0
+AreChainsBelow bound chains = (values : List (List ℕ)) → IfSome (get row_cmp chains values) (λ chain. chain < bound)
+
+-- whatever values have one of so many codes, their chain has a head
+abbrev pub HaveHeads : ℕ → Crowded → List ℕ → Type 0
+HaveHeads count crowded heads = (code : ℕ) (values : List (List ℕ)) → code < count → chain_of crowded code values < length heads
+
+-- the index has some codes and the heads of their chains, which are those of the rows
 abbrev pub Indexes : Index → RowList → Type 0
-Indexes index rows = (0 < length index.heads.items) × AreChains (codes_of index.positions (length index.heads.items) rows) index.heads.items index.next.items
+Indexes index rows = (0 < index.count) × HaveHeads index.count index.crowded index.heads.items × AreChains (chains_of index.positions index.count index.crowded rows) index.heads.items index.next.items
 
 -- the first index of a relation on the positions
 abbrev pub index_in : List Index → ℕ → List ℕ → Option Index

@@ -1,19 +1,24 @@
 // An index of a relation's rows on positions.
-ghost use Rattle.std.specs.Prelude.{◌≡◌, ◌<◌, ◌≤◌, ◌%◌, ℕ, length, map, IfOk, option_copied, slice_index};
+ghost use Rattle.std.specs.Prelude.{◌≡◌, ◌<◌, ◌≤◌, ◌%◌, ◌+◌, ℕ, length, map, max, IfOk, option_copied, slice_index};
 ghost use Rattle.std.specs.List.{AllByRecursion, filter};
 ghost use Rattle.source_trait.specs.Asking.{agrees};
-ghost use Rattle.source_trait.specs.Index.{AreChains, Indexes, codes_of, index_in, key_hash, row_hash};
+ghost use Rattle.source_trait.specs.Index.{AreChains, AreChainsBelow, HaveHeads, Indexes, chains_of, codes_of, index_in, key_hash, row_hash};
 
+use crate::crowded::Crowded;
 use crate::matching::with_matching;
 use lists::{Places, Text};
 use row_text::{LentRow, PackedRows, mix};
 use std::alloc::{AllocError, Global};
 
-/// An index of the rows of a relation on positions: chains of the rows whose values there hash to one code.
+/// An index of the rows of a relation on positions: chains of the rows whose values there hash to one code, or where many rows
+/// have this code, of those with the same values.
 #[derive(Drop)]
 pub struct Index {
     pub rel: u32,
     pub positions: Places,
+    /// How many codes there are: as many as rows, and at least one.
+    pub count: usize,
+    pub crowded: Crowded,
     /// The number of the first row of each chain, or the number of rows.
     pub heads: Vec<usize>,
     /// The number of the row behind each row in its chain, or the number of rows.
@@ -21,7 +26,7 @@ pub struct Index {
 }
 
 impl Index {
-    /// The index of these rows, with as many chains as rows.
+    /// The index of these rows, in time that grows with n log n of their number n.
     pub(crate) fn build(
         alloc: Global,
         rel: u32,
@@ -34,10 +39,13 @@ impl Index {
     {
         let count = rows.len().max(1);
         let codes = codes(alloc, positions, rows, count)?;
-        let (heads, next) = chains(alloc, &codes, count)?;
+        let crowded = Crowded::build(alloc, positions, rows, codes.as_slice(), count)?;
+        let (heads, next) = row_chains(alloc, positions, rows, codes, count, &crowded)?;
         Ok(Index {
             rel,
             positions: Places::from_vec(Vec::from_slice(alloc, positions)?),
+            count,
+            crowded,
             heads,
             next,
         })
@@ -56,9 +64,12 @@ impl Index {
         let positions = self.positions.as_slice();
         let heads = self.heads.as_slice();
         let next = self.next.as_slice();
-        let code = (key_hash(positions, values) % heads.len() as u64) as usize;
+        let code = (key_hash(positions, values) % self.count as u64) as usize;
+        let chain = self
+            .crowded
+            .chain_of_values(alloc, positions, values, code)?;
         let mut found = PackedRows::new(alloc);
-        let mut number = heads[code];
+        let mut number = heads[chain];
         while number < rows.len() {
             found = with_matching(found, &rows.at(number), positions, values)?;
             number = next[number];
@@ -97,6 +108,64 @@ fn codes(
         codes.push(code as usize)?;
     }
     Ok(codes)
+}
+
+// The chains of the rows with these codes, of which some are crowded.
+fn row_chains(
+    alloc: Global,
+    positions: &[u32],
+    rows: &PackedRows,
+    codes: Vec<usize>,
+    count: usize,
+    crowded: &Crowded,
+) -> Result<(Vec<usize>, Vec<usize>), AllocError>
+    requires count { count ≡ max (length rows.now) 1 }
+    requires codes { codes.items ≡ codes_of positions.now count rows.now }
+    requires below { AreChainsBelow (length rows.now + length rows.now) crowded.now.chains }
+    ensures heads { IfOk result (λ made. HaveHeads count crowded.now made.0.items) }
+    ensures chains { IfOk result (λ made. AreChains (chains_of positions.now count crowded.now rows.now) made.0.items made.1.items) }
+{
+    let chain_count = crowded.chain_count(codes.as_slice(), count);
+    let chosen = chosen(alloc, positions, rows, codes, count, crowded)?;
+    chains(alloc, &chosen, chain_count)
+}
+
+// The chain of each row.
+fn chosen(
+    alloc: Global,
+    positions: &[u32],
+    rows: &PackedRows,
+    codes: Vec<usize>,
+    count: usize,
+    crowded: &Crowded,
+) -> Result<Vec<usize>, AllocError>
+    requires { codes.items ≡ codes_of positions.now count rows.now }
+    ensures { IfOk result (λ chains. chains.items ≡ chains_of positions.now count crowded.now rows.now) }
+{
+    if crowded.codes.is_empty() {
+        return Ok(codes);
+    }
+    chosen_of(alloc, positions, rows, codes.as_slice(), count, crowded)
+}
+
+fn chosen_of(
+    alloc: Global,
+    positions: &[u32],
+    rows: &PackedRows,
+    codes: &[usize],
+    count: usize,
+    crowded: &Crowded,
+) -> Result<Vec<usize>, AllocError>
+    requires { codes.now ≡ codes_of positions.now count rows.now }
+    ensures { IfOk result (λ chains. chains.items ≡ chains_of positions.now count crowded.now rows.now) }
+{
+    let mut chains = Vec::with_capacity(alloc, rows.len())?;
+    for number in 0..codes.len() {
+        let code = codes[number];
+        let chain = crowded.chain_of_row(alloc, positions, &rows.at(number), code)?;
+        chains.push(chain)?;
+    }
+    Ok(chains)
 }
 
 // The chains of the codes, by their heads and by what stands behind each place.

@@ -5,6 +5,7 @@
 //! Begin at `specs/Asking.antt`.
 #![tactic(auto)]
 
+mod crowded;
 mod failing;
 mod files;
 mod holding;

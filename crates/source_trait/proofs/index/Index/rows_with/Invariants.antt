@@ -4,7 +4,7 @@ use Rattle.source_trait.proofs.index.Index.rows_with.Given as goal
 
 -- the rows before the number are answered, and the number is of the chain
 abbrev pub invariant-loop-number : goal.invariant-loop-number
-invariant-loop-number l = FoundTo l.self.positions l.values l.rows (length l.self.heads.items) l.number l.found
+invariant-loop-number l = FoundTo l.self.positions l.values l.rows l.self.count l.self.crowded l.number l.found
 
 abbrev pub decreases-loop-number : goal.decreases-loop-number
 decreases-loop-number l = length l.rows - l.number

@@ -1,0 +1,14 @@
+use Rattle.std.proofs.Common.{◌≡◌, ◌∙◌, ◌<◌, [], ap, get_or, length, refl, arith}
+use Rattle.source_trait.specs.Index.{chain_of, row_values}
+use Rattle.source_trait.proofs.Crowding.{chosen_more, many_codes}
+use Rattle.source_trait.proofs.index.chosen_of.Goals as goal
+
+pub loop-number-preserved : goal.loop-number-preserved
+loop-number-preserved c =
+    let codes = c.args.codes.now in
+    let rows = c.args.rows.now in
+    let k = c.loop-number.number in
+    let long : length codes ≡ length rows = ap length c.requires ∙ many_codes c.args.positions.now c.args.count rows in
+    let below : k < length rows = omega (arith, c.loop-number-test.true, long) in
+    let chain : c.in_ok-chain.chain ≡ chain_of c.args.crowded.now (get_or codes k 0) (row_values c.args.positions.now (get_or rows k [])) = c.in_ok-chain.ensures ∙ rw c.at.ensures refl in
+    c.in_ok-push.ensures.items ∙ chosen_more c.args.positions.now c.args.count c.args.crowded.now rows codes c.loop-number.chains.items k c.in_ok-chain.chain c.requires below chain c.loop-number.invariant
