@@ -1,5 +1,5 @@
 -- The rounds of a branch: one more, one that stopped, and the output after all.
-use Rattle.std.proofs.Common.{◌≡◌, inl, inr, ⊎_elim, ℕ, zero, suc, ◌+◌, ◌-◌, ◌<◌, ◌≤◌, List, [], ◌∷◌, ◌++◌, length, length-append, map, take, drop, get_or, Option, None, Some, Bool, refl, sym, ◌∙◌, ap, subst, append_assoc, arith}
+use Rattle.std.proofs.Common.{◌≡◌, ◌↔◌, inl, inr, ⊎_elim, ℕ, zero, suc, ◌+◌, ◌-◌, ◌<◌, ◌≤◌, List, [], ◌∷◌, ◌++◌, length, length-append, map, take, drop, get_or, Option, None, Some, Bool, refl, sym, ◌∙◌, ap, subst, append_assoc, arith}
 use Rattle.std.specs.Prelude.{Contains, IsSomeAnd, slice_get}
 use Rattle.std.specs.List.{AllZip}
 use Rattle.std.proofs.lemmas.List.{take_more, length-take-le, drop_more, append-nil, map-append, take-append-drop, take-map, take_all}
@@ -28,7 +28,7 @@ use Rattle.middleware.specs.Attaching.{TellsSame}
 use Rattle.middleware.specs.Asked.{AsksLane, HasConstant, IsStepRequest}
 use Rattle.middleware.specs.Joining.{input_row_of, input_value_or}
 use Rattle.middleware.specs.Rounds.{requests_of, IsWanted, CanAskAll, RoundCause, next_rows}
-use Rattle.middleware.specs.Branches.{HasAdded, IsInput, columns_after, IsReady, AreReady, IsReadyOut, IsReadyBranch, out_value, output_of, IsAskable, HoldSteps, RoseAt, RoundGoes, RoundStops, ArePartial, Means, Reached, BranchCause, BranchStops, stop_of, BranchGoes}
+use Rattle.middleware.specs.Branches.{HasAdded, AddsBranch, IsInput, columns_after, IsReady, AreReady, IsReadyOut, IsReadyBranch, out_value, output_of, IsAskable, HoldSteps, RoseAt, RoundGoes, RoundStops, ArePartial, Means, Reached, BranchCause, BranchStops, stop_of, BranchGoes}
 use Rattle.middleware.specs.Live.{AreAlike, is_live, is_shown}
 use Rattle.middleware.specs.declared.round.RoundFault.{RoundFault}
 use Rattle.middleware.specs.declared.round.RoundFault.TheVariants as round
@@ -105,17 +105,17 @@ constants_zip places row columns (p ∷ inputs) are = (value_is (slice_get place
     value_is (Some (Col k)) i = tt
     value_is (Some New) i = absurd i
 
-inputs_for : (schema : SchemaParts) → IsWellFormed schema → (before : List Step) (step : Step) (method : Method) → IsMethod schema step.method method → IsReady schema before step
+pub inputs_for : (schema : SchemaParts) → IsWellFormed schema → (before : List Step) (step : Step) (method : Method) → IsMethod schema step.method method → IsReady schema before step
     → (p : ℕ) → Contains method.inputs p → IsInput (columns_after 0 before) (slice_get step.places p)
 inputs_for schema well before step method named ready =
     let same : ready.method ≡ method = well.once ready.method method ready.named.0 named.0 (ready.named.1 ∙ sym named.1) in
     subst (λ (m : Method). (p : ℕ) → Contains m.inputs p → IsInput (columns_after 0 before) (slice_get step.places p)) same ready.inputs
 
-in_take : {X : Type 0} (n : ℕ) (xs : List X) (x : X) → Contains (take n xs) x → Contains xs x
+pub in_take : {X : Type 0} (n : ℕ) (xs : List X) (x : X) → Contains (take n xs) x → Contains xs x
 in_take n xs x c = subst (λ (l : List _). Contains l x) (take-append-drop n xs) (append_first (take n xs) (drop n xs) x c)
 
 -- the wanted requests are requests of the step
-of_step : (schema : SchemaParts) (step : Step) (method : Method) (columns : ℕ) → IsMethod schema step.method method → ((p : ℕ) → Contains method.inputs p → IsInput columns (slice_get step.places p))
+pub of_step : (schema : SchemaParts) (step : Step) (method : Method) (columns : ℕ) → IsMethod schema step.method method → ((p : ℕ) → Contains method.inputs p → IsInput columns (slice_get step.places p))
     → (rows list : RowList) → IsWanted step.places method.inputs rows list → (n : ℕ) (request : Request) → Contains (requests_of method.rel method.inputs (take n list)) request → IsStepRequest schema step request
 of_step schema step method columns named are rows list wanted n request c =
     let (values, among, is) = contains_mapped (λ v. record { rel = method.rel; positions = method.inputs; values = v }) (take n list) request c in
@@ -130,14 +130,87 @@ of_step schema step method columns named are rows list wanted n request c =
 
 -- ---- the steps from one on
 
-left_at : (steps : List Step) (i : ℕ) (step : Step) → i < length steps → step ≡ get_or steps i step → drop i steps ≡ step ∷ drop (i + 1) steps
+pub left_at : (steps : List Step) (i : ℕ) (step : Step) → i < length steps → step ≡ get_or steps i step → drop i steps ≡ step ∷ drop (i + 1) steps
 left_at steps i step less at = drop_more steps i step less ∙ ap (λ (s : Step). s ∷ drop (i + 1) steps) (sym at)
 
-drop_all : (steps : List Step) (i : ℕ) → length steps ≤ i → drop i steps ≡ []
+pub drop_all : (steps : List Step) (i : ℕ) → length steps ≤ i → drop i steps ≡ []
 drop_all [] zero over = refl
 drop_all [] (suc i) over = refl
 drop_all (s ∷ steps) zero over = absurd (omega arith)
 drop_all (s ∷ steps) (suc i) over = drop_all steps i (omega arith)
+
+-- rows that are alike where the steps from one on are lent
+pub near_rows : (steps rest : List Step) (outs : List Out) (number i : ℕ) (rows kept : RowList) → rest ≡ drop number steps → number ≡ i → AreAlike (is_live rest outs) rows kept → AreAlike (is_live (drop i steps) outs) rows kept
+near_rows steps rest outs number i rows kept is same near = subst (λ (s : List Step). AreAlike (is_live s outs) rows kept) (is ∙ ap (λ (n : ℕ). drop n steps) same) near
+
+-- ---- what the rounds of a branch mean on an instance
+
+-- one step more, whose round wants this list
+module _ (schema : SchemaParts) (well : IsWellFormed schema) (instance : List Fact) (outs : List Out) (before : List Step) (step : Step) (steps : List Step)
+    (method : Method) (named : IsMethod schema step.method method) (ready : IsReady schema before step) (rows kept list : RowList) (requests : List Request)
+    (m : Means schema instance (is_live (step ∷ steps) outs) before rows requests) (near : AreAlike (is_live (step ∷ steps) outs) rows kept)
+    (wanted : IsWanted step.places method.inputs kept list) where
+  step_inputs : (p : ℕ) → Contains method.inputs p → IsInput (columns_after 0 before) (slice_get step.places p)
+  step_inputs = inputs_for schema well before step method named ready
+
+  step_alike : AreAlike (is_live (step ∷ steps) outs) m.partial kept
+  step_alike = alike_through (is_live (step ∷ steps) outs) m.partial rows kept m.alike near
+
+  pub round_means : IsRound schema instance before step (requests_of method.rel method.inputs list)
+  round_means =
+      is_round schema well instance before step method named step_inputs m.partial list m.partial_are (round_wanted step steps outs method.inputs m.partial kept list step_alike wanted)
+
+  pub means_more : (next : RowList) → ((row : List (List ℕ)) → Contains next row ↔ Contains (next_rows step.places method instance kept) row)
+      → Means schema instance (is_live steps outs) (before ++ step ∷ []) next (requests ++ requests_of method.rel method.inputs list)
+  means_more next rows_are = record {
+    partial = next_rows step.places method instance m.partial;
+    partial_are = next_partial schema well instance before step method named step_inputs m.partial (next_rows step.places method instance m.partial) m.partial_are (λ row. ((λ c. c), (λ c. c)));
+    alike = round_alike step steps outs method instance m.partial kept next step_alike rows_are;
+    are = requests_append schema instance [] before (step ∷ []) requests (requests_of method.rel method.inputs list) m.are
+        (requests_one schema instance before step (requests_of method.rel method.inputs list) round_means);
+  }
+
+-- the output of all its steps
+module _ (schema : SchemaParts) (instance : List Fact) (branch : Branch) (ready : IsReadyBranch schema branch) (partial rows next : RowList) (requests : List Request)
+    (added : HasAdded rows (map (output_of branch.output) partial) next) (m : Means schema instance (is_shown branch.output) branch.steps partial requests) where
+  outputs_zip : (row : List (List ℕ)) (outs : List Out) → ((out : Out) → Contains outs out → IsReadyOut (length row) out) → AllZip (IsOut row) outs (output_of outs row)
+  outputs_zip row [] are = tt
+  outputs_zip row (out ∷ outs) are = (go out (are out (contains_here out outs)), outputs_zip row outs (λ o c. are o (contains_there out outs o c)))
+    where
+      go : (out : Out) → IsReadyOut (length row) out → IsOut row out (out_value row out)
+      go (Fixed t) h = refl
+      go (Made k) h = let (v, e) = got_below row k h in rw e refl
+
+  zip_outputs : (row : List (List ℕ)) (outs : List Out) (values : List (List ℕ)) → AllZip (IsOut row) outs values → values ≡ output_of outs row
+  zip_outputs row [] [] z = refl
+  zip_outputs row [] (v ∷ values) z = absurd z
+  zip_outputs row (out ∷ outs) [] z = absurd z
+  zip_outputs row (out ∷ outs) (v ∷ values) z = let here = go out v z.0 in let rest = zip_outputs row outs values z.1 in cc
+    where
+      go : (out : Out) (v : List ℕ) → IsOut row out v → v ≡ out_value row out
+      go (Fixed t) v h = h
+      go (Made k) v h = rw h refl
+
+  pub adds_branch : AddsBranch schema instance branch rows next requests
+  adds_branch =
+      let same = outputs_alike branch.output m.partial partial m.alike in record {
+        exactly = λ row. (
+          (λ c. elim ((added row).0 c) [
+            | inl first ↦ inl first
+            | inr second ↦
+                let (last, among, e) = contains_mapped (output_of branch.output) m.partial row ((same row).0 second) in
+                let leads = (m.partial_are last).0 among in
+                let long = steps_length schema instance branch.steps [] last leads in
+                inr (last, leads, subst (λ (v : List (List ℕ)). AllZip (IsOut last) branch.output v) e (outputs_zip last branch.output (λ out o. rw long (ready.output out o))))
+          ]),
+          (λ h. (added row).1 (⊎_elim
+              (λ c. inl c)
+              (λ (last, leads, zip). inr ((same row).1
+              (subst (λ (v : List (List ℕ)). Contains (map (output_of branch.output) m.partial) v) (sym (zip_outputs last branch.output row zip)) (contains_map (output_of branch.output) m.partial last ((m.partial_are last).1 leads)))))
+              h)),
+        );
+        are = m.are;
+      }
 
 -- ---- sources between two moments
 
@@ -216,15 +289,7 @@ module _ {S : Type 0} (seen : S → Seen) where
             let m = r.means instance (λ s method line c. holds s method line (append_first before (step ∷ []) s c)) in
             let here : HoldSteps seen schema (step ∷ []) mid instance = λ s method line c named line_is.
             relation_later schema r.list old mid r.asks line.kind method.rel instance (holds s method line (append_second before (step ∷ []) s c) named line_is) in
-            let alike = alike_through (is_live (step ∷ steps) outs) m.partial rows kept m.alike near in
-            let wanted = round_wanted step steps outs goes.method.inputs m.partial kept goes.list alike goes.wanted in
-            record {
-              partial = next_rows step.places goes.method instance m.partial;
-              partial_are = next_partial parts well instance before step goes.method goes.named inputs m.partial (next_rows step.places goes.method instance m.partial) m.partial_are (λ row. ((λ c. c), (λ c. c)));
-              alike = round_alike step steps outs goes.method instance m.partial kept next alike (goes.rows_are instance here);
-              are = requests_append parts instance [] before (step ∷ []) r.list (requests_of goes.method.rel goes.method.inputs goes.list) m.are
-                  (requests_one parts instance before step (requests_of goes.method.rel goes.method.inputs goes.list) (is_round parts well instance before step goes.method goes.named inputs m.partial goes.list m.partial_are wanted));
-            };
+            means_more parts well instance outs before step steps goes.method goes.named ready rows kept goes.list r.list m near goes.wanted next (goes.rows_are instance here);
       }
         where
           inputs : (p : ℕ) → Contains goes.method.inputs p → IsInput (columns_after 0 before) (slice_get step.places p)
@@ -287,11 +352,10 @@ module _ {S : Type 0} (seen : S → Seen) where
 
           round_at : (instance : List Fact) → HoldSteps seen schema steps old instance → IsRound parts instance (take n steps) step now
           round_at instance holds =
-              let m = means instance holds in
               let left = left_at steps n step less at in
-              let alike = alike_through (is_live (drop n steps) outs) m.partial rows kept m.alike near in
-              let wanted = round_wanted step (drop (n + 1) steps) outs stops.method.inputs m.partial kept stops.list (subst (λ (s : List Step). AreAlike (is_live s outs) m.partial kept) left alike) stops.wanted in
-              is_round parts well instance (take n steps) step stops.method stops.named inputs m.partial stops.list m.partial_are wanted
+              round_means parts well instance outs (take n steps) step (drop (n + 1) steps) stops.method stops.named (ready n step got) rows kept stops.list r.list
+              (subst (λ (s : List Step). Means parts instance (is_live s outs) (take n steps) rows r.list) left (means instance holds))
+              (subst (λ (s : List Step). AreAlike (is_live s outs) rows kept) left near) stops.wanted
 
           whole : (later : List Request) → (r.list ++ now) ++ later ≡ (r.list ++ part) ++ (requests_of stops.method.rel stops.method.inputs (drop stops.count stops.list) ++ later)
           whole later =
@@ -389,46 +453,11 @@ module _ {S : Type 0} (seen : S → Seen) where
             asks = r.asks;
             count = r.count;
             of_steps = r.of_steps;
-            means = λ instance holds. let m = r.means instance holds in let same = outputs_alike branch.output m.partial partial m.alike in record {
-              exactly = λ row. (
-                (λ c. elim ((added row).0 c) [
-                  | inl first ↦ inl first
-                  | inr second ↦
-                      let (last, among, e) = contains_mapped (output_of branch.output) m.partial row ((same row).0 second) in
-                      let leads = (m.partial_are last).0 among in
-                      let long = steps_length parts instance branch.steps [] last leads in
-                      inr (last, leads, subst (λ (v : List (List ℕ)). AllZip (IsOut last) branch.output v) e (outputs_zip last branch.output (λ out o. rw long (ready.output out o))))
-                ]),
-                (λ h. (added row).1 (⊎_elim
-                    (λ c. inl c)
-                    (λ (last, leads, zip). inr ((same row).1
-                    (subst (λ (v : List (List ℕ)). Contains (map (output_of branch.output) m.partial) v) (sym (zip_outputs last branch.output row zip)) (contains_map (output_of branch.output) m.partial last ((m.partial_are last).1 leads)))))
-                    h)),
-              );
-              are = m.are;
-            };
+            means = λ instance holds. adds_branch parts instance branch ready partial rows next r.list added (r.means instance holds);
           }
         where
           added : HasAdded rows (map (output_of branch.output) partial) next
           added = subst (λ (l : RowList). HasAdded rows (map (output_of branch.output) l) next) le (subst (λ (o : List Out). HasAdded rows (map (output_of o) lent) next) oe is)
-
-          outputs_zip : (row : List (List ℕ)) (outs : List Out) → ((out : Out) → Contains outs out → IsReadyOut (length row) out) → AllZip (IsOut row) outs (output_of outs row)
-          outputs_zip row [] are = tt
-          outputs_zip row (out ∷ outs) are = (go out (are out (contains_here out outs)), outputs_zip row outs (λ o c. are o (contains_there out outs o c)))
-            where
-              go : (out : Out) → IsReadyOut (length row) out → IsOut row out (out_value row out)
-              go (Fixed t) h = refl
-              go (Made k) h = let (v, e) = got_below row k h in rw e refl
-
-          zip_outputs : (row : List (List ℕ)) (outs : List Out) (values : List (List ℕ)) → AllZip (IsOut row) outs values → values ≡ output_of outs row
-          zip_outputs row [] [] z = refl
-          zip_outputs row [] (v ∷ values) z = absurd z
-          zip_outputs row (out ∷ outs) [] z = absurd z
-          zip_outputs row (out ∷ outs) (v ∷ values) z = let here = go out v z.0 in let rest = zip_outputs row outs values z.1 in cc
-            where
-              go : (out : Out) (v : List ℕ) → IsOut row out v → v ≡ out_value row out
-              go (Fixed t) v h = h
-              go (Made k) v h = rw h refl
 
 -- the outputs of one row more
 pub outputs_more : (outs : List Out) (base into rows : RowList) (i : ℕ) (row : List (List ℕ)) → into ≡ base ++ map (output_of outs) (take i rows) → i < length rows → row ≡ get_or rows i row → into ++ output_of outs row ∷ [] ≡ base ++ map (output_of outs) (take (i + 1) rows)

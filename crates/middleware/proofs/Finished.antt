@@ -91,7 +91,7 @@ module _ {S : Type 0} (seen : S → Seen) (schema : Schema) (plan : Plan) where
     rises = rises_strictly rels up
 
     -- each relation of the plan, with its line
-    source_at : (rel : ℕ) → IsAccessed schema plan rel → (relation : Relation) × (line : SourceLine) × IsPlanSource schema plan rel relation line
+    pub source_at : (rel : ℕ) → IsAccessed schema plan rel → (relation : Relation) × (line : SourceLine) × IsPlanSource schema plan rel relation line
     source_at rel accessed =
         let (relation, there) = relation_there schema accessed.method accessed.named.0 in
         let (line, is) = the_line (line_for rel schema.sources) (lines rel accessed) in

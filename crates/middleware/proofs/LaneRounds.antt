@@ -1,13 +1,13 @@
 -- What a round that several lanes shared says of its requests, its answers and its refusal.
-use Rattle.std.proofs.Common.{◌≡◌, ◌≤◌, ◌<◌, ℕ, zero, suc, false, List, [], ◌∷◌, length, map, Option, None, Some, refl, sym, ◌∙◌, ap, subst, arith}
-use Rattle.std.specs.Prelude.{Contains, slice_get, IfSome, IsSomeAnd, Result, Ok, Err, IfOk, IfErr, OnOk}
+use Rattle.std.proofs.Common.{◌≡◌, ◌≤◌, ◌<◌, ℕ, suc, List, [], ◌∷◌, length, map, Option, None, Some, refl, sym, ◌∙◌, ap, subst, arith}
+use Rattle.std.specs.Prelude.{slice_get, IfSome, IsSomeAnd, Result, Ok, Err, IfOk, IfErr, OnOk}
 use Rattle.std.proofs.lemmas.List.{length-map}
 use Rattle.std.proofs.lemmas.Option.{slice_get_within}
 use Rattle.lists.proofs.Members.{contains_got, got_below, got_mapped, map_got}
 use Rattle.meaning.specs.declared.types.Fact.{Fact}
 use Rattle.access_schema.specs.declared.schema.Schema.{Schema}
-use Rattle.lane_pool.specs.Numbers.{total, times, EachOnce, AllAscend}
-use Rattle.lane_pool.specs.Work.{WorkedBy, AllWorked, FansOut}
+use Rattle.lane_pool.specs.Numbers.{total, times, EachOnce}
+use Rattle.lane_pool.specs.Work.{AllWorked, FansOut}
 use Rattle.source_trait.specs.Asking.{RowList, Seen, pick}
 use Rattle.source_trait.specs.Causes.{Rose}
 use Rattle.source_trait.specs.Lanes.{source_of, AtKind, SourceSteps}

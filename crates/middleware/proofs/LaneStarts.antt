@@ -1,8 +1,7 @@
 -- Lanes as a round begins, and lanes that have no request.
-use Rattle.std.proofs.Common.{◌≡◌, ◌<◌, ◌≤◌, ◌+◌, ℕ, zero, suc, false, List, [], ◌∷◌, ◌++◌, length, map, get_or, refl, sym, ◌∙◌, ap, subst, arith}
+use Rattle.std.proofs.Common.{◌≡◌, ◌<◌, ◌≤◌, ◌+◌, ℕ, zero, suc, List, [], ◌∷◌, ◌++◌, length, map, get_or, refl, sym, ◌∙◌, ap, subst, arith}
 use Rattle.std.specs.Prelude.{slice_set, All}
-use Rattle.std.specs.List.Sorted.{IsStrictlyIncreasing}
-use Rattle.lane_pool.specs.Numbers.{total, times, EachOnce, AllAscend}
+use Rattle.lane_pool.specs.Numbers.{total, times, AllAscend}
 use Rattle.lane_pool.specs.Work.{AllReady, AllWorked, FansOut}
 use Rattle.source_trait.specs.Asking.{Seen}
 use Rattle.source_trait.specs.Works.{MayAsk}

@@ -1,8 +1,7 @@
 -- What the requests that one lane asked in a round do to it.
-use Rattle.std.proofs.Common.{◌≡◌, ◌≢◌, ◌≤◌, ◌<◌, ℕ, zero, suc, Bool, true, false, cond, List, [], ◌∷◌, ◌++◌, length, map, Option, None, Some, refl, sym, ◌∙◌, ap, subst, arith, nat_eq}
+use Rattle.std.proofs.Common.{◌≡◌, ◌≢◌, ◌<◌, ℕ, Bool, true, false, cond, List, [], ◌∷◌, ◌++◌, length, map, Option, None, Some, refl, sym, ◌∙◌, ap, subst, arith}
 use Rattle.std.specs.Prelude.{slice_get, option_map, IfSome, IsSomeAnd, Result, Ok, Err}
 use Rattle.std.specs.List.{AllByRecursion}
-use Rattle.std.specs.Cmp.Lexicographic.{pointwise}
 use native.Mathlib.Decide.{ℕ_discrete}
 use mathlib.Core.Logic.{dite}
 use Rattle.lists.proofs.Members.{some_injective, map_got, got_mapped}
@@ -16,7 +15,6 @@ use Rattle.source_trait.specs.Asking.{RowList, Seen, Attached, CallGives, agrees
 use Rattle.source_trait.specs.Causes.{Rose}
 use Rattle.source_trait.specs.Lanes.{source_of, AtKind, StepsOn, SourceSteps, KindsStay}
 use Rattle.source_trait.specs.Works.{Calls, Works}
-use Rattle.source_trait.specs.declared.lanes.Kind.{Kind}
 use Rattle.source_trait.specs.declared.lanes.Lane.{Lane}
 use Rattle.source_trait.specs.declared.source.CallFault.{CallFault}
 use Rattle.source_trait.specs.declared.source.CallFault.TheVariants as fault
@@ -30,7 +28,7 @@ use Rattle.middleware.specs.Rounds.{requests_of}
 use Rattle.middleware.specs.LaneRounds.{requests_in, HasItsKind, HaveTheirKinds, with_request, at_numbers, Gives}
 use Rattle.middleware.proofs.Answering.{asked_nothing}
 use Rattle.middleware.proofs.LaneRuns.{later_source, earlier_source}
-use Rattle.middleware.proofs.Laning.{tells_refl, stepped_tells, AsksLane-refl, AsksLane-trans, SourceAsked, lane_asked}
+use Rattle.middleware.proofs.Laning.{tells_refl, stepped_tells, AsksLane-refl, AsksLane-trans, lane_asked}
 use Rattle.middleware.proofs.LaneAnswers.{was_asked, asked_among}
 
 module _ {S : Type 0} (seen : S → Seen) where

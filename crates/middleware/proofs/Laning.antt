@@ -40,7 +40,7 @@ len_row places row [] = refl
 len_row places row (p ∷ inputs) = ap suc (len_row places row inputs)
 
 -- a request has one value for each input
-wanted_length : (places : List Place) (inputs : List ℕ) (rows list : RowList) (values : List (List ℕ)) → IsWanted places inputs rows list → Contains list values → length values ≡ length inputs
+pub wanted_length : (places : List Place) (inputs : List ℕ) (rows list : RowList) (values : List (List ℕ)) → IsWanted places inputs rows list → Contains list values → length values ≡ length inputs
 wanted_length places inputs rows list values wanted c =
     let (row, among, e) = contains_mapped (input_row_of places inputs) rows values ((wanted.same values).0 c) in
     ap length (sym e) ∙ len_row places row inputs

@@ -12,12 +12,17 @@ pub mod LaneRounds
 pub mod LaneStarts
 pub mod LaneResults
 pub mod LanesAttached
+pub mod LaneShares
+pub mod LaneGoing
 pub mod Finding
 pub mod Branching
+pub mod LaneBranching
 pub mod Attached
 pub mod Planning
+pub mod LanePlanning
 pub mod Accessing
 pub mod Lacking
 pub mod Finished
+pub mod LaneFinished
 pub mod Whole
 pub mod Parting

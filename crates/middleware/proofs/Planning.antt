@@ -12,9 +12,9 @@ use Rattle.meaning.specs.declared.types.Step.{Step}
 use Rattle.meaning.specs.declared.types.Branch.{Branch}
 use Rattle.meaning.specs.declared.types.Plan.{Plan}
 use Rattle.meaning.specs.declared.types.Request.{Request}
-use Rattle.meaning.specs.Plans.{IsMethod}
+use Rattle.meaning.specs.Plans.{IsWellFormed, IsMethod}
 use Rattle.meaning.specs.Rows.{IsBranchRow}
-use Rattle.meaning.specs.Requests.{AreBranchesRequests}
+use Rattle.meaning.specs.Requests.{AreStepsRequests, AreBranchesRequests}
 use Rattle.access_schema.specs.declared.schema.Schema.{Schema}
 use Rattle.access_schema.specs.Meaning.{meaning_of}
 use Rattle.access_schema.proofs.Keeping.{well_formed}
@@ -23,7 +23,7 @@ use Rattle.source_trait.specs.declared.lanes.Kind.{Kind}
 use Rattle.middleware.specs.PlanSources.{IsAccessed}
 use Rattle.middleware.specs.Held.{HoldPlan}
 use Rattle.middleware.specs.Asked.{AskedJust, AsksLane}
-use Rattle.middleware.specs.Branches.{IsReadyBranch, AreAskable, HoldSteps, BranchCause, BranchStops, BranchGoes, Done, RoundsCause, PlanStops, fault_of, StepFits}
+use Rattle.middleware.specs.Branches.{AreReady, IsReadyBranch, AreAskable, HoldSteps, AddsBranch, BranchesMean, BranchCause, BranchStops, BranchGoes, Done, RoundsCause, PlanStops, fault_of, StepFits}
 use Rattle.middleware.specs.declared.branch.BranchFault.{BranchFault}
 use Rattle.middleware.specs.declared.branch.BranchFault.TheVariants as branch
 use Rattle.middleware.specs.declared.fault.RunFault.TheVariants as fault
@@ -45,6 +45,46 @@ relation_there schema method among = got_below schema.relations method.rel (sche
 
 pub accessed_by : (schema : Schema) (plan : Plan) (its : Branch) (step : Step) (method : Method) → Contains plan.branches its → Contains its.steps step → IsMethod (meaning_of schema) step.method method → IsAccessed schema plan method.rel
 accessed_by schema plan its step method of_plan of_branch named = record { branch = its; step = step; method = method; of_plan = of_plan; of_branch = of_branch; named = named; of_relation = refl }
+
+-- ---- what the rounds of a plan mean on an instance
+
+module _ (schema : SchemaParts) (well : IsWellFormed schema) (instance : List Fact) where
+  -- the rows and the requests of one branch more
+  pub branches_more : (before : List Branch) (its : Branch) (rows next : RowList) (list more : List Request) → BranchesMean schema instance before rows list
+      → AddsBranch schema instance its rows next more → BranchesMean schema instance (before ++ its ∷ []) next (list ++ more)
+  branches_more before its rows next list more m a = record {
+    exactly = λ row. (
+      (λ c. ⊎_elim (λ h. let (b, among, of) = (m.exactly row).0 h in (b, append_first before (its ∷ []) b among, of))
+          (λ h. (its, append_second before (its ∷ []) its (contains_here its []), h)) ((a.exactly row).0 c)),
+      (λ (b, among, of). (a.exactly row).1 (elim (in_append before (its ∷ []) b among) [
+        | inl first ↦ inl ((m.exactly row).1 (b, first, of))
+        | inr second ↦ inr (subst (λ (x : Branch). IsBranchRow schema x instance row) (sym (only b second)) of)
+      ])),
+    );
+    are = branches_append schema well instance before (its ∷ []) list more m.are (branches_one schema well instance its more a.are);
+  }
+    where
+      only : (b : Branch) → Contains (its ∷ []) b → its ≡ b
+      only b h = ⊎_elim (λ e. e) (λ n. absurd (no_branch b n)) (contains_cases its [] b h)
+
+  -- the requests of the branches before one, and the first ones of its own, are followed by others
+  pub branches_rest : (branches : List Branch) → ((its : Branch) → Contains branches its → AreReady schema its.steps) → (i : ℕ) (its : Branch) → slice_get branches i ≡ Some its
+      → (list asked rest : List Request) → AreBranchesRequests schema instance (take i branches) list → AreStepsRequests schema instance [] its.steps (asked ++ rest)
+      → (more : List Request) × AreBranchesRequests schema instance branches ((list ++ asked) ++ more)
+  branches_rest branches ready i its got list asked rest are here =
+      let (later, after) = branches_exist schema well instance (drop (i + 1) branches) (λ b c. ready b (in_drop b c)) in
+      let to_here = branches_append schema well instance (take i branches) (its ∷ []) list (asked ++ rest) are (branches_one schema well instance its (asked ++ rest) here) in
+      let all = branches_append schema well instance (take i branches ++ its ∷ []) (drop (i + 1) branches) (list ++ (asked ++ rest)) later to_here after in
+      (rest ++ later, subst (λ (l : List Request). AreBranchesRequests schema instance branches l) (joined later) (subst (λ (l : List Branch). AreBranchesRequests schema instance l ((list ++ (asked ++ rest)) ++ later)) (sym around) all))
+    where
+      in_drop : (b : Branch) → Contains (drop (i + 1) branches) b → Contains branches b
+      in_drop b c = subst (λ (l : List Branch). Contains l b) (take-append-drop (i + 1) branches) (append_second (take (i + 1) branches) (drop (i + 1) branches) b c)
+
+      around : branches ≡ (take i branches ++ its ∷ []) ++ drop (i + 1) branches
+      around = split_at branches i its got ∙ sym (append_assoc (take i branches) (its ∷ []) (drop (i + 1) branches))
+
+      joined : (later : List Request) → (list ++ (asked ++ rest)) ++ later ≡ (list ++ asked) ++ (rest ++ later)
+      joined later = ap (λ (l : List Request). l ++ later) (sym (append_assoc list asked rest)) ∙ append_assoc (list ++ asked) rest later
 
 module _ {S : Type 0} (seen : S → Seen) (schema : Schema) (plan : Plan) where
   abbrev parts : SchemaParts
@@ -90,21 +130,8 @@ module _ {S : Type 0} (seen : S → Seen) (schema : Schema) (plan : Plan) where
     means = λ instance holds.
         let m = d.means instance holds in
         let a = g.means instance (steps_later d.list old mid d.asks its.steps instance (hold_steps old instance holds its of_plan)) in
-        record {
-          exactly = λ row. (
-            (λ c. ⊎_elim (λ h. let (b, among, of) = (m.exactly row).0 h in (b, append_first before (its ∷ []) b among, of))
-                (λ h. (its, append_second before (its ∷ []) its (contains_here its []), h)) ((a.exactly row).0 c)),
-            (λ (b, among, of). (a.exactly row).1 (elim (in_append before (its ∷ []) b among) [
-              | inl first ↦ inl ((m.exactly row).1 (b, first, of))
-              | inr second ↦ inr (subst (λ (x : Branch). IsBranchRow parts x instance row) (sym (only b second)) of)
-            ])),
-          );
-          are = branches_append parts (well_formed schema) instance before (its ∷ []) d.list g.list m.are (branches_one parts (well_formed schema) instance its g.list a.are);
-        };
+        branches_more parts (well_formed schema) instance before its rows next d.list g.list m a;
   }
-    where
-      only : (b : Branch) → Contains (its ∷ []) b → its ≡ b
-      only b h = ⊎_elim (λ e. e) (λ n. absurd (no_branch b n)) (contains_cases its [] b h)
 
   pub done_more : (branches : List Branch) → branches ≡ plan.branches → (i : ℕ) (its : Branch) → i < length branches → its ≡ get_or branches i its → (rows next : RowList) (count after : ℕ) (old mid new : List (Kind S))
       → Done seen schema plan (take i branches) rows count old mid → BranchGoes seen schema its rows next count after mid new → Done seen schema plan (take (i + 1) branches) next after old new
@@ -163,10 +190,7 @@ module _ {S : Type 0} (seen : S → Seen) (schema : Schema) (plan : Plan) where
     part = λ instance holds.
         let m = d.means instance holds in
         let (rest, here) = s.part instance (steps_later d.list old mid d.asks its.steps instance (hold_steps old instance holds its of_plan)) in
-        let (later, after) = branches_exist parts (well_formed schema) instance (drop (i + 1) plan.branches) (λ b c. (ready b (in_drop b c)).steps) in
-        let to_here = branches_append parts (well_formed schema) instance (take i plan.branches) (its ∷ []) d.list (s.list ++ rest) m.are (branches_one parts (well_formed schema) instance its (s.list ++ rest) here) in
-        let all = branches_append parts (well_formed schema) instance (take i plan.branches ++ its ∷ []) (drop (i + 1) plan.branches) (d.list ++ (s.list ++ rest)) later to_here after in
-        (rest ++ later, subst (λ (l : List Request). AreBranchesRequests parts instance plan.branches l) (joined rest later) (subst (λ (l : List Branch). AreBranchesRequests parts instance l ((d.list ++ (s.list ++ rest)) ++ later)) (sym around) all));
+        branches_rest parts (well_formed schema) instance plan.branches (λ b c. (ready b c).steps) i its got d.list s.list rest m.are here;
     cause = subst (λ k. RoundsCause seen schema plan cap old new (fault_of k cap fault)) (sym ne) (cause_of fault s.cause);
   }
     where
@@ -184,15 +208,6 @@ module _ {S : Type 0} (seen : S → Seen) (schema : Schema) (plan : Plan) where
 
       in_take : (b : Branch) → Contains (take i plan.branches) b → Contains plan.branches b
       in_take b c = subst (λ (l : List Branch). Contains l b) (take-append-drop i plan.branches) (append_first (take i plan.branches) (drop i plan.branches) b c)
-
-      in_drop : (b : Branch) → Contains (drop (i + 1) plan.branches) b → Contains plan.branches b
-      in_drop b c = subst (λ (l : List Branch). Contains l b) (take-append-drop (i + 1) plan.branches) (append_second (take (i + 1) plan.branches) (drop (i + 1) plan.branches) b c)
-
-      around : plan.branches ≡ (take i plan.branches ++ its ∷ []) ++ drop (i + 1) plan.branches
-      around = split_at plan.branches i its got ∙ sym (append_assoc (take i plan.branches) (its ∷ []) (drop (i + 1) plan.branches))
-
-      joined : (rest later : List Request) → (d.list ++ (s.list ++ rest)) ++ later ≡ (d.list ++ s.list) ++ (rest ++ later)
-      joined rest later = ap (λ (l : List Request). l ++ later) (sym (append_assoc d.list s.list rest)) ∙ append_assoc (d.list ++ s.list) rest later
 
       before_all : (instance : List Fact) → HoldPlan seen schema plan new instance → HoldPlan seen schema plan old instance
       before_all instance holds = plan_earlier (d.list ++ s.list) old new all_asks instance holds

@@ -97,12 +97,12 @@ pub listed_in : {X : Type 0} (o : Option X) (x : X) → o ≡ Some x → Contain
 listed_in o x e = rw e (contains_here x [])
 
 -- the rows that a partial row grows to
-grown_joins : (places : List Place) (answer : RowList) (row next : List (List ℕ)) → Contains (grown places answer row) next → (values : List (List ℕ)) × Contains answer values × Joins places values row next
+pub grown_joins : (places : List Place) (answer : RowList) (row next : List (List ℕ)) → Contains (grown places answer row) next → (values : List (List ℕ)) × Contains answer values × Joins places values row next
 grown_joins places answer row next c =
     let (values, among, h) = in_flat (λ v. listed (joined places v row)) answer next c in
     (values, among, joins_joined places values row next (in_listed (joined places values row) next h))
 
-joins_grown : (places : List Place) (answer : RowList) (row next values : List (List ℕ)) → Contains answer values → Joins places values row next → Contains (grown places answer row) next
+pub joins_grown : (places : List Place) (answer : RowList) (row next values : List (List ℕ)) → Contains answer values → Joins places values row next → Contains (grown places answer row) next
 joins_grown places answer row next values among j =
     flat_in (λ v. listed (joined places v row)) answer values next among (listed_in (joined places values row) next (joined_joins places values row next j))
 
@@ -134,7 +134,7 @@ module _ (facts : List Fact) (rel : ℕ) (positions : List ℕ) (values : List (
   abbrev fits_at : Fact → Bool
   fits_at f = nat_eq f.rel rel && agrees positions values f.row
 
-  in_pick : (row : List (List ℕ)) → Contains (pick facts rel positions values) row → Contains facts (record { rel = rel; row = row }) × (agrees positions values row ≡ true)
+  pub in_pick : (row : List (List ℕ)) → Contains (pick facts rel positions values) row → Contains facts (record { rel = rel; row = row }) × (agrees positions values row ≡ true)
   in_pick row c =
       let (fact, among, e) = contains_mapped (λ (f : Fact). f.row) (filter fits_at facts) row c in
       let r = in_filter fits_at facts fact among in
@@ -144,7 +144,7 @@ module _ (facts : List Fact) (rel : ℕ) (positions : List ℕ) (values : List (
         subst (λ (w : List (List ℕ)). agrees positions values w ≡ true) e t.1,
       )
 
-  pick_in : (row : List (List ℕ)) → Contains facts (record { rel = rel; row = row }) → agrees positions values row ≡ true → Contains (pick facts rel positions values) row
+  pub pick_in : (row : List (List ℕ)) → Contains facts (record { rel = rel; row = row }) → agrees positions values row ≡ true → Contains (pick facts rel positions values) row
   pick_in row c t = contains_map (λ (f : Fact). f.row) (filter fits_at facts) (record { rel = rel; row = row }) (filter_in fits_at facts (record { rel = rel; row = row }) c (grind (arith, nat_tests, t)))
 
 -- lists with the same facts of a relation give the same next rows

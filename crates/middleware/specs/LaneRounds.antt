@@ -1,5 +1,5 @@
 -- One round of requests that several lanes share, each request asked by one of them.
-use Rattle.std.specs.Prelude.{◌≡◌, ◌≤◌, ◌<◌, ℕ, Bool, true, false, List, [], ◌∷◌, ◌++◌, length, map, Contains, Option, None, Some, IfSome, IfOk, option_map, slice_get, nat_eq, if◌then◌else◌, All}
+use Rattle.std.specs.Prelude.{◌≡◌, ◌≤◌, ◌<◌, ℕ, true, false, List, [], ◌∷◌, length, map, Contains, Option, None, Some, IfSome, slice_get}
 use Rattle.std.specs.List.{AllByRecursion}
 use Rattle.meaning.specs.declared.types.Fact.{Fact}
 use Rattle.meaning.specs.declared.types.Request.{Request}

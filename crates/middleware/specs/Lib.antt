@@ -11,5 +11,8 @@ pub mod Parts
 pub mod Branches
 pub mod LaneAttaching
 pub mod LaneRounds
+pub mod LaneBranches
+pub mod LaneAsking
 pub mod Sources
 pub mod Running
+pub mod LaneRunning

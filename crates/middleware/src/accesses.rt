@@ -74,7 +74,8 @@ pub fn first_kindless<S>(lane: &Lane<S>, lines: &[SourceLine], rels: &[u32]) -> 
     None
 }
 
-fn has_source<S>(lane: &Lane<S>, lines: &[SourceLine], rel: u32) -> bool
+/// Whether the lane has a source of the kind of the relation's source line.
+pub fn has_source<S>(lane: &Lane<S>, lines: &[SourceLine], rel: u32) -> bool
     ensures { result ≡ has_place (names_of lane.now.kinds.items) (line_for rel lines.now) }
 {
     match find_line(lines, rel) {

@@ -66,8 +66,8 @@ pub fn next_branch<S: Source + Send + Drop>(
     }
 }
 
-// The one partial row before the first step.
-fn no_columns(alloc: Global) -> Result<PackedRows, AllocError>
+/// The one partial row before the first step.
+pub fn no_columns(alloc: Global) -> Result<PackedRows, AllocError>
     ensures { IfOk result (λ rows. rows ≡ [] ∷ []) }
 {
     PackedRows::new(alloc).with_texts(&[])
@@ -109,15 +109,16 @@ fn run_steps<S: Source + Send + Drop>(
     Ok(progress)
 }
 
-// The steps from a number on.
-fn after(steps: &[Step], number: usize) -> &[Step]
+/// The steps from a number on.
+pub fn after(steps: &[Step], number: usize) -> &[Step]
     requires { number ≤ length steps.now }
     ensures { result.now ≡ drop number steps.now }
 {
     &steps[number..]
 }
 
-fn stop_at(step: usize, made: u32, fault: RoundFault) -> BranchFault
+/// A round's refusal as that of the branch.
+pub fn stop_at(step: usize, made: u32, fault: RoundFault) -> BranchFault
     ensures { result ≡ stop_of step made fault }
 {
     match fault {
@@ -127,8 +128,8 @@ fn stop_at(step: usize, made: u32, fault: RoundFault) -> BranchFault
     }
 }
 
-// Adds the outputs of the partial rows, but for most doubles.
-fn add_outputs(
+/// Adds the outputs of the partial rows, but for most doubles.
+pub fn add_outputs(
     alloc: Global,
     outs: &[Out],
     rows: &PackedRows,

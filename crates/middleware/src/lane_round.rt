@@ -75,8 +75,8 @@ fn ask_lanes<R: Threads + Sync, S: Source + Send + Drop>(
     fan_out(rt, alloc, used, asks)
 }
 
-// No lane is stopped as a round begins.
-fn start<S>(lanes: &mut [Lane<S>])
+/// No lane is stopped as a round begins.
+pub fn start<S>(lanes: &mut [Lane<S>])
     ensures { lanes.new ≡ map started lanes.old }
 {
     for lane in lanes.iter_mut() {

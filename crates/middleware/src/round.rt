@@ -79,16 +79,16 @@ pub fn next_round<S: Source + Send + Drop>(
 
 /// The distinct partial rows, and their distinct input rows, ascending.
 #[derive(Drop)]
-struct Wanted {
-    rows: PackedRows,
-    requests: Vec<Row>,
+pub struct Wanted {
+    pub rows: PackedRows,
+    pub requests: Vec<Row>,
 }
 
 /// The input rows that a round asked for, and the partial rows after it.
 #[derive(Drop)]
-struct Round {
-    requests: Vec<Row>,
-    rows: PackedRows,
+pub struct Round {
+    pub requests: Vec<Row>,
+    pub rows: PackedRows,
 }
 
 // Asks the requests of one step, each once and in ascending order, and joins the answers with the partial rows.
@@ -148,8 +148,8 @@ fn ask_step<S: Source + Send + Drop>(
     }
 }
 
-// The distinct partial rows, and what they ask for.
-fn wanted_rows(
+/// The distinct partial rows, and what they ask for.
+pub fn wanted_rows(
     alloc: Global,
     places: &[Place],
     inputs: &[u32],

@@ -84,7 +84,8 @@ fn run_branches<S: Source + Send + Drop>(
     Ok(progress)
 }
 
-fn run_fault(branch: usize, cap: u32, fault: BranchFault) -> RunFault
+/// A branch's refusal as that of the plan.
+pub fn run_fault(branch: usize, cap: u32, fault: BranchFault) -> RunFault
     requires branch { branch < 2 ^ 32 }
     requires step { StepFits fault }
     ensures { result ≡ fault_of branch cap fault }

@@ -86,8 +86,8 @@ pub fn execute<S: Source + Send + Drop>(
     execute_on(alloc, plan, schema, lane, rels.as_slice(), cap)
 }
 
-// Executes a plan without access steps, on a lane without sources.
-fn execute_alone<S: Source + Send + Drop>(
+/// Executes a plan without access steps, on a lane without sources.
+pub fn execute_alone<S: Source + Send + Drop>(
     alloc: Global,
     plan: &Plan,
     schema: &Schema,
@@ -137,7 +137,8 @@ fn execute_on<S: Source + Send + Drop>(
     }
 }
 
-fn attach_fault(refused: Refused) -> RunFault
+/// A refusal of an attach as that of the execution.
+pub fn attach_fault(refused: Refused) -> RunFault
     ensures { result ≡ refused_as refused.rel refused.fault }
 {
     match refused.fault {

@@ -1,16 +1,10 @@
-use Rattle.std.proofs.Common.{◌≡◌, Some, refl, ◌+◌, ◌∙◌, List, ap, drop, subst, sym, arith, ℕ}
+use Rattle.std.proofs.Common.{◌≡◌, Some, refl, ◌+◌, ◌∙◌, ap, sym, arith, ℕ}
 use Rattle.std.specs.Prelude.{Contains, slice_get}
 use Rattle.std.proofs.lemmas.Option.{slice_get_read}
-use Rattle.meaning.specs.declared.types.Step.{Step}
-use Rattle.meaning.specs.declared.types.Out.{Out}
-use Rattle.source_trait.specs.Asking.{RowList}
 use Rattle.access_schema.proofs.Keeping.{well_formed}
-use Rattle.middleware.specs.Live.{AreAlike, is_live}
-use Rattle.middleware.proofs.Branching.{reached_none, one_more, all_reached, steps_stop, askable_later}
+use Rattle.middleware.specs.Live.{is_live}
+use Rattle.middleware.proofs.Branching.{near_rows, reached_none, one_more, all_reached, steps_stop, askable_later}
 use Rattle.middleware.proofs.branch.run_steps.Goals as goal
-
-near_rows : (steps rest : List Step) (outs : List Out) (number i : ℕ) (rows kept : RowList) → rest ≡ drop number steps → number ≡ i → AreAlike (is_live rest outs) rows kept → AreAlike (is_live (drop i steps) outs) rows kept
-near_rows steps rest outs number i rows kept is same near = subst (λ (s : List Step). AreAlike (is_live s outs) rows kept) (is ∙ ap (λ (n : ℕ). drop n steps) same) near
 
 pub loop-step-init : goal.loop-step-init
 loop-step-init g c = record {

@@ -1,0 +1,437 @@
+-- From attaches and rounds on several lanes to what an execution promises of them.
+use Rattle.std.proofs.Common.{◌≡◌, ◌≢◌, ◌↔◌, ◌⊎◌, inl, inr, ℕ, zero, suc, ◌+◌, ◌<◌, ◌≤◌, true, false, List, [], ◌∷◌, ◌++◌, length, map, take, get_or, Option, Some, refl, sym, ◌∙◌, ap, subst, arith}
+use Rattle.std.specs.Prelude.{Contains, IfOk, IfErr, OnOk, IsSome, slice_get, Ok, Err, Result}
+use Rattle.std.specs.List.{AllZip}
+use Rattle.std.specs.List.Sorted.{IsStrictlyIncreasing}
+use Rattle.std.proofs.lemmas.List.{take_more, take_all}
+use Rattle.std.proofs.lemmas.Option.{slice_get-get_or}
+use native.Mathlib.Decide.{dec_le}
+use Rattle.lists.proofs.Members.{some_injective, contains_cases, contains_got, contains_mapped}
+use Rattle.meaning.specs.declared.types.Fact.{Fact}
+use Rattle.meaning.specs.declared.types.Relation.{Relation}
+use Rattle.meaning.specs.declared.types.SchemaParts.{SchemaParts}
+use Rattle.meaning.specs.declared.types.Branch.{Branch}
+use Rattle.meaning.specs.declared.types.Plan.{Plan}
+use Rattle.meaning.specs.Rows.{IsRow}
+use Rattle.access_schema.specs.declared.schema.Schema.{Schema}
+use Rattle.access_schema.specs.declared.schema.SourceLine.{SourceLine}
+use Rattle.access_schema.specs.Meaning.{meaning_of}
+use Rattle.source_trait.specs.Asking.{Seen, Rises}
+use Rattle.source_trait.specs.Lanes.{names_of, source_of, KindsStay, LanesStay}
+use Rattle.source_trait.specs.declared.source.AttachFault.{AttachFault}
+use Rattle.source_trait.specs.declared.source.AttachFault.TheVariants as attach
+use Rattle.source_trait.specs.declared.lanes.Kind.{Kind}
+use Rattle.source_trait.specs.declared.lanes.Lane.{Lane}
+use Rattle.source_trait.proofs.LaneSteps.{KindsStay-refl, KindsStay-trans, LanesStay-refl, LanesStay-trans}
+use Rattle.middleware.specs.declared.fault.Run.{Run}
+use Rattle.middleware.specs.declared.fault.RunFault.{RunFault}
+use Rattle.middleware.specs.declared.fault.RunFault.TheVariants as fault
+use Rattle.middleware.specs.PlanSources.{line_for, IsAccessed, IsPlanSource, AllHaveLines}
+use Rattle.middleware.specs.Attaching.{AttachesInOrder}
+use Rattle.middleware.specs.Branches.{IsReadyBranch, AreAskable}
+use Rattle.middleware.specs.Sources.{first_lineless, has_place, IsPlaced}
+use Rattle.middleware.specs.Running.{refused_as, RunsAlone}
+use Rattle.middleware.specs.LaneAttaching.{LanesAttach, LanesBreak}
+use Rattle.middleware.specs.LaneRounds.{started, LanesAsked, AsksEach, NoneStopped}
+use Rattle.middleware.specs.LaneBranches.{OnEach, LanesHoldPlan, LanesDone, PlanHalts}
+use Rattle.middleware.specs.LaneRunning.{LanesHaveKind, LanesFind, LanesHavePlace, LacksPlace, LanesAttachEach, LanesAttachStops, ExecutesOnLanes, LanesGoOn}
+use Rattle.middleware.proofs.Lacking.{above, place_none, place_source, rises_strictly, lineless_some}
+use Rattle.middleware.proofs.Steps.{in_append}
+use Rattle.middleware.proofs.Attached.{order_stays, one_stays}
+use Rattle.middleware.proofs.Finished.{source_at, all_askable}
+use Rattle.middleware.proofs.LaneShares.{AsksEach-refl, OnlyAsked, only_asked}
+use Rattle.middleware.proofs.LaneBranching.{no_request, each_asked}
+use Rattle.middleware.proofs.LanePlanning.{plan_held_earlier}
+
+-- where the numbers rise, a lower one stands before
+pub stands_before : (xs : List ℕ) → Rises xs → (n k x y : ℕ) → slice_get xs n ≡ Some x → slice_get xs k ≡ Some y → y < x → k < n
+stands_before [] up n k x y at other less = absurd (cc)
+stands_before (z ∷ xs) up zero zero x y at other less =
+    let a : z ≡ x = some_injective z x at in
+    let b : z ≡ y = some_injective z y other in
+    absurd (omega (arith, a, b, less))
+stands_before (z ∷ xs) up zero (suc k) x y at other less =
+    let a : z ≡ x = some_injective z x at in
+    let b : z < y = above z xs y up.0 (contains_got xs k y other) in
+    absurd (omega (arith, a, b, less))
+stands_before (z ∷ xs) up (suc n) zero x y at other less = omega arith
+stands_before (z ∷ xs) up (suc n) (suc k) x y at other less =
+    let r : k < n = stands_before xs up.1 n k x y at other less in omega (arith, r)
+
+-- what holds of the members at each place of two lists that are as long
+zip_places : {X Y : Type 0} (R : X → Y → Type 0) (xs : List X) (ys : List Y) → length ys ≡ length xs
+    → ((k : ℕ) (x : X) (y : Y) → slice_get xs k ≡ Some x → slice_get ys k ≡ Some y → R x y) → AllZip R xs ys
+zip_places R [] [] long each = tt
+zip_places R [] (y ∷ ys) long each = absurd (omega arith)
+zip_places R (x ∷ xs) [] long each = absurd (omega arith)
+zip_places R (x ∷ xs) (y ∷ ys) long each = (each 0 x y refl refl, zip_places R xs ys (omega arith) (λ k a b. each (suc k) a b))
+
+module _ {S : Type 0} where
+  -- lanes that are started have the sources that they had
+  pub started_each : (lanes : List (Lane S)) (P : List (Kind S) → Type 0) → OnEach lanes P → OnEach (map started lanes) P
+  started_each lanes P all lane among =
+      let (its, c, is) = contains_mapped started lanes lane among in
+      subst (λ (l : Lane S). P l.kinds.items) is (all its c)
+
+  -- what holds of one lane more
+  pub each_more : (P : List (Kind S) → Type 0) (lanes : List (Lane S)) (i : ℕ) (lane : Lane S) → i < length lanes → lane ≡ get_or lanes i lane
+      → OnEach (take i lanes) P → P lane.kinds.items → OnEach (take (i + 1) lanes) P
+  each_more P lanes i lane less at before here its among =
+      let more : take (i + 1) lanes ≡ take i lanes ++ lane ∷ [] = take_more lanes i lane less ∙ ap (λ (l : Lane S). take i lanes ++ l ∷ []) (sym at) in
+      elim (in_append (take i lanes) (lane ∷ []) its (subst (λ (l : List (Lane S)). Contains l its) more among)) [
+        | inl first ↦ before its first
+        | inr last ↦ elim (contains_cases lane [] its last) [
+          | inl same ↦ subst (λ (l : Lane S). P l.kinds.items) same here
+          | inr none ↦ absurd (omega arith)
+        ]
+      ]
+
+  pub each_all : (P : List (Kind S) → Type 0) (lanes : List (Lane S)) (i : ℕ) → length lanes ≤ i → OnEach (take i lanes) P → OnEach lanes P
+  each_all P lanes i past all = subst (λ (l : List (Lane S)). OnEach l P) (take_all i lanes past) all
+
+  -- what holds of one relation more
+  pub places_more : (lanes : List (Lane S)) (lines : List SourceLine) (rels : List ℕ) (i rel : ℕ) → slice_get rels i ≡ Some rel
+      → ((k other : ℕ) → k < i → slice_get rels k ≡ Some other → LanesHavePlace lanes lines other) → LanesHavePlace lanes lines rel
+      → (k other : ℕ) → k < i + 1 → slice_get rels k ≡ Some other → LanesHavePlace lanes lines other
+  places_more lanes lines rels i rel at before here k other less is = elim (dec_le (k + 1) i) [
+    | yes under ↦ before k other (omega arith) is
+    | no past ↦
+        let same : k ≡ i = omega arith in
+        let which : rel ≡ other = some_injective rel other (sym at ∙ ap (slice_get rels) (sym same) ∙ is) in
+        subst (λ (r : ℕ). LanesHavePlace lanes lines r) which here
+  ]
+
+  pub places_all : (lanes : List (Lane S)) (lines : List SourceLine) (rels : List ℕ) (i : ℕ) → length rels ≤ i
+      → ((k other : ℕ) → k < i → slice_get rels k ≡ Some other → LanesHavePlace lanes lines other) → (rel : ℕ) → Contains rels rel → LanesHavePlace lanes lines rel
+  places_all lanes lines rels i past each rel (k, under, is) = each k rel (omega arith) (slice_get-get_or rels k rel under ∙ ap Some is)
+
+  pub all_going : (lanes : List (Lane S)) → NoneStopped (map started lanes)
+  all_going [] = tt
+  all_going (lane ∷ lanes) = (refl, all_going lanes)
+
+module _ {S : Type 0} (seen : S → Seen) where
+  pub started_stay : (lanes : List (Lane S)) → LanesStay seen lanes (map started lanes)
+  started_stay [] = tt
+  started_stay (lane ∷ lanes) = (KindsStay-refl seen lane.kinds.items, started_stay lanes)
+
+  module _ (schema : Schema) where
+    pub asked_stay : (old new : List (Lane S)) → OnlyAsked seen schema old new → LanesStay seen old new
+    asked_stay [] [] h = tt
+    asked_stay [] (u ∷ us) h = absurd h
+    asked_stay (w ∷ ws) [] h = absurd h
+    asked_stay (w ∷ ws) (u ∷ us) h = (h.0.1.stay, asked_stay ws us h.1)
+
+    -- lanes that are started, and asked nothing, before they were started
+    pub unstarted : (lanes : List (Lane S)) → AsksEach seen schema [] (map started lanes) lanes
+    unstarted lanes = let none = AsksEach-refl seen schema lanes in record {
+      lists = none.lists;
+      ascend = none.ascend;
+      once = none.once;
+      lanes = go lanes none.lists none.lanes;
+    }
+      where
+        go : (ws : List (Lane S)) (lists : List (List ℕ)) → LanesAsked seen schema [] lists ws ws → LanesAsked seen schema [] lists (map started ws) ws
+        go [] [] h = tt
+        go [] (l ∷ ls) h = absurd h
+        go (w ∷ ws) [] h = absurd h
+        go (w ∷ ws) (l ∷ ls) h = (h.0, go ws ls h.1)
+
+    module _ (rels : List ℕ) where
+      pub attach_stay : (old new : List (Lane S)) → LanesAttach seen schema rels old new → LanesStay seen old new
+      attach_stay [] [] h = tt
+      attach_stay [] (u ∷ us) h = absurd h
+      attach_stay (w ∷ ws) [] h = absurd h
+      attach_stay (w ∷ ws) (u ∷ us) h = (order_stays seen schema rels w.kinds.items u.kinds.items h.0.0, attach_stay ws us h.1)
+
+      -- what attaches bring about holds of each lane
+      pub attached_each : (P : List (Kind S) → Type 0) → ((a b : List (Kind S)) → AttachesInOrder seen schema rels a b → P b)
+          → (old new : List (Lane S)) → LanesAttach seen schema rels old new → OnEach new P
+      attached_each P brings [] [] h = λ lane among. absurd (omega arith)
+      attached_each P brings [] (u ∷ us) h = absurd h
+      attached_each P brings (w ∷ ws) [] h = absurd h
+      attached_each P brings (w ∷ ws) (u ∷ us) h = λ lane among. elim (contains_cases u us lane among) [
+        | inl here ↦ subst (λ (l : Lane S). P l.kinds.items) here (brings w.kinds.items u.kinds.items h.0.0)
+        | inr there ↦ attached_each P brings ws us h.1 lane there
+      ]
+
+      -- no count falls where an attach was refused
+      pub break_stay : (rel : ℕ) (why : AttachFault) (old new : List (Lane S)) → length new ≡ length old
+          → LanesBreak seen schema rels rel why old new → LanesStay seen old new
+      break_stay rel why old new long b = zip_places (λ (w u : Lane S). KindsStay seen w.kinds.items u.kinds.items) old new long each
+        where
+          broken : KindsStay seen b.before.kinds.items b.after.kinds.items
+          broken =
+              let r = b.refused in
+              KindsStay-trans seen b.before.kinds.items r.middle b.after.kinds.items (order_stays seen schema _ b.before.kinds.items r.middle r.attached)
+              (one_stays seen schema rel (Err why) r.middle b.after.kinds.items r.refused)
+
+          each : (k : ℕ) (w u : Lane S) → slice_get old k ≡ Some w → slice_get new k ≡ Some u → KindsStay seen w.kinds.items u.kinds.items
+          each k w u was now = elim (cases k b.place) [
+            | inl less ↦ let h = b.earlier k w u less was now in order_stays seen schema rels w.kinds.items u.kinds.items h.0
+            | inr more ↦ elim more [
+              | inl same ↦
+                  let first : b.before ≡ w = some_injective b.before w (sym b.was ∙ ap (slice_get old) (sym same) ∙ was) in
+                  let last : b.after ≡ u = some_injective b.after u (sym b.now ∙ ap (slice_get new) (sym same) ∙ now) in
+                  subst (λ (l : Lane S). KindsStay seen l.kinds.items u.kinds.items) first
+                  (subst (λ (l : Lane S). KindsStay seen b.before.kinds.items l.kinds.items) last broken)
+              | inr past ↦
+                  let same : w ≡ u = some_injective w u (sym was ∙ sym (b.later k past) ∙ now) in
+                  subst (λ (l : Lane S). KindsStay seen w.kinds.items l.kinds.items) same (KindsStay-refl seen w.kinds.items)
+            ]
+          ]
+            where
+              cases : (a b : ℕ) → (a < b) ⊎ ((a ≡ b) ⊎ (b < a))
+              cases zero zero = inr (inl refl)
+              cases zero (suc b) = inl (omega arith)
+              cases (suc a) zero = inr (inr (omega arith))
+              cases (suc a) (suc b) = elim (cases a b) [
+                | inl less ↦ inl (omega arith)
+                | inr more ↦ elim more [
+                  | inl same ↦ inr (inl (ap suc same))
+                  | inr past ↦ inr (inr (omega arith))
+                ]
+              ]
+
+  module _ (schema : Schema) (plan : Plan) where
+    abbrev parts : SchemaParts
+    parts = meaning_of schema
+
+    -- what an execution promises
+    pub record ExecutedOn (cap : ℕ) (old new : List (Lane S)) (result : Result Run RunFault) : Type 0 where
+      pub executes : ExecutesOnLanes seen schema plan cap old new result
+      pub found : LanesFind old schema plan result
+      pub stay : LanesStay seen old new
+
+    -- the rows are the plan's on what the lanes hold
+    pub rows_are : (cap : ℕ) (old new : List (Lane S)) (result : Result Run RunFault) → ExecutesOnLanes seen schema plan cap old new result
+        → IfOk result (λ run. (instance : List Fact) → LanesHoldPlan seen schema plan new instance → (row : List (List ℕ)) → Contains run.rows row ↔ IsRow parts plan instance row)
+    rows_are cap old new (Ok run) r = λ instance holds.
+        (r.rounds.means instance (plan_held_earlier seen schema plan (map started r.attached) new
+        (each_asked seen schema r.rounds.list (map started r.attached) new r.rounds.asks) instance holds)).exactly
+    rows_are cap old new (Err why) r = tt
+
+    -- nothing was done
+    pub not_begun : (cap : ℕ) (lanes : List (Lane S)) (why : RunFault) → LanesFind lanes schema plan (Err why)
+        → ExecutesOnLanes seen schema plan cap lanes lanes (Err why) → ExecutedOn cap lanes lanes (Err why)
+    not_begun cap lanes why found executes = record { executes = executes; found = found; stay = LanesStay-refl seen lanes }
+
+    pub no_memory : (cap : ℕ) (lanes : List (Lane S)) → ExecutedOn cap lanes lanes (Err fault.NoMemory)
+    no_memory cap lanes = not_begun cap lanes fault.NoMemory tt (inl refl)
+
+    -- no lane was used
+    pub ran_alone : ((rel : ℕ) → IsAccessed schema plan rel → ⊥) → (cap : ℕ) (lanes : List (Lane S)) (result : Result Run RunFault)
+        → RunsAlone schema plan result → ExecutedOn cap lanes lanes result
+    ran_alone alone cap lanes (Ok run) runs = record {
+      executes = record {
+        attached = lanes;
+        attaches = record {
+          rels = [];
+          ascends = λ k less. absurd (omega arith);
+          exactly = λ rel. ((λ c. absurd (none rel c)), (λ a. absurd (alone rel a)));
+          order = unchanged lanes;
+        };
+        rounds = record {
+          list = [];
+          asks = unstarted schema lanes;
+          count = (runs []).2;
+          of_branches = λ request c. absurd (no_request request c);
+          means = λ instance holds. record { exactly = (runs instance).0; are = (runs instance).1 };
+        };
+      };
+      found = ((λ rel a. absurd (alone rel a)), (λ rel relation line source. absurd (alone rel source.accessed)));
+      stay = LanesStay-refl seen lanes;
+    }
+      where
+        none : (rel : ℕ) → Contains [] rel → ⊥
+        none rel c = omega arith
+
+        unchanged : (ws : List (Lane S)) → LanesAttach seen schema [] ws ws
+        unchanged [] = tt
+        unchanged (w ∷ ws) = ((refl, refl), unchanged ws)
+    ran_alone alone cap lanes (Err why) runs = subst (λ (f : RunFault). ExecutedOn cap lanes lanes (Err f)) (sym runs.0) (no_memory cap lanes)
+
+    module _ (ready : (its : Branch) → Contains plan.branches its → IsReadyBranch parts its) (rels : List ℕ) (up : IsStrictlyIncreasing rels)
+        (exactly : (rel : ℕ) → Contains rels rel ↔ IsAccessed schema plan rel) where
+      -- a relation has no line
+      pub no_source : (cap : ℕ) (lanes : List (Lane S)) (rel : ℕ) → Some rel ≡ first_lineless schema.sources rels
+          → ExecutedOn cap lanes lanes (Err (fault.NoSource rel))
+      no_source cap lanes rel some =
+          let l = lineless_some schema.sources rels (rises_strictly rels up) rel some in
+          not_begun cap lanes (fault.NoSource rel) ((exactly rel).0 l.among, l.none, λ other a less. l.below other ((exactly other).1 a) less) refl
+
+      module _ (lines : AllHaveLines schema plan) where
+        -- there is no lane
+        pub no_lane : (cap : ℕ) (lanes : List (Lane S)) → lanes ≡ [] → (rel : ℕ) → slice_get rels 0 ≡ Some rel
+            → ExecutedOn cap lanes lanes (Err (fault.UnknownKind rel))
+        no_lane cap lanes e rel at =
+            let a = (exactly rel).0 (contains_got rels 0 rel at) in
+            let (relation, line, source) = source_at seen schema plan ready rels up exactly lines rel a in
+            not_begun cap lanes (fault.UnknownKind rel) (
+              lines,
+              record {
+                relation = relation;
+                line = line;
+                is_source = source;
+                lacks = inl e;
+                below = λ other its l s less.
+                    let (k, under, is) = (exactly other).1 s.accessed in
+                    absurd (first (stands_before rels (rises_strictly rels up) 0 k rel other at (got rels k other under is) less));
+              },
+            ) refl
+          where
+            first : {k : ℕ} → k < 0 → ⊥
+            first h = omega arith
+
+            got : (xs : List ℕ) (k x : ℕ) → k < length xs → get_or xs k x ≡ x → slice_get xs k ≡ Some x
+            got xs k x under is = slice_get-get_or xs k x under ∙ ap Some is
+
+        module _ (lanes : List (Lane S)) where
+          has_kind : (rel : ℕ) (line : SourceLine) → line_for rel schema.sources ≡ Some line → LanesHavePlace lanes schema.sources rel
+              → OnEach lanes (λ kinds. IsSome (source_of kinds line.kind))
+          has_kind rel line is places lane among =
+              place_source lane.kinds.items line
+              (subst (λ (o : Option SourceLine). has_place (names_of lane.kinds.items) o ≡ true) is (places lane among))
+
+          -- some lane lacks a kind
+          pub lacks_kind : (cap : ℕ) → 0 < length lanes → (rel : ℕ) → LacksPlace lanes schema.sources rels rel
+              → ExecutedOn cap lanes lanes (Err (fault.UnknownKind rel))
+          lacks_kind cap some rel l =
+              let (relation, line, source) = source_at seen schema plan ready rels up exactly lines rel ((exactly rel).0 (contains_got rels l.n rel l.at)) in
+              not_begun cap lanes (fault.UnknownKind rel) (
+                lines,
+                record {
+                  relation = relation;
+                  line = line;
+                  is_source = source;
+                  lacks = inr (
+                    l.lane,
+                    l.among,
+                    place_none l.lane.kinds.items line
+                        (subst (λ (o : Option SourceLine). has_place (names_of l.lane.kinds.items) o ≡ false) source.line_is l.lacks),
+                  );
+                  below = λ other its at s less.
+                      let (k, under, is) = (exactly other).1 s.accessed in
+                      let there = slice_get-get_or rels k other under ∙ ap Some is in
+                      let before = stands_before rels (rises_strictly rels up) l.n k rel other l.at there less in
+                      (some, has_kind other at s.line_is (l.before k other before there));
+                },
+              ) refl
+
+          module _ (places : (rel : ℕ) → Contains rels rel → LanesHavePlace lanes schema.sources rel) where
+            -- each relation has its place on each lane
+            pub all_placed : (lane : Lane S) → Contains lanes lane → (rel : ℕ) → Contains rels rel → IsPlaced schema lane.kinds.items rel
+            all_placed lane among rel c =
+                let (relation, line, source) = source_at seen schema plan ready rels up exactly lines rel ((exactly rel).0 c) in
+                record {
+                  relation = relation;
+                  line = line;
+                  relation_is = source.relation_is;
+                  line_is = source.line_is;
+                  place = subst (λ (o : Option SourceLine). has_place (names_of lane.kinds.items) o ≡ true) source.line_is (places rel c lane among);
+                }
+
+            all_kinds : 0 < length lanes → (rel : ℕ) (relation : Relation) (line : SourceLine) → IsPlanSource schema plan rel relation line
+                → LanesHaveKind lanes line.kind
+            all_kinds some rel relation line source = (some, has_kind rel line source.line_is (places rel ((exactly rel).1 source.accessed)))
+
+            -- an attach was refused
+            pub run_refused : (cap : ℕ) → 0 < length lanes → (rel : ℕ) (why : AttachFault) (new : List (Lane S)) → length new ≡ length lanes
+                → LanesBreak seen schema rels rel why lanes new → ExecutedOn cap lanes new (Err (refused_as rel why))
+            run_refused cap some rel why new long breaks = go why breaks
+              where
+                stops : (e : AttachFault) → LanesBreak seen schema rels rel e lanes new → LanesAttachStops seen schema plan rel e lanes new
+                stops e b = record { rels = rels; ascends = up; exactly = exactly; breaks = b }
+
+                told : (e : AttachFault) → (e ≢ attach.NoMemory) → LanesBreak seen schema rels rel e lanes new
+                    → ExecutedOn cap lanes new (Err (fault.Attach rel e))
+                told e other b = record {
+                  executes = (stops e b, other);
+                  found = (lines, all_kinds some);
+                  stay = break_stay schema rels rel e lanes new long b;
+                }
+
+                go : (e : AttachFault) → LanesBreak seen schema rels rel e lanes new → ExecutedOn cap lanes new (Err (refused_as rel e))
+                go attach.Missing b = told attach.Missing (λ h. cc) b
+                go attach.Failed b = told attach.Failed (λ h. cc) b
+                go (attach.BadHeader column) b = told (attach.BadHeader column) (λ h. cc) b
+                go (attach.BadRow number) b = told (attach.BadRow number) (λ h. cc) b
+                go (attach.NotUtf8 number) b = told (attach.NotUtf8 number) (λ h. cc) b
+                go attach.TooLarge b = told attach.TooLarge (λ h. cc) b
+                go attach.NoMemory b = record {
+                  executes = inr (inl (rel, stops attach.NoMemory b));
+                  found = tt;
+                  stay = break_stay schema rels rel attach.NoMemory lanes new long b;
+                }
+
+            module _ (attached : List (Lane S)) (order : LanesAttach seen schema rels lanes attached) where
+              attaches : LanesAttachEach seen schema plan lanes attached
+              attaches = record { rels = rels; ascends = up; exactly = exactly; order = order }
+
+              -- the methods of the plan may be asked on each lane
+              pub lanes_askable : (begun : List (Lane S)) → begun ≡ map started attached → (its : Branch) → Contains plan.branches its
+                  → OnEach begun (λ kinds. AreAskable seen schema kinds its.steps)
+              lanes_askable begun is its c =
+                  subst (λ (l : List (Lane S)). OnEach l (λ kinds. AreAskable seen schema kinds its.steps)) (sym is)
+                  (started_each attached (λ kinds. AreAskable seen schema kinds its.steps)
+                  (attached_each schema rels (λ kinds. AreAskable seen schema kinds its.steps)
+                  (λ a b o. all_askable seen schema plan ready rels up exactly lines a b o its c) lanes attached order))
+
+              stay_by : (new : List (Lane S)) → LanesStay seen (map started attached) new → LanesStay seen lanes new
+              stay_by new later =
+                  LanesStay-trans seen lanes attached new (attach_stay schema rels lanes attached order)
+                  (LanesStay-trans seen attached (map started attached) new (started_stay attached) later)
+
+              -- the rounds were asked
+              pub ran_whole : (cap : ℕ) → 0 < length lanes → (run : Run) (new begun : List (Lane S)) → begun ≡ map started attached
+                  → LanesDone seen schema plan plan.branches run.rows run.made begun new → ExecutedOn cap lanes new (Ok run)
+              ran_whole cap some run new begun is done = record {
+                executes = record { attached = attached; attaches = attaches; rounds = d };
+                found = (lines, all_kinds some);
+                stay = stay_by new (asked_stay schema (map started attached) new (each_asked seen schema d.list (map started attached) new d.asks));
+              }
+                where
+                  d : LanesDone seen schema plan plan.branches run.rows run.made (map started attached) new
+                  d = subst (λ (l : List (Lane S)). LanesDone seen schema plan plan.branches run.rows run.made l new) is done
+
+              -- the rounds stopped
+              pub ran_part : (cap : ℕ) → 0 < length lanes → (why : RunFault) (new begun : List (Lane S)) → begun ≡ map started attached
+                  → PlanHalts seen schema plan cap why begun new → ExecutedOn cap lanes new (Err why)
+              ran_part cap some why new begun is halts =
+                  go why (subst (λ (l : List (Lane S)). PlanHalts seen schema plan cap why l new) is halts)
+                where
+                  stays : (e : RunFault) → PlanHalts seen schema plan cap e (map started attached) new → LanesStay seen lanes new
+                  stays e h = stay_by new (LanesStay-trans seen (map started attached) h.middle new
+                      (asked_stay schema (map started attached) h.middle (each_asked seen schema h.earlier (map started attached) h.middle h.asks_earlier))
+                      (asked_stay schema h.middle new (only_asked seen schema h.now h.asks_now.lists h.middle new h.asks_now.lanes)))
+
+                  go : (e : RunFault) → PlanHalts seen schema plan cap e (map started attached) new → ExecutedOn cap lanes new (Err e)
+                  go fault.NoMemory h = record {
+                    executes = inr (inr (record { attached = attached; attaches = attaches; halts = h }));
+                    found = tt;
+                    stay = stays fault.NoMemory h;
+                  }
+                  go (fault.NoSource rel) h = absurd h.cause
+                  go (fault.UnknownKind rel) h = absurd h.cause
+                  go (fault.Attach rel why) h = absurd h.cause
+                  go (fault.CallFailed branch step) h = record {
+                    executes = record { attached = attached; attaches = attaches; halts = h };
+                    found = (lines, all_kinds some);
+                    stay = stays (fault.CallFailed branch step) h;
+                  }
+                  go (fault.OverCalls made wanted its) h = record {
+                    executes = record { attached = attached; attaches = attaches; halts = h };
+                    found = (lines, all_kinds some);
+                    stay = stays (fault.OverCalls made wanted its) h;
+                  }
+
+              -- whatever the rounds gave
+              pub ran : (cap : ℕ) → 0 < length lanes → (result : Result Run RunFault) (new begun : List (Lane S)) → begun ≡ map started attached
+                  → IfOk result (λ run. LanesDone seen schema plan plan.branches run.rows run.made begun new)
+                  → IfErr result (λ why. PlanHalts seen schema plan cap why begun new) → ExecutedOn cap lanes new result
+              ran cap some (Ok run) new begun is done halts = ran_whole cap some run new begun is done
+              ran cap some (Err why) new begun is done halts = ran_part cap some why new begun is halts
+
+-- a refusal says nothing of lanes that go on
+pub on_going : {S : Type 0} (result : Result Run RunFault) (lanes : List (Lane S)) → OnOk result (NoneStopped lanes) → LanesGoOn result lanes
+on_going (Ok run) lanes h = h
+on_going (Err why) lanes h = tt

@@ -1,0 +1,350 @@
+-- One round that lanes shared, from its requests to the next partial rows.
+use Rattle.std.proofs.Common.{◌≡◌, ◌↔◌, inl, inr, ◌≤◌, ◌<◌, ◌+◌, ℕ, suc, cond, List, [], ◌∷◌, length, map, get_or, Option, None, Some, refl, sym, ◌∙◌, ap, subst, arith}
+use Rattle.std.specs.Prelude.{Contains, slice_get, flat_map, IfSome, IsSomeAnd}
+use Rattle.std.specs.List.{AllByRecursion}
+use Rattle.std.specs.List.Sorted.{IsStrictlySortedBy}
+use Rattle.std.specs.Ordering.{is_eq}
+use Rattle.std.specs.declared.cmp.Ordering.{Ordering}
+use Rattle.std.specs.declared.cmp.Ordering.TheVariants.{Less, Equal}
+use Rattle.std.proofs.lemmas.Cmp.{tied_itself}
+use Rattle.std.proofs.lemmas.Option.{slice_get-get_or, slice_get_within}
+use Rattle.lists.proofs.Members.{contains_here, contains_cases, contains_map, contains_mapped, contains_got, got_mapped, map_got, map_same}
+use Rattle.lists.proofs.Orders.{rows_total}
+use Rattle.meaning.specs.declared.types.Fact.{Fact}
+use Rattle.meaning.specs.declared.types.Method.{Method}
+use Rattle.meaning.specs.declared.types.Place.{Place}
+use Rattle.meaning.specs.declared.types.Step.{Step}
+use Rattle.meaning.specs.declared.types.Request.{Request}
+use Rattle.meaning.specs.Plans.{IsMethod}
+use Rattle.access_schema.specs.declared.schema.Schema.{Schema}
+use Rattle.access_schema.specs.declared.schema.SourceLine.{SourceLine}
+use Rattle.access_schema.specs.Meaning.{meaning_of}
+use Rattle.lane_pool.specs.Work.{AllReady}
+use Rattle.source_trait.specs.Asking.{RowList, Seen, CanAsk, pick}
+use Rattle.source_trait.specs.Lanes.{source_of, AtKind}
+use Rattle.source_trait.specs.Works.{MayAsk}
+use Rattle.source_trait.specs.declared.lanes.Lane.{Lane}
+use Rattle.source_trait.specs.declared.work.Ask.{Ask}
+use Rattle.source_trait.proofs.LaneSteps.{AtKind-map}
+use Rattle.row_text.specs.RowText.{row_cmp}
+use Rattle.middleware.specs.PlanSources.{line_for}
+use Rattle.middleware.specs.Held.{SameFacts}
+use Rattle.middleware.specs.Joining.{grown, input_row_of}
+use Rattle.middleware.specs.Rounds.{requests_of, IsWanted, CanAskAll, next_rows}
+use Rattle.middleware.specs.Branches.{IsAskable, RoseAt}
+use Rattle.middleware.specs.LaneRounds.{requests_in, HaveTheirKinds, AsksEach, AsksSome, AreAnswers, IsAnswer, Gives, CallFailsAt, AskCause}
+use Rattle.middleware.specs.LaneBranches.{OnEach, FailsOnLane, LanesGo, HaltCause, LanesHalt}
+use Rattle.middleware.specs.LaneAsking.{ask_of, LanesHoldRelation, AnswersFrom, RoundShared, RoundUnshared}
+use Rattle.middleware.specs.declared.lane_round.AskFault.TheVariants as asking
+use Rattle.middleware.specs.declared.round.RoundFault.{RoundFault}
+use Rattle.middleware.specs.declared.round.RoundFault.TheVariants as round
+use Rattle.middleware.proofs.Existing.{wanted_exists}
+use Rattle.middleware.proofs.Finding.{ready_line}
+use Rattle.middleware.proofs.LaneShares.{AsksSome-none}
+use Rattle.middleware.proofs.Steps.{in_flat, flat_in, grown_joins, joins_grown, in_pick, pick_in}
+
+-- ---- answers as a function of the values
+
+-- the answer to the request with these values
+abbrev pub answer_at : RowList → List RowList → List (List ℕ) → RowList
+answer_at [] answers values = []
+answer_at (r ∷ requests) [] values = []
+answer_at (r ∷ requests) (a ∷ answers) values = cond (is_eq (row_cmp r values)) a (answer_at requests answers values)
+
+-- each answer is that of its request, where the requests ascend
+pub answers_at : (requests : RowList) (answers : List RowList) → IsStrictlySortedBy row_cmp requests → length answers ≡ length requests
+    → answers ≡ map (answer_at requests answers) requests
+unfolding IsStrictlySortedBy
+answers_at [] [] up len = refl
+answers_at [] (a ∷ answers) up len = absurd (omega arith)
+answers_at (r ∷ requests) [] up len = absurd (omega arith)
+answers_at (r ∷ requests) (a ∷ answers) up len =
+    let own : row_cmp r r ≡ Equal = tied_itself rows_total r in
+    let first : a ≡ cond (is_eq (row_cmp r r)) a (answer_at requests answers r) =
+    ap (λ (o : Ordering). cond (is_eq o) a (answer_at requests answers r)) (sym own) in
+    let rest : answers ≡ map (answer_at (r ∷ requests) (a ∷ answers)) requests =
+    answers_at requests answers up.1 (omega arith)
+    ∙ sym (map_same (answer_at (r ∷ requests) (a ∷ answers)) (answer_at requests answers) requests (λ v among. later v (above requests up.0 v among))) in
+    λ i. first i ∷ rest i
+  where
+    later : (v : List (List ℕ)) → row_cmp r v ≡ Less → cond (is_eq (row_cmp r v)) a (answer_at requests answers v) ≡ answer_at requests answers v
+    later v less = ap (λ (o : Ordering). cond (is_eq o) a (answer_at requests answers v)) less
+
+    above : (xs : RowList) → AllByRecursion (λ y. row_cmp r y ≡ Less) xs → (v : List (List ℕ)) → Contains xs v → row_cmp r v ≡ Less
+    above [] all v among = absurd (omega arith)
+    above (x ∷ xs) all v among = elim (contains_cases x xs v among) [
+      | inl here ↦ subst (λ y. row_cmp r y ≡ Less) here all.0
+      | inr there ↦ above xs all.1 v there
+    ]
+
+-- lists of facts with the same facts of a relation give the same rows
+picked_through : (facts others : List Fact) (rel : ℕ) (positions : List ℕ) (values : List (List ℕ)) → SameFacts rel facts others
+    → (row : List (List ℕ)) → Contains (pick facts rel positions values) row ↔ Contains (pick others rel positions values) row
+picked_through facts others rel positions values same row = (
+  (λ c. let p = in_pick facts rel positions values row c in pick_in others rel positions values row ((same row).0 p.0) p.1),
+  (λ c. let p = in_pick others rel positions values row c in pick_in facts rel positions values row ((same row).1 p.0) p.1),
+)
+
+-- answers that are those of the facts give the next partial rows
+module _ (places : List Place) (method : Method) (facts : List Fact) (rows requests : RowList) (answers : List RowList)
+    (up : IsStrictlySortedBy row_cmp requests) (are : AnswersFrom facts method requests answers)
+    (there : (row : List (List ℕ)) → Contains rows row → Contains requests (input_row_of places method.inputs row)) where
+  -- what a partial row's request is answered
+  own_answer : (values row : List (List ℕ)) → Contains requests values
+      → Contains (answer_at requests answers values) row ↔ Contains (pick facts method.rel method.inputs values) row
+  own_answer values row among =
+      let at : slice_get requests among.0 ≡ Some values = got_at requests values among in
+      let is : slice_get answers among.0 ≡ Some (answer_at requests answers values) =
+      ap (λ (l : List RowList). slice_get l among.0) (answers_at requests answers up are.len)
+      ∙ map_got (answer_at requests answers) requests among.0 values at in
+      are.each among.0 values (answer_at requests answers values) at is row
+    where
+      got_at : (xs : RowList) (x : List (List ℕ)) (c : Contains xs x) → slice_get xs c.0 ≡ Some x
+      got_at xs x c = slice_get-get_or xs c.0 x c.1 ∙ ap (λ (y : List (List ℕ)). Some y) c.2
+
+  pub answered_rows : (next : RowList)
+      → ((row : List (List ℕ)) → Contains next row ↔ Contains (flat_map (λ r. grown places (answer_at requests answers (input_row_of places method.inputs r)) r) rows) row)
+      → (row : List (List ℕ)) → Contains next row ↔ Contains (next_rows places method facts rows) row
+  answered_rows next joined row = ((λ c. to ((joined row).0 c)), (λ c. (joined row).1 (back c)))
+    where
+      to : Contains (flat_map (λ r. grown places (answer_at requests answers (input_row_of places method.inputs r)) r) rows) row
+          → Contains (next_rows places method facts rows) row
+      to c =
+          let (last, among, h) = in_flat (λ r. grown places (answer_at requests answers (input_row_of places method.inputs r)) r) rows row c in
+          let (values, of, j) = grown_joins places (answer_at requests answers (input_row_of places method.inputs last)) last row h in
+          let own = own_answer (input_row_of places method.inputs last) values (there last among) in
+          flat_in (λ r. grown places (pick facts method.rel method.inputs (input_row_of places method.inputs r)) r) rows last row among
+          (joins_grown places (pick facts method.rel method.inputs (input_row_of places method.inputs last)) last row values (own.0 of) j)
+
+      back : Contains (next_rows places method facts rows) row
+          → Contains (flat_map (λ r. grown places (answer_at requests answers (input_row_of places method.inputs r)) r) rows) row
+      back c =
+          let (last, among, h) = in_flat (λ r. grown places (pick facts method.rel method.inputs (input_row_of places method.inputs r)) r) rows row c in
+          let (values, of, j) = grown_joins places (pick facts method.rel method.inputs (input_row_of places method.inputs last)) last row h in
+          let own = own_answer (input_row_of places method.inputs last) values (there last among) in
+          flat_in (λ r. grown places (answer_at requests answers (input_row_of places method.inputs r)) r) rows last row among
+          (joins_grown places (answer_at requests answers (input_row_of places method.inputs last)) last row values (own.1 of) j)
+
+-- ---- the requests of a method, asked of lanes
+
+module _ {S : Type 0} (seen : S → Seen) (schema : Schema) (method : Method) (line : SourceLine) (line_is : line_for method.rel schema.sources ≡ Some line)
+    (requests : RowList) where
+  abbrev asks : List Ask
+  asks = map (ask_of line.kind method) requests
+
+  pub asked_are : requests_in asks ≡ requests_of method.rel method.inputs requests
+  asked_are = go requests
+    where
+      go : (list : RowList) → requests_in (map (ask_of line.kind method) list) ≡ requests_of method.rel method.inputs list
+      go [] = refl
+      go (v ∷ list) = ap (λ (l : List Request). record { rel = method.rel; positions = method.inputs; values = v } ∷ l) (go list)
+
+  pub their_kinds : HaveTheirKinds schema asks
+  their_kinds k ask at =
+      let (values, got, is) = got_mapped (ask_of line.kind method) requests k ask at in
+      record {
+        line = line;
+        line_is = subst (λ (a : Ask). line_for a.request.rel schema.sources ≡ Some line) is line_is;
+        kind = ap (λ (a : Ask). a.kind) (sym is);
+      }
+
+  pub all_ready : (lanes : List (Lane S)) → OnEach lanes (λ kinds. IsAskable seen schema kinds method)
+      → ((values : List (List ℕ)) → Contains requests values → length values ≡ length method.inputs) → AllReady (MayAsk seen) asks lanes
+  all_ready lanes askable fit = λ k d less j e short.
+      one (get_or lanes k d) (contains_got lanes k (get_or lanes k d) (slice_get-get_or lanes k d less)) (get_or asks j e)
+      (contains_got asks j (get_or asks j e) (slice_get-get_or asks j e short))
+    where
+      one : (lane : Lane S) → Contains lanes lane → (ask : Ask) → Contains asks ask → MayAsk seen lane ask
+      one lane among ask c =
+          let (values, of, is) = contains_mapped (ask_of line.kind method) requests ask c in
+          let ready : AtKind lane.kinds.items line.kind (λ s. CanAskAll ((seen s).attached method.rel) method) =
+          ready_line seen schema lane.kinds.items method line line_is (askable lane among) in
+          subst (MayAsk seen lane) is
+          (AtKind-map line.kind lane.kinds.items (λ s. CanAskAll ((seen s).attached method.rel) method)
+          (λ s. CanAsk ((seen s).attached method.rel) method.inputs values) (λ s h. h values (fit values of)) ready)
+
+  pub answers_from : (lanes : List (Lane S)) (answers : List RowList) → AreAnswers seen lanes asks answers
+      → (instance : List Fact) → LanesHoldRelation seen schema method.rel lanes instance → AnswersFrom instance method requests answers
+  answers_from lanes answers are instance holds = record {
+    len = are.len ∙ long requests;
+    each = λ k values rows at rows_at row. one values rows (are.each k (ask_of line.kind method values) rows
+        (map_got (ask_of line.kind method) requests k values at) rows_at) row;
+  }
+    where
+      long : (list : RowList) → length (map (ask_of line.kind method) list) ≡ length list
+      long [] = refl
+      long (v ∷ list) = ap suc (long list)
+
+      one : (values : List (List ℕ)) (rows : RowList) → IsAnswer seen lanes (ask_of line.kind method values) rows
+          → (row : List (List ℕ)) → Contains rows row ↔ Contains (pick instance method.rel method.inputs values) row
+      one values rows is row = go (source_of is.lane.kinds.items line.kind) is.gives (holds line line_is is.lane is.among)
+        where
+          by_held : (held : Option (List Fact)) → IfSome held (λ facts. rows ≡ pick facts method.rel method.inputs values)
+              → IsSomeAnd held (λ facts. SameFacts method.rel facts instance)
+              → Contains rows row ↔ Contains (pick instance method.rel method.inputs values) row
+          by_held None picks same = absurd same
+          by_held (Some facts) picks same =
+              let t = picked_through facts instance method.rel method.inputs values same row in (
+                (λ c. t.0 (subst (λ (l : RowList). Contains l row) picks c)),
+                (λ c. subst (λ (l : RowList). Contains l row) (sym picks) (t.1 c)),
+              )
+
+          go : (o : Option S) → IsSomeAnd o (Gives seen (ask_of line.kind method values).request rows)
+              → IsSomeAnd o (λ s. IsSomeAnd ((seen s).held) (λ facts. SameFacts method.rel facts instance))
+              → Contains rows row ↔ Contains (pick instance method.rel method.inputs values) row
+          go None gives same = absurd gives
+          go (Some s) gives same = by_held ((seen s).held) gives.picks same
+
+  pub fails_on : (k : ℕ) (old new : List (Lane S)) → CallFailsAt seen schema asks k old new → FailsOnLane seen schema method.rel old new
+  fails_on k old new f =
+      let (values, got, is) = got_mapped (ask_of line.kind method) requests k f.ask f.at in
+      record {
+        place = f.place;
+        before = f.before;
+        after = f.after;
+        was = f.was;
+        now = f.now;
+        rose = subst (λ (a : Ask). RoseAt seen schema a.request.rel f.before.kinds.items f.after.kinds.items) (sym is) f.rose;
+        stopped = f.stopped;
+      }
+
+  pub some_asked : (k : ℕ) (old new : List (Lane S)) → CallFailsAt seen schema asks k old new → 1 ≤ length requests
+  some_asked k old new f =
+      let (values, got, is) = got_mapped (ask_of line.kind method) requests k f.ask f.at in
+      let less : k < length requests = slice_get_within requests k values got in
+      omega (arith, less)
+
+  -- the same where the requests are lent
+  module _ (lent : List Ask) (is : lent ≡ asks) where
+    kinds_lent : HaveTheirKinds schema lent
+    kinds_lent = subst (HaveTheirKinds schema) (sym is) their_kinds
+
+    same_requests : requests_in lent ≡ requests_of method.rel method.inputs requests
+    same_requests = ap requests_in is ∙ asked_are
+
+    pub lent_long : length lent ≡ length requests
+    lent_long = ap length is ∙ go requests
+      where
+        go : (list : RowList) → length (map (ask_of line.kind method) list) ≡ length list
+        go [] = refl
+        go (v ∷ list) = ap suc (go list)
+
+    pub ready_lent : (lanes : List (Lane S)) → OnEach lanes (λ kinds. IsAskable seen schema kinds method)
+        → ((values : List (List ℕ)) → Contains requests values → length values ≡ length method.inputs) → AllReady (MayAsk seen) lent lanes
+    ready_lent lanes askable fit = subst (λ (l : List Ask). AllReady (MayAsk seen) l lanes) (sym is) (all_ready lanes askable fit)
+
+    pub each_lent : (old new : List (Lane S)) → ((its : Schema) → HaveTheirKinds its lent → AsksEach seen its (requests_in lent) old new)
+        → AsksEach seen schema (requests_of method.rel method.inputs requests) old new
+    each_lent old new h = subst (λ (r : List Request). AsksEach seen schema r old new) same_requests (h schema kinds_lent)
+
+    pub some_lent : (old new : List (Lane S)) → ((its : Schema) → HaveTheirKinds its lent → AsksSome seen its (requests_in lent) old new)
+        → AsksSome seen schema (requests_of method.rel method.inputs requests) old new
+    some_lent old new h = subst (λ (r : List Request). AsksSome seen schema r old new) same_requests (h schema kinds_lent)
+
+    pub answers_lent : (lanes : List (Lane S)) (answers : List RowList) → AreAnswers seen lanes lent answers
+        → (instance : List Fact) → LanesHoldRelation seen schema method.rel lanes instance → AnswersFrom instance method requests answers
+    answers_lent lanes answers are =
+        answers_from lanes answers (subst (λ (l : List Ask). AreAnswers seen lanes l answers) is are)
+
+    failed_lent : (k : ℕ) (old new : List (Lane S)) → ((its : Schema) → HaveTheirKinds its lent → AskCause seen its lent (asking.CallFailed k) old new)
+        → CallFailsAt seen schema asks k old new
+    failed_lent k old new h = subst (λ (l : List Ask). CallFailsAt seen schema l k old new) is (h schema kinds_lent).1
+
+    pub fails_lent : (k : ℕ) (old new : List (Lane S)) → ((its : Schema) → HaveTheirKinds its lent → AskCause seen its lent (asking.CallFailed k) old new)
+        → FailsOnLane seen schema method.rel old new
+    fails_lent k old new h = fails_on k old new (failed_lent k old new h)
+
+    pub one_lent : (k : ℕ) (old new : List (Lane S)) → ((its : Schema) → HaveTheirKinds its lent → AskCause seen its lent (asking.CallFailed k) old new)
+        → 1 ≤ length requests
+    one_lent k old new h = some_asked k old new (failed_lent k old new h)
+
+-- ---- one round
+
+module _ {S : Type 0} (seen : S → Seen) (schema : Schema) (places : List Place) (method : Method) (rows : RowList) where
+  -- no memory for the requests
+  pub no_requests : (room : ℕ) (lanes : List (Lane S)) → RoundUnshared seen schema places method rows room round.NoMemory lanes lanes
+  no_requests room lanes =
+      let (list, wanted) = wanted_exists places method.inputs rows in
+      record {
+        list = list;
+        wanted = wanted;
+        asks = AsksSome-none seen schema (requests_of method.rel method.inputs list) lanes;
+        cause = tt;
+      }
+
+  module _ (inputs : List ℕ) (ie : inputs ≡ method.inputs) (list : RowList) (is : IsWanted places inputs rows list) where
+    wanted_by : IsWanted places method.inputs rows list
+    wanted_by = subst (λ (i : List ℕ). IsWanted places i rows list) ie is
+
+    -- no room for the requests
+    pub too_many : (room wanted : ℕ) → wanted ≡ length list → room < wanted → (lanes : List (Lane S))
+        → RoundUnshared seen schema places method rows room (round.OverCalls wanted) lanes lanes
+    too_many room wanted e over lanes = record {
+      list = list;
+      wanted = wanted_by;
+      asks = AsksSome-none seen schema (requests_of method.rel method.inputs list) lanes;
+      cause = (e, subst (λ n. room < n) e over, refl);
+    }
+
+    module _ (asked : RowList) (e : asked ≡ list) (old new : List (Lane S)) where
+      pub was_refused : (room : ℕ) (why : RoundFault) → AsksSome seen schema (requests_of method.rel method.inputs asked) old new
+          → HaltCause seen schema why room (length list) method.rel old new → RoundUnshared seen schema places method rows room why old new
+      was_refused room why some cause = record {
+        list = list;
+        wanted = wanted_by;
+        asks = subst (λ (l : RowList). AsksSome seen schema (requests_of method.rel method.inputs l) old new) e some;
+        cause = cause;
+      }
+
+      pub was_shared : (answers told : List RowList) → told ≡ answers → (second next : RowList) → second ≡ list
+          → ((answer : List (List ℕ) → RowList) → told ≡ map answer second
+          → (row : List (List ℕ)) → Contains next row ↔ Contains (flat_map (λ r. grown places (answer (input_row_of places inputs r)) r) rows) row)
+          → AsksEach seen schema (requests_of method.rel method.inputs asked) old new
+          → ((instance : List Fact) → LanesHoldRelation seen schema method.rel old instance → AnswersFrom instance method asked answers)
+          → RoundShared seen schema places method rows list next old new
+      was_shared answers told te second next se joins each from = record {
+        wanted = wanted_by;
+        asks = subst (λ (l : RowList). AsksEach seen schema (requests_of method.rel method.inputs l) old new) e each;
+        rows_are = are;
+      }
+        where
+          there : (row : List (List ℕ)) → Contains rows row → Contains list (input_row_of places method.inputs row)
+          there row c = (wanted_by.same (input_row_of places method.inputs row)).1 (contains_map (input_row_of places method.inputs) rows row c)
+
+          are : (instance : List Fact) → LanesHoldRelation seen schema method.rel old instance
+              → (row : List (List ℕ)) → Contains next row ↔ Contains (next_rows places method instance rows) row
+          are instance holds =
+              let of_asked : AnswersFrom instance method asked answers = from instance holds in
+              let of_list : AnswersFrom instance method list answers = subst (λ (l : RowList). AnswersFrom instance method l answers) e of_asked in
+              let is_map : told ≡ map (answer_at list answers) second =
+              te ∙ answers_at list answers wanted_by.ascends of_list.len ∙ ap (map (answer_at list answers)) (sym se) in
+              let joined = joins (answer_at list answers) is_map in
+              answered_rows places method instance rows list answers wanted_by.ascends of_list there next
+              (subst (λ (i : List ℕ). (row : List (List ℕ)) → Contains next row
+              ↔ Contains (flat_map (λ r. grown places (answer_at list answers (input_row_of places i r)) r) rows) row) ie joined)
+
+-- ---- one round of a step
+
+module _ {S : Type 0} (seen : S → Seen) (schema : Schema) (step : Step) (method : Method) (named : IsMethod (meaning_of schema) step.method method)
+    (places : List Place) (pe : places ≡ step.places) (rows : RowList) (old new : List (Lane S)) where
+  pub lanes_go : (list next : RowList) (before after : ℕ) → after ≡ before + length list → RoundShared seen schema places method rows list next old new
+      → LanesGo seen schema step rows next before after old new
+  lanes_go list next before after count shared = record {
+    method = method;
+    named = named;
+    list = list;
+    wanted = s.wanted;
+    asks = s.asks;
+    count = count;
+    rows_are = λ instance holds. s.rows_are instance (λ line line_is lane among. holds lane among step method line (contains_here step []) named line_is);
+  }
+    where
+      s : RoundShared seen schema step.places method rows list next old new
+      s = subst (λ (p : List Place). RoundShared seen schema p method rows list next old new) pe shared
+
+  pub lanes_halt : (room : ℕ) (why : RoundFault) → RoundUnshared seen schema places method rows room why old new
+      → LanesHalt seen schema step rows room why old new
+  lanes_halt room why unshared = record { method = method; named = named; list = s.list; wanted = s.wanted; asks = s.asks; cause = s.cause }
+    where
+      s : RoundUnshared seen schema step.places method rows room why old new
+      s = subst (λ (p : List Place). RoundUnshared seen schema p method rows room why old new) pe unshared

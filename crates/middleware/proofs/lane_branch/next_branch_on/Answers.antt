@@ -1,0 +1,26 @@
+use Rattle.std.proofs.Common.{List, subst}
+use Rattle.std.specs.Prelude.{Contains}
+use Rattle.meaning.specs.declared.types.Step.{Step}
+use Rattle.access_schema.proofs.Keeping.{well_formed}
+use Rattle.middleware.specs.Live.{is_shown}
+use Rattle.middleware.proofs.LaneBranching.{branch_none, branch_full, branch_adds}
+use Rattle.middleware.proofs.lane_branch.next_branch_on.Goals as goal
+
+pub returns-in-Err-clause-stops : goal.returns-in-Err-clause-stops
+returns-in-Err-clause-stops g c =
+    branch_none g.S.Source.seen c.args.schema.now (well_formed c.args.schema.now) c.args.branch.now.steps c.requires.ready.steps c.args.progress.made c.args.cap c.args.lanes.now
+
+pub run_steps_on-requires-clause-askable : goal.run_steps_on-requires-clause-askable
+run_steps_on-requires-clause-askable g c κs within = λ lane there step method among named.
+    c.requires.askable lane there step method (subst (λ (s : List Step). Contains s step) c.as_slice.ensures among) named
+
+pub returns-in-Ok-add_outputs-clause-goes : goal.returns-in-Ok-add_outputs-clause-goes
+returns-in-Ok-add_outputs-clause-goes g c =
+    branch_adds g.S.Source.seen c.args.schema.now (well_formed c.args.schema.now) c.args.branch.now c.requires.ready c.as_slice.result.now c.as_slice.ensures c.as_slice-outs.result.now c.as_slice-outs.ensures
+    c.in-Ok-run_steps_on.reached.rows c.args.progress.rows c.in-Ok-add_outputs.rows
+    c.args.progress.made c.in-Ok-run_steps_on.reached.made c.args.lanes.now c.run_steps_on.new.lanes c.in-Ok-run_steps_on.ensures.reached c.in-Ok-add_outputs.ensures
+
+pub returns-in-Ok-run_steps_on-clause-stops : goal.returns-in-Ok-run_steps_on-clause-stops
+returns-in-Ok-run_steps_on-clause-stops g c =
+    branch_full g.S.Source.seen c.args.schema.now (well_formed c.args.schema.now) (is_shown c.as_slice-outs.result.now) c.args.branch.now.steps c.as_slice.result.now c.as_slice.ensures c.in-Ok-run_steps_on.reached.rows c.args.progress.made c.in-Ok-run_steps_on.reached.made c.args.cap
+    c.args.lanes.now c.run_steps_on.new.lanes c.in-Ok-run_steps_on.ensures.reached

@@ -1,0 +1,68 @@
+use Rattle.std.proofs.Common.{ℕ, List, subst, sym}
+use Rattle.std.specs.Prelude.{Contains}
+use Rattle.access_schema.specs.declared.schema.SourceLine.{SourceLine}
+use Rattle.middleware.specs.LaneRunning.{LanesHavePlace, LacksPlace}
+use Rattle.middleware.specs.LaneRounds.{NoneStopped}
+use Rattle.middleware.proofs.Finished.{all_ready}
+use Rattle.middleware.proofs.LaneFinished.{lacks_kind, all_placed, all_going, lanes_askable, ran, run_refused, on_going}
+use Rattle.middleware.proofs.lane_run.run_on_lanes.Goals as goal
+
+pub returns-in-Some : goal.returns-in-Some
+returns-in-Some g c =
+    let ready = all_ready g.S.Source.seen c.args.schema.now c.args.plan.now c.requires.lawful.0 c.requires.lawful.1 in
+    let lacks = subst (λ (l : List SourceLine). LacksPlace c.args.lanes.now l c.args.rels.now c.in-Some.rel) c.as_slice.ensures c.in-Some.ensures in
+    let e = lacks_kind g.S.Source.seen c.args.schema.now c.args.plan.now ready c.args.rels.now c.requires.ascends c.requires.exactly c.requires.lines c.args.lanes.now
+    c.args.cap c.requires.lanes.0 c.in-Some.rel lacks in
+    record { executes = e.executes; ascends = tt; within = tt; found = e.found; stay = e.stay; going = tt }
+
+pub attach_lanes-requires-clause-placed : goal.attach_lanes-requires-clause-placed
+attach_lanes-requires-clause-placed g c κs within =
+    all_placed g.S.Source.seen c.args.schema.now c.args.plan.now
+    (all_ready g.S.Source.seen c.args.schema.now c.args.plan.now c.requires.lawful.0 c.requires.lawful.1) c.args.rels.now c.requires.ascends c.requires.exactly c.requires.lines c.args.lanes.now
+    (subst (λ (l : List SourceLine). (rel : ℕ) → Contains c.args.rels.now rel → LanesHavePlace c.args.lanes.now l rel) c.as_slice.ensures c.in_default.ensures)
+
+pub run_rounds_on-requires-clause-ready : goal.run_rounds_on-requires-clause-ready
+run_rounds_on-requires-clause-ready g c κs within = all_ready g.S.Source.seen c.args.schema.now c.args.plan.now c.requires.lawful.0 c.requires.lawful.1
+
+pub run_rounds_on-requires-clause-askable : goal.run_rounds_on-requires-clause-askable
+run_rounds_on-requires-clause-askable g c κs within =
+    lanes_askable g.S.Source.seen c.args.schema.now c.args.plan.now
+    (all_ready g.S.Source.seen c.args.schema.now c.args.plan.now c.requires.lawful.0 c.requires.lawful.1) c.args.rels.now c.requires.ascends c.requires.exactly c.requires.lines c.args.lanes.now
+    (subst (λ (l : List SourceLine). (rel : ℕ) → Contains c.args.rels.now rel → LanesHavePlace c.args.lanes.now l rel) c.as_slice.ensures c.in_default.ensures)
+    c.attach_lanes.new.lanes c.in-Ok.ensures.attached c.start.new.lanes c.start.ensures
+
+pub run_rounds_on-requires-clause-few : goal.run_rounds_on-requires-clause-few
+run_rounds_on-requires-clause-few g c κs within = c.requires.few
+
+pub run_rounds_on-requires-clause-short : goal.run_rounds_on-requires-clause-short
+run_rounds_on-requires-clause-short g c κs within = c.requires.short
+
+pub run_rounds_on-requires-clause-cap : goal.run_rounds_on-requires-clause-cap
+run_rounds_on-requires-clause-cap g c κs within = c.requires.cap
+
+pub run_rounds_on-requires-clause-going : goal.run_rounds_on-requires-clause-going
+run_rounds_on-requires-clause-going g c κs within = subst (λ l. NoneStopped l) (sym c.start.ensures) (all_going c.attach_lanes.new.lanes)
+
+pub returns-in-Ok : goal.returns-in-Ok
+returns-in-Ok g c =
+    let ready = all_ready g.S.Source.seen c.args.schema.now c.args.plan.now c.requires.lawful.0 c.requires.lawful.1 in
+    let places = subst (λ (l : List SourceLine). (rel : ℕ) → Contains c.args.rels.now rel → LanesHavePlace c.args.lanes.now l rel) c.as_slice.ensures c.in_default.ensures in
+    let e = ran g.S.Source.seen c.args.schema.now c.args.plan.now ready c.args.rels.now c.requires.ascends c.requires.exactly c.requires.lines c.args.lanes.now places
+    c.attach_lanes.new.lanes c.in-Ok.ensures.attached c.args.cap c.requires.lanes.0 c.run_rounds_on.result c.run_rounds_on.new.lanes c.start.new.lanes c.start.ensures
+    c.run_rounds_on.ensures.done c.run_rounds_on.ensures.stops in
+    record {
+      executes = e.executes;
+      ascends = c.run_rounds_on.ensures.ascends;
+      within = c.run_rounds_on.ensures.within;
+      found = e.found;
+      stay = e.stay;
+      going = on_going c.run_rounds_on.result c.run_rounds_on.new.lanes c.run_rounds_on.ensures.going;
+    }
+
+pub returns-in-Err : goal.returns-in-Err
+returns-in-Err g c =
+    let ready = all_ready g.S.Source.seen c.args.schema.now c.args.plan.now c.requires.lawful.0 c.requires.lawful.1 in
+    let places = subst (λ (l : List SourceLine). (rel : ℕ) → Contains c.args.rels.now rel → LanesHavePlace c.args.lanes.now l rel) c.as_slice.ensures c.in_default.ensures in
+    let e = run_refused g.S.Source.seen c.args.schema.now c.args.plan.now ready c.args.rels.now c.requires.ascends c.requires.exactly c.requires.lines c.args.lanes.now places
+    c.args.cap c.requires.lanes.0 c.in-Err.refused.rel c.in-Err.refused.fault c.attach_lanes.new.lanes c.attach_lanes.auto.lanes c.in-Err.ensures.breaks in
+    rw c.attach_fault.ensures (record { executes = e.executes; ascends = tt; within = tt; found = e.found; stay = e.stay; going = tt })

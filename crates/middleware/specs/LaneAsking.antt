@@ -1,0 +1,47 @@
+-- The requests of one step, asked of lanes, and their answers.
+use Rattle.std.specs.Prelude.{◌≡◌, ◌↔◌, ℕ, List, length, Contains, Some, slice_get}
+use Rattle.meaning.specs.declared.types.Fact.{Fact}
+use Rattle.meaning.specs.declared.types.Method.{Method}
+use Rattle.meaning.specs.declared.types.Place.{Place}
+use Rattle.access_schema.specs.declared.schema.Schema.{Schema}
+use Rattle.access_schema.specs.declared.schema.SourceLine.{SourceLine}
+use Rattle.source_trait.specs.Asking.{RowList, Seen, pick}
+use Rattle.source_trait.specs.declared.lanes.Lane.{Lane}
+use Rattle.source_trait.specs.declared.work.Ask.{Ask}
+use Rattle.middleware.specs.PlanSources.{line_for}
+use Rattle.middleware.specs.Held.{HoldsRelation}
+use Rattle.middleware.specs.Rounds.{requests_of, IsWanted, next_rows}
+use Rattle.middleware.specs.LaneRounds.{AsksEach, AsksSome}
+use Rattle.middleware.specs.LaneBranches.{OnEach, HaltCause}
+use Rattle.middleware.specs.declared.round.RoundFault.{RoundFault}
+
+-- the request of the method with these values, for a source of the kind
+abbrev pub ask_of : List ℕ → Method → List (List ℕ) → Ask
+ask_of kind method values = record { kind = kind; request = record { rel = method.rel; positions = method.inputs; values = values } }
+
+-- there are as many answers as requests, and each has just the rows of the facts that its request asks for
+pub record AnswersFrom (facts : List Fact) (method : Method) (requests : RowList) (answers : List RowList) : Type 0 where
+  pub len : length answers ≡ length requests
+  pub each : (k : ℕ) (values : List (List ℕ)) (rows : RowList) → slice_get requests k ≡ Some values → slice_get answers k ≡ Some rows
+      → (row : List (List ℕ)) → Contains rows row ↔ Contains (pick facts method.rel method.inputs values) row
+
+module _ {S : Type 0} (seen : S → Seen) (schema : Schema) where
+  -- each lane holds the relation, where its source line says, with just the facts of the instance
+  abbrev pub LanesHoldRelation : ℕ → List (Lane S) → List Fact → Type 0
+  LanesHoldRelation rel lanes instance = (line : SourceLine) → line_for rel schema.sources ≡ Some line
+      → OnEach lanes (λ kinds. HoldsRelation seen kinds line.kind rel instance)
+
+  -- Each request of a round was asked once by one of the lanes, and the partial rows after it are those that the answers give.
+  pub record RoundShared (places : List Place) (method : Method) (rows requests next : RowList) (old new : List (Lane S)) : Type 0 where
+    pub wanted : IsWanted places method.inputs rows requests
+    pub asks : AsksEach seen schema (requests_of method.rel method.inputs requests) old new
+    pub rows_are : (instance : List Fact) → LanesHoldRelation method.rel old instance
+        → (row : List (List ℕ)) → Contains next row ↔ Contains (next_rows places method instance rows) row
+
+  -- A round stopped: each of its requests was asked at most once.
+  pub record RoundUnshared (places : List Place) (method : Method) (rows : RowList) (room : ℕ) (why : RoundFault) (old new : List (Lane S))
+      : Type 0 where
+    pub list : RowList
+    pub wanted : IsWanted places method.inputs rows list
+    pub asks : AsksSome seen schema (requests_of method.rel method.inputs list) old new
+    pub cause : HaltCause seen schema why room (length list) method.rel old new

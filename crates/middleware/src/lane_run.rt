@@ -1,0 +1,141 @@
+// A plan executed on several lanes.
+ghost use Rattle.std.specs.Prelude.{◌≡◌, ◌↔◌, ◌<◌, ◌≤◌, ◌^◌, List, ℕ, false, Contains, IfOk, IsTrue, MatchOption, length};
+ghost use Rattle.std.specs.List.Sorted.{IsStrictlyIncreasing, IsStrictlySortedBy};
+ghost use Rattle.meaning.specs.declared.types.Fact.{Fact};
+ghost use Rattle.meaning.specs.declared.types.Branch.{Branch};
+ghost use Rattle.meaning.specs.Plans.{IsLawful};
+ghost use Rattle.meaning.specs.Rows.{IsRow};
+ghost use Rattle.access_schema.specs.Meaning.{meaning_of};
+ghost use Rattle.source_trait.specs.Lanes.{names_of, LanesStay};
+ghost use Rattle.source_trait.specs.declared.lanes.Lane.{Lane};
+ghost use Rattle.row_text.specs.RowText.{row_cmp};
+ghost use Rattle.middleware.specs.PlanSources.{line_for, IsAccessed, AllHaveLines};
+ghost use Rattle.middleware.specs.Sources.{has_place};
+ghost use Rattle.middleware.specs.LaneBranches.{LanesHoldPlan};
+ghost use Rattle.middleware.specs.LaneRunning.{LanesFind, LanesHavePlace, LacksPlace, ExecutesOnLanes, LanesGoOn};
+
+use crate::accesses::{accessed, first_lineless, has_source};
+use crate::fault::{Run, RunFault};
+use crate::lane_attach::attach_lanes;
+use crate::lane_round::start;
+use crate::lane_rounds::run_rounds_on;
+use crate::run_plan::{attach_fault, execute_alone};
+use access_schema::{Schema, SourceLine};
+use meaning::types::Plan;
+use source_trait::{Lane, Source};
+use std::alloc::Global;
+use std::thread::Threads;
+
+/// Executes a lawful plan on all of the lanes, of which there are at most 8, with at most `cap` requests.
+///
+/// First the relations of the plan's methods are attached in ascending order, lane by lane. Then each step of each branch asks its
+/// distinct requests, each once by one of the lanes at once, and joins the answers with the rows so far. A plan without access
+/// steps needs no lane, and leaves the lanes as they are.
+pub fn execute_on_lanes<R: Threads + Sync, S: Source + Send + Drop>(
+    rt: &R,
+    alloc: Global,
+    plan: &Plan,
+    schema: &Schema,
+    lanes: &mut [Lane<S>],
+    cap: u32,
+) -> Result<Run, RunFault>
+    requires lawful { (constants : List (List ℕ)) × IsLawful plan.now (meaning_of schema.now) constants }
+    requires lanes { length lanes.old ≤ 8 }
+    requires cap { cap ≤ 1_000_000 }
+    requires few { length plan.now.branches < 2 ^ 32 }
+    requires short { (branch : Branch) → Contains plan.now.branches branch → length branch.steps < 2 ^ 32 }
+
+    // The rows are the plan's on whatever instance the sources of each lane hold, each once and ascending.
+    ensures rows { IfOk result (λ run. (instance : List Fact) → LanesHoldPlan S.seen schema.now plan.now lanes.new instance
+        → (row : List (List ℕ)) → Contains run.rows row ↔ IsRow (meaning_of schema.now) plan.now instance row) }
+    ensures ascends { IfOk result (λ run. IsStrictlySortedBy row_cmp run.rows) }
+
+    // Attaches and requests: all of them where the plan was executed; otherwise the first ones, up to why it stopped.
+    ensures executes { ExecutesOnLanes S.seen schema.now plan.now cap lanes.old lanes.new result }
+    ensures within { IfOk result (λ run. run.made ≤ cap) }
+    ensures found { LanesFind lanes.old schema.now plan.now result }
+
+    // What stays.
+    ensures stay { LanesStay S.seen lanes.old lanes.new }
+    ensures idle { ((rel : ℕ) → IsAccessed schema.now plan.now rel → ⊥) → lanes.new ≡ lanes.old }
+    ensures going { (rel : ℕ) → IsAccessed schema.now plan.now rel → LanesGoOn result lanes.new }
+{
+    let rels = match accessed(alloc, schema, plan) {
+        Ok(rels) => rels,
+        Err(_) => return Err(RunFault::NoMemory),
+    };
+    if rels.is_empty() {
+        return execute_alone::<S>(alloc, plan, schema, cap);
+    }
+    if let Some(rel) = first_lineless(schema.sources.as_slice(), rels.as_slice()) {
+        return Err(RunFault::NoSource { rel });
+    }
+    if lanes.is_empty() {
+        return Err(RunFault::UnknownKind { rel: rels[0] });
+    }
+    run_on_lanes(rt, alloc, plan, schema, lanes, rels.as_slice(), cap)
+}
+
+// Executes a plan whose relations have source lines, on one lane or more.
+fn run_on_lanes<R: Threads + Sync, S: Source + Send + Drop>(
+    rt: &R,
+    alloc: Global,
+    plan: &Plan,
+    schema: &Schema,
+    lanes: &mut [Lane<S>],
+    rels: &[u32],
+    cap: u32,
+) -> Result<Run, RunFault>
+    requires lawful { (constants : List (List ℕ)) × IsLawful plan.now (meaning_of schema.now) constants }
+    requires lanes { (0 < length lanes.old) × (length lanes.old ≤ 8) }
+    requires some { 0 < length rels.now }
+    requires ascends { IsStrictlyIncreasing rels.now }
+    requires exactly { (rel : ℕ) → Contains rels.now rel ↔ IsAccessed schema.now plan.now rel }
+    requires lines { AllHaveLines schema.now plan.now }
+    requires cap { cap ≤ 1_000_000 }
+    requires few { length plan.now.branches < 2 ^ 32 }
+    requires short { (branch : Branch) → Contains plan.now.branches branch → length branch.steps < 2 ^ 32 }
+    ensures executes { ExecutesOnLanes S.seen schema.now plan.now cap lanes.old lanes.new result }
+    ensures ascends { IfOk result (λ run. IsStrictlySortedBy row_cmp run.rows) }
+    ensures within { IfOk result (λ run. run.made ≤ cap) }
+    ensures found { LanesFind lanes.old schema.now plan.now result }
+    ensures stay { LanesStay S.seen lanes.old lanes.new }
+    ensures going { LanesGoOn result lanes.new }
+{
+    if let Some(rel) = first_without_place(lanes, schema.sources.as_slice(), rels) {
+        return Err(RunFault::UnknownKind { rel });
+    }
+    match attach_lanes(alloc, schema, lanes, rels) {
+        Ok(()) => {
+            start(lanes);
+            run_rounds_on(rt, alloc, schema, lanes, plan, cap)
+        }
+        Err(refused) => Err(attach_fault(refused)),
+    }
+}
+
+// The first of the relations whose source line has a kind that some lane lacks.
+fn first_without_place<S>(lanes: &[Lane<S>], lines: &[SourceLine], rels: &[u32]) -> Option<u32>
+    ensures { MatchOption result ((rel : ℕ) → Contains rels.now rel → LanesHavePlace lanes.now lines.now rel)
+        (λ rel. LacksPlace lanes.now lines.now rels.now rel) }
+{
+    for rel in rels {
+        if !all_have_place(lanes, lines, *rel) {
+            return Some(*rel);
+        }
+    }
+    None
+}
+
+// Whether each lane has a source of the kind of the relation's line.
+fn all_have_place<S>(lanes: &[Lane<S>], lines: &[SourceLine], rel: u32) -> bool
+    ensures all { IsTrue result → LanesHavePlace lanes.now lines.now rel }
+    ensures some { result ≡ false → (lane : Lane S) × Contains lanes.now lane × (has_place (names_of lane.kinds.items) (line_for rel lines.now) ≡ false) }
+{
+    for lane in lanes {
+        if !has_source(lane, lines, rel) {
+            return false;
+        }
+    }
+    true
+}
