@@ -136,7 +136,7 @@ found_all ps vs rows count crowded place found so_far end =
     so_far.is ∙ ap (λ m. filter (agrees ps vs) (take m rows)) whole ∙ ap (filter (agrees ps vs)) (take-length rows)
 
 -- what a read of a list gave, whatever stands for the places behind its end
-read_at : {X : Type 0} (xs : List X) (i : ℕ) (v d : X) → i < length xs → v ≡ get_or xs i v → v ≡ get_or xs i d
+pub read_at : {X : Type 0} (xs : List X) (i : ℕ) (v d : X) → i < length xs → v ≡ get_or xs i v → v ≡ get_or xs i d
 read_at xs i v d below is = is ∙ get_or_default xs i v d below
 
 all_at : (count : ℕ) (codes : List ℕ) (i : ℕ) → AllByRecursion (λ code. code < count) codes → i < length codes → get_or codes i 0 < count

@@ -53,6 +53,12 @@ codes_of positions count rows = map (λ row. row_hash 0 positions row % count) r
 abbrev pub row_values : List ℕ → List (List ℕ) → List (List ℕ)
 row_values positions row = map (λ p. unwrap_or (slice_get row p) []) positions
 
+-- the row of a number, or an earlier one with its code and its values
+pub record IsTwin (positions codes : List ℕ) (rows : RowList) (number twin : ℕ) : Type 0 where
+  pub before : twin ≤ number
+  pub code : slice_index codes twin ≡ slice_index codes number
+  pub values : row_values positions (slice_index_or rows twin []) ≡ row_values positions (slice_index_or rows number [])
+
 -- the chain of values with a code: that of the code, or where the code is crowded their own
 abbrev pub chain_of : Crowded → ℕ → List (List ℕ) → ℕ
 chain_of crowded code values = if slice_index_or crowded.codes.items code false then unwrap_or (get row_cmp crowded.chains values) code else code

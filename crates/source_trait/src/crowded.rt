@@ -1,8 +1,8 @@
 // Codes that many rows share, whose values have chains of their own.
-ghost use Rattle.std.specs.Prelude.{◌≡◌, ◌<◌, ◌+◌, ℕ, [], List, IfOk, false, length, max, slice_get, slice_index_or, take, unwrap_or};
+ghost use Rattle.std.specs.Prelude.{◌≡◌, ◌<◌, ◌+◌, ℕ, [], List, IfOk, IsTrue, false, length, max, slice_get, slice_index_or, take, unwrap_or};
 ghost use Rattle.std.specs.BTreeMap.{get};
 ghost use Rattle.row_text.specs.RowText.{row_cmp};
-ghost use Rattle.source_trait.specs.Index.{AreChainsBelow, chain_of, row_values};
+ghost use Rattle.source_trait.specs.Index.{AreChainsBelow, IsTwin, chain_of, row_values};
 
 use lists::{Copies, Row, Text};
 use row_text::{LentRow, PackedRows};
@@ -143,14 +143,57 @@ fn own_chains(
     requires { length codes.now ≡ length rows.now }
     ensures { IfOk result (λ chains. AreChainsBelow (length rows.now + length rows.now) chains) }
 {
+    let mut last = vec![in alloc; codes.len(); crowded.len()]?;
     let mut chains = BTreeMap::new(alloc);
     for number in 0..codes.len() {
-        if is_crowded(crowded, codes[number]) {
+        if is_crowded(crowded, codes[number])
+            && twin(positions, rows, codes, &mut last, number) == number
+        {
             let values = values_at(alloc, positions, &rows.at(number))?;
             note(&mut chains, values, codes.len() + number)?;
         }
     }
     Ok(chains)
+}
+
+/// The last row before this one with its code, if it has the same values; else the row's own number. `last` has the number of the last
+/// row of each code, which this one becomes.
+pub(crate) fn twin(
+    positions: &[u32],
+    rows: &PackedRows,
+    codes: &[usize],
+    last: &mut Vec<usize>,
+    number: usize,
+) -> usize
+    requires long { length codes.now ≡ length rows.now }
+    requires within { number < length codes.now }
+    ensures { IsTwin positions.now codes.now rows.now number result }
+{
+    let code = codes[number];
+    if code >= last.len() {
+        return number;
+    }
+    let before = last[code];
+    last[code] = number;
+    if before < number
+        && codes[before] == code
+        && have_same_values(positions, &rows.at(before), &rows.at(number))
+    {
+        return before;
+    }
+    number
+}
+
+// Whether the rows have the same values at the positions.
+fn have_same_values(positions: &[u32], row: &LentRow<'_>, other: &LentRow<'_>) -> bool
+    ensures { IsTrue result → row_values positions.now row.now ≡ row_values positions.now other.now }
+{
+    for position in positions {
+        if value_at(row, *position) != value_at(other, *position) {
+            return false;
+        }
+    }
+    true
 }
 
 // Notes the chain of the values, if they have none.

@@ -108,7 +108,7 @@ impl Holding {
     }
 
     /// Copies of the rows of the relation that have the values at the positions. The first call with these positions makes
-    /// an index on them, in time linear in the relation's rows; a later one takes the time of its own rows.
+    /// an index on them, in time at most n log n of the relation's n rows; a later one takes the time of its own rows and log n.
     pub fn ask(
         &mut self,
         alloc: Global,

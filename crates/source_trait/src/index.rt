@@ -4,7 +4,7 @@ ghost use Rattle.std.specs.List.{AllByRecursion, filter};
 ghost use Rattle.source_trait.specs.Asking.{agrees};
 ghost use Rattle.source_trait.specs.Index.{AreChains, AreChainsBelow, HaveHeads, Indexes, chains_of, codes_of, index_in, key_hash, row_hash};
 
-use crate::crowded::Crowded;
+use crate::crowded::{Crowded, twin};
 use crate::matching::with_matching;
 use lists::{Places, Text};
 use row_text::{LentRow, PackedRows, mix};
@@ -159,8 +159,15 @@ fn chosen_of(
     requires { codes.now ≡ codes_of positions.now count rows.now }
     ensures { IfOk result (λ chains. chains.items ≡ chains_of positions.now count crowded.now rows.now) }
 {
-    let mut chains = Vec::with_capacity(alloc, rows.len())?;
+    let mut last = vec![in alloc; codes.len(); crowded.codes.len()]?;
+    let mut chains = Vec::with_capacity(alloc, codes.len())?;
     for number in 0..codes.len() {
+        let twin = twin(positions, rows, codes, &mut last, number);
+        if twin < number {
+            let same = chains[twin];
+            chains.push(same)?;
+            continue;
+        }
         let code = codes[number];
         let chain = crowded.chain_of_row(alloc, positions, &rows.at(number), code)?;
         chains.push(chain)?;
