@@ -1,7 +1,8 @@
 -- What the trials of both sides say of the plan.
-use Rattle.std.proofs.Common.{◌≡◌, ◌↔◌, ℕ, List, ◌++◌, sym, ap, ◌∙◌, subst}
+use Rattle.std.proofs.Common.{◌≡◌, ◌⊎◌, ◌↔◌, ℕ, List, ◌++◌, sym, ap, ◌∙◌, subst, inl, inr}
 use Rattle.std.specs.Prelude.{Contains, slice_get, Option, Some, None}
 use Rattle.std.specs.List.{AllZip}
+use Rattle.lists.proofs.Members.{contains_got}
 use Rattle.meaning.specs.declared.types.SchemaParts.{SchemaParts}
 use Rattle.meaning.specs.declared.types.Fact.{Fact}
 use Rattle.meaning.specs.declared.types.Query.{Query}
@@ -9,6 +10,7 @@ use Rattle.meaning.specs.declared.types.Branch.{Branch}
 use Rattle.meaning.specs.declared.types.Plan.{Plan}
 use Rattle.meaning.specs.declared.types.Select.{Select}
 use Rattle.meaning.specs.declared.types.Statement.{Statement}
+use Rattle.meaning.specs.declared.types.Trigger.{Trigger}
 use Rattle.meaning.specs.Values.{Value, Row}
 use Rattle.meaning.specs.Instances.{IsInstance}
 use Rattle.meaning.specs.Answers.{Answers, AnswersSelect}
@@ -22,12 +24,13 @@ use Rattle.plan_check.specs.declared.verdict.Verdict.{Verdict}
 use Rattle.plan_check.specs.declared.trial.Tried.{Tried}
 use Rattle.plan_check.specs.declared.trial.Tried.TheVariants as all
 use Rattle.plan_check.specs.Forms.{IsSelectForm, IsBranchForm}
-use Rattle.plan_check.specs.Trials.{AnswersForm, AnswersSome, AreTried}
-use Rattle.plan_check.specs.Verdicts.{known_of, IsLegalOver, IsVerdict, verdict_of, IsConclusion}
+use Rattle.plan_check.specs.Trials.{AnswersForm, AnswersSome, FormIsContained, FormIsSpent, NoneSeparates, AreTried}
+use Rattle.plan_check.specs.Verdicts.{known_of, IsLegalOver, IsSelectSpent, IsBranchSpent, GivesSelect, AnswersAlone, NoneLost, NoneAdded, IsVerdict, verdict_of, IsConclusion}
 use Rattle.plan_check.specs.Verdicts.IsConclusion.{same, lost, added, select_spent, branch_spent}
 use Rattle.plan_check.specs.Verdicts.IsVerdict.{equivalent, loses, adds, undecided}
 use Rattle.plan_check.specs.declared.verdict.Side.TheVariants as side
-use Rattle.plan_check.proofs.Zips.{zip_left, zip_right, zip_at}
+use Rattle.plan_check.proofs.Zips.{zip_left, zip_right, zip_at, zip_from}
+use Rattle.plan_check.proofs.Trying.{contained_none}
 
 -- ---- trials of both sides
 
@@ -42,13 +45,13 @@ pub concluded : (schema : SchemaParts) (selects branches : List (Option Query)) 
 concluded schema selects branches firings (all.Separated facts row) second (query, among, is) other =
     lost facts row (record { model = is.model; answered = (Some query, among, is.answered); not_others = is.not_others })
 concluded schema selects branches firings all.Contained (all.Separated facts row) one (query, among, is) =
-    added facts row (record { model = is.model; answered = (Some query, among, is.answered); not_others = is.not_others })
+    added facts row (contained_none schema branches firings selects one) (record { model = is.model; answered = (Some query, among, is.answered); not_others = is.not_others })
 concluded schema selects branches firings all.Contained all.Contained one other = same one other
-concluded schema selects branches firings all.Contained (all.Spent number log) one (query, at, spent) = branch_spent number query log at spent
-concluded schema selects branches firings (all.Spent number log) (all.Separated facts row) one (query, among, is) =
-    added facts row (record { model = is.model; answered = (Some query, among, is.answered); not_others = is.not_others })
-concluded schema selects branches firings (all.Spent number log) all.Contained (query, at, spent) other = select_spent number query log at spent
-concluded schema selects branches firings (all.Spent number log) (all.Spent another its) (query, at, spent) other = select_spent number query log at spent
+concluded schema selects branches firings all.Contained (all.Spent number log) one first = branch_spent number log one first
+concluded schema selects branches firings (all.Spent number log) (all.Separated facts row) first (query, among, is) =
+    added facts row first.none (record { model = is.model; answered = (Some query, among, is.answered); not_others = is.not_others })
+concluded schema selects branches firings (all.Spent number log) all.Contained first other = select_spent number log first (contained_none schema selects firings branches other)
+concluded schema selects branches firings (all.Spent number log) (all.Spent another its) first other = select_spent number log first other.none
 
 -- ---- answers and rows
 
@@ -95,6 +98,49 @@ module _ (schema : Schema) (known : List Value) (plan : Plan) (lawful : IsLawful
       let (form, there, is) = zip_left (IsBranchForm (meaning_of schema)) plan.branches branches branch are among in
       (form, there, rows_form branch form (lawful branch among).1 is facts row answer)
 
+-- ---- what the trials of both sides do not show
+
+module _ (schema : Schema) (statement : Statement) (plan : Plan) (firings : ℕ) (selects branches : List (Option Query)) (legal : IsLegalOver schema statement plan (known_of schema statement))
+    (forms : AllZip (IsSelectForm schema) statement.selects selects) (queries : AllZip (IsBranchForm (meaning_of schema)) plan.branches branches) where
+  -- a select whose query is contained in those of the branches is given by the plan
+  gives_select : (select : Select) (form : Option Query) → IsSelectForm schema select form → FormIsContained (meaning_of schema) branches form → GivesSelect (meaning_of schema) plan select
+  gives_select select form is contained facts row model answer =
+      some_rows schema (known_of schema statement) plan legal.lawful branches queries facts row
+      (contained facts row model.meets (answers_form schema statement selects forms select form is facts model.fits row answer))
+
+  -- and a branch whose query is contained in those of the selects gives answers alone
+  answers_alone : (branch : Branch) (form : Option Query) → Contains plan.branches branch → IsBranchForm (meaning_of schema) branch form → FormIsContained (meaning_of schema) selects form →
+      AnswersAlone (meaning_of schema) statement branch
+  answers_alone branch form among is contained facts row model rows =
+      some_answers schema statement selects forms facts model.fits row
+      (contained facts row model.meets (rows_form schema (known_of schema statement) plan legal.lawful branches queries branch form (legal.lawful branch among).1 is facts row rows))
+
+  none_lost : NoneSeparates (meaning_of schema) selects branches firings → NoneLost schema statement plan firings
+  none_lost none number select at =
+      let (form, there, is) = zip_from (IsSelectForm schema) statement.selects selects number select forms at in
+      by form is (none form (contains_got selects number form there))
+    where
+      by : (form : Option Query) → IsSelectForm schema select form →
+          FormIsContained (meaning_of schema) branches form ⊎ ((log : List Trigger) × FormIsSpent (meaning_of schema) branches firings form log) →
+          GivesSelect (meaning_of schema) plan select ⊎ ((log : List Trigger) × IsSelectSpent schema statement plan firings number log)
+      by form is (inl contained) = inl (gives_select select form is contained)
+      by None is (inr (log, spent)) = absurd spent
+      by (Some query) is (inr (log, spent)) =
+          inr (log, record { select = select; query = query; queries = branches; at = at; form = is.form; are = queries; spent = spent })
+
+  none_added : NoneSeparates (meaning_of schema) branches selects firings → NoneAdded schema statement plan firings
+  none_added none number branch at =
+      let (form, there, is) = zip_from (IsBranchForm (meaning_of schema)) plan.branches branches number branch queries at in
+      by form is (none form (contains_got branches number form there))
+    where
+      by : (form : Option Query) → IsBranchForm (meaning_of schema) branch form →
+          FormIsContained (meaning_of schema) selects form ⊎ ((log : List Trigger) × FormIsSpent (meaning_of schema) selects firings form log) →
+          AnswersAlone (meaning_of schema) statement branch ⊎ ((log : List Trigger) × IsBranchSpent schema statement plan firings number log)
+      by form is (inl contained) = inl (answers_alone branch form (contains_got plan.branches number branch at) is contained)
+      by None is (inr (log, spent)) = absurd spent
+      by (Some query) is (inr (log, spent)) =
+          inr (log, record { branch = branch; query = query; queries = selects; at = at; form = is; are = forms; spent = spent })
+
 -- ---- the verdict
 
 pub verdict_is : (schema : Schema) (statement : Statement) (plan : Plan) (firings : ℕ) (selects branches : List (Option Query)) →
@@ -113,15 +159,31 @@ verdict_is schema statement plan firings selects branches legal forms queries _ 
       answered = some_answers schema statement selects forms facts is.model.fits row is.answered;
       no_row = λ rows. is.not_others (rows_some schema (known_of schema statement) plan legal.lawful branches queries facts row rows);
     })
-verdict_is schema statement plan firings selects branches legal forms queries _ (added facts row is) =
-    adds facts row legal (record {
+verdict_is schema statement plan firings selects branches legal forms queries _ (added facts row none is) =
+    adds facts row legal (none_lost schema statement plan firings selects branches legal forms queries none) (record {
       model = is.model;
       a_row = some_rows schema (known_of schema statement) plan legal.lawful branches queries facts row is.answered;
       not_answered = λ answers. is.not_others (answers_some schema statement selects forms facts is.model.fits row answers);
     })
-verdict_is schema statement plan firings selects branches legal forms queries _ (select_spent number query log at spent) =
-    let (select, there, is) = zip_at (IsSelectForm schema) statement.selects selects number (Some query) forms at in
-    undecided (side.Select number) log legal (record { select = select; query = query; queries = branches; at = there; form = is.form; are = queries; spent = spent })
-verdict_is schema statement plan firings selects branches legal forms queries _ (branch_spent number query log at spent) =
-    let (branch, there, is) = zip_at (IsBranchForm (meaning_of schema)) plan.branches branches number (Some query) queries at in
-    undecided (side.Branch number) log legal (record { branch = branch; query = query; queries = selects; at = there; form = is; are = forms; spent = spent })
+verdict_is schema statement plan firings selects branches legal forms queries _ (select_spent number log first none) =
+    let (select, there, is) = zip_at (IsSelectForm schema) statement.selects selects number (Some first.query) forms first.at in
+    undecided (side.Select number) log legal
+    (none_lost schema statement plan firings selects branches legal forms queries first.none)
+    (none_added schema statement plan firings selects branches legal forms queries none)
+    (λ k earlier less at.
+    let (form, its, of) = zip_from (IsSelectForm schema) statement.selects selects k earlier forms at in
+    gives_select schema statement plan firings selects branches legal forms queries earlier form of (first.before k form less its))
+    (record { select = select; query = first.query; queries = branches; at = there; form = is.form; are = queries; spent = first.spent })
+verdict_is schema statement plan firings selects branches legal forms queries _ (branch_spent number log there first) =
+    let (branch, it, is) = zip_at (IsBranchForm (meaning_of schema)) plan.branches branches number (Some first.query) queries first.at in
+    undecided (side.Branch number) log legal
+    (none_lost schema statement plan firings selects branches legal forms queries (contained_none (meaning_of schema) branches firings selects there))
+    (none_added schema statement plan firings selects branches legal forms queries first.none) (
+      λ select among facts row model answer.
+          some_rows schema (known_of schema statement) plan legal.lawful branches queries facts row
+          (there facts row model.meets (answers_some schema statement selects forms facts model.fits row (select, among, answer))),
+      λ k earlier less at.
+          let (form, its, of) = zip_from (IsBranchForm (meaning_of schema)) plan.branches branches k earlier queries at in
+          answers_alone schema statement plan firings selects branches legal forms queries earlier form (contains_got plan.branches k earlier at) of (first.before k form less its),
+    )
+    (record { branch = branch; query = first.query; queries = selects; at = it; form = is; are = forms; spent = first.spent })

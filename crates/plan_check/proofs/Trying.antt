@@ -1,5 +1,5 @@
 -- One query after another, against the same others.
-use Rattle.std.proofs.Common.{◌≡◌, ◌⊎◌, ℕ, ◌+◌, ◌<◌, List, [], ◌∷◌, ◌++◌, length, take, refl, sym, ap, ◌∙◌, subst, ⊎_elim, arith}
+use Rattle.std.proofs.Common.{◌≡◌, ◌⊎◌, ℕ, ◌+◌, ◌<◌, List, [], ◌∷◌, ◌++◌, length, take, refl, sym, ap, ◌∙◌, subst, ⊎_elim, inl, inr, arith}
 use Rattle.std.specs.Prelude.{Contains, slice_get, Option, Some, None}
 use Rattle.std.proofs.lemmas.List.{length-take-le, take_all}
 use Rattle.std.proofs.lemmas.Option.{slice_get_within}
@@ -17,7 +17,7 @@ use Rattle.plan_check.specs.declared.trial.Outcome.{Outcome}
 use Rattle.plan_check.specs.declared.trial.Outcome.TheVariants as one
 use Rattle.plan_check.specs.declared.trial.Tried.{Tried}
 use Rattle.plan_check.specs.declared.trial.Tried.TheVariants as all
-use Rattle.plan_check.specs.Trials.{FormHas, SomeHas, FormOutcome, AreTried, or_spent, and_outcome, AnswersForm, FormIsTriable, AreTriable, FormIsCounted, AreCounted}
+use Rattle.plan_check.specs.Trials.{FormHas, SomeHas, FormOutcome, AreContained, FormIsContained, FormIsSpent, NoneSeparates, IsFirstSpent, AreTried, or_spent, and_outcome, AnswersForm, FormIsTriable, AreTriable, FormIsCounted, AreCounted}
 
 -- ---- rows
 
@@ -50,6 +50,40 @@ module _ (schema : SchemaParts) (others : List (Option Query)) (firings : ℕ) w
   tried_none forms none facts row meets (form, among, answer) =
       absurd (let there : Contains [] form = subst (λ list. Contains list form) none among in omega (arith, there.1))
 
+  -- what the trial of one comes to, as long as it does not separate
+  abbrev Stays : Option Query → Type 0
+  Stays form = FormIsContained schema others form ⊎ ((log : List Trigger) × FormIsSpent schema others firings form log)
+
+  one_contained : (form : Option Query) → FormOutcome schema others firings form one.Contained → FormIsContained schema others form
+  one_contained None is = λ facts row meets answer. absurd answer
+  one_contained (Some query) is = is
+
+  one_spent : (form : Option Query) (log : List Trigger) → FormOutcome schema others firings form (one.Spent log) → FormIsSpent schema others firings form log
+  one_spent None log is = absurd (cc)
+  one_spent (Some query) log is = is
+
+  pub contained_none : (forms : List (Option Query)) → AreContained schema forms others → NoneSeparates schema forms others firings
+  contained_none forms are form among = inl (λ facts row meets answer. are facts row meets (form, among, answer))
+
+  none_push : (forms : List (Option Query)) (form : Option Query) → NoneSeparates schema forms others firings → Stays form → NoneSeparates schema (forms ++ form ∷ []) others firings
+  none_push forms form none stays other among = ⊎_elim
+      (λ there. none other there)
+      (λ same. subst (λ f. Stays f) same stays)
+      (Contains-push_cases forms form other among)
+
+  -- the first spent one stays so, where the next one does not separate
+  first_push : (forms : List (Option Query)) (form : Option Query) (number : ℕ) (log : List Trigger) → IsFirstSpent schema forms others firings number log → Stays form →
+      IsFirstSpent schema (forms ++ form ∷ []) others firings number log
+  first_push forms form number log first stays =
+      let low : number < length forms = slice_get_within forms number (Some first.query) first.at in
+      record {
+        query = first.query;
+        at = got_before forms (form ∷ []) number low ∙ first.at;
+        spent = first.spent;
+        before = λ k other less at. first.before k other less (sym (got_before forms (form ∷ []) k (omega (arith, low, less))) ∙ at);
+        none = none_push forms form first.none stays;
+      }
+
   -- what was tried of the first ones stays, where the next one is contained
   contained_push : (forms : List (Option Query)) (form : Option Query) (tried : Tried) → AreTried schema forms others firings tried → FormOutcome schema others firings form one.Contained →
       AreTried schema (forms ++ form ∷ []) others firings tried
@@ -62,17 +96,21 @@ module _ (schema : SchemaParts) (others : List (Option Query)) (firings : ℕ) w
       (λ same. is facts row meets (subst (λ f. AnswersForm f facts row) (sym same) answer))
       (Contains-push_cases forms (Some query) other among)
   contained_push forms form (all.Separated facts row) (query, among, separated) is = (query, Contains-append_left forms (form ∷ []) (Some query) among, separated)
-  contained_push forms form (all.Spent number log) (query, at, spent) is =
-      (query, got_before forms (form ∷ []) number (slice_get_within forms number (Some query) at) ∙ at, spent)
+  contained_push forms form (all.Spent number log) first is = first_push forms form number log first (inl (one_contained form is))
 
   spent_push : (forms : List (Option Query)) (form : Option Query) (tried : Tried) (n : ℕ) (log : List Trigger) → n ≡ length forms → AreTried schema forms others firings tried →
       FormOutcome schema others firings form (one.Spent log) → AreTried schema (forms ++ form ∷ []) others firings (or_spent tried n log)
   spent_push forms None all.Contained n log count are is = absurd (cc)
-  spent_push forms (Some query) all.Contained n log count are is =
-      (query, ap (λ k. slice_get (forms ++ Some query ∷ []) k) count ∙ got_push forms (Some query), is)
+  spent_push forms (Some query) all.Contained n log count are is = record {
+    query = query;
+    at = ap (λ k. slice_get (forms ++ Some query ∷ []) k) count ∙ got_push forms (Some query);
+    spent = is;
+    before = λ k form less at facts row meets answer.
+        are facts row meets (form, contains_got forms k form (sym (got_before forms (Some query ∷ []) k (omega (arith, less, count))) ∙ at), answer);
+    none = none_push forms (Some query) (contained_none forms are) (inr (log, is));
+  }
   spent_push forms form (all.Separated facts row) n log count (query, among, separated) is = (query, Contains-append_left forms (form ∷ []) (Some query) among, separated)
-  spent_push forms form (all.Spent number its) n log count (query, at, spent) is =
-      (query, got_before forms (form ∷ []) number (slice_get_within forms number (Some query) at) ∙ at, spent)
+  spent_push forms form (all.Spent number its) n log count first is = first_push forms form number its first (inr (log, one_spent form log is))
 
   separated_push : (forms : List (Option Query)) (form : Option Query) (facts : List Fact) (row : Row) → FormOutcome schema others firings form (one.Separated facts row) →
       AreTried schema (forms ++ form ∷ []) others firings (all.Separated facts row)

@@ -41,6 +41,13 @@ module _ {A B : Type 0} (P : A → B → Type 0) where
   zip_at (x ∷ xs) (w ∷ ys) zero y all at = (x, refl, subst (P x) (some_injective w y at) all.0)
   zip_at (x ∷ xs) (w ∷ ys) (suc k) y all at = zip_at xs ys k y all.1 at
 
+  -- what stands at a place of the first list has its counterpart at that place
+  pub zip_from : (xs : List A) (ys : List B) (k : ℕ) (x : A) → AllZip P xs ys → slice_get xs k ≡ Some x → (y : B) × (slice_get ys k ≡ Some y) × P x y
+  zip_from [] ys k x all at = absurd (cc)
+  zip_from (z ∷ xs) [] k x all at = absurd all
+  zip_from (z ∷ xs) (y ∷ ys) zero x all at = (y, refl, subst (λ a. P a y) (some_injective z x at) all.0)
+  zip_from (z ∷ xs) (y ∷ ys) (suc k) x all at = zip_from xs ys k x all.1 at
+
   -- one more of each
   pub zip_more : (xs : List A) (ys pushed : List B) (n : ℕ) (x : A) (y : B) → AllZip P (take n xs) ys → n < length xs → x ≡ slice_index_or xs n x → P x y → pushed ≡ ys ++ y ∷ [] →
       AllZip P (take (n + 1) xs) pushed

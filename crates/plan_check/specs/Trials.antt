@@ -1,5 +1,5 @@
 -- Trials of one query against others by the chase (Chandra and Merlin 1977; Fagin, Kolaitis, Miller and Popa 2005).
-use Rattle.std.specs.Prelude.{◌≡◌, ◌≤◌, ◌++◌, ℕ, List, [], map, Contains, length, Option, Some, None, slice_get}
+use Rattle.std.specs.Prelude.{◌≡◌, ◌⊎◌, ◌<◌, ◌≤◌, ◌++◌, ℕ, List, [], map, Contains, length, Option, Some, None, slice_get}
 use Rattle.meaning.specs.declared.types.SchemaParts.{SchemaParts}
 use Rattle.meaning.specs.declared.types.Fact.{Fact}
 use Rattle.meaning.specs.declared.types.Query.{Query}
@@ -130,13 +130,35 @@ abbrev pub AreContained : SchemaParts → List (Option Query) → List (Option Q
 AreContained schema forms others =
     (facts : List Fact) (row : Row) → Meets facts schema → AnswersSome forms facts row → AnswersSome others facts row
 
+-- On every instance that meets the rules the answers of the query, if there is one, are answers of the others.
+abbrev pub FormIsContained : SchemaParts → List (Option Query) → Option Query → Type 0
+FormIsContained schema others form =
+    (facts : List Fact) (row : Row) → Meets facts schema → AnswersForm form facts row → AnswersSome others facts row
+
+-- There is a query, and its firings are spent.
+abbrev pub FormIsSpent : SchemaParts → List (Option Query) → ℕ → Option Query → List Trigger → Type 0
+FormIsSpent schema others firings None log = ⊥
+FormIsSpent schema others firings (Some query) log = IsSpent schema query others firings log
+
+-- No trial separates: each of the queries is contained, or its firings are spent.
+abbrev pub NoneSeparates : SchemaParts → List (Option Query) → List (Option Query) → ℕ → Type 0
+NoneSeparates schema forms others firings = (form : Option Query) → Contains forms form →
+    FormIsContained schema others form ⊎ ((log : List Trigger) × FormIsSpent schema others firings form log)
+
+-- The query of this number is the first whose firings are spent, since those before it are contained; and no trial separates.
+pub record IsFirstSpent (schema : SchemaParts) (forms others : List (Option Query)) (firings number : ℕ) (log : List Trigger) : Type 0 where
+  pub query : Query
+  pub at : slice_get forms number ≡ Some (Some query)
+  pub spent : IsSpent schema query others firings log
+  pub before : (k : ℕ) (form : Option Query) → k < number → slice_get forms k ≡ Some form → FormIsContained schema others form
+  pub none : NoneSeparates schema forms others firings
+
 -- What trials of several queries come to.
 abbrev pub AreTried : SchemaParts → List (Option Query) → List (Option Query) → ℕ → Tried → Type 0
 AreTried schema forms others firings all.Contained = AreContained schema forms others
 AreTried schema forms others firings (all.Separated facts row) =
     (query : Query) × Contains forms (Some query) × IsSeparated schema query others facts row
-AreTried schema forms others firings (all.Spent number log) =
-    (query : Query) × (slice_get forms number ≡ Some (Some query)) × IsSpent schema query others firings log
+AreTried schema forms others firings (all.Spent number log) = IsFirstSpent schema forms others firings number log
 
 -- Earlier trials come first.
 abbrev pub or_spent : Tried → ℕ → List Trigger → Tried

@@ -1,5 +1,5 @@
 -- What is found of a plan for a statement.
-use Rattle.std.specs.Prelude.{◌≡◌, ℕ, List, All, Contains, length, Option, Some, slice_get}
+use Rattle.std.specs.Prelude.{◌≡◌, ◌⊎◌, ◌<◌, ℕ, List, All, Contains, length, Option, Some, slice_get}
 use Rattle.std.specs.List.{AllZip}
 use Rattle.meaning.specs.declared.types.SchemaParts.{SchemaParts}
 use Rattle.meaning.specs.declared.types.Fact.{Fact}
@@ -10,9 +10,9 @@ use Rattle.meaning.specs.declared.types.Select.{Select as SelectOf}
 use Rattle.meaning.specs.declared.types.Statement.{Statement}
 use Rattle.meaning.specs.declared.types.Trigger.{Trigger}
 use Rattle.meaning.specs.Values.{Value, Row}
-use Rattle.meaning.specs.Answers.{Answers}
+use Rattle.meaning.specs.Answers.{Answers, AnswersSelect}
 use Rattle.meaning.specs.Plans.{IsLawful}
-use Rattle.meaning.specs.Rows.{IsRow}
+use Rattle.meaning.specs.Rows.{IsRow, IsBranchRow}
 use Rattle.meaning.specs.Claims.{IsModel, IsEquivalent}
 use Rattle.meaning.specs.Conjunctive.{IsConjunctive}
 use Rattle.meaning.specs.Judge.{IsBranchQuery}
@@ -30,7 +30,7 @@ use Rattle.plan_check.specs.declared.verdict.Verdict.TheVariants as verdict
 use Rattle.plan_check.specs.declared.trial.Tried.{Tried}
 use Rattle.plan_check.specs.declared.trial.Tried.TheVariants as all
 use Rattle.plan_check.specs.Forms.{IsSelectForm, IsBranchForm}
-use Rattle.plan_check.specs.Trials.{AnswersSome, IsSpent, AreContained}
+use Rattle.plan_check.specs.Trials.{AnswersSome, IsSpent, AreContained, NoneSeparates, IsFirstSpent}
 
 -- ---- legal plans
 
@@ -98,6 +98,32 @@ abbrev pub IsUndecided : Schema → Statement → Plan → ℕ → Side → List
 IsUndecided schema statement plan firings (side.Select number) log = IsSelectSpent schema statement plan firings number log
 IsUndecided schema statement plan firings (side.Branch number) log = IsBranchSpent schema statement plan firings number log
 
+-- On every instance that meets the rules the answers of the select are rows of the plan.
+abbrev pub GivesSelect : SchemaParts → Plan → SelectOf → Type 0
+GivesSelect schema plan select = (facts : List Fact) (row : Row) → IsModel schema facts → AnswersSelect select facts row → IsRow schema plan facts row
+
+-- On every instance that meets the rules the rows of the branch are answers of the statement.
+abbrev pub AnswersAlone : SchemaParts → Statement → Branch → Type 0
+AnswersAlone schema statement branch = (facts : List Fact) (row : Row) → IsModel schema facts → IsBranchRow schema branch facts row → Answers statement facts row
+
+-- No trial of a select separates: the plan gives each, or the firings for it are spent.
+abbrev pub NoneLost : Schema → Statement → Plan → ℕ → Type 0
+NoneLost schema statement plan firings = (number : ℕ) (select : SelectOf) → slice_get statement.selects number ≡ Some select →
+    GivesSelect (meaning_of schema) plan select ⊎ ((log : List Trigger) × IsSelectSpent schema statement plan firings number log)
+
+-- No trial of a branch separates: each gives answers alone, or the firings for it are spent.
+abbrev pub NoneAdded : Schema → Statement → Plan → ℕ → Type 0
+NoneAdded schema statement plan firings = (number : ℕ) (branch : Branch) → slice_get plan.branches number ≡ Some branch →
+    AnswersAlone (meaning_of schema) statement branch ⊎ ((log : List Trigger) × IsBranchSpent schema statement plan firings number log)
+
+-- The trials before that of the side, first of the selects and then of the branches, show that all is contained.
+abbrev pub IsShownBefore : Schema → Statement → Plan → Side → Type 0
+IsShownBefore schema statement plan (side.Select number) =
+    (k : ℕ) (select : SelectOf) → k < number → slice_get statement.selects k ≡ Some select → GivesSelect (meaning_of schema) plan select
+IsShownBefore schema statement plan (side.Branch number) =
+    ((select : SelectOf) → Contains statement.selects select → GivesSelect (meaning_of schema) plan select)
+    × ((k : ℕ) (branch : Branch) → k < number → slice_get plan.branches k ≡ Some branch → AnswersAlone (meaning_of schema) statement branch)
+
 -- The verdict is right.
 pub data IsVerdict (schema : Schema) (statement : Statement) (plan : Plan) (firings : ℕ) : Verdict → Type 0 where
   -- the plan is lawful over the known constants, and its rows are the statement's answers on every instance that meets the rules
@@ -109,11 +135,12 @@ pub data IsVerdict (schema : Schema) (statement : Statement) (plan : Plan) (firi
   -- the plan loses a row
   loses : (facts : List Fact) (row : Row) → IsLegalOver schema statement plan (known_of schema statement) →
       IsLost (meaning_of schema) statement plan facts row → IsVerdict schema statement plan firings (verdict.Loses facts row)
-  -- the plan adds a row, and loses none on which the firings suffice
+  -- the plan adds a row, and no trial of a select shows that it loses one
   adds : (facts : List Fact) (row : Row) → IsLegalOver schema statement plan (known_of schema statement) →
-      IsAdded (meaning_of schema) statement plan facts row → IsVerdict schema statement plan firings (verdict.Adds facts row)
-  -- the firings are spent
+      NoneLost schema statement plan firings → IsAdded (meaning_of schema) statement plan facts row → IsVerdict schema statement plan firings (verdict.Adds facts row)
+  -- no trial shows that the plan loses or adds a row, and this is the first whose firings are spent
   undecided : (tried : Side) (log : List Trigger) → IsLegalOver schema statement plan (known_of schema statement) →
+      NoneLost schema statement plan firings → NoneAdded schema statement plan firings → IsShownBefore schema statement plan tried →
       IsUndecided schema statement plan firings tried log → IsVerdict schema statement plan firings (verdict.Undecided tried log)
 
 -- ---- conclusions
@@ -140,9 +167,9 @@ pub data IsConclusion (schema : SchemaParts) (selects branches : List (Option Qu
       IsConclusion schema selects branches firings verdict.Equivalent
   lost : (facts : List Fact) (row : Row) → IsSeparating schema selects branches facts row →
       IsConclusion schema selects branches firings (verdict.Loses facts row)
-  added : (facts : List Fact) (row : Row) → IsSeparating schema branches selects facts row →
+  added : (facts : List Fact) (row : Row) → NoneSeparates schema selects branches firings → IsSeparating schema branches selects facts row →
       IsConclusion schema selects branches firings (verdict.Adds facts row)
-  select_spent : (number : ℕ) (query : Query) (log : List Trigger) → slice_get selects number ≡ Some (Some query) →
-      IsSpent schema query branches firings log → IsConclusion schema selects branches firings (verdict.Undecided (side.Select number) log)
-  branch_spent : (number : ℕ) (query : Query) (log : List Trigger) → slice_get branches number ≡ Some (Some query) →
-      IsSpent schema query selects firings log → IsConclusion schema selects branches firings (verdict.Undecided (side.Branch number) log)
+  select_spent : (number : ℕ) (log : List Trigger) → IsFirstSpent schema selects branches firings number log →
+      NoneSeparates schema branches selects firings → IsConclusion schema selects branches firings (verdict.Undecided (side.Select number) log)
+  branch_spent : (number : ℕ) (log : List Trigger) → AreContained schema selects branches →
+      IsFirstSpent schema branches selects firings number log → IsConclusion schema selects branches firings (verdict.Undecided (side.Branch number) log)

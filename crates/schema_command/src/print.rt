@@ -1,9 +1,9 @@
 // A schema, from the text of its file to the text on standard output.
-ghost use Rattle.std.specs.Prelude.{◌≡◌, OnOk, OnErr, IfErr, ◌≤◌};
+ghost use Rattle.std.specs.Prelude.{◌≡◌, ◌⊎◌, OnOk, OnErr, IfErr, ◌≤◌};
 ghost use Rattle.source_trait.specs.Causes.{Rose};
 ghost use Rattle.tgd_reader.specs.Printed.{text_of_schema};
 ghost use Rattle.command_io.specs.Moments.{Moment, Stays, ResultStop};
-ghost use Rattle.command_io.specs.Writing.{TookAll, TookPrefix};
+ghost use Rattle.command_io.specs.Writing.{TookAll, TookPart};
 ghost use Rattle.schema_command.specs.Ends.{SchemaEnds};
 
 use access_schema::Schema;
@@ -48,7 +48,7 @@ pub fn print_schema<F: Files, O: Sink, E: Sink>(
 // Writes the text of the schema.
 fn write_schema<O: Sink>(alloc: Global, schema: &Schema, out: &mut O) -> Result<(), Stop>
     ensures whole { OnOk result (TookAll (O.taken out.old) (O.taken out.new) (text_of_schema schema.now)) }
-    ensures prefix { OnErr result (TookPrefix (O.taken out.old) (O.taken out.new) (text_of_schema schema.now)) }
+    ensures part { OnErr result ((O.taken out.new ≡ O.taken out.old) ⊎ TookPart (O.taken out.old) (O.taken out.new) (text_of_schema schema.now)) }
     ensures cause { IfErr result (ResultStop (Rose (O.faults out.old) (O.faults out.new))) }
     ensures later { O.faults out.old ≤ O.faults out.new }
 {

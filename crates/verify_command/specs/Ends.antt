@@ -1,5 +1,5 @@
 -- How the command `verify` ends.
-use Rattle.std.specs.Prelude.{◌≡◌, ℕ, List, [], Option, None, Some, Result, Ok, Err}
+use Rattle.std.specs.Prelude.{◌≡◌, ◌⊎◌, ℕ, List, [], Option, None, Some, Result, Ok, Err}
 use Rattle.access_schema.specs.declared.schema.Schema.{Schema}
 use Rattle.source_trait.specs.Asking.{Seen}
 use Rattle.source_trait.specs.Causes.{Rose}
@@ -11,7 +11,7 @@ use Rattle.command_io.specs.declared.outcome.Outcome.{Outcome}
 use Rattle.command_io.specs.declared.outcome.Outcome.TheVariants as outcome
 use Rattle.command_io.specs.Inputs.{SchemaIsRead, SchemaStop}
 use Rattle.command_io.specs.Moments.{Moment, ResultStop}
-use Rattle.command_io.specs.Writing.{TookAll, TookPrefix}
+use Rattle.command_io.specs.Writing.{TookAll, TookPart}
 use Rattle.command_io.specs.Telling.{StopsFor}
 use Rattle.verify_command.specs.Verifying.{Verifies, used, others}
 
@@ -21,7 +21,7 @@ outcome_of None = outcome.Done
 outcome_of (Some broken) = outcome.No
 
 -- The four ways: no schema was read, and nothing but the line was written; the rows were not verified; they were, and the text
--- of that was not written whole; or it was, and the answer is whether the rules are met. The lanes behind the first always stay.
+-- of that was not written whole, but nothing or a first part of it that is not all; or it was, and the answer is whether the rules are met. The lanes behind the first always stay.
 pub data VerifyEnds {S : Type 0} (seen : S → Seen) (name : List ℕ) (before after : Moment) (old new : List (Lane S)) : Result Outcome Stop → Type 0 where
   no_schema : (end : Stop) →
       StopsFor (SchemaStop before.files name (Rose before.file_faults after.file_faults))
@@ -33,7 +33,8 @@ pub data VerifyEnds {S : Type 0} (seen : S → Seen) (name : List ℕ) (before a
       (record { schema = name; query = []; plan = []; relations = schema.relations }) before.err after.err (Rose before.err_faults after.err_faults) end →
       after.out ≡ before.out → VerifyEnds seen name before after old new (Err end)
   cut : (schema : Schema) (found : Option Broken) (end : Stop) → SchemaIsRead before.files name schema →
-      Verifies seen schema (used old) (used new) (Ok found) → others new ≡ others old → TookPrefix before.out after.out (verification_text schema found) →
+      Verifies seen schema (used old) (used new) (Ok found) → others new ≡ others old →
+      (after.out ≡ before.out) ⊎ TookPart before.out after.out (verification_text schema found) →
       StopsFor (ResultStop (Rose before.out_faults after.out_faults))
       (record { schema = name; query = []; plan = []; relations = schema.relations }) before.err after.err (Rose before.err_faults after.err_faults) end →
       VerifyEnds seen name before after old new (Err end)

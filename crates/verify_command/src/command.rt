@@ -1,10 +1,10 @@
 // The rules of a schema, from the text of its file to whether the rows of the sources meet them.
-ghost use Rattle.std.specs.Prelude.{◌≡◌, OnOk, OnErr, IfErr, ◌≤◌};
+ghost use Rattle.std.specs.Prelude.{◌≡◌, ◌⊎◌, OnOk, OnErr, IfErr, ◌≤◌};
 ghost use Rattle.source_trait.specs.Causes.{Rose};
 ghost use Rattle.source_trait.specs.Lanes.{LanesStay};
 ghost use Rattle.data_verify.specs.Telling.{verification_text as text_of};
 ghost use Rattle.command_io.specs.Moments.{Moment, Stays, ResultStop};
-ghost use Rattle.command_io.specs.Writing.{TookAll, TookPrefix};
+ghost use Rattle.command_io.specs.Writing.{TookAll, TookPart};
 ghost use Rattle.verify_command.specs.Ends.{VerifyEnds, outcome_of};
 
 use crate::verifying::first_broken;
@@ -76,7 +76,7 @@ fn write_found<O: Sink>(
     out: &mut O,
 ) -> Result<(), Stop>
     ensures whole { OnOk result (TookAll (O.taken out.old) (O.taken out.new) (text_of schema.now found.now)) }
-    ensures prefix { OnErr result (TookPrefix (O.taken out.old) (O.taken out.new) (text_of schema.now found.now)) }
+    ensures part { OnErr result ((O.taken out.new ≡ O.taken out.old) ⊎ TookPart (O.taken out.old) (O.taken out.new) (text_of schema.now found.now)) }
     ensures cause { IfErr result (ResultStop (Rose (O.faults out.old) (O.faults out.new))) }
     ensures later { O.faults out.old ≤ O.faults out.new }
 {

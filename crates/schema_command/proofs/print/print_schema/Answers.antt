@@ -14,7 +14,7 @@ pub returns-in-Ok-write_schema-clause-ends : goal.returns-in-Ok-write_schema-cla
 returns-in-Ok-write_schema-clause-ends g c = printed c.in-Ok.schema c.in-Ok.ensures.read c.in-Ok-write_schema.ensures.whole refl
 
 pub returns-clause-ends : goal.returns-clause-ends
-returns-clause-ends g c = cut c.in-Ok.schema c.tell-in-Err-write_schema.result c.in-Ok.ensures.read c.in-Err-write_schema.ensures.prefix (record {
+returns-clause-ends g c = cut c.in-Ok.schema c.tell-in-Err-write_schema.result c.in-Ok.ensures.read c.in-Err-write_schema.ensures.part (record {
   given = c.in-Err-write_schema.stop;
   cause = c.in-Err-write_schema.ensures.cause;
   tells = rw (c.as_slice.ensures, c.new-none.ensures, c.new.ensures.bytes) at c.tell-in-Err-write_schema.ensures.tells;

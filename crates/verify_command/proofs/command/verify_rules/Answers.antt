@@ -28,7 +28,7 @@ returns-in-Ok-write_found-clause-ends g c =
 
 pub returns-clause-ends : goal.returns-clause-ends
 returns-clause-ends g c = cut c.in-Ok.schema c.in-Ok-first_broken.found c.tell-in-Err-write_found.result c.in-Ok.ensures.read
-    c.in-Ok-first_broken.ensures.verifies c.in-Ok-first_broken.ensures.others c.in-Err-write_found.ensures.prefix (record {
+    c.in-Ok-first_broken.ensures.verifies c.in-Ok-first_broken.ensures.others c.in-Err-write_found.ensures.part (record {
       given = c.in-Err-write_found.stop;
       cause = c.in-Err-write_found.ensures.cause;
       tells = rw (c.as_slice-relations.ensures, c.new-none.ensures, c.new.ensures.bytes) at c.tell-in-Err-write_found.ensures.tells;
