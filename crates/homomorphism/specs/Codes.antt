@@ -10,7 +10,7 @@ use Rattle.homomorphism.specs.declared.key.Key.TheVariants.{Relation, Value}
 
 -- A number mixed into a code.
 abbrev pub mixed : ℕ → ℕ → ℕ
-mixed code number = ((code * 1099511628211) % 2 ^ 64 + number) % 2 ^ 64
+mixed code number = ((code * 11400714819323198485) % 2 ^ 64 + number) % 2 ^ 64
 
 -- The code of a text is a hash, and that of a label its number.
 abbrev pub val_code : Val → ℕ

@@ -20,7 +20,7 @@ fn val_code(val: &Val) -> u64
 fn mixed(code: u64, number: u64) -> u64
     ensures { result ≡ mixed code number }
 {
-    code.wrapping_mul(1099511628211).wrapping_add(number)
+    code.wrapping_mul(11400714819323198485).wrapping_add(number)
 }
 
 /// A code of the fact, made of its relation and the codes of its values. Takes no memory.

@@ -44,24 +44,25 @@ impl FactIndex {
         self.present.contains(facts, fact)
     }
 
-    /// Adds a fact behind those that are there. Where memory is refused, the index is still one of the facts before.
-    pub fn add(&mut self, alloc: Global, fact: &Ground, number: usize) -> Result<(), NoMemory>
-        ensures added { OnOk result ((facts : List TheGround) → IsIndexOf facts self.old → number ≡ length facts → IsIndexOf (facts ++ fact.now ∷ []) self.new) }
+    /// Adds a fact behind those that are there, and hands it back. Where memory is refused, the index is still one of the
+    /// facts before.
+    pub fn add(&mut self, alloc: Global, fact: Ground, number: usize) -> Result<Ground, NoMemory>
+        ensures back { IfOk result (λ same. same ≡ fact) }
+        ensures added { OnOk result ((facts : List TheGround) → IsIndexOf facts self.old → number ≡ length facts → IsIndexOf (facts ++ fact ∷ []) self.new) }
         ensures refused { OnErr result ((facts : List TheGround) → IsIndexOf facts self.old → number ≡ length facts → IsIndexOf facts self.new) }
     {
-        let keys = fact_keys(alloc, fact)?;
-        let copy = fact.copy(alloc)?;
+        let keys = fact_keys(alloc, &fact)?;
         match self.lists.note_all(alloc, keys, number) {
             Ok(()) => {}
             Err(fault) => {
-                self.lists.strike_all(copy, number);
+                self.lists.strike_all(fact, number);
                 return Err(fault);
             }
         }
-        match self.present.add(alloc, fact, number) {
-            Ok(()) => Ok(()),
+        match self.present.add(alloc, &fact, number) {
+            Ok(()) => Ok(fact),
             Err(fault) => {
-                self.lists.strike_all(copy, number);
+                self.lists.strike_all(fact, number);
                 Err(fault)
             }
         }

@@ -103,7 +103,7 @@ impl Store {
             return Ok(false);
         }
         let number = self.facts.len();
-        self.index.add(alloc, &fact, number)?;
+        let fact = self.index.add(alloc, fact, number)?;
         match self.facts.push(fact) {
             Ok(()) => Ok(true),
             Err(refused) => {
