@@ -1,6 +1,6 @@
 -- One round that lanes shared, from its requests to the next partial rows.
-use Rattle.std.proofs.Common.{◌≡◌, ◌↔◌, inl, inr, ◌≤◌, ◌<◌, ◌+◌, ℕ, suc, cond, List, [], ◌∷◌, length, map, get_or, Option, None, Some, refl, sym, ◌∙◌, ap, subst, arith}
-use Rattle.std.specs.Prelude.{Contains, slice_get, flat_map, IfSome, IsSomeAnd}
+use Rattle.std.proofs.Common.{◌≡◌, ◌↔◌, inl, inr, ◌≤◌, ◌<◌, ◌+◌, ℕ, suc, cond, List, [], ◌∷◌, length, map, get_or, Option, None, Some, refl, sym, ◌∙◌, ap, subst, arith, ◌++◌, set, take, true}
+use Rattle.std.specs.Prelude.{Contains, slice_get, flat_map, IfSome, IsSomeAnd, option_map, Result, Ok, Err}
 use Rattle.std.specs.List.{AllByRecursion}
 use Rattle.std.specs.List.Sorted.{IsStrictlySortedBy}
 use Rattle.std.specs.Ordering.{is_eq}
@@ -8,7 +8,7 @@ use Rattle.std.specs.declared.cmp.Ordering.{Ordering}
 use Rattle.std.specs.declared.cmp.Ordering.TheVariants.{Less, Equal}
 use Rattle.std.proofs.lemmas.Cmp.{tied_itself}
 use Rattle.std.proofs.lemmas.Option.{slice_get-get_or, slice_get_within}
-use Rattle.lists.proofs.Members.{contains_here, contains_cases, contains_map, contains_mapped, contains_got, got_mapped, map_got, map_same}
+use Rattle.lists.proofs.Members.{contains_here, contains_cases, contains_map, contains_mapped, contains_got, got_mapped, map_got, map_same, some_injective}
 use Rattle.lists.proofs.Orders.{rows_total}
 use Rattle.meaning.specs.declared.types.Fact.{Fact}
 use Rattle.meaning.specs.declared.types.Method.{Method}
@@ -21,27 +21,35 @@ use Rattle.access_schema.specs.declared.schema.SourceLine.{SourceLine}
 use Rattle.access_schema.specs.Meaning.{meaning_of}
 use Rattle.lane_pool.specs.Work.{AllReady}
 use Rattle.source_trait.specs.Asking.{RowList, Seen, CanAsk, pick}
-use Rattle.source_trait.specs.Lanes.{source_of, AtKind}
+use Rattle.source_trait.specs.Lanes.{source_of, AtKind, StepsOn, SourceSteps}
 use Rattle.source_trait.specs.Works.{MayAsk}
 use Rattle.source_trait.specs.declared.lanes.Lane.{Lane}
 use Rattle.source_trait.specs.declared.work.Ask.{Ask}
-use Rattle.source_trait.proofs.LaneSteps.{AtKind-map}
+use Rattle.source_trait.proofs.LaneSteps.{AtKind-map, StepsOn-source}
 use Rattle.row_text.specs.RowText.{row_cmp}
 use Rattle.middleware.specs.PlanSources.{line_for}
 use Rattle.middleware.specs.Held.{SameFacts}
 use Rattle.middleware.specs.Joining.{grown, input_row_of}
-use Rattle.middleware.specs.Rounds.{requests_of, IsWanted, CanAskAll, next_rows}
+use Rattle.middleware.specs.Rounds.{requests_of, IsWanted, CanAskAll, next_rows, AnswersAll}
 use Rattle.middleware.specs.Branches.{IsAskable, RoseAt}
-use Rattle.middleware.specs.LaneRounds.{requests_in, HaveTheirKinds, AsksEach, AsksSome, AreAnswers, IsAnswer, Gives, CallFailsAt, AskCause}
+use Rattle.middleware.specs.LaneRounds.{requests_in, HaveTheirKinds, AsksEach, AsksSome, AreAnswers, IsAnswer, Gives, CallFailsAt, AskCause, NoneStopped}
 use Rattle.middleware.specs.LaneBranches.{OnEach, FailsOnLane, LanesGo, HaltCause, LanesHalt}
-use Rattle.middleware.specs.LaneAsking.{ask_of, LanesHoldRelation, AnswersFrom, RoundShared, RoundUnshared}
+use Rattle.middleware.specs.LaneAsking.{ask_of, LanesHoldRelation, AnswersFrom, RoundShared, RoundUnshared, AsksWanted}
 use Rattle.middleware.specs.declared.lane_round.AskFault.TheVariants as asking
 use Rattle.middleware.specs.declared.round.RoundFault.{RoundFault}
 use Rattle.middleware.specs.declared.round.RoundFault.TheVariants as round
 use Rattle.middleware.proofs.Existing.{wanted_exists}
 use Rattle.middleware.proofs.Finding.{ready_line}
-use Rattle.middleware.proofs.LaneShares.{AsksSome-none}
-use Rattle.middleware.proofs.Steps.{in_flat, flat_in, grown_joins, joins_grown, in_pick, pick_in}
+use Rattle.middleware.proofs.LaneShares.{AsksSome-none, first_each, first_some}
+use Rattle.middleware.proofs.Steps.{in_flat, flat_in, grown_joins, joins_grown, in_pick, pick_in, len_requests}
+use Rattle.std.specs.Result.{is_err}
+use Rattle.std.proofs.lemmas.List.{take-map, length-map}
+use Rattle.source_trait.specs.Causes.{Rose}
+use Rattle.source_trait.specs.declared.source.CallFault.{CallFault}
+use Rattle.source_trait.specs.declared.source.CallFault.TheVariants as call
+use Rattle.middleware.specs.Asked.{AsksLane}
+use Rattle.middleware.proofs.LaneRuns.{placed, steps_here}
+use Rattle.middleware.proofs.Laning.{lane_asked}
 
 -- ---- answers as a function of the values
 
@@ -257,6 +265,154 @@ module _ {S : Type 0} (seen : S → Seen) (schema : Schema) (method : Method) (l
     pub one_lent : (k : ℕ) (old new : List (Lane S)) → ((its : Schema) → HaveTheirKinds its lent → AskCause seen its lent (asking.CallFailed k) old new)
         → 1 ≤ length requests
     one_lent k old new h = some_asked k old new (failed_lent k old new h)
+
+  -- ---- the first lane alone
+
+  module _ (result : Result (List RowList) CallFault) (lane after : Lane S) (rest : List (Lane S))
+      (steps : StepsOn lane.kinds.items after.kinds.items line.kind
+      (λ s t. AnswersAll method.rel method.inputs requests result (seen s) (seen t))) where
+    abbrev Answered : S → S → Type 0
+    Answered s t = AnswersAll method.rel method.inputs requests result (seen s) (seen t)
+
+    -- the step of the source, and how many it was asked
+    known : (n : ℕ) × StepsOn lane.kinds.items after.kinds.items line.kind (λ s t. (a : AnswersAll method.rel method.inputs requests result (seen s) (seen t)) × (a.count ≡ n))
+    known =
+        let (place, is, at) = placed lane.kinds.items after.kinds.items line.kind Answered steps in
+        let by : S → S → Type 0 = λ s t. (a : AnswersAll method.rel method.inputs requests result (seen s) (seen t)) × (a.count ≡ at.steps.count) in (
+          at.steps.count,
+          steps_here lane.kinds.items after.kinds.items line.kind by place is
+              (record { before = at.before; after = at.after; there = at.there; now = at.now; name = at.name; steps = (at.steps, refl) }),
+        )
+
+    moved : SourceSteps lane.kinds.items after.kinds.items line.kind
+        (λ s t. (a : AnswersAll method.rel method.inputs requests result (seen s) (seen t)) × (a.count ≡ known.0))
+    moved = StepsOn-source lane.kinds.items after.kinds.items
+        (λ s t. (a : AnswersAll method.rel method.inputs requests result (seen s) (seen t)) × (a.count ≡ known.0)) line.kind known.1
+
+    within : known.0 ≤ length requests
+    within = subst (λ n. n ≤ length requests) moved.steps.1 moved.steps.0.within
+
+    taken : (n : ℕ) → requests_of method.rel method.inputs (take n requests) ≡ take n (requests_of method.rel method.inputs requests)
+    taken n = sym (take-map (λ (v : List (List ℕ)). record { rel = method.rel; positions = method.inputs; values = v }) n requests)
+
+    lane_asks : AsksLane seen schema (take known.0 (requests_of method.rel method.inputs requests)) lane.kinds.items after.kinds.items
+    lane_asks = subst (λ (l : List Request). AsksLane seen schema l lane.kinds.items after.kinds.items) (taken known.0)
+        (lane_asked seen schema method.rel method.inputs (take known.0 requests) line line_is lane.kinds.items after.kinds.items
+        (λ s t. (a : AnswersAll method.rel method.inputs requests result (seen s) (seen t)) × (a.count ≡ known.0))
+        (λ s t (a, is). record {
+          asked = subst (λ n. (seen t).asked ≡ option_map (λ told. told ++ requests_of method.rel method.inputs (take n requests)) ((seen s).asked)) is a.asked;
+          held = a.held;
+          attached = a.attached;
+          offers = a.offers;
+          passes = a.passes;
+          later = a.later;
+        }) known.1)
+
+    whole : known.0 ≡ length requests → AsksEach seen schema (requests_of method.rel method.inputs requests) (lane ∷ rest) (after ∷ rest)
+    whole all =
+        let long = len_requests method.rel method.inputs requests in
+        first_each seen schema (requests_of method.rel method.inputs requests) lane after rest
+        (subst (λ n. AsksLane seen schema (take n (requests_of method.rel method.inputs requests)) lane.kinds.items after.kinds.items) (all ∙ sym long) lane_asks)
+
+    part : AsksSome seen schema (requests_of method.rel method.inputs requests) (lane ∷ rest) (after ∷ rest)
+    part =
+        let long = len_requests method.rel method.inputs requests in
+        let few = within in
+        first_some seen schema (requests_of method.rel method.inputs requests) lane after rest known.0 (omega (arith, long, few)) lane_asks
+
+    -- what the lane holds is what it answers
+    own_answers : (answers : List RowList) → IfSome ((seen moved.before).held) (λ facts. answers ≡ map (pick facts method.rel method.inputs) requests)
+        → (instance : List Fact) → LanesHoldRelation seen schema method.rel (lane ∷ rest) instance → AnswersFrom instance method requests answers
+    own_answers answers picks instance holds =
+        by_held ((seen moved.before).held) picks
+        (subst (λ (o : Option S). IsSomeAnd o (λ s. IsSomeAnd ((seen s).held) (λ facts. SameFacts method.rel facts instance))) moved.was
+        (holds line line_is lane (contains_here lane rest)))
+      where
+        by_held : (held : Option (List Fact)) → IfSome held (λ facts. answers ≡ map (pick facts method.rel method.inputs) requests)
+            → IsSomeAnd held (λ facts. SameFacts method.rel facts instance) → AnswersFrom instance method requests answers
+        by_held None e same = absurd same
+        by_held (Some facts) e same = record {
+          len = ap length e ∙ length-map requests (pick facts method.rel method.inputs);
+          each = λ k values rows at rows_at row.
+              let is : pick facts method.rel method.inputs values ≡ rows =
+              some_injective (pick facts method.rel method.inputs values) rows
+              (sym (map_got (pick facts method.rel method.inputs) requests k values at)
+              ∙ ap (λ (l : List RowList). slice_get l k) (sym e) ∙ rows_at) in
+              subst (λ (l : RowList). Contains l row ↔ Contains (pick instance method.rel method.inputs values) row) is
+              (picked_through facts instance method.rel method.inputs values same row);
+        }
+
+    rose : Rose (seen moved.before).faults (seen moved.after).faults → after.stopped ≡ true → FailsOnLane seen schema method.rel (lane ∷ rest) (after ∷ rest)
+    rose up stopped = record {
+      place = 0;
+      before = lane;
+      after = after;
+      was = refl;
+      now = refl;
+      rose = record { line = line; line_is = line_is; rose = record { before = moved.before; after = moved.after; was = moved.was; now = moved.now; steps = up } };
+      stopped = stopped;
+    }
+
+    pub first_wanted : NoneStopped (lane ∷ rest) → after.stopped ≡ is_err result
+        → AsksWanted seen schema method requests result (lane ∷ rest) (after ∷ rest)
+    first_wanted going stopped = go result moved.steps.0 moved.steps.1 stopped
+      where
+        go : (r : Result (List RowList) CallFault) (a : AnswersAll method.rel method.inputs requests r (seen moved.before) (seen moved.after))
+            → a.count ≡ known.0 → after.stopped ≡ is_err r → AsksWanted seen schema method requests r (lane ∷ rest) (after ∷ rest)
+        go (Ok answers) a tied stopped = record {
+          asks = let e : a.count ≡ length requests = a.whole in whole (sym tied ∙ e);
+          answers = own_answers answers a.answers;
+          going = (stopped, going.1);
+          refused = tt;
+          some = λ e. absurd (cc);
+          failed = λ e. absurd (cc);
+        }
+        go (Err call.Failed) a tied stopped = record {
+          asks = tt;
+          answers = tt;
+          going = tt;
+          refused = part;
+          some = λ e. let s = a.some refl in let w = a.within in omega (arith, s, w);
+          failed = λ e. rose (a.failed refl) stopped;
+        }
+        go (Err call.NoMemory) a tied stopped = record {
+          asks = tt;
+          answers = tt;
+          going = tt;
+          refused = part;
+          some = λ e. absurd (cc);
+          failed = λ e. absurd (cc);
+        }
+
+  module _ (lanes : List (Lane S)) (d : Lane S) (long : 0 < length lanes) where
+    -- the first lane may be asked what each lane may be asked
+    first_askable : OnEach lanes (λ kinds. IsAskable seen schema kinds method)
+        → AtKind (get_or lanes 0 d).kinds.items line.kind (λ s. CanAskAll ((seen s).attached method.rel) method)
+    first_askable askable =
+        ready_line seen schema (get_or lanes 0 d).kinds.items method line line_is
+        (askable (get_or lanes 0 d) (contains_got lanes 0 (get_or lanes 0 d) (slice_get-get_or lanes 0 d long)))
+
+    pub first_there : OnEach lanes (λ kinds. IsAskable seen schema kinds method)
+        → AtKind (get_or lanes 0 d).kinds.items line.kind (λ s. Unit {0})
+    first_there askable =
+        AtKind-map line.kind (get_or lanes 0 d).kinds.items (λ s. CanAskAll ((seen s).attached method.rel) method) (λ s. Unit {0}) (λ s h. tt)
+        (first_askable askable)
+
+    pub first_ready : OnEach lanes (λ kinds. IsAskable seen schema kinds method)
+        → ((values : List (List ℕ)) → Contains requests values → length values ≡ length method.inputs)
+        → (values : List (List ℕ)) → Contains requests values
+        → AtKind (get_or lanes 0 d).kinds.items line.kind (λ s. CanAsk ((seen s).attached method.rel) method.inputs values)
+    first_ready askable fit values among =
+        AtKind-map line.kind (get_or lanes 0 d).kinds.items (λ s. CanAskAll ((seen s).attached method.rel) method)
+        (λ s. CanAsk ((seen s).attached method.rel) method.inputs values) (λ s h. h values (fit values among)) (first_askable askable)
+
+  -- the first lane was asked, and the others stay
+  pub first_of : (result : Result (List RowList) CallFault) (lanes : List (Lane S)) (d after : Lane S) → 0 < length lanes → NoneStopped lanes
+      → StepsOn (get_or lanes 0 d).kinds.items after.kinds.items line.kind
+      (λ s t. AnswersAll method.rel method.inputs requests result (seen s) (seen t))
+      → after.stopped ≡ is_err result → AsksWanted seen schema method requests result lanes (set lanes 0 after)
+  first_of result [] d after long going steps stopped = absurd (omega arith)
+  first_of result (x ∷ rest) d after long going steps stopped = first_wanted result x after rest steps going stopped
 
 -- ---- one round
 

@@ -1,5 +1,5 @@
 -- Requests that lanes shared, one list after another: each request of both lists was asked once, in order on each lane.
-use Rattle.std.proofs.Common.{◌≡◌, ◌≢◌, inl, inr, ◌+◌, ◌-◌, ◌<◌, ◌≤◌, ℕ, suc, List, [], ◌∷◌, ◌++◌, length, length-append, map, Option, None, Some, refl, sym, ◌∙◌, ap, subst, arith}
+use Rattle.std.proofs.Common.{◌≡◌, ◌≢◌, inl, inr, ◌+◌, ◌-◌, ◌<◌, ◌≤◌, ℕ, zero, suc, List, [], ◌∷◌, ◌++◌, length, length-append, map, take, Option, None, Some, refl, sym, ◌∙◌, ap, subst, arith}
 use Rattle.std.specs.Prelude.{slice_get}
 use Rattle.std.specs.List.{AllByRecursion, AllZip}
 use Rattle.std.specs.List.Sorted.{IsStrictlySortedBy}
@@ -169,6 +169,31 @@ behind_once a b ls ms same first second = (whole, each, none)
         let o = second.2 (k - a) (omega arith) in
         omega (arith, t, z, y, o)
 
+-- ---- the first numbers, in one list
+
+abbrev first_numbers : ℕ → List ℕ
+first_numbers zero = []
+first_numbers (suc n) = 0 ∷ moved 1 (first_numbers n)
+
+zero_once : EachOnce ((0 ∷ []) ∷ []) 1
+zero_once = (
+  refl,
+  (λ k less. let same : 0 ≡ k = omega arith in let h = ap (λ j. hit j 0) same in let o = hit-same 0 in omega (arith, h, o)),
+  (λ k far. let z = hit-other k 0 (λ e. absurd (omega (arith, e, far))) in omega (arith, z)),
+)
+
+numbers_once : (n : ℕ) → EachOnce (first_numbers n ∷ []) n
+numbers_once zero = (refl, (λ k less. absurd (omega arith)), (λ k far. refl))
+numbers_once (suc n) =
+    let more : 1 + n ≡ suc n = omega arith in
+    subst (λ m. EachOnce (first_numbers (suc n) ∷ []) m) more (behind_once 1 n ((0 ∷ []) ∷ []) (first_numbers n ∷ []) refl zero_once (numbers_once n))
+
+numbers_ascend : (n : ℕ) → AllAscend (first_numbers n ∷ [])
+numbers_ascend zero = ((λ k less. absurd (omega arith)), tt)
+numbers_ascend (suc n) =
+    let low : AllBelow 1 ((0 ∷ []) ∷ []) = ((omega arith, tt), tt) in
+    behind_ascends 1 ((0 ∷ []) ∷ []) (first_numbers n ∷ []) low ((λ k less. absurd (omega arith)), tt) (numbers_ascend n)
+
 -- ---- requests at numbers
 
 got_behind : (xs ys : List Request) (k : ℕ) → slice_get (xs ++ ys) (length xs + k) ≡ slice_get ys k
@@ -202,6 +227,13 @@ at_behind xs ys ks js low =
     let first : at_numbers (xs ++ ys) ks ≡ at_numbers xs ks = at_first xs ys ks low in
     let second : at_numbers (xs ++ ys) (moved (length xs) js) ≡ at_numbers ys js = at_second xs ys js in
     at_both (xs ++ ys) ks (moved (length xs) js) ∙ (λ i. first i ++ second i)
+
+at_first_numbers : (requests : List Request) (n : ℕ) → n ≤ length requests → at_numbers requests (first_numbers n) ≡ take n requests
+at_first_numbers [] zero few = refl
+at_first_numbers [] (suc n) few = absurd (omega arith)
+at_first_numbers (x ∷ xs) zero few = refl
+at_first_numbers (x ∷ xs) (suc n) few =
+    ap (λ (l : List Request). x ∷ l) (at_second (x ∷ []) xs (first_numbers n) ∙ at_first_numbers xs n (omega arith))
 
 -- ---- requests of lanes
 
@@ -295,6 +327,43 @@ module _ {S : Type 0} (seen : S → Seen) (schema : Schema) where
     ];
     lanes = h.lanes;
   }
+
+  -- the first lane was asked all of them, or the first ones
+  module _ (requests : List Request) (lane after : Lane S) (rest : List (Lane S)) where
+    first_once : (n : ℕ) → EachOnce (first_numbers n ∷ map (λ (w : Lane S). []) rest) n
+    first_once n =
+        let own = numbers_once n in (
+          (let a = own.0 in let z = no_total length refl rest in omega (arith, a, z)),
+          (λ k less. let a = own.1 k less in let z = no_total (times k) refl rest in omega (arith, a, z)),
+          (λ k far. let a = own.2 k far in let z = no_total (times k) refl rest in omega (arith, a, z)),
+        )
+
+    first_asked : (n : ℕ) → n ≤ length requests → AsksLane seen schema (take n requests) lane.kinds.items after.kinds.items
+        → LanesAsked seen schema requests (first_numbers n ∷ map (λ (w : Lane S). []) rest) (lane ∷ rest) (after ∷ rest)
+    first_asked n few asks = (
+      subst (λ (l : List Request). AsksLane seen schema l lane.kinds.items after.kinds.items) (sym (at_first_numbers requests n few)) asks,
+      asked_none requests rest,
+    )
+
+    pub first_each : AsksLane seen schema (take (length requests) requests) lane.kinds.items after.kinds.items
+        → AsksEach seen schema requests (lane ∷ rest) (after ∷ rest)
+    first_each asks = record {
+      lists = first_numbers (length requests) ∷ map (λ (w : Lane S). []) rest;
+      ascend = ((numbers_ascend (length requests)).0, none_ascend rest);
+      once = first_once (length requests);
+      lanes = first_asked (length requests) (omega arith) asks;
+    }
+
+    pub first_some : (n : ℕ) → n ≤ length requests → AsksLane seen schema (take n requests) lane.kinds.items after.kinds.items
+        → AsksSome seen schema requests (lane ∷ rest) (after ∷ rest)
+    first_some n few asks = record {
+      lists = first_numbers n ∷ map (λ (w : Lane S). []) rest;
+      once = λ k. elim (dec_le n k) [
+        | yes far ↦ let z = (first_once n).2 k far in omega (arith, z)
+        | no near ↦ let o = (first_once n).1 k (omega arith) in omega (arith, o)
+      ];
+      lanes = first_asked n few asks;
+    }
 
   -- ---- what stays on each lane
 

@@ -1,18 +1,20 @@
 -- The requests of one step, asked of lanes, and their answers.
-use Rattle.std.specs.Prelude.{◌≡◌, ◌↔◌, ℕ, List, length, Contains, Some, slice_get}
+use Rattle.std.specs.Prelude.{◌≡◌, ◌↔◌, ◌≤◌, ℕ, List, length, Contains, Some, Result, IfOk, IfErr, OnOk, IsErrOf, slice_get}
 use Rattle.meaning.specs.declared.types.Fact.{Fact}
 use Rattle.meaning.specs.declared.types.Method.{Method}
 use Rattle.meaning.specs.declared.types.Place.{Place}
 use Rattle.access_schema.specs.declared.schema.Schema.{Schema}
 use Rattle.access_schema.specs.declared.schema.SourceLine.{SourceLine}
 use Rattle.source_trait.specs.Asking.{RowList, Seen, pick}
+use Rattle.source_trait.specs.declared.source.CallFault.{CallFault}
+use Rattle.source_trait.specs.declared.source.CallFault.TheVariants as call
 use Rattle.source_trait.specs.declared.lanes.Lane.{Lane}
 use Rattle.source_trait.specs.declared.work.Ask.{Ask}
 use Rattle.middleware.specs.PlanSources.{line_for}
 use Rattle.middleware.specs.Held.{HoldsRelation}
 use Rattle.middleware.specs.Rounds.{requests_of, IsWanted, next_rows}
-use Rattle.middleware.specs.LaneRounds.{AsksEach, AsksSome}
-use Rattle.middleware.specs.LaneBranches.{OnEach, HaltCause}
+use Rattle.middleware.specs.LaneRounds.{AsksEach, AsksSome, NoneStopped}
+use Rattle.middleware.specs.LaneBranches.{OnEach, FailsOnLane, HaltCause}
 use Rattle.middleware.specs.declared.round.RoundFault.{RoundFault}
 
 -- the request of the method with these values, for a source of the kind
@@ -30,6 +32,16 @@ module _ {S : Type 0} (seen : S → Seen) (schema : Schema) where
   abbrev pub LanesHoldRelation : ℕ → List (Lane S) → List Fact → Type 0
   LanesHoldRelation rel lanes instance = (line : SourceLine) → line_for rel schema.sources ≡ Some line
       → OnEach lanes (λ kinds. HoldsRelation seen kinds line.kind rel instance)
+
+  -- The requests of a method were asked of the lanes: on success each once, with an answer to each; at a refusal each at most once.
+  pub record AsksWanted (method : Method) (requests : RowList) (result : Result (List RowList) CallFault) (old new : List (Lane S)) : Type 0 where
+    pub asks : IfOk result (λ answers. AsksEach seen schema (requests_of method.rel method.inputs requests) old new)
+    pub answers : IfOk result (λ answers. (instance : List Fact) → LanesHoldRelation method.rel old instance
+        → AnswersFrom instance method requests answers)
+    pub going : OnOk result (NoneStopped new)
+    pub refused : IfErr result (λ fault. AsksSome seen schema (requests_of method.rel method.inputs requests) old new)
+    pub some : IsErrOf result call.Failed → 1 ≤ length requests
+    pub failed : IsErrOf result call.Failed → FailsOnLane seen schema method.rel old new
 
   -- Each request of a round was asked once by one of the lanes, and the partial rows after it are those that the answers give.
   pub record RoundShared (places : List Place) (method : Method) (rows requests next : RowList) (old new : List (Lane S)) : Type 0 where

@@ -1,17 +1,14 @@
 // One round of a step, shared by lanes.
-ghost use Rattle.std.specs.Prelude.{◌≡◌, ◌≤◌, ◌<◌, ◌-◌, List, ℕ, Contains, IfOk, IfErr, OnOk, IsErrOf, length, map};
-ghost use Rattle.meaning.specs.declared.types.Fact.{Fact};
+ghost use Rattle.std.specs.Prelude.{◌≡◌, ◌≤◌, ◌<◌, ◌-◌, List, ℕ, Contains, IfOk, IfErr, OnOk, length, map};
 ghost use Rattle.meaning.specs.declared.types.Method.{Method};
 ghost use Rattle.meaning.specs.Plans.{IsMethod};
 ghost use Rattle.access_schema.specs.Meaning.{meaning_of};
-ghost use Rattle.source_trait.specs.declared.source.CallFault.TheVariants as call;
 ghost use Rattle.middleware.specs.Branches.{IsAskable};
-ghost use Rattle.middleware.specs.LaneBranches.{OnEach, FailsOnLane, LanesGo, LanesHalt};
-ghost use Rattle.middleware.specs.LaneAsking.{ask_of, LanesHoldRelation, AnswersFrom, RoundShared, RoundUnshared};
-ghost use Rattle.middleware.specs.LaneRounds.{AsksEach, AsksSome, NoneStopped};
-ghost use Rattle.middleware.specs.Rounds.{requests_of, IsWanted};
+ghost use Rattle.middleware.specs.LaneBranches.{OnEach, LanesGo, LanesHalt};
+ghost use Rattle.middleware.specs.LaneAsking.{ask_of, AsksWanted, RoundShared, RoundUnshared};
+ghost use Rattle.middleware.specs.LaneRounds.{NoneStopped};
 
-use crate::ask::Answers;
+use crate::ask::{Answers, ask_all};
 use crate::lane_round::{AskFault, ask_round};
 use crate::lookup::{find_line, find_method};
 use crate::partial_rows::join;
@@ -38,6 +35,7 @@ pub fn next_round_on<R: Threads + Sync, S: Source + Send + Drop>(
     requires named { (method : Method) × IsMethod (meaning_of schema.now) step.now.method method }
     requires askable { (method : Method) → IsMethod (meaning_of schema.now) step.now.method method
         → OnEach lanes.old (λ kinds. IsAskable S.seen schema.now kinds method) }
+    requires going { NoneStopped lanes.old }
     requires made { progress.made ≤ cap }
     requires cap { cap ≤ 1_000_000 }
     ensures goes { IfOk result (λ p. LanesGo S.seen schema.now step.now progress.rows p.rows progress.made p.made lanes.old lanes.new) }
@@ -83,6 +81,7 @@ fn share_step<R: Threads + Sync, S: Source + Send + Drop>(
     room: usize,
 ) -> Result<Round, RoundFault>
     requires lanes { (0 < length lanes.old) × (length lanes.old ≤ 8) }
+    requires going { NoneStopped lanes.old }
     requires askable { OnEach lanes.old (λ kinds. IsAskable S.seen schema.now kinds method.now) }
     requires room { room ≤ 1_000_000 }
     ensures fits { IfOk result (λ r. length r.requests.items ≤ room) }
@@ -121,8 +120,61 @@ fn share_step<R: Threads + Sync, S: Source + Send + Drop>(
     }
 }
 
-// Asks the requests of a method, each once by one of the lanes.
+// Asks the requests of a method, each once by one of the lanes. For one lane, and for one request, nothing is copied and no thread is made.
 fn ask_wanted<R: Threads + Sync, S: Source + Send + Drop>(
+    rt: &R,
+    alloc: Global,
+    schema: &Schema,
+    lanes: &mut [Lane<S>],
+    method: &Method,
+    requests: &[Row],
+) -> Result<Answers, CallFault>
+    requires lanes { (0 < length lanes.old) × (length lanes.old ≤ 8) }
+    requires going { NoneStopped lanes.old }
+    requires askable { OnEach lanes.old (λ kinds. IsAskable S.seen schema.now kinds method.now) }
+    requires few { length requests.now ≤ 1_000_000 }
+    requires values { (values : List (List ℕ)) → Contains requests.now values → length values ≡ length method.now.inputs }
+    ensures { AsksWanted S.seen schema.now method.now requests.now result lanes.old lanes.new }
+{
+    if lanes.len() == 1 || requests.len() < 2 {
+        ask_first(alloc, schema, lanes, method, requests)
+    } else {
+        ask_shared(rt, alloc, schema, lanes, method, requests)
+    }
+}
+
+// Asks the requests of a method on the first of the lanes, in their order.
+fn ask_first<S: Source + Send + Drop>(
+    alloc: Global,
+    schema: &Schema,
+    lanes: &mut [Lane<S>],
+    method: &Method,
+    requests: &[Row],
+) -> Result<Answers, CallFault>
+    requires lanes { 0 < length lanes.old }
+    requires going { NoneStopped lanes.old }
+    requires askable { OnEach lanes.old (λ kinds. IsAskable S.seen schema.now kinds method.now) }
+    requires values { (values : List (List ℕ)) → Contains requests.now values → length values ≡ length method.now.inputs }
+    ensures { AsksWanted S.seen schema.now method.now requests.now result lanes.old lanes.new }
+{
+    let Some(line) = find_line(schema.sources.as_slice(), method.rel) else {
+        return Err(CallFault::NoMemory);
+    };
+    let lane = &mut lanes[0];
+    let result = ask_all(
+        alloc,
+        lane,
+        &line.kind,
+        method.rel,
+        &method.inputs,
+        requests,
+    );
+    lane.stopped = result.is_err();
+    result
+}
+
+// Asks copies of the requests of a method in one round, each once by one of the lanes.
+fn ask_shared<R: Threads + Sync, S: Source + Send + Drop>(
     rt: &R,
     alloc: Global,
     schema: &Schema,
@@ -134,13 +186,7 @@ fn ask_wanted<R: Threads + Sync, S: Source + Send + Drop>(
     requires askable { OnEach lanes.old (λ kinds. IsAskable S.seen schema.now kinds method.now) }
     requires few { length requests.now ≤ 1_000_000 }
     requires values { (values : List (List ℕ)) → Contains requests.now values → length values ≡ length method.now.inputs }
-    ensures asks { IfOk result (λ answers. AsksEach S.seen schema.now (requests_of method.now.rel method.now.inputs requests.now) lanes.old lanes.new) }
-    ensures answers { IfOk result (λ answers. (instance : List Fact) → LanesHoldRelation S.seen schema.now method.now.rel lanes.old instance
-        → AnswersFrom instance method.now requests.now answers) }
-    ensures going { OnOk result (NoneStopped lanes.new) }
-    ensures refused { IfErr result (λ fault. AsksSome S.seen schema.now (requests_of method.now.rel method.now.inputs requests.now) lanes.old lanes.new) }
-    ensures some { IsErrOf result call.Failed → 1 ≤ length requests.now }
-    ensures failed { IsErrOf result call.Failed → FailsOnLane S.seen schema.now method.now.rel lanes.old lanes.new }
+    ensures { AsksWanted S.seen schema.now method.now requests.now result lanes.old lanes.new }
 {
     let Some(line) = find_line(schema.sources.as_slice(), method.rel) else {
         return Err(CallFault::NoMemory);
