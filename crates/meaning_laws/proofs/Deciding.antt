@@ -98,11 +98,11 @@ same_facts facts a b atoms same are atom among =
     subst (λ vals. Contains facts (record { rel = atom.rel; vals = vals })) (same_values Const a b atom.terms (λ x c. same x (atom, among, c))) (are atom among)
 
 -- the values of the facts
-pool : List Ground → List Val
+pub pool : List Ground → List Val
 pool [] = []
 pool (fact ∷ facts) = fact.vals ++ pool facts
 
-in_pool : (facts : List Ground) (fact : Ground) (v : Val) → Contains facts fact → Contains fact.vals v → Contains (pool facts) v
+pub in_pool : (facts : List Ground) (fact : Ground) (v : Val) → Contains facts fact → Contains fact.vals v → Contains (pool facts) v
 unfolding pool
 in_pool [] fact v c d = absurd (omega arith)
 in_pool (first ∷ facts) fact v c d =

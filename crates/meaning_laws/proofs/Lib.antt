@@ -25,6 +25,9 @@ pub mod Closing
 pub mod SameSets
 pub mod Members
 pub mod Running
+pub mod Candidates
+pub mod ActiveRuns
+pub mod Quieting
 pub mod Trimming
 pub mod Everywhere
 pub mod Costing

@@ -26,6 +26,7 @@ ghost use Rattle.meaning.specs.Claims.{IsModel, IsEquivalent, Refutes};
 ghost use Rattle.meaning.specs.Costs.{IsCost, IsRival, IsLeast};
 ghost use Rattle.meaning.specs.Homomorphisms.{image, renamed, Carries};
 ghost use Rattle.meaning.specs.Triggers.{AreNumbered, State, LabelsBelow, IsTrigger, IsQuiet, fired, IsFiringRun};
+ghost use Rattle.meaning.specs.RuleOrder.{IsFed};
 ghost use Rattle.meaning.specs.Runs.{IsBaseRun, Proof, NoExposure, Fires, part_of, IsRun, IsOrderedRun, opening, opening_state, frozen_head, HasGoal, IsStuck, last_part};
 ghost use Rattle.meaning.specs.Naming.{IsNaming, IsNamed, AreNamed};
 ghost use Rattle.meaning.specs.Fitting.{QueryHasConstants, Fit, RulesFit, QueryFits, IsKept};
@@ -390,4 +391,11 @@ pub fn relevant_trims()
         × IsFiringRun schema.rules (record { facts = exposed_facts kept; next = next }) less last
         × IsQueryAnswer Const (GroundsOf last.facts) goal head × (exposures_cost kept ≤ exposures_cost exposures)
         × ((e : Exposure) → Contains kept e → Contains relevant e.fact) }
+{}
+
+/// Where no chain of feeding has more than so many steps, some firings lead from each state to a quiet one.
+pub fn quiet_is_reached()
+    ensures { (rules : List Rule) (limit : ℕ) (state : State) → AreNumbered rules →
+        ((rel n : ℕ) → IsFed rules rel n → n ≤ limit) →
+        (log : List Trigger) × (end : State) × IsFiringRun rules state log end × IsQuiet rules end }
 {}
