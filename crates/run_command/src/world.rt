@@ -34,7 +34,7 @@ pub fn run_world<S: Source + Send + Drop, O: Sink, E: Sink>(
     out: &mut O,
     err: &mut E,
 ) -> Result<Outcome, Stop>
-    requires { size ≤ 10000 }
+    requires small { size ≤ 10000 }
     ensures ends { WorldEnds S.seen size
         (record { files = None; file_faults = 0; out = O.taken out.old; out_faults = O.faults out.old; err = E.taken err.old; err_faults = E.faults err.old })
         (record { files = None; file_faults = 0; out = O.taken out.new; out_faults = O.faults out.new; err = E.taken err.new; err_faults = E.faults err.new })
