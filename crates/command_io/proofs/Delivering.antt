@@ -1,11 +1,10 @@
--- What printing the text of rows makes of a delivery.
+-- What printing the text of an execution makes of a delivery.
 use Rattle.std.proofs.Common.{◌≡◌, ◌⊎◌, ℕ, List, Option, Result, Ok, Err, inl, inr}
-use Rattle.std.specs.Prelude.{Contains, OnOk, OnErr, IfErr}
+use Rattle.std.specs.Prelude.{OnOk, OnErr, IfErr}
 use Rattle.meaning.specs.declared.types.Plan.{Plan}
 use Rattle.access_schema.specs.declared.schema.Schema.{Schema}
 use Rattle.source_trait.specs.Asking.{Seen}
 use Rattle.source_trait.specs.declared.lanes.Lane.{Lane}
-use Rattle.row_text.specs.RowText.{IsRowText}
 use Rattle.middleware.specs.declared.fault.Run.{Run}
 use Rattle.command_io.specs.declared.stop.Stop.{Stop}
 use Rattle.command_io.specs.declared.stop.Stop.TheVariants as stop
@@ -25,12 +24,12 @@ pub result_stops : (rose : Type 0) (result : Result (Unit {0}) Stop) →
 result_stops rose (Ok done_it) cause = tt
 result_stops rose (Err end) cause = result_stop rose end cause
 
-pub printed : {S : Type 0} (seen : S → Seen) (schema : Schema) (plan : Plan) (cap : ℕ) (names : List (List ℕ)) (old new : List (Lane S))
+pub printed : {S : Type 0} (seen : S → Seen) (schema : Schema) (plan : Plan) (cap : ℕ) (IsText : Run → List ℕ → Type 0) (old new : List (Lane S))
     (out_old out_new : Option (List ℕ)) (rose : Type 0) (run : Run) (text : List ℕ) (result : Result (Unit {0}) Stop) →
-    Executes seen schema plan cap old new (Ok run) → IsRowText names (Contains run.rows) text →
+    Executes seen schema plan cap old new (Ok run) → IsText run text →
     OnOk result (TookAll out_old out_new text) → OnErr result (TookPart out_old out_new text) →
     IfErr result (λ end. (end ≡ stop.Memory) ⊎ ((end ≡ stop.ResultWrite) × rose)) →
-    Delivers seen schema plan cap names old new out_old out_new rose result
-printed seen schema plan cap names old new out_old out_new rose run text (Ok done_it) executes is whole part cause = done run text executes is whole
-printed seen schema plan cap names old new out_old out_new rose run text (Err end) executes is whole part cause =
+    Delivers seen schema plan cap IsText old new out_old out_new rose result
+printed seen schema plan cap IsText old new out_old out_new rose run text (Ok done_it) executes is whole part cause = done run text executes is whole
+printed seen schema plan cap IsText old new out_old out_new rose run text (Err end) executes is whole part cause =
     cut run text end executes is part (result_stop rose end cause)

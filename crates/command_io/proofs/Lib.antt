@@ -4,3 +4,4 @@ pub mod Delivering
 pub mod Lines
 pub mod Later
 pub mod Short
+pub mod Summaries

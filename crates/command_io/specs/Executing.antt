@@ -1,5 +1,6 @@
--- What the execution of a plan did to the lanes, with its answer; and how its rows are written.
+-- What the execution of a plan did to the lanes, with its answer; and how what is said of it is written.
 use Rattle.std.specs.Prelude.{◌≡◌, ◌↔◌, ◌≤◌, ◌<◌, ◌^◌, ℕ, List, Contains, Option, IfOk, IfErr, IsOk, Result, Ok, Err, length}
+use Rattle.std.specs.List.Sorted.{IsStrictlySortedBy}
 use Rattle.meaning.specs.declared.types.Fact.{Fact}
 use Rattle.meaning.specs.declared.types.Branch.{Branch}
 use Rattle.meaning.specs.declared.types.Plan.{Plan}
@@ -11,7 +12,7 @@ use Rattle.access_schema.specs.Meaning.{meaning_of}
 use Rattle.source_trait.specs.Asking.{Seen}
 use Rattle.source_trait.specs.Lanes.{LanesStay}
 use Rattle.source_trait.specs.declared.lanes.Lane.{Lane}
-use Rattle.row_text.specs.RowText.{IsRowText}
+use Rattle.row_text.specs.RowText.{row_cmp}
 use Rattle.middleware.specs.declared.fault.Run.{Run}
 use Rattle.middleware.specs.declared.fault.RunFault.{RunFault}
 use Rattle.middleware.specs.declared.fault.RunFault.TheVariants as fault
@@ -32,9 +33,10 @@ pub record IsShort (plan : Plan) : Type 0 where
 
 -- The sources, the requests and the rows of an execution with at most `cap` requests.
 pub record Executes {S : Type 0} (seen : S → Seen) (schema : Schema) (plan : Plan) (cap : ℕ) (old new : List (Lane S)) (result : Result Run RunFault) : Type 0 where
-  -- the rows are the plan's on whatever instance the sources of the used lane hold
+  -- the rows are the plan's on whatever instance the sources of the used lane hold, ascending and each once
   pub rows : IfOk result (λ run. (instance : List Fact) → Holds seen schema plan new instance →
       (row : List (List ℕ)) → Contains run.rows row ↔ IsRow (meaning_of schema) plan instance row)
+  pub ascends : IfOk result (λ run. IsStrictlySortedBy row_cmp run.rows)
   -- the requests are the plan's on it, in order; all of them where there are rows, and otherwise some first part
   pub asks : (instance : List Fact) → Holds seen schema plan new instance →
       OnUsed old new (AskedPart seen schema plan instance (IsOk result))
@@ -63,15 +65,14 @@ stop_of_run (fault.Attach rel why) = stop.Run (fault.Attach rel why)
 stop_of_run (fault.CallFailed branch step) = stop.Run (fault.CallFailed branch step)
 stop_of_run (fault.OverCalls made wanted cap) = stop.Run (fault.OverCalls made wanted cap)
 
--- The plan was executed, and a sink took the text of its rows under these names: whole, or a first part of it, or nothing where
--- there are no rows.
-pub data Delivers {S : Type 0} (seen : S → Seen) (schema : Schema) (plan : Plan) (cap : ℕ) (names : List (List ℕ)) (old new : List (Lane S))
+-- The plan was executed, and a sink took the text of that, as `IsText` says: whole, or a first part of it, or nothing where there are no rows.
+pub data Delivers {S : Type 0} (seen : S → Seen) (schema : Schema) (plan : Plan) (cap : ℕ) (IsText : Run → List ℕ → Type 0) (old new : List (Lane S))
     (out_old out_new : Option (List ℕ)) (rose : Type 0) : Result (Unit {0}) Stop → Type 0 where
-  done : (run : Run) (text : List ℕ) → Executes seen schema plan cap old new (Ok run) → IsRowText names (Contains run.rows) text →
-      TookAll out_old out_new text → Delivers seen schema plan cap names old new out_old out_new rose (Ok tt)
+  done : (run : Run) (text : List ℕ) → Executes seen schema plan cap old new (Ok run) → IsText run text →
+      TookAll out_old out_new text → Delivers seen schema plan cap IsText old new out_old out_new rose (Ok tt)
   no_rows : (why : RunFault) → Executes seen schema plan cap old new (Err why) → out_new ≡ out_old →
-      Delivers seen schema plan cap names old new out_old out_new rose (Err (stop_of_run why))
+      Delivers seen schema plan cap IsText old new out_old out_new rose (Err (stop_of_run why))
   no_text : (run : Run) → Executes seen schema plan cap old new (Ok run) → out_new ≡ out_old →
-      Delivers seen schema plan cap names old new out_old out_new rose (Err stop.Memory)
-  cut : (run : Run) (text : List ℕ) (end : Stop) → Executes seen schema plan cap old new (Ok run) → IsRowText names (Contains run.rows) text →
-      TookPart out_old out_new text → ResultStop rose end → Delivers seen schema plan cap names old new out_old out_new rose (Err end)
+      Delivers seen schema plan cap IsText old new out_old out_new rose (Err stop.Memory)
+  cut : (run : Run) (text : List ℕ) (end : Stop) → Executes seen schema plan cap old new (Ok run) → IsText run text →
+      TookPart out_old out_new text → ResultStop rose end → Delivers seen schema plan cap IsText old new out_old out_new rose (Err end)

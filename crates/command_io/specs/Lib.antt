@@ -5,3 +5,4 @@ pub mod Writing
 pub mod FaultLines
 pub mod Telling
 pub mod Executing
+pub mod Reports

@@ -1,14 +1,16 @@
-// From a plan to the text of its rows.
-ghost use Rattle.std.specs.Prelude.{◌≡◌, ◌≤◌, List, ℕ};
+// From a plan to what is written of its execution.
+ghost use Rattle.std.specs.Prelude.{◌≡◌, ◌≤◌, IfOk, List, ℕ};
 ghost use Rattle.meaning.specs.Plans.{IsLawful};
 ghost use Rattle.access_schema.specs.Meaning.{meaning_of};
 ghost use Rattle.source_trait.specs.Causes.{Rose};
 ghost use Rattle.command_io.specs.Executing.{IsShort, Executes, Delivers, stop_of_run as stop_for};
+ghost use Rattle.command_io.specs.Reports.{IsReport};
 
 use crate::stop::Stop;
+use crate::summary::summary;
 use crate::telling::print;
 use access_schema::Schema;
-use lists::Texts;
+use lists::{Bytes, NoMemory, Texts};
 use meaning::types::Plan;
 use middleware::{Run, RunFault, csv_text, execute};
 use source_trait::{Lane, Sink, Source};
@@ -17,25 +19,34 @@ use std::alloc::Global;
 /// How many requests a command makes at most.
 pub const CALLS: u32 = 100000;
 
-/// Executes a lawful plan on the first lane, and writes its rows under these names.
+/// What is written of the execution of a plan.
+#[derive(Clone, Copy)]
+pub enum Report<'a> {
+    /// The rows, as CSV under these names.
+    Rows(&'a Texts),
+    /// One line for the world of this size: the number of requests, the number of rows, and the last row.
+    Summary(u32),
+}
+
+/// Executes a lawful plan on the first lane, and writes the report of that.
 pub fn deliver<S: Source + Send + Drop, O: Sink>(
     alloc: Global,
     schema: &Schema,
     plan: &Plan,
-    names: &Texts,
+    report: Report<'_>,
     lanes: &mut Vec<Lane<S>>,
     out: &mut O,
 ) -> Result<(), Stop>
     requires lawful { (constants : List (List ℕ)) × IsLawful plan.now (meaning_of schema.now) constants }
     requires short { IsShort plan.now }
-    ensures delivers { Delivers S.seen schema.now plan.now CALLS names.now lanes.old.items lanes.new.items (O.taken out.old) (O.taken out.new) (Rose (O.faults out.old) (O.faults out.new)) result }
+    ensures delivers { Delivers S.seen schema.now plan.now CALLS (IsReport report.entry) lanes.old.items lanes.new.items (O.taken out.old) (O.taken out.new) (Rose (O.faults out.old) (O.faults out.new)) result }
     ensures later { O.faults out.old ≤ O.faults out.new }
 {
     let executed = match run_plan(alloc, schema, plan, lanes) {
         Ok(executed) => executed,
         Err(fault) => return Err(stop_of_run(fault)),
     };
-    let text = match csv_text(alloc, names, &executed.rows) {
+    let text = match report_text(alloc, report, &executed) {
         Ok(text) => text,
         Err(_) => return Err(Stop::Memory),
     };
@@ -54,6 +65,15 @@ fn run_plan<S: Source + Send + Drop>(
     ensures { Executes S.seen schema.now plan.now CALLS lanes.old.items lanes.new.items result }
 {
     execute(alloc, plan, schema, lanes, CALLS)
+}
+
+fn report_text(alloc: Global, report: Report<'_>, run: &Run) -> Result<Bytes, NoMemory>
+    ensures { IfOk result (IsReport report.entry run.now) }
+{
+    match report {
+        Report::Rows(names) => csv_text(alloc, names, &run.rows),
+        Report::Summary(size) => summary(alloc, size, run),
+    }
 }
 
 fn stop_of_run(fault: RunFault) -> Stop

@@ -14,10 +14,11 @@ mod query_lines;
 mod schema_lines;
 mod source_lines;
 mod stop;
+mod summary;
 mod telling;
 mod write;
 
-pub use delivery::{CALLS, deliver};
+pub use delivery::{CALLS, Report, deliver};
 pub use exit_status::Status;
 pub use inputs::{PLAN_LIMIT, QUERY_LIMIT, SCHEMA_LIMIT, plan_of_file, schema_of, statement_of};
 pub use line::{FileNames, line_of};

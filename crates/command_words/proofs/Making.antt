@@ -1,13 +1,15 @@
 -- Commands from what the words give.
-use Rattle.std.proofs.Common.{◌≡◌, ℕ, ◌<◌, ◌≤◌, false, List, [], ◌∷◌, length, get_or, ◌^◌, Option, None, Some, refl, sym, ap, subst, ◌∙◌, arith}
-use Rattle.std.specs.Cmp.Lexicographic.{pointwise}
-use Rattle.std.specs.Prelude.{nat_eq, codes, if◌then◌else◌, option_map, unwrap_or, IfSome, IfNone}
+use Rattle.std.proofs.Common.{◌≡◌, ℕ, ◌<◌, ◌≤◌, ◌&&◌, Bool, true, false, List, [], ◌∷◌, length, get_or, ◌^◌, Option, None, Some, refl, sym, ap, subst, ◌∙◌, arith}
+use Rattle.std.specs.Cmp.Lexicographic.{pointwise, bytes_decides}
+use Rattle.std.specs.Prelude.{nat_eq, nat_le, codes, if◌then◌else◌, option_map, unwrap_or, IfSome, IfNone}
 use Rattle.std.specs.Fmt.{decimal}
-use Rattle.std.proofs.lemmas.Fmt.{decimal_injective}
+use Rattle.std.specs.Str.Parse.{digits_value}
+use Rattle.std.proofs.lemmas.Bool.{and_parts, le-leb, leb-true}
+use Rattle.std.proofs.lemmas.Fmt.{decimal_injective, decimal_is_IsNumeral}
 use Rattle.command_words.specs.Table.{command_word, takes, limit, default_number}
 use Rattle.command_words.specs.Splits.{Item, Splits, positionals_of, IsSet, Once, Absent}
-use Rattle.command_words.specs.Words.{Command, Help, Schema, Explain, Run, Exec, Check, Verify, Setting, Asks, firings, firings_and_search, IsCommand, seen_as}
-use Rattle.command_words.specs.Arguments.{words_of, given_number, number_of, IsGiven, AreArguments, MayBe, made}
+use Rattle.command_words.specs.Words.{Command, Help, Schema, Explain, Run, Exec, Check, Verify, World, Setting, Asks, firings, firings_and_search, IsCommand, seen_as}
+use Rattle.command_words.specs.Arguments.{words_of, given_number, number_of, size_of, IsGiven, AreArguments, MayBe, made}
 use Rattle.command_words.specs.declared.command.Command.{Command as Coded}
 use Rattle.command_words.specs.declared.table.CommandName.{CommandName}
 use Rattle.command_words.specs.declared.table.CommandName.TheVariants as name
@@ -21,7 +23,8 @@ named_by : List ℕ → CommandName
 named_by word =
     if pointwise nat_eq word (codes "help") then name.Help else (if pointwise nat_eq word (codes "schema") then name.Schema else
     (if pointwise nat_eq word (codes "explain") then name.Explain else (if pointwise nat_eq word (codes "run") then name.Run else
-    (if pointwise nat_eq word (codes "exec") then name.Exec else (if pointwise nat_eq word (codes "check") then name.Check else name.Verify)))))
+    (if pointwise nat_eq word (codes "exec") then name.Exec else (if pointwise nat_eq word (codes "check") then name.Check else
+    (if pointwise nat_eq word (codes "verify") then name.Verify else name.World))))))
 
 its_own : (which : CommandName) → named_by (command_word which) ≡ which
 unfolding named_by
@@ -32,9 +35,56 @@ its_own name.Run = refl
 its_own name.Exec = refl
 its_own name.Check = refl
 its_own name.Verify = refl
+its_own name.World = refl
 
 same_command : (one other : CommandName) → command_word one ≡ command_word other → one ≡ other
 same_command one other e = sym (its_own one) ∙ ap named_by e ∙ its_own other
+
+-- ---- sizes of worlds
+
+size_case : (text : List ℕ) (m n : ℕ) (b : Bool) → (pointwise nat_eq text (decimal m) && (nat_le 1 m && nat_le m 10000)) ≡ b → (if b then Some m else None) ≡ Some n →
+    (text ≡ decimal n) × (1 ≤ n) × (n ≤ 10000)
+size_case text m n true is e =
+    let same : m ≡ n = cc in
+    let parts = and_parts (pointwise nat_eq text (decimal m)) (nat_le 1 m && nat_le m 10000) is in
+    let limits = and_parts (nat_le 1 m) (nat_le m 10000) parts.1 in
+    let low = leb-true 1 m limits.0 in
+    let high = leb-true m 10000 limits.1 in
+    ((bytes_decides text (decimal m)).0 parts.0 ∙ ap decimal same, omega (arith, same, low), omega (arith, same, high))
+size_case text m n false is e = absurd cc
+
+-- a size that is read is the number that is written
+pub size_so : (text : List ℕ) (n : ℕ) → size_of text ≡ Some n → (text ≡ decimal n) × (1 ≤ n) × (n ≤ 10000)
+size_so text n e = size_case text (digits_value 10 text) n (pointwise nat_eq text (decimal (digits_value 10 text)) && (nat_le 1 (digits_value 10 text) && nat_le (digits_value 10 text) 10000)) refl e
+
+-- and a number in range that is written is read
+pub size_is : (text : List ℕ) (n : ℕ) → text ≡ decimal n → 1 ≤ n → n ≤ 10000 → size_of text ≡ Some n
+size_is text n is low high =
+    let value : digits_value 10 text ≡ n = ap (digits_value 10) is ∙ (decimal_is_IsNumeral n (omega (arith, high))).1 in
+    let same : pointwise nat_eq text (decimal (digits_value 10 text)) ≡ true = (bytes_decides text (decimal (digits_value 10 text))).1 (is ∙ ap decimal (sym value)) in
+    ap (λ b. if b && (nat_le 1 (digits_value 10 text) && nat_le (digits_value 10 text) 10000) then Some (digits_value 10 text) else None) same
+    ∙ ap (λ m. if nat_le 1 m && nat_le m 10000 then Some m else None) value
+    ∙ ap (λ b. if b && nat_le n 10000 then Some n else None) (le-leb 1 n low)
+    ∙ ap (λ b. if b then Some n else None) (le-leb n 10000 high)
+
+-- a text of 0 is no size
+size_never : (b : Bool) → (if◌then◌else◌ {A = Option ℕ} (b && (nat_le 1 0 && nat_le 0 10000)) (Some 0) None) ≡ None
+size_never true = refl
+size_never false = refl
+
+pub size_zero : (text : List ℕ) → text ≡ decimal 0 → size_of text ≡ None
+size_zero text is =
+    let value : digits_value 10 text ≡ 0 = ap (digits_value 10) is ∙ (decimal_is_IsNumeral 0 (omega arith)).1 in
+    ap (λ m. if pointwise nat_eq text (decimal m) && (nat_le 1 m && nat_le m 10000) then Some m else None) value
+    ∙ size_never (pointwise nat_eq text (decimal 0))
+
+-- what a text that is no size makes
+made_none : (text : List ℕ) (command : Command) (o : Option ℕ) → size_of text ≡ o → option_map World o ≡ Some command → (n : ℕ) × (World n ≡ command) × (text ≡ decimal n) × (1 ≤ n) × (n ≤ 10000)
+made_none text command None is e = absurd cc
+made_none text command (Some n) is e = let so = size_so text n is in (n, cc, so.0, so.1, so.2)
+
+made_size : (text : List ℕ) (command : Command) → option_map World (size_of text) ≡ Some command → (n : ℕ) × (World n ≡ command) × (text ≡ decimal n) × (1 ≤ n) × (n ≤ 10000)
+made_size text command e = made_none text command (size_of text) refl e
 
 -- the words are the command that is made of their items
 record Makes (words : List (List ℕ)) (command : Command) : Type 0 where
@@ -82,6 +132,7 @@ makes words (Check schema query plan n) asks =
     let these = schema ∷ query ∷ plan ∷ [] in
     made_of words name.Check these (firings n) n 10000 (Check schema query plan n) asks asks.are_set.0 (untaken words name.Check these (firings n) Search asks refl) refl
 makes words (Verify schema) asks = unset words name.Verify (schema ∷ []) (Verify schema) refl refl refl asks
+makes words (World size) asks = unset words name.World (decimal size ∷ []) (World size) refl refl (ap (option_map World) (size_is (decimal size) size refl asks.1 asks.2)) asks.0
 
 -- ---- the other way round
 
@@ -117,6 +168,11 @@ asked words behind which items n units positionals command first splits set sear
     go name.Verify [] first splits order is = absurd cc
     go name.Verify (a ∷ []) first splits order is = named (Verify a) (cc) (record { behind = behind; items = items; first = first; splits = splits; in_order = order; are_set = tt })
     go name.Verify (a ∷ b ∷ ps) first splits order is = absurd cc
+    go name.World [] first splits order is = absurd cc
+    go name.World (a ∷ []) first splits order is =
+        let size = made_size a command is in
+        named (World size.0) size.1 (record { behind = behind; items = items; first = first; splits = splits; in_order = order ∙ ap (λ (w : List ℕ). w ∷ []) size.2; are_set = tt }, size.3, size.4)
+    go name.World (a ∷ b ∷ ps) first splits order is = absurd cc
 
 -- ---- one command only
 
@@ -181,6 +237,7 @@ few_positionals name.Run (a ∷ b ∷ c ∷ d ∷ ps) n units command is = absur
 few_positionals name.Exec (a ∷ b ∷ c ∷ d ∷ ps) n units command is = absurd cc
 few_positionals name.Check (a ∷ b ∷ c ∷ d ∷ ps) n units command is = absurd cc
 few_positionals name.Verify (a ∷ b ∷ c ∷ d ∷ ps) n units command is = absurd cc
+few_positionals name.World (a ∷ b ∷ c ∷ d ∷ ps) n units command is = absurd cc
 
 -- the command's word says which command it is
 module _ (words behind : List (List ℕ)) (word : List ℕ) (which : CommandName) (all : words ≡ word ∷ behind) (is : word ≡ command_word which) where

@@ -1,9 +1,11 @@
 -- What the words behind a command's name give: at most three positionals, and a number or none for each option.
-use Rattle.std.specs.Prelude.{◌≡◌, ◌≤◌, ℕ, List, [], ◌∷◌, length, Option, None, Some, unwrap_or}
+use Rattle.std.specs.Prelude.{◌≡◌, ◌≤◌, ◌&&◌, ℕ, List, [], ◌∷◌, length, nat_eq, nat_le, if◌then◌else◌, Option, None, Some, option_map, unwrap_or}
+use Rattle.std.specs.Cmp.Lexicographic.{pointwise}
 use Rattle.std.specs.Fmt.{decimal}
+use Rattle.std.specs.Str.Parse.{digits_value}
 use Rattle.command_words.specs.Table.{limit, default_number}
 use Rattle.command_words.specs.Splits.{Item, Splits, positionals_of, texts_of, IsSet}
-use Rattle.command_words.specs.Words.{Command, Help, Schema, Explain, Run, Exec, Check, Verify}
+use Rattle.command_words.specs.Words.{Command, Help, Schema, Explain, Run, Exec, Check, Verify, World}
 use Rattle.command_words.specs.declared.table.CommandName.{CommandName}
 use Rattle.command_words.specs.declared.table.CommandName.TheVariants as name
 use Rattle.command_words.specs.declared.table.OptionName.{OptionName}
@@ -47,6 +49,11 @@ pub record MayBe (items : List Item) : Type 0 where
   pub few : length (positionals_of items) ≤ 3
   pub settable : (option : OptionName) → (n : ℕ) × IsSet option items n
 
+-- the number of 1 to 10,000 that is written so, in digits without a leading zero
+abbrev pub size_of : List ℕ → Option ℕ
+size_of text =
+    if pointwise nat_eq text (decimal (digits_value 10 text)) && (nat_le 1 (digits_value 10 text) && nat_le (digits_value 10 text) 10000) then Some (digits_value 10 text) else None
+
 -- The command with these positionals, and these numbers of firings and of search units where it takes them.
 abbrev pub made : CommandName → List (List ℕ) → ℕ → ℕ → Option Command
 made name.Help [] n units = Some Help
@@ -56,4 +63,5 @@ made name.Run (schema ∷ query ∷ []) n units = Some (Run schema query n units
 made name.Exec (schema ∷ plan ∷ []) n units = Some (Exec schema plan)
 made name.Check (schema ∷ query ∷ plan ∷ []) n units = Some (Check schema query plan n)
 made name.Verify (schema ∷ []) n units = Some (Verify schema)
+made name.World (text ∷ []) n units = option_map World (size_of text)
 made _ _ _ _ = None

@@ -1,7 +1,7 @@
 -- The commands and the options: one case a row.
 use Rattle.std.specs.Prelude.{ℕ, Bool, true, false, List, [], ◌∷◌, codes}
 use Rattle.command_words.specs.declared.table.CommandName.{CommandName}
-use Rattle.command_words.specs.declared.table.CommandName.TheVariants.{Help, Schema, Explain, Run, Exec, Check, Verify}
+use Rattle.command_words.specs.declared.table.CommandName.TheVariants.{Help, Schema, Explain, Run, Exec, Check, Verify, World}
 use Rattle.command_words.specs.declared.table.OptionName.{OptionName}
 use Rattle.command_words.specs.declared.table.OptionName.TheVariants.{Firings, Search}
 
@@ -14,6 +14,7 @@ command_word Run = codes "run"
 command_word Exec = codes "exec"
 command_word Check = codes "check"
 command_word Verify = codes "verify"
+command_word World = codes "world"
 
 -- what a command's positionals are called in the text that `help` prints
 abbrev pub positional_names : CommandName → List (List ℕ)
@@ -24,10 +25,11 @@ positional_names Run = codes "SCHEMA" ∷ codes "QUERY" ∷ []
 positional_names Exec = codes "SCHEMA" ∷ codes "PLAN" ∷ []
 positional_names Check = codes "SCHEMA" ∷ codes "QUERY" ∷ codes "PLAN" ∷ []
 positional_names Verify = codes "SCHEMA" ∷ []
+positional_names World = codes "N" ∷ []
 
 -- the commands in the order in which `help` prints them
 abbrev pub commands : List CommandName
-commands = Help ∷ Schema ∷ Explain ∷ Run ∷ Exec ∷ Check ∷ Verify ∷ []
+commands = Help ∷ Schema ∷ Explain ∷ Run ∷ Exec ∷ Check ∷ Verify ∷ World ∷ []
 
 abbrev pub options : List OptionName
 options = Firings ∷ Search ∷ []

@@ -1,5 +1,6 @@
 -- Which words are a command.
-use Rattle.std.specs.Prelude.{◌≡◌, ℕ, List, [], ◌∷◌}
+use Rattle.std.specs.Prelude.{◌≡◌, ◌≤◌, ℕ, List, [], ◌∷◌}
+use Rattle.std.specs.Fmt.{decimal}
 use Rattle.command_words.specs.Table.{command_word}
 use Rattle.command_words.specs.Splits.{Item, Splits, positionals_of, IsSet}
 use Rattle.command_words.specs.declared.table.CommandName.{CommandName}
@@ -9,7 +10,7 @@ use Rattle.command_words.specs.declared.table.OptionName.TheVariants.{Firings, S
 use Rattle.command_words.specs.declared.command.Command.TheVariants as code
 use Rattle.command_words.specs.declared.command.Command.{Command as Coded}
 
--- A command, with the names of its files and the numbers of its options.
+-- A command, with the names of its files, the numbers of its options, and the size of a world.
 pub data Command : Type 0 where
   Help : Command
   Schema : List ℕ → Command
@@ -18,6 +19,7 @@ pub data Command : Type 0 where
   Exec : List ℕ → List ℕ → Command
   Check : List ℕ → List ℕ → List ℕ → ℕ → Command
   Verify : List ℕ → Command
+  World : ℕ → Command
 
 -- an option with its number
 pub record Setting : Type 0 where
@@ -54,6 +56,7 @@ IsCommand words (Run schema query n units) = Asks words name.Run (schema ∷ que
 IsCommand words (Exec schema plan) = Asks words name.Exec (schema ∷ plan ∷ []) []
 IsCommand words (Check schema query plan n) = Asks words name.Check (schema ∷ query ∷ plan ∷ []) (firings n)
 IsCommand words (Verify schema) = Asks words name.Verify (schema ∷ []) []
+IsCommand words (World size) = Asks words name.World (decimal size ∷ []) [] × (1 ≤ size) × (size ≤ 10000)
 
 abbrev pub seen_as : Coded → Command
 seen_as code.Help = Help
@@ -63,3 +66,4 @@ seen_as (code.Run schema query n units) = Run schema.now query.now n units
 seen_as (code.Exec schema plan) = Exec schema.now plan.now
 seen_as (code.Check schema query plan n) = Check schema.now query.now plan.now n
 seen_as (code.Verify schema) = Verify schema.now
+seen_as (code.World size) = World size

@@ -1,10 +1,11 @@
 // The words of a command line.
 ghost use Rattle.std.specs.Prelude.{◌≡◌, IfSome, IfNone, option_map};
 ghost use Rattle.command_words.specs.Words.{Command as Plain, IsCommand, seen_as};
-ghost use Rattle.command_words.specs.Arguments.{made, words_of, number_of};
+ghost use Rattle.command_words.specs.Arguments.{made, words_of, number_of, size_of};
 ghost use Rattle.command_words.specs.declared.table.OptionName.TheVariants.{Firings as TheFirings, Search as TheSearch};
 
 use crate::given::{Arguments, Positionals, read_arguments};
+use crate::number::number_up_to;
 use crate::table::{CommandName, OptionName, command_named};
 use lists::Text;
 
@@ -39,6 +40,9 @@ pub enum Command<'a> {
     },
     Verify {
         schema: &'a Text,
+    },
+    World {
+        size: u32,
     },
 }
 
@@ -85,6 +89,18 @@ fn command_with<'a>(name: CommandName, arguments: Arguments<'a>) -> Option<Comma
             firings,
         }),
         (CommandName::Verify, Positionals::One(schema)) => Some(Command::Verify { schema }),
+        (CommandName::World, Positionals::One(number)) => match size_of(number) {
+            Some(size) => Some(Command::World { size }),
+            None => None,
+        },
         _ => None,
     }
+}
+
+// The size of a world: the number of 1 to 10,000 that is written so.
+fn size_of(text: &Text) -> Option<u32>
+    ensures { result ≡ size_of text.now }
+{
+    let size = number_up_to(text.as_bytes(), 10_000)?;
+    if size == 0 { None } else { Some(size) }
 }

@@ -14,6 +14,7 @@ pub enum CommandName {
     Exec,
     Check,
     Verify,
+    World,
 }
 
 /// An option that takes a number.
@@ -35,6 +36,7 @@ pub fn command_named(word: &str) -> Option<CommandName>
         "exec" => Some(CommandName::Exec),
         "check" => Some(CommandName::Check),
         "verify" => Some(CommandName::Verify),
+        "world" => Some(CommandName::World),
         _ => None,
     }
 }

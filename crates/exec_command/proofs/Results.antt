@@ -36,12 +36,12 @@ module _ {S : Type 0} (seen : S → Seen) (schema : Schema) (plan : Plan) (may :
 
   module _ (names : Names) (before after : Moment) where
     pub delivered : after.err ≡ before.err →
-        Delivers seen schema plan CALLS (column_names plan.width) old new before.out after.out (Rose before.out_faults after.out_faults) (Ok tt) →
+        Delivers seen schema plan CALLS (λ run. IsRowText (column_names plan.width) (Contains run.rows)) old new before.out after.out (Rose before.out_faults after.out_faults) (Ok tt) →
         PlanEnds seen schema plan names before after old new (Ok outcome.Done)
     delivered same (delivered_all run text executes of_rows took) = done run text may executes (result_of run text executes of_rows) took same
 
     pub not_delivered : (given end : Stop) →
-        Delivers seen schema plan CALLS (column_names plan.width) old new before.out after.out (Rose before.out_faults after.out_faults) (Err given) →
+        Delivers seen schema plan CALLS (λ run. IsRowText (column_names plan.width) (Contains run.rows)) old new before.out after.out (Rose before.out_faults after.out_faults) (Err given) →
         Tells before.err after.err (Rose before.err_faults after.err_faults) names given end →
         PlanEnds seen schema plan names before after old new (Err end)
     not_delivered given end (no_rows why executes same) tells = stopped why end may executes (record { given = given; cause = refl; tells = tells }) same
@@ -50,13 +50,13 @@ module _ {S : Type 0} (seen : S → Seen) (schema : Schema) (plan : Plan) (may :
         cut run text end may executes (result_of run text executes of_rows) took (record { given = given; cause = why; tells = tells })
 
 -- the lanes stay in their order however the delivery ended
-pub lanes_stay : {S : Type 0} (seen : S → Seen) (schema : Schema) (plan : Plan) (columns : List (List ℕ)) (old new : List (Lane S))
+pub lanes_stay : {S : Type 0} (seen : S → Seen) (schema : Schema) (plan : Plan) (IsText : Run → List ℕ → Type 0) (old new : List (Lane S))
     (out_old out_new : Option (List ℕ)) (rose : Type 0) (result : Result (Unit {0}) Stop) →
-    Delivers seen schema plan CALLS columns old new out_old out_new rose result → LanesStay seen old new
-lanes_stay seen schema plan columns old new out_old out_new rose result (delivered_all run text executes of_rows took) = executes.stay
-lanes_stay seen schema plan columns old new out_old out_new rose result (no_rows why executes same) = executes.stay
-lanes_stay seen schema plan columns old new out_old out_new rose result (no_text_made run executes same) = executes.stay
-lanes_stay seen schema plan columns old new out_old out_new rose result (delivered_part run text its executes of_rows took why) = executes.stay
+    Delivers seen schema plan CALLS IsText old new out_old out_new rose result → LanesStay seen old new
+lanes_stay seen schema plan IsText old new out_old out_new rose result (delivered_all run text executes of_rows took) = executes.stay
+lanes_stay seen schema plan IsText old new out_old out_new rose result (no_rows why executes same) = executes.stay
+lanes_stay seen schema plan IsText old new out_old out_new rose result (no_text_made run executes same) = executes.stay
+lanes_stay seen schema plan IsText old new out_old out_new rose result (delivered_part run text its executes of_rows took why) = executes.stay
 
 -- what became of a plan does not depend on the files
 pub with_files : {S : Type 0} (seen : S → Seen) (schema : Schema) (plan : Plan) (names : Names) (before after : Moment) (old new : List (Lane S))

@@ -8,7 +8,7 @@ ghost use Rattle.exec_command.specs.Ends.{MayRun, IdleStop, PlanEnds, ExecEnds};
 
 use crate::known::{column_names, known};
 use access_schema::Schema;
-use command_io::{FileNames, Outcome, Stop, deliver, plan_of_file, schema_of, tell};
+use command_io::{FileNames, Outcome, Report, Stop, deliver, plan_of_file, schema_of, tell};
 use lists::Text;
 use meaning::types::Plan;
 use plan_form::lawful;
@@ -82,7 +82,7 @@ fn carry_out<S: Source + Send + Drop, O: Sink, E: Sink>(
         Ok(columns) => columns,
         Err(_) => return Err(tell(alloc, err, Stop::Memory, names, relations)),
     };
-    match deliver(alloc, schema, plan, &columns, lanes, out) {
+    match deliver(alloc, schema, plan, Report::Rows(&columns), lanes, out) {
         Ok(()) => Ok(Outcome::Done),
         Err(stop) => Err(tell(alloc, err, stop, names, relations)),
     }

@@ -5,9 +5,9 @@ use Rattle.source_trait.specs.declared.lanes.Lane.{Lane}
 use Rattle.command_io.specs.declared.exit_status.Status.{Status}
 use Rattle.command_io.specs.Moments.{Moment}
 use Rattle.command_words.specs.Words.{Command, IsCommand}
-use Rattle.command_words.specs.Words.Command.{Schema as Print, Explain, Run, Exec, Check, Verify}
+use Rattle.command_words.specs.Words.Command.{Schema as Print, Explain, Run, Exec, Check, Verify, World}
 use Rattle.pdq_core.specs.Runs.{Runs}
-use Rattle.pdq_core.specs.Runs.Runs.{no_command, help, schema as print_schema, explain, run, exec, check, verify}
+use Rattle.pdq_core.specs.Runs.Runs.{no_command, help, schema as print_schema, explain, run, exec, check, verify, world}
 use Rattle.pdq_core.specs.Complete.{IsAnswered, NoneRose, IsSupplied}
 use Rattle.pdq_core.proofs.CompleteSchema.{help_answered, schema_answered}
 use Rattle.pdq_core.proofs.CompleteExplain.{explain_answered}
@@ -15,6 +15,7 @@ use Rattle.pdq_core.proofs.CompleteRun.{run_answered}
 use Rattle.pdq_core.proofs.CompleteExec.{exec_answered}
 use Rattle.pdq_core.proofs.CompleteCheck.{check_answered}
 use Rattle.pdq_core.proofs.CompleteVerify.{verify_answered}
+use Rattle.pdq_core.proofs.CompleteWorld.{world_answered}
 
 module _ {S : Type 0} (seen : S → Seen) (words : List (List ℕ)) (command : Command) (before after : Moment) (old new : List (Lane S)) (one : (other : Command) → IsCommand words command → IsCommand words other → command ≡ other) (is : IsCommand words command)
     (supplied : IsSupplied seen command before after old new) where
@@ -43,6 +44,7 @@ module _ {S : Type 0} (seen : S → Seen) (words : List (List ℕ)) (command : C
   answered status calm (verify name result also ends) =
       let given = its (Verify name) also in
       verify_answered seen name before after old new result calm given.schema given.schema_given given.serve ends
+  answered status calm (world size result also ends) = world_answered seen size before after old new calm (its (World size) also) result ends
 
 pub whole : {S : Type 0} (seen : S → Seen) → ((words : List (List ℕ)) (command other : Command) → IsCommand words command → IsCommand words other → command ≡ other) → (words : List (List ℕ)) (command : Command) (before after : Moment) (old new : List (Lane S)) (status : Status) →
     Runs seen words before after old new status → IsCommand words command → NoneRose before after → IsSupplied seen command before after old new → IsAnswered status

@@ -7,6 +7,7 @@ use Rattle.no_plan_witness.specs.declared.decision.Chosen.{Chosen}
 use Rattle.explain.specs.Printing.{planned_text}
 use Rattle.source_trait.specs.Asking.{Seen}
 use Rattle.source_trait.specs.declared.lanes.Lane.{Lane}
+use Rattle.middleware.specs.declared.fault.Run.{Run}
 use Rattle.command_io.specs.declared.stop.Stop.{Stop}
 use Rattle.command_io.specs.declared.stop.Stop.TheVariants as stop
 use Rattle.command_io.specs.declared.outcome.Outcome.{Outcome}
@@ -18,7 +19,7 @@ use Rattle.command_io.specs.Telling.{TookLine, StopsFor}
 use Rattle.command_io.proofs.Later.{rose_between}
 use Rattle.command_io.proofs.SinkTakes.{goes_on}
 use Rattle.run_command.specs.Deciding.{IsPlanned}
-use Rattle.run_command.specs.Ends.{StatementEnds, RunEnds}
+use Rattle.run_command.specs.Ends.{IsResult, StatementEnds, RunEnds}
 use Rattle.run_command.specs.Ends.StatementEnds.{no_decision, untold, refuted, undecided as spent, stopped, no_text, cut, done as executed}
 use Rattle.run_command.specs.Ends.RunEnds.{refused, read}
 use Rattle.pdq_core.specs.Runs.{ended}
@@ -35,7 +36,7 @@ printed plan entries before after middle rose line calm first (inl whole) = (lin
 printed plan entries before after middle rose line calm first (inr (h, part)) = absurd (calm h)
 
 module _ {S : Type 0} (seen : S → Seen) (schema : Schema) (statement : Statement) (names : Names) (before after : Moment) (old new : List (Lane S)) (calm : NoneRose before after) (firings search : ℕ)
-    (can : (plan : Plan) (entries : List Chosen) → IsPlanned schema statement firings search plan entries → IsPrinted entries plan before after → CanExecute seen schema plan old new) where
+    (IsText : Plan → Run → List ℕ → Type 0) (can : (plan : Plan) (entries : List Chosen) → IsPlanned schema statement firings search plan entries → IsPrinted entries plan before after → CanExecute seen schema plan old new) where
   stopped_answered : (plan : Plan) (entries : List Chosen) (middle : Option (List ℕ)) (rose : Type 0) (given end : Stop) → (rose → ⊥) → TookAll before.err middle (planned_text entries plan) →
       (CanExecute seen schema plan old new → given ≡ stop.Memory) → IsPlanned schema statement firings search plan entries →
       StopsFor (λ its. its ≡ given) names middle after.err rose end → IsAnswered (status_of end)
@@ -46,7 +47,7 @@ module _ {S : Type 0} (seen : S → Seen) (schema : Schema) (statement : Stateme
       ] in
       subst (λ (s : Stop). IsAnswered (status_of s)) (sym is) no_memory
 
-  statement_answered : (result : Result Outcome Stop) → StatementEnds seen schema statement firings search names before after old new result → IsAnswered (ended result)
+  pub statement_answered : (result : Result Outcome Stop) → StatementEnds seen schema statement firings search IsText names before after old new result → IsAnswered (ended result)
   statement_answered result (no_decision end why quiet same) = stop_answered end (λ given e. e) why
   statement_answered result (untold decision middle count end is took why quiet same) =
       stop_answered end (decision_stop _ (λ h. calm.err (rose_between before.err_faults before.err_faults count.faults after.err_faults (omega arith) count.ended h))) why
@@ -73,4 +74,4 @@ run_answered {S = S} seen name query firings search before after old new result 
     let able : (plan : Plan) (entries : List Chosen) → IsPlanned other its firings search plan entries → IsPrinted entries plan before after → CanExecute seen other plan old new =
     subst (λ (t : Statement). (plan : Plan) (entries : List Chosen) → IsPlanned other t firings search plan entries → IsPrinted entries plan before after → CanExecute seen other plan old new) statements
     (subst (λ (s : Schema). (plan : Plan) (entries : List Chosen) → IsPlanned s statement firings search plan entries → IsPrinted entries plan before after → CanExecute seen s plan old new) schemas can) in
-    statement_answered seen other its names before after old new calm firings search able result ends
+    statement_answered seen other its names before after old new calm firings search (IsResult seen other its new) able result ends

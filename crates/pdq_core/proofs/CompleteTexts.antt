@@ -40,7 +40,7 @@ same_text {P = P} {Q = Q} told name limit given is =
     let e : is.bytes ≡ given.bytes = some_injective is.bytes given.bytes (sym at ∙ given.there) in
     (without_mark given.bytes, given.holds, subst (λ (bytes : List ℕ). Q (without_mark bytes)) e is.holds)
 
-one_schema : (text : List ℕ) (one other : Schema) → IsSchemaText text one → IsSchemaText text other → one ≡ other
+pub one_schema : (text : List ℕ) (one other : Schema) → IsSchemaText text one → IsSchemaText text other → one ≡ other
 one_schema text one other a b = read_only text (Ok one) a tt other b
 
 one_plan : (text : List ℕ) (one other : Plan) → IsPlanText text one → IsPlanText text other → one ≡ other

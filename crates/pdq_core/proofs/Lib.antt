@@ -8,6 +8,7 @@ pub mod CompleteRun
 pub mod CompleteExec
 pub mod CompleteCheck
 pub mod CompleteVerify
+pub mod CompleteWorld
 pub mod Complete
 pub mod Refusals
 pub mod CheckStatuses

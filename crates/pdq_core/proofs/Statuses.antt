@@ -10,6 +10,7 @@ use Rattle.proof_search.specs.Plans.{HasNoPlan}
 use Rattle.proof_search.specs.Decisions.{IsUndecided}
 use Rattle.source_trait.specs.Asking.{Seen}
 use Rattle.source_trait.specs.declared.lanes.Lane.{Lane}
+use Rattle.middleware.specs.declared.fault.Run.{Run as Run_of}
 use Rattle.command_io.specs.declared.exit_status.Status.{Status}
 use Rattle.command_io.specs.declared.exit_status.Status.TheVariants as ends_in
 use Rattle.command_io.specs.declared.stop.Stop.{Stop}
@@ -19,7 +20,7 @@ use Rattle.command_io.specs.Inputs.{Contents, SchemaIsRead, QueryIsRead}
 use Rattle.command_io.specs.Moments.{Moment}
 use Rattle.command_io.specs.FaultLines.{Names}
 use Rattle.command_words.specs.Words.{Command, IsCommand}
-use Rattle.command_words.specs.Words.Command.{Help, Schema as Print, Explain, Run, Exec, Check, Verify}
+use Rattle.command_words.specs.Words.Command.{Help, Schema as Print, Explain, Run, Exec, Check, Verify, World}
 use Rattle.run_command.specs.Deciding.{IsPlanned}
 use Rattle.run_command.specs.Deciding.Shows.{plan as shows_plan, no_plan as shows_none, undecided as shows_log}
 use Rattle.run_command.specs.Explained.{DecisionEnds}
@@ -29,7 +30,7 @@ use Rattle.run_command.specs.Ends.{StatementEnds}
 use Rattle.run_command.specs.Ends.StatementEnds.{no_decision, untold, refuted, undecided, stopped, no_text, cut, done}
 use Rattle.run_command.specs.Ends.RunEnds.{refused, read}
 use Rattle.pdq_core.specs.Runs.{Runs, ended}
-use Rattle.pdq_core.specs.Runs.Runs.{no_command, help, schema as print_schema, explain, run, exec, check, verify}
+use Rattle.pdq_core.specs.Runs.Runs.{no_command, help, schema as print_schema, explain, run, exec, check, verify, world}
 use Rattle.pdq_core.specs.Statuses.{HasPlan, RunsOn, ReadAs, Says, SaysOf}
 use Rattle.pdq_core.proofs.Refusals.{IsRefusal, refusal_is}
 use Rattle.pdq_core.proofs.CheckStatuses.{checked_says}
@@ -83,16 +84,16 @@ module _ (told : Option Contents) (name query : List ℕ) (firings : ℕ) where
     explained_says search names before after result (shown text outcome (shows_log select log spent text_is) took quiet) =
         read_as (RunsOn firings) (longer schema statement firings select log spent)
 
-    run_says : {S : Type 0} (seen : S → Seen) (search : ℕ) (names : Names) (before after : Moment) (old new : List (Lane S)) (result : Result Outcome Stop) →
-        StatementEnds seen schema statement firings search names before after old new result → Says (ended result) told name query firings
-    run_says seen search names before after old new result (no_decision end why quiet same) = stop_says end
-    run_says seen search names before after old new result (untold decision middle count end decided took why quiet same) = stop_says end
-    run_says seen search names before after old new result (refuted text refutes took quiet same) = read_as HasNoPlan refutes.refutes.none
-    run_says seen search names before after old new result (undecided select log spent took quiet same) = read_as (RunsOn firings) (longer schema statement firings select log spent)
-    run_says seen search names before after old new result (stopped plan entries middle count why end planned took executes line quiet) = stop_says end
-    run_says seen search names before after old new result (no_text plan entries middle count given end planned took executes line quiet) = stop_says end
-    run_says seen search names before after old new result (cut plan entries middle count given text end planned took executes result_is part line) = stop_says end
-    run_says seen search names before after old new result (done plan entries given text planned took executes result_is whole) = read_as HasPlan (has_plan schema statement firings search plan entries planned)
+    run_says : {S : Type 0} (seen : S → Seen) (search : ℕ) (IsText : Plan → Run_of → List ℕ → Type 0) (names : Names) (before after : Moment) (old new : List (Lane S)) (result : Result Outcome Stop) →
+        StatementEnds seen schema statement firings search IsText names before after old new result → Says (ended result) told name query firings
+    run_says seen search IsText names before after old new result (no_decision end why quiet same) = stop_says end
+    run_says seen search IsText names before after old new result (untold decision middle count end decided took why quiet same) = stop_says end
+    run_says seen search IsText names before after old new result (refuted text refutes took quiet same) = read_as HasNoPlan refutes.refutes.none
+    run_says seen search IsText names before after old new result (undecided select log spent took quiet same) = read_as (RunsOn firings) (longer schema statement firings select log spent)
+    run_says seen search IsText names before after old new result (stopped plan entries middle count why end planned took executes line quiet) = stop_says end
+    run_says seen search IsText names before after old new result (no_text plan entries middle count given end planned took executes line quiet) = stop_says end
+    run_says seen search IsText names before after old new result (cut plan entries middle count given text end planned took executes result_is part line) = stop_says end
+    run_says seen search IsText names before after old new result (done plan entries given text planned took executes result_is whole) = read_as HasPlan (has_plan schema statement firings search plan entries planned)
 
 module _ {S : Type 0} (seen : S → Seen) (words : List (List ℕ)) (command : Command) (before after : Moment) (old new : List (Lane S)) (one : (other : Command) → IsCommand words command → IsCommand words other → command ≡ other) (is : IsCommand words command) where
   its : (other : Command) (status : Status) → IsCommand words other → SaysOf other before.files status → SaysOf command before.files status
@@ -109,10 +110,11 @@ module _ {S : Type 0} (seen : S → Seen) (words : List (List ℕ)) (command : C
   says status (run name query firings search result also (refused end why quiet same)) = its (Run name query firings search) (status_of end) also (stop_says before.files name query firings end)
   says status (run name query firings search result also (read schema statement same_result schema_is statement_is ends)) =
       its (Run name query firings search) (ended result) also
-      (run_says before.files name query firings schema statement schema_is statement_is seen search (record { schema = name; query = query; plan = []; relations = schema.relations }) before after old new result ends)
+      (run_says before.files name query firings schema statement schema_is statement_is seen search _ (record { schema = name; query = query; plan = []; relations = schema.relations }) before after old new result ends)
   says status (exec name plan result also ends) = its (Exec name plan) (ended result) also tt
   says status (check name query plan firings result also ends same) = its (Check name query plan firings) (ended result) also (checked_says name query plan firings before after result ends)
   says status (verify name result also ends) = its (Verify name) (ended result) also tt
+  says status (world size result also ends) = its (World size) (ended result) also tt
 
 pub whole : {S : Type 0} (seen : S → Seen) → ((words : List (List ℕ)) (command other : Command) → IsCommand words command → IsCommand words other → command ≡ other) → (words : List (List ℕ)) (command : Command) (before after : Moment) (old new : List (Lane S)) (status : Status) →
     Runs seen words before after old new status → IsCommand words command → SaysOf command before.files status

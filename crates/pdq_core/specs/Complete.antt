@@ -32,8 +32,10 @@ use Rattle.command_io.specs.Inputs.{Contents, without_mark}
 use Rattle.command_io.specs.Moments.{Moment}
 use Rattle.command_io.specs.Writing.{TookAll}
 use Rattle.command_words.specs.Words.{Command}
-use Rattle.command_words.specs.Words.Command.{Help, Schema as Print, Explain, Run, Exec, Check, Verify}
+use Rattle.command_words.specs.Words.Command.{Help, Schema as Print, Explain, Run, Exec, Check, Verify, World}
+use Rattle.world_source.specs.Texts.{schema_text, query_text}
 use Rattle.run_command.specs.Deciding.{IsPlanned}
+use Rattle.run_command.specs.declared.world.TheConstants.{FIRINGS, UNITS}
 use Rattle.exec_command.specs.Ends.{MayRun}
 use Rattle.verify_command.specs.RuleRelations.{RulesName}
 use Rattle.verify_command.specs.Verifying.{used}
@@ -186,6 +188,15 @@ pub record VerifyIsSupplied {S : Type 0} (seen : S → Seen) (name : List ℕ) (
   pub schema_given : SchemaIsGiven told name schema
   pub serve : Serve seen schema (RulesName schema) (used old) (used new)
 
+-- For `world`: its texts are those of a schema and of a statement over it, and the plan for the statement that was printed can be executed.
+pub record WorldIsSupplied {S : Type 0} (seen : S → Seen) (size : ℕ) (before after : Moment) (old new : List (Lane S)) : Type 0 where
+  pub schema : Schema
+  pub statement : Statement
+  pub schema_is : IsSchemaText (schema_text size) schema
+  pub statement_is : IsStatementText schema query_text statement
+  pub execution : (plan : Plan) (entries : List Chosen) → IsPlanned schema statement FIRINGS UNITS plan entries →
+      IsPrinted entries plan before after → CanExecute seen schema plan old new
+
 -- What a command needs is supplied.
 abbrev pub IsSupplied : {S : Type 0} → (S → Seen) → Command → Moment → Moment → List (Lane S) → List (Lane S) → Type 0
 IsSupplied seen Help before after old new = Unit {0}
@@ -195,3 +206,4 @@ IsSupplied seen (Run name query firings search) before after old new = RunIsSupp
 IsSupplied seen (Exec name plan) before after old new = ExecIsSupplied seen name plan before.files old new
 IsSupplied seen (Check name query plan firings) before after old new = CheckIsSupplied before.files name query plan
 IsSupplied seen (Verify name) before after old new = VerifyIsSupplied seen name before.files old new
+IsSupplied seen (World size) before after old new = WorldIsSupplied seen size before after old new

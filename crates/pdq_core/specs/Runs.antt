@@ -15,11 +15,12 @@ use Rattle.command_io.specs.Telling.{StopsFor}
 use Rattle.schema_command.specs.Ends.{SchemaEnds}
 use Rattle.run_command.specs.Ends.{RunEnds}
 use Rattle.run_command.specs.Explained.{ExplainEnds}
+use Rattle.run_command.specs.World.{WorldEnds}
 use Rattle.exec_command.specs.Ends.{ExecEnds}
 use Rattle.check_command.specs.Ends.{CheckEnds}
 use Rattle.verify_command.specs.Ends.{VerifyEnds}
 use Rattle.command_words.specs.Words.{Command, IsCommand}
-use Rattle.command_words.specs.Words.Command.{Help, Schema, Explain, Run, Exec, Check, Verify}
+use Rattle.command_words.specs.Words.Command.{Help, Schema, Explain, Run, Exec, Check, Verify, World}
 use Rattle.pdq_core.specs.Help.{HelpEnds}
 
 -- The status is that of the outcome where nothing stopped the command, and otherwise that of the stop.
@@ -56,3 +57,6 @@ pub data Runs {S : Type 0} (seen : S → Seen) (words : List (List ℕ)) (before
   -- the words are `verify SCHEMA`
   verify : (name : List ℕ) (result : Result Outcome Stop) → IsCommand words (Verify name) →
       VerifyEnds seen name before after old new result → Runs seen words before after old new (ended result)
+  -- the words are `world N`
+  world : (size : ℕ) (result : Result Outcome Stop) → IsCommand words (World size) →
+      WorldEnds seen size before after old new result → Runs seen words before after old new (ended result)

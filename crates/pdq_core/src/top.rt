@@ -10,7 +10,7 @@ use command_io::{Outcome, Status, Stop, say, status};
 use command_words::{Command, read_words};
 use exec_command::exec_plan;
 use lists::Text;
-use run_command::{explain_query, run_query};
+use run_command::{explain_query, run_query, run_world};
 use schema_command::print_schema;
 use source_trait::{Files, Lane, Sink, Source};
 use std::alloc::Global;
@@ -77,6 +77,7 @@ pub fn run_words<F: Files, S: Source + Send + Drop, O: Sink, E: Sink>(
         Some(Command::Verify { schema }) => {
             ended(verify_rules(alloc, schema, files, lanes, out, err))
         }
+        Some(Command::World { size }) => ended(run_world(alloc, size, lanes, out, err)),
     }
 }
 

@@ -24,6 +24,7 @@ use Rattle.command_io.specs.Moments.{Moment, Between}
 use Rattle.command_io.specs.Writing.{TookAll}
 use Rattle.command_io.specs.Telling.{Tells}
 use Rattle.command_io.specs.Executing.{Executes, Delivers}
+use Rattle.command_io.specs.Reports.{summary}
 use Rattle.command_io.specs.Executing.Delivers.{done as delivered_all, no_rows, no_text as no_text_made, cut as delivered_part}
 use Rattle.sql_select.specs.Statements.{result_names}
 use Rattle.command_io.specs.declared.outcome.Outcome.{Outcome}
@@ -44,6 +45,7 @@ use Rattle.run_command.proofs.Decided.{planned, refuted as refutation_told}
 use Rattle.run_command.specs.Texts.{TextsStop}
 use Rattle.run_command.specs.Texts.TextsStop.{no_schema, no_statement}
 use Rattle.run_command.specs.Ends.{IsResult, StatementEnds}
+use Rattle.run_command.specs.World.{IsSummary}
 use Rattle.run_command.specs.Ends.StatementEnds.{no_decision, untold, refuted, undecided, stopped, no_text, cut, done}
 use Rattle.run_command.specs.Explained.{DecisionEnds}
 use Rattle.run_command.specs.Explained.DecisionEnds.{no_decision as none_decided, cut as part_shown, shown}
@@ -52,7 +54,7 @@ module _ {S : Type 0} (seen : S → Seen) (schema : Schema) (statement : Stateme
     (columns : List (List ℕ)) (named : result_names statement.selects ≡ columns) (old new : List (Lane S)) where
   -- the text of the rows is the result
   pub result_of : (run : Run) (text : List ℕ) → Executes seen schema plan CALLS old new (Ok run) → IsRowText columns (Contains run.rows) text →
-      IsResult seen schema statement plan run new text
+      IsResult seen schema statement new plan run text
   result_of run text executes of_rows = record { given = rw named of_rows; rows = rows; answers = answers }
     where
       rows : (instance : List Fact) → Holds seen schema plan new instance → IsRowText (result_names statement.selects) (IsRow (meaning_of schema) plan instance) text
@@ -62,20 +64,33 @@ module _ {S : Type 0} (seen : S → Seen) (schema : Schema) (statement : Stateme
       answers instance holds model = IsRowText-alike (result_names statement.selects) (IsRow (meaning_of schema) plan instance) (Answers statement instance) text
           (λ row. (is.is.equivalent.sound instance row model, is.is.equivalent.complete instance row model)) (rows instance holds)
 
-  module _ (names : Names) (before after : Moment) where
-    pub delivered : TookAll before.err after.err (planned_text entries plan) →
-        Delivers seen schema plan CALLS columns old new before.out after.out (Rose before.out_faults after.out_faults) (Ok tt) →
-        StatementEnds seen schema statement firings search names before after old new (Ok outcome.Done)
-    delivered told (delivered_all run text executes of_rows took) = done plan entries run text is told executes (result_of run text executes of_rows) took
+-- the summary of an execution is the result of a world
+pub summary_of : {S : Type 0} (seen : S → Seen) (schema : Schema) (statement : Statement) (firings search : ℕ) (plan : Plan) (entries : List Chosen) → IsPlanned schema statement firings search plan entries →
+    (size : ℕ) (old new : List (Lane S)) (run : Run) (text : List ℕ) → Executes seen schema plan CALLS old new (Ok run) → text ≡ summary size run.made run.rows → IsSummary seen size schema statement new plan run text
+summary_of seen schema statement firings search plan entries is size old new run text executes given = record {
+  given = given;
+  rows = λ instance holds. executes.rows instance holds;
+  answers = λ instance holds model row.
+      let same = executes.rows instance holds row in
+      (λ among. is.is.equivalent.sound instance row model (same.0 among), λ answer. same.1 (is.is.equivalent.complete instance row model answer));
+}
 
-    pub not_delivered : (middle : Option (List ℕ)) (count : Between before.err_faults after.err_faults) (given end : Stop) → TookAll before.err middle (planned_text entries plan) →
-        Delivers seen schema plan CALLS columns old new before.out after.out (Rose before.out_faults after.out_faults) (Err given) →
-        Tells middle after.err (Rose count.faults after.err_faults) names given end →
-        StatementEnds seen schema statement firings search names before after old new (Err end)
-    not_delivered middle count given end told (no_rows why executes same) tells = stopped plan entries middle count why end is told executes (record { given = given; cause = refl; tells = tells }) same
-    not_delivered middle count given end told (no_text_made run executes same) tells = no_text plan entries middle count run end is told executes (record { given = given; cause = refl; tells = tells }) same
-    not_delivered middle count given end told (delivered_part run text its executes of_rows took why) tells =
-        cut plan entries middle count run text end is told executes (result_of run text executes of_rows) took (record { given = given; cause = why; tells = tells })
+-- what a delivery makes of the statement
+module _ {S : Type 0} (seen : S → Seen) (schema : Schema) (statement : Statement) (firings search : ℕ) (plan : Plan) (entries : List Chosen) (is : IsPlanned schema statement firings search plan entries)
+    (IsText : Run → List ℕ → Type 0) (names : Names) (before after : Moment) (old new : List (Lane S)) where
+  pub delivered : TookAll before.err after.err (planned_text entries plan) →
+      Delivers seen schema plan CALLS IsText old new before.out after.out (Rose before.out_faults after.out_faults) (Ok tt) →
+      StatementEnds seen schema statement firings search (λ plan. IsText) names before after old new (Ok outcome.Done)
+  delivered told (delivered_all run text executes says took) = done plan entries run text is told executes says took
+
+  pub not_delivered : (middle : Option (List ℕ)) (count : Between before.err_faults after.err_faults) (given end : Stop) → TookAll before.err middle (planned_text entries plan) →
+      Delivers seen schema plan CALLS IsText old new before.out after.out (Rose before.out_faults after.out_faults) (Err given) →
+      Tells middle after.err (Rose count.faults after.err_faults) names given end →
+      StatementEnds seen schema statement firings search (λ plan. IsText) names before after old new (Err end)
+  not_delivered middle count given end told (no_rows why executes same) tells = stopped plan entries middle count why end is told executes (record { given = given; cause = refl; tells = tells }) same
+  not_delivered middle count given end told (no_text_made run executes same) tells = no_text plan entries middle count run end is told executes (record { given = given; cause = refl; tells = tells }) same
+  not_delivered middle count given end told (delivered_part run text its executes says took why) tells =
+      cut plan entries middle count run text end is told executes says took (record { given = given; cause = why; tells = tells })
 
 -- where the decision was written whole, what it shows was
 module _ {S : Type 0} (seen : S → Seen) (schema : Schema) (statement : Statement) (firings search : ℕ) (fits : StatementFits schema statement) (decision : Decision)
@@ -96,49 +111,64 @@ module _ {S : Type 0} (seen : S → Seen) (schema : Schema) (statement : Stateme
           IsPlanned schema statement firings search plan entries × TookAll old new (planned_text entries plan)
       go (right_plan of its for can chosen) told = (planned schema statement firings search plan entries for can chosen (subst IsUtf8 told.is told.utf8), subst (TookAll old new) told.is told.took)
 
-  module _ (names : Names) (before after : Moment) (old new : List (Lane S)) (out : after.out ≡ before.out) (lanes : new ≡ old) where
+  module _ (IsText : Plan → Run → List ℕ → Type 0) (names : Names) (before after : Moment) (old new : List (Lane S)) (out : after.out ≡ before.out) (lanes : new ≡ old) where
     -- a refutation
     pub none_told : (pair : Witness) → decision ≡ NoPlan pair → Written schema decision before.err after.err →
-        StatementEnds seen schema statement firings search names before after old new (Ok outcome.No)
+        StatementEnds seen schema statement firings search IsText names before after old new (Ok outcome.No)
     none_told pair is written = go (subst (IsDecided schema statement firings search) is right) (subst (λ d. Written schema d before.err after.err) is written)
       where
         go : IsDecided schema statement firings search (NoPlan pair) → Written schema (NoPlan pair) before.err after.err →
-            StatementEnds seen schema statement firings search names before after old new (Ok outcome.No)
+            StatementEnds seen schema statement firings search IsText names before after old new (Ok outcome.No)
         go (right_pair of for) told = refuted told.text (refutation_told schema statement pair told.text fits for told.is told.utf8) told.took out lanes
 
     -- the log of spent firings
     pub log_told : (select : ℕ) (log : List Firing) → decision ≡ Undecided select log → Written schema decision before.err after.err →
-        StatementEnds seen schema statement firings search names before after old new (Ok outcome.Undecided)
+        StatementEnds seen schema statement firings search IsText names before after old new (Ok outcome.Undecided)
     log_told select log is written = go (subst (IsDecided schema statement firings search) is right) (subst (λ d. Written schema d before.err after.err) is written)
       where
         go : IsDecided schema statement firings search (Undecided select log) → Written schema (Undecided select log) before.err after.err →
-            StatementEnds seen schema statement firings search names before after old new (Ok outcome.Undecided)
+            StatementEnds seen schema statement firings search IsText names before after old new (Ok outcome.Undecided)
         go (right_log one its for) told = undecided select log for (subst (TookAll before.err after.err) told.is told.took) out lanes
 
 -- the lanes stay in their order however the delivery ended
-pub lanes_stay : {S : Type 0} (seen : S → Seen) (schema : Schema) (plan : Plan) (columns : List (List ℕ)) (old new : List (Lane S))
+pub lanes_stay : {S : Type 0} (seen : S → Seen) (schema : Schema) (plan : Plan) (IsText : Run → List ℕ → Type 0) (old new : List (Lane S))
     (out_old out_new : Option (List ℕ)) (rose : Type 0) (result : Result (Unit {0}) Stop) →
-    Delivers seen schema plan CALLS columns old new out_old out_new rose result → LanesStay seen old new
-lanes_stay seen schema plan columns old new out_old out_new rose result (delivered_all run text executes of_rows took) = executes.stay
-lanes_stay seen schema plan columns old new out_old out_new rose result (no_rows why executes same) = executes.stay
-lanes_stay seen schema plan columns old new out_old out_new rose result (no_text_made run executes same) = executes.stay
-lanes_stay seen schema plan columns old new out_old out_new rose result (delivered_part run text its executes of_rows took why) = executes.stay
+    Delivers seen schema plan CALLS IsText old new out_old out_new rose result → LanesStay seen old new
+lanes_stay seen schema plan IsText old new out_old out_new rose result (delivered_all run text executes of_rows took) = executes.stay
+lanes_stay seen schema plan IsText old new out_old out_new rose result (no_rows why executes same) = executes.stay
+lanes_stay seen schema plan IsText old new out_old out_new rose result (no_text_made run executes same) = executes.stay
+lanes_stay seen schema plan IsText old new out_old out_new rose result (delivered_part run text its executes of_rows took why) = executes.stay
 
 -- what became of a statement does not depend on the files
-pub with_files : {S : Type 0} (seen : S → Seen) (schema : Schema) (statement : Statement) (firings search : ℕ) (names : Names) (before after : Moment) (old new : List (Lane S))
+pub with_files : {S : Type 0} (seen : S → Seen) (schema : Schema) (statement : Statement) (firings search : ℕ) (IsText : Plan → Run → List ℕ → Type 0) (names : Names) (before after : Moment) (old new : List (Lane S))
     (result : Result Outcome Stop) →
-    StatementEnds seen schema statement firings search names
+    StatementEnds seen schema statement firings search IsText names
     (record { files = None; file_faults = 0; out = before.out; out_faults = before.out_faults; err = before.err; err_faults = before.err_faults })
     (record { files = None; file_faults = 0; out = after.out; out_faults = after.out_faults; err = after.err; err_faults = after.err_faults }) old new result →
-    StatementEnds seen schema statement firings search names before after old new result
-with_files seen schema statement firings search names before after old new result (no_decision end why out lanes) = no_decision end why out lanes
-with_files seen schema statement firings search names before after old new result (untold decision middle count end is told why out lanes) = untold decision middle count end is told why out lanes
-with_files seen schema statement firings search names before after old new result (refuted text is told out lanes) = refuted text is told out lanes
-with_files seen schema statement firings search names before after old new result (undecided select log is told out lanes) = undecided select log is told out lanes
-with_files seen schema statement firings search names before after old new result (stopped plan entries middle count fault end is told executes why out) = stopped plan entries middle count fault end is told executes why out
-with_files seen schema statement firings search names before after old new result (no_text plan entries middle count run end is told executes why out) = no_text plan entries middle count run end is told executes why out
-with_files seen schema statement firings search names before after old new result (cut plan entries middle count run text end is told executes of_rows took why) = cut plan entries middle count run text end is told executes of_rows took why
-with_files seen schema statement firings search names before after old new result (done plan entries run text is told executes of_rows took) = done plan entries run text is told executes of_rows took
+    StatementEnds seen schema statement firings search IsText names before after old new result
+with_files seen schema statement firings search IsText names before after old new result (no_decision end why out lanes) = no_decision end why out lanes
+with_files seen schema statement firings search IsText names before after old new result (untold decision middle count end is told why out lanes) = untold decision middle count end is told why out lanes
+with_files seen schema statement firings search IsText names before after old new result (refuted text is told out lanes) = refuted text is told out lanes
+with_files seen schema statement firings search IsText names before after old new result (undecided select log is told out lanes) = undecided select log is told out lanes
+with_files seen schema statement firings search IsText names before after old new result (stopped plan entries middle count fault end is told executes why out) = stopped plan entries middle count fault end is told executes why out
+with_files seen schema statement firings search IsText names before after old new result (no_text plan entries middle count run end is told executes why out) = no_text plan entries middle count run end is told executes why out
+with_files seen schema statement firings search IsText names before after old new result (cut plan entries middle count run text end is told executes of_rows took why) = cut plan entries middle count run text end is told executes of_rows took why
+with_files seen schema statement firings search IsText names before after old new result (done plan entries run text is told executes of_rows took) = done plan entries run text is told executes of_rows took
+
+-- what the text of an execution says, its result says
+module _ {S : Type 0} (seen : S → Seen) (schema : Schema) (statement : Statement) (firings search : ℕ) (IsText IsRight : Plan → Run → List ℕ → Type 0) (names : Names) (before after : Moment) (old new : List (Lane S))
+    (says : (plan : Plan) (entries : List Chosen) (run : Run) (text : List ℕ) → IsPlanned schema statement firings search plan entries → Executes seen schema plan CALLS old new (Ok run) → IsText plan run text → IsRight plan run text) where
+  pub with_text : (result : Result Outcome Stop) → StatementEnds seen schema statement firings search IsText names before after old new result →
+      StatementEnds seen schema statement firings search IsRight names before after old new result
+  with_text result (no_decision end why out lanes) = no_decision end why out lanes
+  with_text result (untold decision middle count end is told why out lanes) = untold decision middle count end is told why out lanes
+  with_text result (refuted text is told out lanes) = refuted text is told out lanes
+  with_text result (undecided select log is told out lanes) = undecided select log is told out lanes
+  with_text result (stopped plan entries middle count fault end is told executes why out) = stopped plan entries middle count fault end is told executes why out
+  with_text result (no_text plan entries middle count run end is told executes why out) = no_text plan entries middle count run end is told executes why out
+  with_text result (cut plan entries middle count run text end is told executes given took why) =
+      cut plan entries middle count run text end is told executes (says plan entries run text is executes given) took why
+  with_text result (done plan entries run text is told executes given took) = done plan entries run text is told executes (says plan entries run text is executes given) took
 
 -- nor do the ends of a decision
 pub shown_with_files : (schema : Schema) (statement : Statement) (firings search : ℕ) (names : Names) (before after : Moment) (result : Result Outcome Stop) →

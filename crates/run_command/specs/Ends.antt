@@ -37,7 +37,7 @@ use Rattle.run_command.specs.Texts.{TextsStop}
 
 -- The text is that of the rows that the execution gave. They are the plan's on whatever instance the sources hold, and so the
 -- statement's answers where the instance meets the rules.
-pub record IsResult {S : Type 0} (seen : S → Seen) (schema : Schema) (statement : Statement) (plan : Plan) (run : Run) (lanes : List (Lane S)) (text : List ℕ) : Type 0 where
+pub record IsResult {S : Type 0} (seen : S → Seen) (schema : Schema) (statement : Statement) (lanes : List (Lane S)) (plan : Plan) (run : Run) (text : List ℕ) : Type 0 where
   pub given : IsRowText (result_names statement.selects) (Contains run.rows) text
   pub rows : (instance : List Fact) → Holds seen schema plan lanes instance →
       IsRowText (result_names statement.selects) (IsRow (meaning_of schema) plan instance) text
@@ -45,45 +45,46 @@ pub record IsResult {S : Type 0} (seen : S → Seen) (schema : Schema) (statemen
       IsRowText (result_names statement.selects) (Answers statement instance) text
 
 -- What became of a statement: nothing was decided; or standard error took the text of a decision, whole or not; and where that was a
--- plan and was taken whole, the plan was executed, and standard output took the text of the result, whole or not.
-pub data StatementEnds {S : Type 0} (seen : S → Seen) (schema : Schema) (statement : Statement) (firings search : ℕ) (names : Names) (before after : Moment)
+-- plan and was taken whole, the plan was executed, and standard output took the text of the result, whole or not. `IsText` says which text
+-- that is.
+pub data StatementEnds {S : Type 0} (seen : S → Seen) (schema : Schema) (statement : Statement) (firings search : ℕ) (IsText : Plan → Run → List ℕ → Type 0) (names : Names) (before after : Moment)
     (old new : List (Lane S)) : Result Outcome Stop → Type 0 where
   -- memory was wanted for a decision, and nothing but the line was written
   no_decision : (end : Stop) →
       StopsFor (λ given. given ≡ stop.Memory) names before.err after.err (Rose before.err_faults after.err_faults) end →
-      after.out ≡ before.out → new ≡ old → StatementEnds seen schema statement firings search names before after old new (Err end)
+      after.out ≡ before.out → new ≡ old → StatementEnds seen schema statement firings search IsText names before after old new (Err end)
   -- the decision was not written whole, and nothing else was touched; the line of that may be missing only where its writing failed too
   untold : (decision : Decision) (middle : Option (List ℕ)) (count : Between before.err_faults after.err_faults) (end : Stop) →
       IsDecided schema statement firings search decision → TookPartOf before.err middle (IsDecisionText schema decision) →
       StopsFor (DecisionStop (Rose before.err_faults count.faults)) names middle after.err (Rose count.faults after.err_faults) end →
-      after.out ≡ before.out → new ≡ old → StatementEnds seen schema statement firings search names before after old new (Err end)
+      after.out ≡ before.out → new ≡ old → StatementEnds seen schema statement firings search IsText names before after old new (Err end)
   -- there is no plan: the refutation was written whole, and nothing else was touched
   refuted : (text : List ℕ) → IsRefuted schema statement text → TookAll before.err after.err text →
-      after.out ≡ before.out → new ≡ old → StatementEnds seen schema statement firings search names before after old new (Ok outcome.No)
+      after.out ≡ before.out → new ≡ old → StatementEnds seen schema statement firings search IsText names before after old new (Ok outcome.No)
   -- the firings were spent: their log was written whole, and nothing else was touched
   undecided : (select : ℕ) (log : List Firing) → IsUndecided schema statement firings select log →
       TookAll before.err after.err (undecided_text schema select log) →
-      after.out ≡ before.out → new ≡ old → StatementEnds seen schema statement firings search names before after old new (Ok outcome.Undecided)
+      after.out ≡ before.out → new ≡ old → StatementEnds seen schema statement firings search IsText names before after old new (Ok outcome.Undecided)
   -- the plan was written whole, and its execution stopped
   stopped : (plan : Plan) (entries : List Chosen) (middle : Option (List ℕ)) (count : Between before.err_faults after.err_faults) (why : RunFault) (end : Stop) →
       IsPlanned schema statement firings search plan entries → TookAll before.err middle (planned_text entries plan) → Executes seen schema plan CALLS old new (Err why) →
       StopsFor (λ given. given ≡ stop_of_run why) names middle after.err (Rose count.faults after.err_faults) end →
-      after.out ≡ before.out → StatementEnds seen schema statement firings search names before after old new (Err end)
+      after.out ≡ before.out → StatementEnds seen schema statement firings search IsText names before after old new (Err end)
   -- it was executed, and there was no memory for the text of the result
   no_text : (plan : Plan) (entries : List Chosen) (middle : Option (List ℕ)) (count : Between before.err_faults after.err_faults) (run : Run) (end : Stop) →
       IsPlanned schema statement firings search plan entries → TookAll before.err middle (planned_text entries plan) → Executes seen schema plan CALLS old new (Ok run) →
       StopsFor (λ given. given ≡ stop.Memory) names middle after.err (Rose count.faults after.err_faults) end →
-      after.out ≡ before.out → StatementEnds seen schema statement firings search names before after old new (Err end)
+      after.out ≡ before.out → StatementEnds seen schema statement firings search IsText names before after old new (Err end)
   -- it was executed, and the result was not written whole
   cut : (plan : Plan) (entries : List Chosen) (middle : Option (List ℕ)) (count : Between before.err_faults after.err_faults) (run : Run) (text : List ℕ) (end : Stop) →
       IsPlanned schema statement firings search plan entries → TookAll before.err middle (planned_text entries plan) → Executes seen schema plan CALLS old new (Ok run) →
-      IsResult seen schema statement plan run new text → TookPart before.out after.out text →
+      IsText plan run text → TookPart before.out after.out text →
       StopsFor (ResultStop (Rose before.out_faults after.out_faults)) names middle after.err (Rose count.faults after.err_faults) end →
-      StatementEnds seen schema statement firings search names before after old new (Err end)
+      StatementEnds seen schema statement firings search IsText names before after old new (Err end)
   -- it was executed, and the result was written whole
   done : (plan : Plan) (entries : List Chosen) (run : Run) (text : List ℕ) → IsPlanned schema statement firings search plan entries → TookAll before.err after.err (planned_text entries plan) →
-      Executes seen schema plan CALLS old new (Ok run) → IsResult seen schema statement plan run new text → TookAll before.out after.out text →
-      StatementEnds seen schema statement firings search names before after old new (Ok outcome.Done)
+      Executes seen schema plan CALLS old new (Ok run) → IsText plan run text → TookAll before.out after.out text →
+      StatementEnds seen schema statement firings search IsText names before after old new (Ok outcome.Done)
 
 -- How `run` ends: a text was refused, and nothing but the line was written; or both were read, and the statement was decided.
 pub data RunEnds {S : Type 0} (seen : S → Seen) (schema_name query_name : List ℕ) (firings search : ℕ) (before after : Moment) (old new : List (Lane S)) :
@@ -92,5 +93,5 @@ pub data RunEnds {S : Type 0} (seen : S → Seen) (schema_name query_name : List
       after.out ≡ before.out → new ≡ old → RunEnds seen schema_name query_name firings search before after old new (Err end)
   read : (schema : Schema) (statement : Statement) (result : Result Outcome Stop) →
       SchemaIsRead before.files schema_name schema → QueryIsRead before.files query_name schema statement →
-      StatementEnds seen schema statement firings search (record { schema = schema_name; query = query_name; plan = []; relations = schema.relations }) before after old new result →
+      StatementEnds seen schema statement firings search (IsResult seen schema statement new) (record { schema = schema_name; query = query_name; plan = []; relations = schema.relations }) before after old new result →
       RunEnds seen schema_name query_name firings search before after old new result

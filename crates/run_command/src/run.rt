@@ -6,11 +6,12 @@ ghost use Rattle.sql_select.specs.Statements.{StatementFits};
 ghost use Rattle.rule_pass.specs.declared.pass.TheConstants.{MOST_FIRINGS};
 ghost use Rattle.proof_search.specs.declared.deciding.TheConstants.{MOST_UNITS};
 ghost use Rattle.command_io.specs.Moments.{Moment, Stays};
+ghost use Rattle.command_io.specs.Reports.{IsReport};
 ghost use Rattle.run_command.specs.Ends.{StatementEnds, RunEnds};
 
 use crate::deciding::{decided, read_texts, write_decision};
 use access_schema::Schema;
-use command_io::{FileNames, Outcome, Stop, deliver, tell};
+use command_io::{FileNames, Outcome, Report, Stop, deliver, tell};
 use lists::Text;
 use meaning::types::Statement;
 use no_plan_witness::Decision;
@@ -51,21 +52,25 @@ pub fn run_query<F: Files, S: Source + Send + Drop, O: Sink, E: Sink>(
         plan: &none,
     };
     match read_texts(alloc, names, files, err) {
-        Ok((schema, statement)) => answer(
-            alloc, names, &schema, &statement, firings, search, lanes, out, err,
-        ),
+        Ok((schema, statement)) => {
+            let report = Report::Rows(result_names(&statement));
+            answer(
+                alloc, names, &schema, &statement, firings, search, report, lanes, out, err,
+            )
+        }
         Err(stop) => Err(stop),
     }
 }
 
-// Decides the statement, writes the decision, and where it is a plan, executes it and writes the result.
-fn answer<S: Source + Send + Drop, O: Sink, E: Sink>(
+/// Decides the statement, writes the decision to `err`, and where it is a plan, executes it and writes the report of that to `out`.
+pub fn answer<S: Source + Send + Drop, O: Sink, E: Sink>(
     alloc: Global,
     names: FileNames<'_>,
     schema: &Schema,
     statement: &Statement,
     firings: u32,
     search: u32,
+    report: Report<'_>,
     lanes: &mut Vec<Lane<S>>,
     out: &mut O,
     err: &mut E,
@@ -73,7 +78,7 @@ fn answer<S: Source + Send + Drop, O: Sink, E: Sink>(
     requires fits { StatementFits schema.now statement.now }
     requires budget { firings ≤ MOST_FIRINGS }
     requires units { search ≤ MOST_UNITS }
-    ensures ends { StatementEnds S.seen schema.now statement.now firings search (record { schema = names.entry.schema.now; query = names.entry.query.now; plan = names.entry.plan.now; relations = schema.now.relations })
+    ensures ends { StatementEnds S.seen schema.now statement.now firings search (λ plan. IsReport report.entry) (record { schema = names.entry.schema.now; query = names.entry.query.now; plan = names.entry.plan.now; relations = schema.now.relations })
         (record { files = None; file_faults = 0; out = O.taken out.old; out_faults = O.faults out.old; err = E.taken err.old; err_faults = E.faults err.old })
         (record { files = None; file_faults = 0; out = O.taken out.new; out_faults = O.faults out.new; err = E.taken err.new; err_faults = E.faults err.new })
         lanes.old.items lanes.new.items result }
@@ -95,7 +100,7 @@ fn answer<S: Source + Send + Drop, O: Sink, E: Sink>(
         Decision::NoPlan(_) => return Ok(Outcome::No),
         Decision::Undecided { select: _, log: _ } => return Ok(Outcome::Undecided),
     };
-    match deliver(alloc, schema, plan, result_names(statement), lanes, out) {
+    match deliver(alloc, schema, plan, report, lanes, out) {
         Ok(()) => Ok(Outcome::Done),
         Err(stop) => Err(tell(alloc, err, stop, names, relations)),
     }

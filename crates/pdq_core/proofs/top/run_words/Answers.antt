@@ -4,9 +4,9 @@ use Rattle.source_trait.proofs.LaneSteps.{LanesStay-refl}
 use Rattle.command_io.specs.declared.stop.Stop.TheVariants as stop
 use Rattle.command_io.proofs.Lines.{said_tells}
 use Rattle.command_words.specs.Words.{IsCommand}
-use Rattle.command_words.specs.Words.Command.{Help, Schema, Explain, Run, Exec, Check, Verify}
-use Rattle.pdq_core.specs.Runs.Runs.{no_command, help, schema, explain, run, exec, check, verify}
-use Rattle.pdq_core.proofs.Ways.{few_explained, few_run, few_checked, units_explained, units_run, help_with_files}
+use Rattle.command_words.specs.Words.Command.{Help, Schema, Explain, Run, Exec, Check, Verify, World}
+use Rattle.pdq_core.specs.Runs.Runs.{no_command, help, schema, explain, run, exec, check, verify, world}
+use Rattle.pdq_core.proofs.Ways.{few_explained, few_run, few_checked, units_explained, units_run, small_world, help_with_files, world_with_files}
 use Rattle.pdq_core.proofs.top.run_words.Goals as goal
 
 pub returns-in-None-clause-run : goal.returns-in-None-clause-run
@@ -93,3 +93,11 @@ pub returns-in-Some-Verify-clause-run : goal.returns-in-Some-Verify-clause-run
 returns-in-Some-Verify-clause-run g c =
     let is : IsCommand c.args.words.now (Verify c.in-Some-Verify.schema.now) = rw c.in-Some-Verify.field-0-is at c.in-Some-Verify.ensures.some in
     rw c.ended-in-Some-Verify.ensures (verify c.in-Some-Verify.schema.now c.verify_rules.result is c.verify_rules.ensures.ends)
+
+pub returns-in-Some-World-clause-run : goal.returns-in-Some-World-clause-run
+returns-in-Some-World-clause-run g c =
+    let is : IsCommand c.args.words.now (World c.in-Some-World.size) = rw c.in-Some-World.field-0-is at c.in-Some-World.ensures.some in
+    rw c.ended-in-Some-World.ensures (world c.in-Some-World.size c.run_world.result is (world_with_files g.S.Source.seen c.in-Some-World.size _ _ _ _ c.run_world.result c.run_world.ensures.ends))
+
+pub run_world-requires-clause-small : goal.run_world-requires-clause-small
+run_world-requires-clause-small g c κs within = small_world c.args.words.now c.in-Some-World.size (rw c.in-Some-World.field-0-is at c.in-Some-World.ensures.some)

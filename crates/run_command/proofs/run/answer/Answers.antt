@@ -1,5 +1,5 @@
 -- The ways of a statement, by where the function returns.
-use Rattle.std.proofs.Common.{refl, sym}
+use Rattle.std.proofs.Common.{refl}
 use Rattle.source_trait.proofs.LaneSteps.{LanesStay-refl}
 use Rattle.command_io.proofs.Later.{decision_stop}
 use Rattle.command_io.proofs.Short.{short}
@@ -34,7 +34,7 @@ returns-in-Err-write_decision-clause-lanes g c = LanesStay-refl g.S.Source.seen 
 pub returns-in-NoPlan-clause-ends : goal.returns-in-NoPlan-clause-ends
 returns-in-NoPlan-clause-ends g c =
     none_told g.S.Source.seen c.args.schema.now c.args.statement.now c.args.firings c.args.search c.requires.fits c.in-Ok.decision c.in-Ok.ensures.decided
-    _ _ _ _ _ refl refl c.in-NoPlan.field-0 c.in-NoPlan.is c.in-Ok-write_decision.ensures.whole
+    _ _ _ _ _ _ refl refl c.in-NoPlan.field-0 c.in-NoPlan.is c.in-Ok-write_decision.ensures.whole
 
 pub returns-in-NoPlan-clause-lanes : goal.returns-in-NoPlan-clause-lanes
 returns-in-NoPlan-clause-lanes g c = LanesStay-refl g.S.Source.seen c.args.lanes.now.items
@@ -42,7 +42,7 @@ returns-in-NoPlan-clause-lanes g c = LanesStay-refl g.S.Source.seen c.args.lanes
 pub returns-in-Undecided-clause-ends : goal.returns-in-Undecided-clause-ends
 returns-in-Undecided-clause-ends g c =
     log_told g.S.Source.seen c.args.schema.now c.args.statement.now c.args.firings c.args.search c.requires.fits c.in-Ok.decision c.in-Ok.ensures.decided
-    _ _ _ _ _ refl refl c.in-Undecided.select c.in-Undecided.log c.in-Undecided.is c.in-Ok-write_decision.ensures.whole
+    _ _ _ _ _ _ refl refl c.in-Undecided.select c.in-Undecided.log c.in-Undecided.is c.in-Ok-write_decision.ensures.whole
 
 pub returns-in-Undecided-clause-lanes : goal.returns-in-Undecided-clause-lanes
 returns-in-Undecided-clause-lanes g c = LanesStay-refl g.S.Source.seen c.args.lanes.now.items
@@ -60,14 +60,12 @@ deliver-requires-clause-short g c κs within =
 pub returns-in-Ok-deliver-clause-ends : goal.returns-in-Ok-deliver-clause-ends
 returns-in-Ok-deliver-clause-ends g c =
     let told = plan_told g.S.Source.seen c.args.schema.now c.args.statement.now c.args.firings c.args.search c.requires.fits c.in-Ok.decision c.in-Ok.ensures.decided c.in-Plan.plan c.in-Plan.selects _ _ c.in-Plan.is c.in-Ok-write_decision.ensures.whole in
-    delivered g.S.Source.seen c.args.schema.now c.args.statement.now c.args.firings c.args.search c.in-Plan.plan c.in-Plan.selects told.0
-    c.result_names.result.now (sym c.result_names.ensures) _ _ _ _ _ told.1 c.in-Ok-deliver.ensures.delivers
+    delivered g.S.Source.seen c.args.schema.now c.args.statement.now c.args.firings c.args.search c.in-Plan.plan c.in-Plan.selects told.0 _ _ _ _ _ _ told.1 c.in-Ok-deliver.ensures.delivers
 
 pub returns-clause-ends : goal.returns-clause-ends
 returns-clause-ends g c =
     let told = plan_told g.S.Source.seen c.args.schema.now c.args.statement.now c.args.firings c.args.search c.requires.fits c.in-Ok.decision c.in-Ok.ensures.decided c.in-Plan.plan c.in-Plan.selects _ _ c.in-Plan.is c.in-Ok-write_decision.ensures.whole in
-    not_delivered g.S.Source.seen c.args.schema.now c.args.statement.now c.args.firings c.args.search c.in-Plan.plan c.in-Plan.selects told.0
-    c.result_names.result.now (sym c.result_names.ensures) _ _ _ _ _
+    not_delivered g.S.Source.seen c.args.schema.now c.args.statement.now c.args.firings c.args.search c.in-Plan.plan c.in-Plan.selects told.0 _ _ _ _ _ _
     (g.E.Sink.taken c.write_decision.new.sink)
     (record { faults = g.E.Sink.faults c.write_decision.new.sink; begun = c.write_decision.ensures.later; ended = c.tell-in-Err-deliver.ensures.later })
     c.in-Err-deliver.stop c.tell-in-Err-deliver.result told.1 c.in-Err-deliver.ensures.delivers

@@ -1,15 +1,19 @@
 -- A text is refused, or the statement is answered.
-use Rattle.std.proofs.Common.{refl}
+use Rattle.std.proofs.Common.{refl, sym}
 use Rattle.source_trait.proofs.LaneSteps.{LanesStay-refl}
 use Rattle.run_command.specs.Ends.RunEnds.{refused, read}
-use Rattle.run_command.proofs.Results.{with_files, texts_with_out}
+use Rattle.run_command.proofs.Results.{result_of, with_text, with_files, texts_with_out}
 use Rattle.run_command.proofs.run.run_query.Goals as goal
 
 pub returns-in-Ok-clause-ends : goal.returns-in-Ok-clause-ends
 returns-in-Ok-clause-ends g c =
     read c.in-Ok.schema c.in-Ok.statement c.answer.result c.in-Ok.ensures.schema c.in-Ok.ensures.statement
-    (with_files g.S.Source.seen c.in-Ok.schema c.in-Ok.statement c.args.firings c.args.search _ _ _ _ _ c.answer.result
-    (rw (c.new-none.ensures, c.new.ensures.bytes, c.in-Ok.ensures.silent) at c.answer.ensures.ends))
+    (with_text g.S.Source.seen c.in-Ok.schema c.in-Ok.statement c.args.firings c.args.search _ _ _ _ _ _ _
+    (λ plan entries run text is executes given.
+    result_of g.S.Source.seen c.in-Ok.schema c.in-Ok.statement c.args.firings c.args.search plan entries is c.result_names.result.now (sym c.result_names.ensures) _ _ run text executes given)
+    c.answer.result
+    (with_files g.S.Source.seen c.in-Ok.schema c.in-Ok.statement c.args.firings c.args.search _ _ _ _ _ _ c.answer.result
+    (rw (c.new-none.ensures, c.new.ensures.bytes, c.in-Ok.ensures.silent) at c.answer.ensures.ends)))
 
 pub returns-clause-ends : goal.returns-clause-ends
 returns-clause-ends g c = refused c.in-Err.stop (texts_with_out _ _ _ c.in-Err.stop (rw (c.new-none.ensures, c.new.ensures.bytes) at c.in-Err.ensures.stops)) refl refl

@@ -1,0 +1,24 @@
+-- A text is refused, or the statement is decided and summed up.
+use Rattle.std.proofs.Common.{refl}
+use Rattle.source_trait.proofs.LaneSteps.{LanesStay-refl}
+use Rattle.run_command.specs.declared.world.TheConstants.{FIRINGS, UNITS}
+use Rattle.run_command.specs.World.WorldEnds.{refused, read}
+use Rattle.run_command.proofs.Results.{summary_of, with_text}
+use Rattle.run_command.proofs.world.run_world.Goals as goal
+
+pub returns-in-Ok-clause-ends : goal.returns-in-Ok-clause-ends
+returns-in-Ok-clause-ends g c =
+    read c.in-Ok.schema c.in-Ok.statement c.answer.result c.in-Ok.ensures.schema c.in-Ok.ensures.statement
+    (with_text g.S.Source.seen c.in-Ok.schema c.in-Ok.statement FIRINGS UNITS _ _ _ _ _ _ _
+    (λ plan entries run text is executes given. summary_of g.S.Source.seen c.in-Ok.schema c.in-Ok.statement FIRINGS UNITS plan entries is c.args.size _ _ run text executes given)
+    c.answer.result (rw (c.new-none.ensures, c.new.ensures.bytes) at c.answer.ensures.ends))
+
+pub returns-clause-ends : goal.returns-clause-ends
+returns-clause-ends g c = refused c.tell.result (record {
+  given = c.in-Err.stop;
+  cause = c.in-Err.ensures.stops;
+  tells = rw (c.new-none.ensures, c.new.ensures.bytes) at c.tell.ensures.tells;
+}) refl refl
+
+pub returns-clause-lanes : goal.returns-clause-lanes
+returns-clause-lanes g c = LanesStay-refl g.S.Source.seen c.args.lanes.now.items

@@ -1,0 +1,125 @@
+// The world of a size, from its texts to the summary of its execution.
+ghost use Rattle.std.specs.Prelude.{◌≡◌, ◌≤◌, IfErr, IfOk, None, length};
+ghost use Rattle.source_trait.specs.Lanes.{LanesStay};
+ghost use Rattle.tgd_reader.specs.SchemaText.{IsSchemaText};
+ghost use Rattle.sql_select.specs.Statements.{IsStatementText, StatementFits};
+ghost use Rattle.command_io.specs.Moments.{Moment};
+ghost use Rattle.world_source.specs.Texts.{query_text, schema_text};
+ghost use Rattle.run_command.specs.World.{WorldEnds, WorldStop};
+
+use crate::run::answer;
+use access_schema::Schema;
+use command_io::{FileNames, Outcome, Report, Stop, tell};
+use lists::Text;
+use meaning::types::Statement;
+use source_trait::{Lane, Sink, Source};
+use sql_select::{SqlFault, read_select};
+use std::alloc::Global;
+use tgd_reader::{ReadFault, read_schema};
+use world_source::{WorldTexts, world};
+
+/// How many firings the proof of a world's query may take.
+pub const FIRINGS: u32 = 10_000;
+
+/// How many units the search for a cheaper branch may take there.
+pub const UNITS: u32 = 10_000;
+
+/// Answers the query of the world of a size over the lanes, and says why it stopped.
+///
+/// The decision is written to `err` before any source is attached, and where it is a plan, the summary of its execution to `out`.
+pub fn run_world<S: Source + Send + Drop, O: Sink, E: Sink>(
+    alloc: Global,
+    size: u32,
+    lanes: &mut Vec<Lane<S>>,
+    out: &mut O,
+    err: &mut E,
+) -> Result<Outcome, Stop>
+    requires small { size ≤ 10000 }
+    ensures ends { WorldEnds S.seen size
+        (record { files = None; file_faults = 0; out = O.taken out.old; out_faults = O.faults out.old; err = E.taken err.old; err_faults = E.faults err.old })
+        (record { files = None; file_faults = 0; out = O.taken out.new; out_faults = O.faults out.new; err = E.taken err.new; err_faults = E.faults err.new })
+        lanes.old.items lanes.new.items result }
+    ensures lanes { LanesStay S.seen lanes.old.items lanes.new.items }
+    ensures later_out { O.faults out.old ≤ O.faults out.new }
+    ensures later_err { E.faults err.old ≤ E.faults err.new }
+{
+    let none = Text::new(String::new(alloc));
+    let names = FileNames {
+        schema: &none,
+        query: &none,
+        plan: &none,
+    };
+    match read_world(alloc, size) {
+        Ok((schema, statement)) => answer(
+            alloc,
+            names,
+            &schema,
+            &statement,
+            FIRINGS,
+            UNITS,
+            Report::Summary(size),
+            lanes,
+            out,
+            err,
+        ),
+        Err(stop) => Err(tell(alloc, err, stop, names, &[])),
+    }
+}
+
+// The schema and the statement that the texts of the world are.
+fn read_world(alloc: Global, size: u32) -> Result<(Schema, Statement), Stop>
+    requires { size ≤ 10000 }
+    ensures schema { IfOk result (λ both. IsSchemaText (schema_text size) both.0) }
+    ensures statement { IfOk result (λ both. IsStatementText both.0 query_text both.1) }
+    ensures fits { IfOk result (λ both. StatementFits both.0 both.1) }
+    ensures stops { IfErr result (WorldStop size) }
+{
+    let texts = match world(alloc, size) {
+        Ok(texts) => texts,
+        Err(_) => return Err(Stop::Memory),
+    };
+    let schema = match world_schema(alloc, size, &texts) {
+        Ok(schema) => schema,
+        Err(stop) => return Err(stop),
+    };
+    match world_statement(alloc, size, &texts, &schema) {
+        Ok(statement) => Ok((schema, statement)),
+        Err(stop) => Err(stop),
+    }
+}
+
+fn world_schema(alloc: Global, size: u32, texts: &WorldTexts) -> Result<Schema, Stop>
+    requires is { texts.now.schema ≡ schema_text size }
+    requires short { length texts.now.schema ≤ 2000 }
+    ensures schema { IfOk result (IsSchemaText (schema_text size)) }
+    ensures stops { IfErr result (WorldStop size) }
+{
+    match read_schema(alloc, texts.schema.as_slice()) {
+        Ok(schema) => Ok(schema),
+        Err(fault) => match fault {
+            ReadFault::NoMemory => Err(Stop::Memory),
+            other => Err(Stop::Schema(other)),
+        },
+    }
+}
+
+fn world_statement(
+    alloc: Global,
+    size: u32,
+    texts: &WorldTexts,
+    schema: &Schema,
+) -> Result<Statement, Stop>
+    requires is { texts.now.query ≡ query_text }
+    requires schema { IsSchemaText (schema_text size) schema.now }
+    ensures statement { IfOk result (IsStatementText schema.now query_text) }
+    ensures fits { IfOk result (StatementFits schema.now) }
+    ensures stops { IfErr result (WorldStop size) }
+{
+    match read_select(alloc, texts.query.as_slice(), schema) {
+        Ok(statement) => Ok(statement),
+        Err(fault) => match fault {
+            SqlFault::NoMemory => Err(Stop::Memory),
+            other => Err(Stop::Query(other)),
+        },
+    }
+}
