@@ -1,7 +1,7 @@
 -- Codes: numbers that tell nearly all keys, and nearly all facts, apart. No proof rests on that they do.
 use Rattle.std.specs.Prelude.{◌+◌, ◌*◌, ◌%◌, ◌^◌, ℕ, List}
 use Rattle.std.specs.List.{fold}
-use Rattle.row_text.specs.Hash.{mix}
+use Rattle.lists.specs.Hash.{mix}
 use Rattle.meaning.specs.declared.types.Val.{Val}
 use Rattle.meaning.specs.declared.types.Val.TheVariants.{Const, Label}
 use Rattle.meaning.specs.declared.types.Ground.{Ground}

@@ -3,8 +3,8 @@ ghost use Rattle.std.specs.Prelude.{◌≡◌};
 ghost use Rattle.homomorphism.specs.Codes.{mixed, val_code, fact_code, key_code};
 
 use crate::key::Key;
+use lists::mix;
 use meaning::types::{Ground, Val};
-use row_text::mix;
 
 /// A code of the value: of a text a hash, and of a label its number. Takes no memory.
 fn val_code(val: &Val) -> u64

@@ -7,11 +7,13 @@
 mod compared;
 mod copies;
 mod exact;
+mod hash;
 mod seq;
 mod text;
 
 pub use copies::Copies;
 pub use exact::Exact;
+pub use hash::mix;
 pub use seq::Seq;
 pub use std::alloc::AllocError as NoMemory;
 pub use text::Text;

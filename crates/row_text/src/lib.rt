@@ -4,7 +4,6 @@
 //! `csv_text` writes what a query answers. Begin at `specs/RowText.antt`.
 #![tactic(auto)]
 
-mod hash;
 pub mod laws;
 mod lent;
 mod order;
@@ -13,7 +12,6 @@ mod recent;
 mod started;
 mod text;
 
-pub use hash::mix;
 pub use lent::LentRow;
 pub use order::ascending_distinct;
 pub use packed::PackedRows;

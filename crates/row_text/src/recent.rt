@@ -1,9 +1,8 @@
 // Rows that came lately, by which most doubles are told as they come.
 ghost use Rattle.std.specs.Prelude.{Contains, IsTrue, map};
 
-use crate::hash::mix;
 use crate::packed::PackedRows;
-use lists::NoMemory;
+use lists::{NoMemory, mix};
 use std::alloc::Global;
 
 // The most hashes that are told apart.

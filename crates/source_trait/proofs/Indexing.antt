@@ -9,7 +9,7 @@ use Rattle.std.proofs.lemmas.List.{append-nil, get_or_default, length-map, get_o
 use Rattle.std.proofs.lemmas.List.Elements.{filter_more}
 use Rattle.std.proofs.lemmas.Bool.{cases_eq}
 use Rattle.std.proofs.lemmas.Bool.Decides.{nat_tests}
-use Rattle.row_text.specs.Hash.{mix}
+use Rattle.lists.specs.Hash.{mix}
 use Rattle.source_trait.specs.Asking.{RowList, agrees}
 use Rattle.source_trait.specs.Holding.{attachment_in, others_than}
 use Rattle.source_trait.specs.Index.{AreChains, AreIndexes, Indexes, IndexesOf, Leads, OneMore, chain_of, chains_of, codes_of, index_in, key_chain, key_hash, mix_some, row_hash, row_values}

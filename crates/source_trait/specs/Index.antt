@@ -4,7 +4,7 @@ use Rattle.std.specs.Prelude.{◌≡◌, ◌≢◌, ◌<◌, ◌≤◌, ◌+◌,
 use Rattle.std.specs.List.{AllByRecursion}
 use Rattle.std.specs.Cmp.Lexicographic.{pointwise}
 use Rattle.std.specs.BTreeMap.{BTreeMap, get}
-use Rattle.row_text.specs.Hash.{mix}
+use Rattle.lists.specs.Hash.{mix}
 use Rattle.row_text.specs.RowText.{row_cmp}
 use Rattle.source_trait.specs.Asking.{RowList}
 use Rattle.source_trait.specs.Holding.{attachment_in}

@@ -6,8 +6,8 @@ ghost use Rattle.source_trait.specs.Index.{AreChains, AreChainsBelow, HaveHeads,
 
 use crate::crowded::{Crowded, twin};
 use crate::matching::with_matching;
-use lists::{Places, Text};
-use row_text::{LentRow, PackedRows, mix};
+use lists::{Places, Text, mix};
+use row_text::{LentRow, PackedRows};
 use std::alloc::{AllocError, Global};
 
 /// An index of the rows of a relation on positions: chains of the rows whose values there hash to one code, or where many rows

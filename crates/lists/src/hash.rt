@@ -1,6 +1,6 @@
 // Hashes of texts.
 ghost use Rattle.std.specs.Prelude.{◌≡◌};
-ghost use Rattle.row_text.specs.Hash.{mix};
+ghost use Rattle.lists.specs.Hash.{mix};
 
 /// A hash with a text mixed in, byte by byte.
 pub fn mix(hash: u64, bytes: &[u8]) -> u64
