@@ -26,6 +26,7 @@ pub use entry::{Entry, Exposed, Mark, Sizes};
 pub use exposing::expose;
 pub use goals::{Match, goal};
 pub use going::goes_on;
+pub use holders::Holders;
 pub use listing::{exposures, indexed_exposures};
 pub use marks::{mark, undo};
 pub use method_index::MethodIndex;

@@ -5,10 +5,12 @@ ghost use Rattle.meaning.specs.Runs.{opening};
 ghost use Rattle.access_schema.specs.Meaning.{meaning_of};
 ghost use Rattle.rule_pass.specs.declared.pass.TheConstants.{HIGHEST_FIRST_LABEL};
 ghost use Rattle.accessible_copy.specs.Known.{known_values};
+ghost use Rattle.accessible_copy.specs.OpenFacts.{AreHolders};
 ghost use Rattle.accessible_copy.specs.Proving.{IsProofOf, IsOrdered, log_of, sizes_of};
 
 use crate::entry::{Entry, Sizes};
 use crate::history::History;
+use crate::holders::Holders;
 use crate::known::Known;
 use crate::open_facts::OpenFacts;
 use access_schema::Schema;
@@ -109,6 +111,13 @@ impl Proof {
         ensures { option_copied result ≡ slice_get (known_values self.now.constants self.now.end.exposed) number }
     {
         self.known.value(number)
+    }
+
+    /// For each value the numbers of the base facts that hold it.
+    pub fn holders(&self, alloc: Global) -> Result<Holders, NoMemory>
+        ensures { IfOk result (λ holders. AreHolders self.now.end.base holders) }
+    {
+        Holders::of(alloc, self.base.store())
     }
 
     /// Whether the fact is a base fact, found by an index. Takes no memory.

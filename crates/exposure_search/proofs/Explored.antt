@@ -6,6 +6,8 @@ use Rattle.lists.proofs.Members.{contains_got}
 use Rattle.meaning_laws.proofs.SameSets.{run_alike}
 use Rattle.meaning_laws.proofs.Running.{plain_push}
 use Rattle.meaning_laws.proofs.Everywhere.{goal_everywhere}
+use Rattle.meaning_laws.proofs.Trimming.{relevant_trim}
+use Rattle.meaning_laws.proofs.Quieting.{quiet_is_reached}
 use Rattle.meaning.specs.declared.types.SchemaParts.{SchemaParts}
 use Rattle.meaning.specs.declared.types.Ground.{Ground}
 use Rattle.meaning.specs.declared.types.Trigger.{Trigger}
@@ -21,21 +23,25 @@ use Rattle.meaning.specs.Naming.{IsNamed, AreNamed}
 use Rattle.meaning.specs.Fitting.{QueryHasConstants, Fit, RulesFit}
 use Rattle.meaning.specs.Extract.{Exposure, exposed_facts, exposures_cost, IsExposing, HasGoalAfter}
 use Rattle.accessible_copy.specs.declared.entry.Entry.{Entry}
+use Rattle.accessible_copy.specs.Known.{facts_of}
 use Rattle.accessible_copy.specs.Rounds.{exposure_of}
 use Rattle.accessible_copy.specs.Written.{firing_of}
 use Rattle.accessible_copy.specs.Settling.{Settles}
 use Rattle.accessible_copy.specs.Proving.{Proving, IsProofOf, log_of, firings_of}
 use Rattle.accessible_copy.proofs.Writing.{written_run}
 use Rattle.rule_pass.specs.States.{SomeActive}
+use Rattle.rule_pass.specs.Levels.{AreShort}
 use Rattle.accessible_copy.proofs.Listed.{proof_once}
 use Rattle.least_search.specs.declared.node.Node.{Node}
 use Rattle.least_search.specs.Walks.{IsNode, no_facts}
 use Rattle.least_search.specs.Costs.{IsLeastCost, AreRunsWithin}
-use Rattle.exposure_search.specs.Tries.{picked, exposures_in}
+use Rattle.exposure_search.specs.Tries.{picked, IsMarked, exposures_in}
 use Rattle.exposure_search.specs.Making.{bases_of, IsBaseProof, OnlyExposes}
 use Rattle.exposure_search.specs.Exploring.{Exploring, exploring_of, space_size, CanExpose, HasGoalAt, HasMatchAt, HasTry, IsRunBeyond, IsFounded}
+use Rattle.exposure_search.specs.Relevance.{AreRelevant}
+use Rattle.exposure_search.specs.Spaces.{open_walk}
 use Rattle.exposure_search.specs.Sets.{none_same, picked_back}
-use Rattle.exposure_search.proofs.Bridging.{least_exposing}
+use Rattle.exposure_search.proofs.Bridging.{least_exposing, exposed_base}
 use Rattle.exposure_search.proofs.Trying.{try_run}
 use Rattle.exposure_search.proofs.Logs.{laid, lies}
 use Rattle.exposure_search.proofs.Steps.{walked}
@@ -46,15 +52,28 @@ pub node_exposes : (space : Exploring) (node : Node) → IsNode (space_size spac
     × IsFiringRun space.schema.rules (record { facts = exposed_facts made; next = space.base.next }) copy end
     × Contains space.queries goal × IsQueryAnswer Const (GroundsOf end.facts) goal space.head × (exposures_cost made ≡ node.cost)
 node_exposes space node is has =
-    let w = walked space.schema space.constants space.base.facts node.path.items (no_facts (length space.base.facts)) node.set.items [] (none_same space.base.facts) is.walk in
+    let w = walked space.schema space.constants space.base.facts node.path.items (no_facts (length space.base.facts)) node.set.items [] (none_same space.base.facts) (open_walk space node.path.items (no_facts (length space.base.facts)) node.set.items is.walk) in
     let same = w.same in
     let (end, run, alike) = run_alike space.schema.rules has.copy (record { facts = picked space.base.facts node.set.items; next = space.base.next }) has.end (record { facts = exposed_facts w.made; next = space.base.next }) (record { to = same.to; from = same.from; next = refl }) has.run in
     let (a, are, e) = has.answer in
     (w.made, has.copy, end, has.goal, w.exposing, run, has.among, (a, (λ atom c. alike.to (ground a atom) (are atom c)), e), w.cost ∙ sym is.cost)
 
-pub least_found : (space : Exploring) (best : ℕ) → IsFounded space → IsLeastCost (space_size space) (CanExpose space) (HasGoalAt space) best →
+-- a cost that is least over walks is least over exposures: a run from these to a quiet state has a match, which rests on relevant facts
+pub least_found : (space : Exploring) (best : ℕ) → IsFounded space → AreShort space.schema.rules → RulesFit space.schema space.constants → ((query : Query) → Contains space.queries query → QueryHasConstants space.constants query) →
+    AreNamed space.constants space.base.next space.base.facts → Fit space.schema space.base.facts → ((v : Val) → Contains space.head v → IsNamed space.constants space.base.next v) →
+    IsLeastCost (space_size space) (CanExpose space) (HasGoalAt space) best →
     (exposures : List Exposure) → IsExposing space.schema space.constants space.base.facts [] exposures → HasGoalAfter space.schema space.queries space.head space.base.next exposures → best ≤ exposures_cost exposures
-least_found space best founded least = least_exposing space.schema space.constants space.base.facts space.queries space.head space.base.next best founded.once least
+least_found space best founded short rules have named fit head_named least exposures exposing goal =
+    let (wanted, closed) = founded.relevant in
+    let (log, end, run, quiet) = quiet_is_reached space.schema.rules (length space.schema.rules) (record { facts = exposed_facts exposures; next = space.base.next }) rules.numbered short in
+    let (query, among, answer) = goal log end run quiet in
+    let (kept, less, last, exposes, leads, matched, cheap, matter) = relevant_trim space.schema space.constants space.base.facts space.queries (IsMarked wanted) (Contains (picked space.base.facts space.marks)) closed
+    space.base.next exposures log end query space.head exposing run among answer in
+    let has : HasGoalAfter space.schema space.queries space.head space.base.next kept =
+    goal_everywhere space.schema space.constants space.queries (record { facts = exposed_facts kept; next = space.base.next }) space.head less last query rules have
+    (λ fact v there i. named fact v (exposed_base space.schema space.constants space.base.facts kept [] exposes fact there) i) (λ fact there. fit fact (exposed_base space.schema space.constants space.base.facts kept [] exposes fact there)) head_named leads among matched in
+    let low : best ≤ exposures_cost kept = least_exposing space.schema space.constants space.base.facts space.marks space.queries space.head space.base.next best founded.once least kept matter exposes has in
+    omega arith
 
 -- what bounds runs bounds tries
 pub tries_within : (space : Exploring) (m n : ℕ) → IsFounded space → ((log : List Firing) (end : Proof) → IsRun space.schema space.constants 0 space.start log end → (length log ≤ m) × (exposures_in log ≤ n)) → AreRunsWithin (HasTry space) m n
@@ -85,13 +104,21 @@ begins_only schema proof is =
       quiet = is.quiet;
     }
 
-pub founded : (schema : SchemaParts) (proof : Proving) (queries : List Query) (head : List Val) (budget : ℕ) → OnlyExposes schema proof → IsFounded (exploring_of schema proof queries head budget)
-founded schema proof queries head budget is = record {
+-- nothing is exposed yet
+pub begins_bare : (schema : SchemaParts) (proof : Proving) → IsBaseProof schema proof → proof.end.exposed ≡ []
+begins_bare schema proof is =
+    let bases : List Trigger = is.bases in
+    let its = laid schema proof is.run bases [] (is.log ∙ sym (append-nil (map Base bases))) in
+    (lies schema proof (begins_only schema proof is)).exposed ∙ ap facts_of its.made_are
+
+pub founded : (schema : SchemaParts) (proof : Proving) (queries : List Query) (head : List Val) (budget : ℕ) (marks : List Bool) → OnlyExposes schema proof → AreRelevant schema proof.constants proof.end.base queries marks → IsFounded (exploring_of schema proof queries head budget marks)
+founded schema proof queries head budget marks is relevant = record {
   none_exposed = is.run.none_exposed;
   none_copied = is.run.none_copied;
   run = (lies schema proof is).base;
   quiet = is.quiet;
   once = proof_once schema proof is.run;
+  relevant = relevant;
 }
 
 -- as many firings as base firings

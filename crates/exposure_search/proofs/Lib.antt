@@ -1,5 +1,7 @@
 pub mod Bridging
 pub mod Trying
+pub mod Wanting
+pub mod Following
 pub mod Logs
 pub mod Steps
 pub mod Missing

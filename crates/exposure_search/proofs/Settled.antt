@@ -31,7 +31,7 @@ use Rattle.least_search.specs.declared.space.End.{End}
 use Rattle.least_search.specs.declared.space.End.TheVariants as end
 use Rattle.least_search.specs.Walks.{IsWalk, no_facts}
 use Rattle.least_search.specs.Ends.{GoesOn}
-use Rattle.exposure_search.specs.Tries.{picked, IsOpen, IsTry, HasMatchFrom}
+use Rattle.exposure_search.specs.Tries.{picked, IsOpen, IsMarked, IsTry, HasMatchFrom}
 use Rattle.exposure_search.specs.Making.{bases_of, GoesBeyond, OnlyExposes, SameBase, all_made, IsExposedBy, IsActiveMove, IsServed}
 use Rattle.exposure_search.specs.Exploring.{exploring_of, HasGoalAt, HasRunBeyond}
 use Rattle.exposure_search.specs.Visiting.{IsVisitEnd, AreMovesAt, IsReached}
@@ -59,13 +59,13 @@ some_always None p = tt
 some_always (Some x) p = p
 
 -- the same beginning gives the same space
-pub same_space : (schema : SchemaParts) (queries : List Query) (head : List Val) (budget : ℕ) (old new : Proving) → SameBase old new → exploring_of schema new queries head budget ≡ exploring_of schema old queries head budget
-same_space schema queries head budget old new same =
+pub same_space : (schema : SchemaParts) (queries : List Query) (head : List Val) (budget : ℕ) (marks : List Bool) (old new : Proving) → SameBase old new → exploring_of schema new queries head budget marks ≡ exploring_of schema old queries head budget marks
+same_space schema queries head budget marks old new same =
     let constants = same.constants in
     let start = same.start in
     let bases = same.bases in
     let base = same.base in
-    (λ i. record { schema = schema; constants = constants i; start = start i; log = bases i; base = base i; queries = queries; head = head; budget = budget })
+    (λ i. record { schema = schema; constants = constants i; start = start i; log = bases i; base = base i; queries = queries; head = head; budget = budget; marks = marks })
 
 -- the same exposures
 pub made_same : (old new : Proving) (path : List Move) → SameBase old new → new.exposed ≡ all_made old.end.base path → new.exposed ≡ all_made new.end.base path
@@ -89,16 +89,16 @@ module _ (schema : SchemaParts) (proof : Proving) (path : List Move) (set : List
   set_exposed = subst (λ gs. AreSame (picked proof.end.base set) gs) (sym shown) path_walked.same
 
   -- the moves from the set
-  pub moves_here : (queries : List Query) (head : List Val) (budget : ℕ) (ended : End) (below : ℕ) (moves : List Move) → ((move : Move) → Contains moves move → IsActiveMove schema proof move) →
-      (GoesOn ended → (move : Move) → IsActiveMove schema proof move → move.cost < below → IsServed moves move) → AreMovesAt (exploring_of schema proof queries head budget) set ended below moves
-  moves_here queries head budget ended below moves active all = record {
-    possible = λ move among. active_open schema proof is.run path set walk set_exposed move (active move among);
-    complete = λ goes move open' low. all goes move (open_active schema proof is.run path set walk set_exposed move open') low;
+  pub moves_here : (queries : List Query) (head : List Val) (budget : ℕ) (marks : List Bool) (ended : End) (below : ℕ) (moves : List Move) → ((move : Move) → Contains moves move → IsActiveMove schema proof move × IsMarked marks move.fact) →
+      (GoesOn ended → (move : Move) → IsActiveMove schema proof move → IsMarked marks move.fact → move.cost < below → IsServed moves move) → AreMovesAt (exploring_of schema proof queries head budget marks) set ended below moves
+  moves_here queries head budget marks ended below moves active all = record {
+    possible = λ move among. (active_open schema proof is.run path set walk set_exposed move (active move among).0, (active move among).1);
+    complete = λ goes move can low. all goes move (open_active schema proof is.run path set walk set_exposed move can.0) can.1 low;
   }
 
 -- ---- the settled copy
 
-module _ (schema : SchemaParts) (queries : List Query) (head : List Val) (budget : ℕ) (proof settled : Proving) (path : List Move) (set : List Bool)
+module _ (schema : SchemaParts) (queries : List Query) (head : List Val) (budget : ℕ) (marks : List Bool) (proof settled : Proving) (path : List Move) (set : List Bool)
     (is : OnlyExposes schema proof) (its : IsProofOf schema settled) (settles : Settles schema true proof settled)
     (made : proof.exposed ≡ all_made proof.end.base path)
     (walk : IsWalk (IsOpen schema proof.constants proof.end.base) (no_facts (length proof.end.base)) path set) where
@@ -136,7 +136,7 @@ module _ (schema : SchemaParts) (queries : List Query) (head : List Val) (budget
   }
 
   -- where the firings are spent, some run is longer
-  pub runs_beyond : GoesBeyond schema budget settled → HasRunBeyond (exploring_of schema proof queries head budget)
+  pub runs_beyond : GoesBeyond schema budget settled → HasRunBeyond (exploring_of schema proof queries head budget marks)
   runs_beyond far = ⊎_elim
       (λ more.
       let long : length (log_of settled) ≡ length settled.entries = length-map settled.entries (λ (entry : Entry). entry.firing) in
@@ -153,7 +153,7 @@ module _ (schema : SchemaParts) (queries : List Query) (head : List Val) (budget
 
   pub visit_end : (ended : End) (fired : ℕ) → (ended ≡ end.Goal → HasGoal queries settled.end head) → (ended ≡ end.NoGoal → IsQuiet schema.rules (copy_state settled.end)) → (ended ≡ end.NoGoal → HasGoal queries settled.end head → ⊥) →
       (ended ≡ end.FiringsSpent → GoesBeyond schema budget settled) → length proof.entries + fired ≡ length settled.entries →
-      IsVisitEnd (exploring_of schema proof queries head budget) path set ended fired
+      IsVisitEnd (exploring_of schema proof queries head budget marks) path set ended fired
   visit_end ended fired goal quiet none long counted =
       let added = settled_long schema proof settled settles in
       record {
@@ -164,7 +164,7 @@ module _ (schema : SchemaParts) (queries : List Query) (head : List Val) (budget
       }
 
   -- the proof that was reached
-  pub reached_here : length settled.entries ≤ budget → IsReached (exploring_of schema proof queries head budget) path settled
+  pub reached_here : length settled.entries ≤ budget → IsReached (exploring_of schema proof queries head budget marks) path settled
   reached_here few = record {
     run = its;
     constants = settles.constants;
@@ -181,7 +181,7 @@ module _ (schema : SchemaParts) (queries : List Query) (head : List Val) (budget
 
   -- where there is no match, some run is longer or there is no goal
   pub none_reached : (ended : Round) → (ended ≡ Done → ⊥) → (ended ≡ Quiet → IsQuiet schema.rules (copy_state settled.end)) → (ended ≡ Spent → (budget ≤ length settled.entries) × SomeActive schema.rules (copy_state settled.end)) → (HasGoal queries settled.end head → ⊥) →
-      HasRunBeyond (exploring_of schema proof queries head budget) ⊎ (HasGoalAt (exploring_of schema proof queries head budget) set → ⊥)
+      HasRunBeyond (exploring_of schema proof queries head budget marks) ⊎ (HasGoalAt (exploring_of schema proof queries head budget marks) set → ⊥)
   none_reached Quiet going quiet spent none = inr (none_goal (quiet refl) none)
   none_reached Done going quiet spent none = absurd (going refl)
   none_reached Spent going quiet spent none = inl (runs_beyond (inr (spent refl)))

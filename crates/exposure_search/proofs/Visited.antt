@@ -17,7 +17,7 @@ use Rattle.least_search.specs.declared.space.End.{End}
 use Rattle.least_search.specs.declared.space.End.TheVariants as end
 use Rattle.least_search.specs.Walks.{IsWalk, no_facts}
 use Rattle.least_search.specs.Ends.{GoesOn}
-use Rattle.exposure_search.specs.Tries.{IsOpen}
+use Rattle.exposure_search.specs.Tries.{IsOpen, IsMarked}
 use Rattle.exposure_search.specs.Making.{OnlyExposes, SameBase, GoesBeyond, all_made, IsActiveMove, IsServed}
 use Rattle.exposure_search.specs.Exploring.{Exploring, exploring_of, CanExpose, HasGoalAt, HasTry, HasRunBeyond}
 use Rattle.exposure_search.specs.Visiting.{IsVisitEnd, AreMovesAt, IsReached}
@@ -25,42 +25,42 @@ use Rattle.exposure_search.proofs.Logs.{goes_back, same_on, settled_long}
 use Rattle.exposure_search.proofs.Steps.{walk_same}
 use Rattle.exposure_search.proofs.Settled.{unsettled, runs_beyond, same_space, made_same, moves_here, visit_end, reached_here, none_reached}
 
-module _ (schema : SchemaParts) (queries : List Query) (head : List Val) (budget : ℕ) (old gone : Proving) (path : List Move) (set : List Bool)
+module _ (schema : SchemaParts) (queries : List Query) (head : List Val) (budget : ℕ) (marks : List Bool) (old gone : Proving) (path : List Move) (set : List Bool)
     (is : OnlyExposes schema gone) (same : SameBase old gone) (made : gone.exposed ≡ all_made old.end.base path)
     (walk : IsWalk (IsOpen schema old.constants old.end.base) (no_facts (length old.end.base)) path set) where
   -- the moves that were listed
-  pub moves_seen : (ended : End) (below : ℕ) (moves : List Move) → ((move : Move) → Contains moves move → IsActiveMove schema gone move) → (GoesOn ended → (move : Move) → IsActiveMove schema gone move → move.cost < below → IsServed moves move) →
-      AreMovesAt (exploring_of schema old queries head budget) set ended below moves
+  pub moves_seen : (ended : End) (below : ℕ) (moves : List Move) → ((move : Move) → Contains moves move → IsActiveMove schema gone move × IsMarked marks move.fact) → (GoesOn ended → (move : Move) → IsActiveMove schema gone move → IsMarked marks move.fact → move.cost < below → IsServed moves move) →
+      AreMovesAt (exploring_of schema old queries head budget marks) set ended below moves
   moves_seen ended below moves active all =
-      subst (λ s. AreMovesAt s set ended below moves) (same_space schema queries head budget old gone same)
-      (moves_here schema gone path set is (made_same old gone path same made) (walk_same schema old gone path set same walk) queries head budget ended below moves active all)
+      subst (λ s. AreMovesAt s set ended below moves) (same_space schema queries head budget marks old gone same)
+      (moves_here schema gone path set is (made_same old gone path same made) (walk_same schema old gone path set same walk) queries head budget marks ended below moves active all)
 
   -- where the log is too long already, some run is
-  pub path_beyond : budget < length gone.entries → HasRunBeyond (exploring_of schema old queries head budget)
+  pub path_beyond : budget < length gone.entries → HasRunBeyond (exploring_of schema old queries head budget marks)
   path_beyond more =
-      subst (λ s. HasRunBeyond s) (same_space schema queries head budget old gone same)
-      (runs_beyond schema queries head budget gone gone path set is is.run (unsettled schema gone) (made_same old gone path same made) (walk_same schema old gone path set same walk) (inl more))
+      subst (λ s. HasRunBeyond s) (same_space schema queries head budget marks old gone same)
+      (runs_beyond schema queries head budget marks gone gone path set is is.run (unsettled schema gone) (made_same old gone path same made) (walk_same schema old gone path set same walk) (inl more))
 
   module _ (settled : Proving) (its : IsProofOf schema settled) (settles : Settles schema true gone settled) where
     -- how it ended
     pub end_seen : (ended : End) (fired : ℕ) → (ended ≡ end.Goal → HasGoal queries settled.end head) → (ended ≡ end.NoGoal → IsQuiet schema.rules (copy_state settled.end)) → (ended ≡ end.NoGoal → HasGoal queries settled.end head → ⊥) →
         (ended ≡ end.FiringsSpent → GoesBeyond schema budget settled) → length gone.entries + fired ≡ length settled.entries →
-        IsVisitEnd (exploring_of schema old queries head budget) path set ended fired
+        IsVisitEnd (exploring_of schema old queries head budget marks) path set ended fired
     end_seen ended fired goal quiet none long counted =
-        subst (λ s. IsVisitEnd s path set ended fired) (same_space schema queries head budget old gone same)
-        (visit_end schema queries head budget gone settled path set is its settles (made_same old gone path same made) (walk_same schema old gone path set same walk) ended fired goal quiet none long counted)
+        subst (λ s. IsVisitEnd s path set ended fired) (same_space schema queries head budget marks old gone same)
+        (visit_end schema queries head budget marks gone settled path set is its settles (made_same old gone path same made) (walk_same schema old gone path set same walk) ended fired goal quiet none long counted)
 
     -- the proof that was reached
-    pub proof_reached : length settled.entries ≤ budget → IsReached (exploring_of schema old queries head budget) path settled
+    pub proof_reached : length settled.entries ≤ budget → IsReached (exploring_of schema old queries head budget marks) path settled
     proof_reached few =
-        subst (λ s. IsReached s path settled) (same_space schema queries head budget old gone same)
-        (reached_here schema queries head budget gone settled path set is its settles (made_same old gone path same made) (walk_same schema old gone path set same walk) few)
+        subst (λ s. IsReached s path settled) (same_space schema queries head budget marks old gone same)
+        (reached_here schema queries head budget marks gone settled path set is its settles (made_same old gone path same made) (walk_same schema old gone path set same walk) few)
 
     pub none_there : (ended : Round) → (ended ≡ Done → ⊥) → (ended ≡ Quiet → IsQuiet schema.rules (copy_state settled.end)) → (ended ≡ Spent → (budget ≤ length settled.entries) × SomeActive schema.rules (copy_state settled.end)) → (HasGoal queries settled.end head → ⊥) →
-        HasRunBeyond (exploring_of schema old queries head budget) ⊎ (HasGoalAt (exploring_of schema old queries head budget) set → ⊥)
+        HasRunBeyond (exploring_of schema old queries head budget marks) ⊎ (HasGoalAt (exploring_of schema old queries head budget marks) set → ⊥)
     none_there ended going quiet spent none =
-        subst (λ s. HasRunBeyond s ⊎ (HasGoalAt s set → ⊥)) (same_space schema queries head budget old gone same)
-        (none_reached schema queries head budget gone settled path set is its settles (made_same old gone path same made) (walk_same schema old gone path set same walk) ended going quiet spent none)
+        subst (λ s. HasRunBeyond s ⊎ (HasGoalAt s set → ⊥)) (same_space schema queries head budget marks old gone same)
+        (none_reached schema queries head budget marks gone settled path set is its settles (made_same old gone path same made) (walk_same schema old gone path set same walk) ended going quiet spent none)
 
     -- the copy firings were undone
     pub gone_back : (new : Proving) (firings : ℕ) → IsProofOf schema new → new.constants ≡ settled.constants → new.start ≡ settled.start → firings ≡ length gone.entries → new.entries ≡ take firings settled.entries →

@@ -12,11 +12,12 @@ use Rattle.meaning.specs.Runs.{Proof, base_state, IsBaseRun, IsRun}
 use Rattle.meaning.specs.Extract.{HasGoalFrom}
 use Rattle.accessible_copy.specs.Proving.{Proving, log_of}
 use Rattle.least_search.specs.declared.space.Move.{Move}
-use Rattle.exposure_search.specs.Tries.{picked, IsOpen, IsTry, HasMatchFrom}
+use Rattle.exposure_search.specs.Tries.{picked, IsRelevantMove, IsTry, HasMatchFrom}
 use Rattle.exposure_search.specs.Making.{bases_of}
+use Rattle.exposure_search.specs.Relevance.{AreRelevant}
 
 -- What contracts see of a space: the schema, the known constants, the state that the proof began with, its base firings and the
--- state after them, the queries and the head of a match, and how many firings a run may have.
+-- state after them, the queries and the head of a match, how many firings a run may have, and marks of base facts.
 pub record Exploring : Type 0 where
   pub schema : SchemaParts
   pub constants : List Value
@@ -26,10 +27,11 @@ pub record Exploring : Type 0 where
   pub queries : List Query
   pub head : List Val
   pub budget : ℕ
+  pub marks : List Bool
 
 -- The space of a proof.
-abbrev pub exploring_of : SchemaParts → Proving → List Query → List Val → ℕ → Exploring
-exploring_of schema proof queries head budget = record {
+abbrev pub exploring_of : SchemaParts → Proving → List Query → List Val → ℕ → List Bool → Exploring
+exploring_of schema proof queries head budget marks = record {
   schema = schema;
   constants = proof.constants;
   start = proof.start;
@@ -38,15 +40,16 @@ exploring_of schema proof queries head budget = record {
   queries = queries;
   head = head;
   budget = budget;
+  marks = marks;
 }
 
 -- How many facts there are.
 abbrev pub space_size : Exploring → ℕ
 space_size space = length space.base.facts
 
--- The move is possible at the set.
+-- The move is possible at the set, and its fact is marked.
 abbrev pub CanExpose : Exploring → List Bool → Move → Type 0
-CanExpose space set move = IsOpen space.schema space.constants space.base.facts set move
+CanExpose space set move = IsRelevantMove space.schema space.constants space.base.facts space.marks set move
 
 -- Every run of firings from the facts of the set, after which nothing is active, has a match.
 abbrev pub HasGoalAt : Exploring → List Bool → Type 0
@@ -71,10 +74,11 @@ abbrev pub HasRunBeyond : Exploring → Type 0
 HasRunBeyond space = IsRunBeyond space.schema space.constants space.start space.budget
 
 -- The base firings lead from the start, at which nothing is exposed, to the base state, in which no base trigger is active and
--- no fact stands twice.
+-- no fact stands twice; and the facts on which a match can rest are marked.
 pub record IsFounded (space : Exploring) : Type 0 where
   pub none_exposed : space.start.exposed ≡ []
   pub none_copied : space.start.copy ≡ []
   pub run : IsBaseRun space.schema.rules (base_state space.start) space.log space.base
   pub quiet : IsQuiet space.schema.rules space.base
   pub once : AreDistinct space.base.facts
+  pub relevant : AreRelevant space.schema space.constants space.base.facts space.queries space.marks

@@ -46,7 +46,7 @@ picked_back (g ∷ base) (true ∷ set) fact c = ⊎_elim (λ e. (0, ap (λ z. S
 picked_back (g ∷ base) (false ∷ set) fact c = let (k, e, at) = picked_back base set fact c in (suc k, e, at)
 
 -- a mark after a mark was set
-set_cases : (set : List Bool) (i k : ℕ) → slice_get (slice_set set i true) k ≡ Some true → (k ≡ i) ⊎ (slice_get set k ≡ Some true)
+pub set_cases : (set : List Bool) (i k : ℕ) → slice_get (slice_set set i true) k ≡ Some true → (k ≡ i) ⊎ (slice_get set k ≡ Some true)
 set_cases [] i k e = absurd (cc)
 set_cases (b ∷ set) zero zero e = inl refl
 set_cases (b ∷ set) zero (suc k) e = inr e
@@ -58,7 +58,7 @@ set_here [] i e = absurd (cc)
 set_here (b ∷ set) zero e = refl
 set_here (b ∷ set) (suc i) e = set_here set i e
 
-set_kept : (set : List Bool) (i k : ℕ) → slice_get set k ≡ Some true → slice_get (slice_set set i true) k ≡ Some true
+pub set_kept : (set : List Bool) (i k : ℕ) → slice_get set k ≡ Some true → slice_get (slice_set set i true) k ≡ Some true
 set_kept [] i k e = e
 set_kept (b ∷ set) zero zero e = refl
 set_kept (b ∷ set) zero (suc k) e = e

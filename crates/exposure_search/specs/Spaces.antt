@@ -1,4 +1,4 @@
--- The sets of base facts are a space: walks of moves are exposures in order.
+-- The sets of base facts are a space: walks of moves are exposures in order, also where the moves are fewer.
 use Rattle.std.proofs.Common.{◌≡◌, ℕ, suc, ◌+◌, List, [], ◌∷◌, ◌++◌, length, Bool, true, false, Some, refl, sym, ap, ◌∙◌, subst, inl, inr, ⊎_elim, arith, append_assoc}
 use Rattle.std.specs.Prelude.{Contains, slice_get, slice_set}
 use Rattle.std.proofs.lemmas.List.{append-nil}
@@ -8,8 +8,8 @@ use Rattle.meaning.specs.declared.types.Val.{Val}
 use Rattle.meaning.specs.Runs.{IsKnownValue}
 use Rattle.meaning.specs.Extract.{Exposure, exposed_facts, Exposes, IsExposing, exposures_cost}
 use Rattle.least_search.specs.declared.space.Move.{Move}
-use Rattle.least_search.specs.Walks.{IsWalk, walk_cost, no_facts, IsSpace}
-use Rattle.exposure_search.specs.Tries.{picked, IsOpen, IsTry}
+use Rattle.least_search.specs.Walks.{IsWalk, walk_cost, no_facts, with_fact, IsSpace}
+use Rattle.exposure_search.specs.Tries.{picked, IsOpen, IsMarked, IsTry}
 use Rattle.exposure_search.specs.Sets.{AreSame, picked_back, picked_at, same_more, none_same, within_got}
 use Rattle.exposure_search.specs.Exploring.{Exploring, space_size, CanExpose, HasTry}
 
@@ -79,6 +79,25 @@ module _ (schema : SchemaParts) (constants : List (List ℕ)) (base : List Groun
             );
       }
 
+-- a walk by some of the moves is one by all
+pub wider_walk : (CanMove CanGo : List Bool → Move → Type 0) → ((set : List Bool) (move : Move) → CanMove set move → CanGo set move) → (moves : List Move) (set end : List Bool) → IsWalk CanMove set moves end → IsWalk CanGo set moves end
+wider_walk CanMove CanGo wide [] set end e = e
+wider_walk CanMove CanGo wide (move ∷ moves) set end (can, walk) = (wide set move can, wider_walk CanMove CanGo wide moves (with_fact set move) end walk)
+
+-- by moves of marked facts as well
+pub open_walk : (space : Exploring) (moves : List Move) (set end : List Bool) → IsWalk (CanExpose space) set moves end → IsWalk (IsOpen space.schema space.constants space.base.facts) set moves end
+open_walk space moves set end walk = wider_walk (CanExpose space) (IsOpen space.schema space.constants space.base.facts) (λ s move can. can.0) moves set end walk
+
+-- the moves of marked facts are a space, if all moves are
+pub narrowed : (n : ℕ) (CanMove : List Bool → Move → Type 0) (HasRun : ℕ → ℕ → Type 0) (marks : List Bool) → IsSpace n CanMove HasRun → IsSpace n (λ set move. CanMove set move × IsMarked marks move.fact) HasRun
+narrowed n CanMove HasRun marks is = record {
+  new = λ set move can. is.new set move can.0;
+  grows = λ set larger move can within out. (is.grows set larger move can.0 within out, can.1);
+  runs = λ moves end walk. is.runs moves end (wider_walk (λ set move. CanMove set move × IsMarked marks move.fact) CanMove (λ s move can. can.0) moves (no_facts n) end walk);
+}
+
 -- An exposure adds a fact that is not exposed, and is possible in each larger set without its fact; and a walk is a run.
 pub explored_is_space : (space : Exploring) → IsSpace (space_size space) (CanExpose space) (HasTry space)
-explored_is_space space = is_space space.schema space.constants space.base.facts space.base.next (length space.log)
+explored_is_space space =
+    narrowed (length space.base.facts) (IsOpen space.schema space.constants space.base.facts) (HasTry space) space.marks
+    (is_space space.schema space.constants space.base.facts space.base.next (length space.log))

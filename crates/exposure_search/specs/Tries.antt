@@ -36,6 +36,14 @@ pub record IsMove (schema : SchemaParts) (constants : List Value) (base : List G
 abbrev pub IsOpen : SchemaParts → List Value → List Ground → List Bool → Move → Type 0
 IsOpen schema constants base set move = (e : Exposure) × IsMove schema constants base set move e
 
+-- The mark with that number is set.
+abbrev pub IsMarked : List Bool → ℕ → Type 0
+IsMarked marks number = slice_get marks number ≡ Some true
+
+-- The move is possible at the set, and its fact is marked.
+abbrev pub IsRelevantMove : SchemaParts → List Value → List Ground → List Bool → List Bool → Move → Type 0
+IsRelevantMove schema constants base marks set move = IsOpen schema constants base set move × IsMarked marks move.fact
+
 -- After so many base firings, exposures in order and copy firings behind them make these numbers of firings and exposures.
 pub record IsTry (schema : SchemaParts) (constants : List Value) (base : State) (fired firings exposures : ℕ) : Type 0 where
   pub made : List Exposure

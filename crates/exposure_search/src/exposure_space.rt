@@ -10,6 +10,7 @@ ghost use Rattle.exposure_search.specs.Exploring.{exploring_of, space_size, CanE
 ghost use Rattle.exposure_search.specs.Visiting.{IsReached};
 ghost use Rattle.exposure_search.specs.Spaces.{explored_is_space};
 
+use crate::relevance::relevant_facts;
 use crate::visiting::{Aim, reach_set, visit_set};
 use access_schema::Schema;
 use accessible_copy::{Match, MethodIndex, Proof, mark};
@@ -19,8 +20,10 @@ use meaning::types::{Ground, Queries, Vals};
 use std::alloc::Global;
 use std::marker::Model;
 
-/// The sets of base facts of a proof, with exposures as moves, and matches of queries in the settled copy as goals.
+/// The sets of base facts of a proof, with exposures of relevant facts as moves, and matches of queries in the settled copy as
+/// goals.
 ///
+/// A fact is relevant where a match can rest on it: directly, by rules, or as what makes an input of a relevant fact known.
 /// A visit leaves the exposures of its path made, so that the next visit makes only those that its path has beyond the common
 /// front. Contracts see the schema, the proof's beginning and what is looked for.
 #[derive(Drop)]
@@ -36,7 +39,7 @@ impl<'a> Model for ExposureSpace<'a> {
 
     ghost Value = { Exploring };
 
-    ghost view = { λ s. exploring_of (meaning_of s.aim.schema.now) s.proof s.aim.queries.now s.aim.head.now s.aim.budget };
+    ghost view = { λ s. exploring_of (meaning_of s.aim.schema.now) s.proof s.aim.queries.now s.aim.head.now s.aim.budget s.aim.relevant.items };
 
     ghost invariant = { λ s. IsReady (meaning_of s.aim.schema.now) s.proof s.aim.facts.items s.aim.methods s.aim.bases s.aim.queries.now s.aim.budget };
 }
@@ -55,12 +58,13 @@ impl<'a> ExposureSpace<'a> {
         requires counted { (query : Query) → Contains queries.now query → IsCounted query }
         requires few { length queries.now ≤ 2 ^ 32 }
         requires budget { budget ≤ MOST_FIRINGS }
-        ensures space { IfOk result (λ space. space ≡ exploring_of (meaning_of schema.now) proof queries.now head.now budget) }
+        ensures space { IfOk result (λ space. space ≡ exploring_of (meaning_of schema.now) proof queries.now head.now budget space.marks) }
         ensures founded { IfOk result (λ space. IsFounded space) }
     {
         let facts = base_facts(alloc, &proof)?;
         let bases = mark(&proof).firings;
         let methods = MethodIndex::of(alloc, schema)?;
+        let relevant = relevant_facts(alloc, &proof, schema, queries, &methods, facts.as_slice())?;
         let aim = Aim {
             alloc,
             schema,
@@ -70,6 +74,7 @@ impl<'a> ExposureSpace<'a> {
             facts,
             bases,
             methods,
+            relevant,
         };
         Ok(ExposureSpace { aim, proof })
     }

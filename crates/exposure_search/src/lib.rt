@@ -10,8 +10,11 @@ mod going;
 pub mod laws;
 mod listing;
 mod looking;
+mod marks;
 mod quieting;
+mod relevance;
 mod visiting;
+mod wanted;
 
 pub use exposure_space::ExposureSpace;
 pub use founding::base_proof;

@@ -5,11 +5,13 @@ ghost use Rattle.meaning.specs.Runs.{IsActiveExposure};
 ghost use Rattle.access_schema.specs.Meaning.{meaning_of};
 ghost use Rattle.accessible_copy.specs.Known.{known_values};
 ghost use Rattle.accessible_copy.specs.Listing.{AreInputs, IsInput};
-ghost use Rattle.accessible_copy.specs.Methods.{IsMethodIndex};
+ghost use Rattle.accessible_copy.specs.Methods.{methods_of, IsMethodIndex};
 ghost use Rattle.accessible_copy.specs.Proving.{IsProofOf};
 ghost use Rattle.least_search.specs.declared.space.Move.{Move as TheMove};
+ghost use Rattle.exposure_search.specs.Tries.{IsMarked};
 ghost use Rattle.exposure_search.specs.Making.{IsActiveMove, IsServed};
 
+use crate::marks::is_marked;
 use access_schema::Schema;
 use accessible_copy::{MethodIndex, Proof};
 use least_search::Move;
@@ -17,7 +19,7 @@ use lists::NoMemory;
 use meaning::types::{Ground, Val};
 use std::alloc::Global;
 
-/// For each base fact that can be exposed at less than `below` a move by a method of least cost. `facts` are the base facts.
+/// For each marked base fact that can be exposed at less than `below` a move by a method of least cost. `facts` are the base facts.
 ///
 /// A fact whose relation has no method at less than `below` is passed over before anything is looked up.
 pub(crate) fn active_moves(
@@ -26,24 +28,48 @@ pub(crate) fn active_moves(
     schema: &Schema,
     methods: &MethodIndex,
     facts: &[Ground],
+    marks: &[bool],
     below: u64,
 ) -> Result<Vec<Move>, NoMemory>
     requires run { IsProofOf (meaning_of schema.now) proof.now }
     requires facts { facts.now ≡ proof.now.end.base }
     requires methods { IsMethodIndex schema.now.methods methods.now }
     ensures active { IfOk result (λ moves. (move : TheMove) → Contains moves.items move →
-        IsActiveMove (meaning_of schema.now) proof.now move) }
+        IsActiveMove (meaning_of schema.now) proof.now move × IsMarked marks.now move.fact) }
     ensures all { IfOk result (λ moves. (move : TheMove) → IsActiveMove (meaning_of schema.now) proof.now move →
-        move.cost < below → IsServed moves.items move) }
+        IsMarked marks.now move.fact → move.cost < below → IsServed moves.items move) }
 {
     let mut moves = Vec::new(alloc);
     for (place, fact) in facts.iter().enumerate() {
-        let numbers = methods.numbers(fact.rel);
-        if let Some(step) = cheapest_move(proof, schema, numbers, place, fact, below) {
+        if let Some(step) = relevant_move(proof, schema, methods, marks, place, fact, below) {
             moves.push(step)?;
         }
     }
     Ok(moves)
+}
+
+/// The move that exposes the fact by a method of least cost, where it is marked and one can at less than `below`.
+fn relevant_move(
+    proof: &Proof,
+    schema: &Schema,
+    methods: &MethodIndex,
+    marks: &[bool],
+    place: usize,
+    fact: &Ground,
+    below: u64,
+) -> Option<Move>
+    requires at { slice_get proof.now.end.base place ≡ Some fact.now }
+    requires methods { IsMethodIndex schema.now.methods methods.now }
+    ensures active { IfSome result (λ move. (move.fact ≡ place) × IsActiveMove (meaning_of schema.now) proof.now move
+        × IsMarked marks.now place) }
+    ensures least { IsMarked marks.now place → (number : ℕ) (method : TheMethod) → Contains (methods_of methods.now fact.now.rel) number →
+        IsActiveExposure (meaning_of schema.now) proof.now.constants proof.now.end number fact.now method → method.cost < below →
+        (move : TheMove) × (result ≡ Some move) × (move.cost ≤ method.cost) }
+{
+    if !is_marked(marks, place) {
+        return None;
+    }
+    cheapest_move(proof, schema, methods.numbers(fact.rel), place, fact, below)
 }
 
 /// The move that exposes the fact by a method of least cost, where one can at less than `below`. These are the numbers of the

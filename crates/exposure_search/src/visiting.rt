@@ -8,7 +8,7 @@ ghost use Rattle.least_search.specs.declared.space.Move.{Move};
 ghost use Rattle.least_search.specs.declared.space.End.TheVariants as end;
 ghost use Rattle.least_search.specs.Walks.{IsWalk, no_facts};
 ghost use Rattle.least_search.specs.Ends.{GoesOn};
-ghost use Rattle.exposure_search.specs.Tries.{IsOpen};
+ghost use Rattle.exposure_search.specs.Tries.{IsOpen, IsMarked};
 ghost use Rattle.exposure_search.specs.Making.{OnlyExposes, SameBase, IsReady, IsActiveMove, IsServed};
 ghost use Rattle.exposure_search.specs.Exploring.{exploring_of, HasGoalAt, HasRunBeyond};
 ghost use Rattle.exposure_search.specs.Visiting.{IsVisitEnd, AreMovesAt, IsReached};
@@ -24,7 +24,8 @@ use meaning::types::{Ground, Queries, Vals};
 use std::alloc::Global;
 
 /// What is looked for: a match of one of the queries with this head, in runs of at most `budget` firings over the schema. The base
-/// facts of these runs, how many base firings made them, and the index of the schema's methods.
+/// facts of these runs, how many base firings made them, the index of the schema's methods, and marks of the base facts on which a
+/// match can rest.
 #[derive(Drop)]
 pub struct Aim<'a> {
     pub alloc: Global,
@@ -35,10 +36,11 @@ pub struct Aim<'a> {
     pub facts: Vec<Ground>,
     pub bases: u64,
     pub methods: MethodIndex,
+    pub relevant: Vec<bool>,
 }
 
 /// Goes along the path, settles the copy there with at most `room` firings, looks for a match, undoes the copy firings, and lists
-/// the moves from there that cost less than `below`.
+/// the moves of relevant facts from there that cost less than `below`.
 pub(crate) fn visit_set(
     aim: &Aim,
     proof: &mut Proof,
@@ -53,12 +55,12 @@ pub(crate) fn visit_set(
     ensures exposes { OnlyExposes (meaning_of aim.now.schema.now) proof.new }
     ensures same { SameBase proof.old proof.new }
     ensures ended { IfOk result (λ visit. IsVisitEnd
-        (exploring_of (meaning_of aim.now.schema.now) proof.old aim.now.queries.now aim.now.head.now aim.now.budget)
+        (exploring_of (meaning_of aim.now.schema.now) proof.old aim.now.queries.now aim.now.head.now aim.now.budget aim.now.relevant.items)
         path.now set.now visit.end visit.fired) }
     ensures room { IfOk result (λ visit. visit.fired ≤ room) }
     ensures spent { IfOk result (λ visit. visit.end ≡ end.UnitsSpent → visit.fired ≡ room) }
     ensures moves { IfOk result (λ visit. AreMovesAt
-        (exploring_of (meaning_of aim.now.schema.now) proof.old aim.now.queries.now aim.now.head.now aim.now.budget)
+        (exploring_of (meaning_of aim.now.schema.now) proof.old aim.now.queries.now aim.now.head.now aim.now.budget aim.now.relevant.items)
         set.now visit.end below visit.moves.items) }
 {
     go_along(
@@ -85,15 +87,15 @@ pub(crate) fn visit_set(
     Ok(Visit { end, fired, moves })
 }
 
-/// The moves from a set that cost less than `below`, after a visit from which the search goes on.
+/// The moves of relevant facts from a set that cost less than `below`, after a visit from which the search goes on.
 fn moves_after(aim: &Aim, proof: &Proof, end: End, below: u64) -> Result<Vec<Move>, NoMemory>
     requires run { IsProofOf (meaning_of aim.now.schema.now) proof.now }
     requires facts { aim.now.facts.items ≡ proof.now.end.base }
     requires methods { IsMethodIndex aim.now.schema.now.methods aim.now.methods }
     ensures active { IfOk result (λ moves. (move : Move) → Contains moves.items move →
-        IsActiveMove (meaning_of aim.now.schema.now) proof.now move) }
-    ensures all { IfOk result (λ moves. GoesOn end → (move : Move) →
-        IsActiveMove (meaning_of aim.now.schema.now) proof.now move → move.cost < below → IsServed moves.items move) }
+        IsActiveMove (meaning_of aim.now.schema.now) proof.now move × IsMarked aim.now.relevant.items move.fact) }
+    ensures all { IfOk result (λ moves. GoesOn end → (move : Move) → IsActiveMove (meaning_of aim.now.schema.now) proof.now move →
+        IsMarked aim.now.relevant.items move.fact → move.cost < below → IsServed moves.items move) }
 {
     match end {
         End::Goal | End::UnitsSpent => Ok(Vec::new(aim.alloc)),
@@ -104,6 +106,7 @@ fn moves_after(aim: &Aim, proof: &Proof, end: End, below: u64) -> Result<Vec<Mov
                 aim.schema,
                 &aim.methods,
                 aim.facts.as_slice(),
+                aim.relevant.as_slice(),
                 below,
             )
         }
@@ -121,13 +124,13 @@ pub(crate) fn reach_set(
     requires walk { IsWalk (IsOpen (meaning_of aim.now.schema.now) proof.old.constants proof.old.end.base)
         (no_facts (length proof.old.end.base)) path.now set.now }
     ensures reached { IfOk result (λ found. IfSome found (λ m. IsReached
-        (exploring_of (meaning_of aim.now.schema.now) proof.old aim.now.queries.now aim.now.head.now aim.now.budget)
+        (exploring_of (meaning_of aim.now.schema.now) proof.old aim.now.queries.now aim.now.head.now aim.now.budget aim.now.relevant.items)
         path.now proof.new)) }
     ensures found { IfOk result (λ found. IfSome found
         (λ m. IsGoal aim.now.queries.now proof.new.end.copy aim.now.head.now m.select m.assignment.vals)) }
     ensures none { IfOk result (λ found. IfNone found
-        (HasRunBeyond (exploring_of (meaning_of aim.now.schema.now) proof.old aim.now.queries.now aim.now.head.now aim.now.budget)
-        ⊎ (HasGoalAt (exploring_of (meaning_of aim.now.schema.now) proof.old aim.now.queries.now aim.now.head.now aim.now.budget)
+        (HasRunBeyond (exploring_of (meaning_of aim.now.schema.now) proof.old aim.now.queries.now aim.now.head.now aim.now.budget aim.now.relevant.items)
+        ⊎ (HasGoalAt (exploring_of (meaning_of aim.now.schema.now) proof.old aim.now.queries.now aim.now.head.now aim.now.budget aim.now.relevant.items)
         set.now → ⊥))) }
 {
     go_along(

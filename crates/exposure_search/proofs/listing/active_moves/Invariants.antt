@@ -3,4 +3,4 @@ use Rattle.exposure_search.proofs.Offering.{AreServed}
 use Rattle.exposure_search.proofs.listing.active_moves.Given as goal
 
 abbrev pub invariant-loop-place : goal.invariant-loop-place
-invariant-loop-place l = AreServed (meaning_of l.schema) l.proof l.below l.moves.items l.place
+invariant-loop-place l = AreServed (meaning_of l.schema) l.proof l.marks l.below l.moves.items l.place

@@ -1,6 +1,6 @@
 use Rattle.std.proofs.Common.{◌∙◌}
 use Rattle.access_schema.specs.Meaning.{meaning_of}
-use Rattle.exposure_search.proofs.Explored.{begins_only, begins_long, founded}
+use Rattle.exposure_search.proofs.Explored.{begins_only, begins_bare, begins_long, founded}
 use Rattle.exposure_search.proofs.exposure_space.ExposureSpace.new.Goals as goal
 
 pub invariant_of-result : goal.invariant_of-result
@@ -15,4 +15,7 @@ invariant_of-result c = record {
 }
 
 pub returns-clause-founded : goal.returns-clause-founded
-returns-clause-founded c = founded (meaning_of c.args.schema.now) c.args.proof c.args.queries.now c.args.head.now c.args.budget (begins_only (meaning_of c.args.schema.now) c.args.proof c.requires.base)
+returns-clause-founded c = founded (meaning_of c.args.schema.now) c.args.proof c.args.queries.now c.args.head.now c.args.budget c.in_ok-relevant.relevant.items (begins_only (meaning_of c.args.schema.now) c.args.proof c.requires.base) c.in_ok-relevant.ensures
+
+pub relevant_facts-requires-clause-none : goal.relevant_facts-requires-clause-none
+relevant_facts-requires-clause-none c = begins_bare (meaning_of c.args.schema.now) c.args.proof c.requires.base

@@ -6,12 +6,16 @@ use Rattle.least_search.specs.declared.space.End.TheVariants as end
 use Rattle.least_search.specs.Walks.{IsWalk, no_facts}
 use Rattle.least_search.specs.Ends.{GoesOn}
 use Rattle.exposure_search.specs.Making.{IsServed}
-use Rattle.exposure_search.specs.Exploring.{space_size, CanExpose, HasGoalAt, HasTry}
+use Rattle.exposure_search.specs.Tries.{IsOpen}
+use Rattle.exposure_search.specs.Exploring.{Exploring, space_size, CanExpose, HasGoalAt, HasTry}
+use Rattle.exposure_search.specs.Spaces.{open_walk}
 use Rattle.exposure_search.proofs.Visited.{visit_none, visit_run, visit_possible, visit_complete}
 use Rattle.exposure_search.proofs.exposure_space.ExposureSpaceSpace.visit.Goals as goal
 
 pub visit_set-requires-clause-walk : goal.visit_set-requires-clause-walk
-visit_set-requires-clause-walk c = subst (λ s. IsWalk (CanExpose s) (no_facts (space_size s)) c.args.path.now c.args.set.now) (sym c.self.view_is) c.requires
+visit_set-requires-clause-walk c =
+    subst (λ (s : Exploring). IsWalk (IsOpen s.schema s.constants s.base.facts) (no_facts (space_size s)) c.args.path.now c.args.set.now) (sym c.self.view_is)
+    (open_walk c.args.self.now c.args.path.now (no_facts (space_size c.args.self.now)) c.args.set.now c.requires)
 
 pub returns-clause-none : goal.returns-clause-none
 returns-clause-none c =

@@ -1,0 +1,179 @@
+-- Facts that are marked and followed, until all for which they ask are marked.
+use Rattle.std.proofs.Common.{◌≡◌, ◌⊎◌, ℕ, zero, suc, ◌+◌, ◌<◌, take, List, [], ◌∷◌, ◌++◌, length, Bool, true, Option, Some, None, refl, sym, ap, ◌∙◌, subst, inl, inr, ⊎_elim, arith}
+use Rattle.std.specs.Prelude.{Contains, slice_get, slice_set}
+use Rattle.std.proofs.lemmas.Bool.{cases_eq}
+use Rattle.std.proofs.lemmas.List.{length-set, length_push}
+use Rattle.std.proofs.lemmas.Option.{slice_get_within}
+use Rattle.std.proofs.lemmas.List.Elements.{Contains-append_left, Contains-push, Contains-push_cases}
+use Rattle.lists.proofs.Members.{some_injective, got_push}
+use Rattle.meaning.specs.declared.types.SchemaParts.{SchemaParts}
+use Rattle.meaning.specs.declared.types.Ground.{Ground}
+use Rattle.meaning.specs.declared.types.Method.{Method}
+use Rattle.meaning.specs.declared.types.Query.{Query}
+use Rattle.meaning.specs.declared.types.Val.{Val}
+use Rattle.meaning.specs.declared.types.Val.TheVariants.{Const}
+use Rattle.meaning.specs.Runs.{IsKnownValue}
+use Rattle.meaning_laws.specs.Trims.{BodiesFollow}
+use Rattle.accessible_copy.specs.declared.holders.Holders.{Holders}
+use Rattle.accessible_copy.specs.Known.{known_values}
+use Rattle.accessible_copy.specs.Methods.{methods_of, IsMethodIndex}
+use Rattle.accessible_copy.specs.OpenFacts.{held_by, AreHolders}
+use Rattle.accessible_copy.proofs.Listed.{take_got, known_to}
+use Rattle.exposure_search.specs.declared.relevance.Marking.{Marking}
+use Rattle.exposure_search.specs.Tries.{IsMarked}
+use Rattle.exposure_search.specs.Sets.{got_contained, picked_at, picked_back, set_kept, set_cases}
+use Rattle.exposure_search.specs.Relevance.{AreRelevant, Keeps, QueriesMarked, WantedMarked, HoldsInput, IsAskedBy, Grows, IsFollowed, IsFollowing}
+use Rattle.exposure_search.proofs.Wanting.{keeps_push, set_on}
+
+pub grows_none : (now : Marking) → Grows now now
+grows_none now = record { long = refl; stays = λ n on. on; waits = λ n c. c; news = λ n on. inl on }
+
+pub grows_then : (first second third : Marking) → Grows first second → Grows second third → Grows first third
+grows_then first second third one two = record {
+  long = two.long ∙ one.long;
+  stays = λ n on. two.stays n (one.stays n on);
+  waits = λ n c. two.waits n (one.waits n c);
+  news = λ n on. ⊎_elim (λ old. ⊎_elim (λ older. inl older) (λ w. inr (two.waits n w)) (one.news n old)) (λ w. inr w) (two.news n on);
+}
+
+-- one more mark
+pub grows_one : (old new : Marking) (number : ℕ) → new.marks.items ≡ slice_set old.marks.items number true → new.waiting.items ≡ old.waiting.items ++ number ∷ [] → Grows old new
+grows_one old new number marks waiting = record {
+  long = ap length marks ∙ length-set old.marks.items number true;
+  stays = λ n on. subst (λ ms. IsMarked ms n) (sym marks) (set_kept old.marks.items number n on);
+  waits = λ n c. subst (λ ws. Contains ws n) (sym waiting) (Contains-append_left old.waiting.items (number ∷ []) n c);
+  news = λ n on. ⊎_elim (λ here. inr (subst (λ ws. Contains ws n) (sym waiting) (subst (λ k. Contains (old.waiting.items ++ number ∷ []) k) (sym here) (Contains-push old.waiting.items number)))) (λ m. inl m)
+      (set_cases old.marks.items number n (subst (λ ms. IsMarked ms n) marks on));
+}
+
+pub one_on : (old new : Marking) (number : ℕ) → new.marks.items ≡ slice_set old.marks.items number true → number < length old.marks.items → IsMarked new.marks.items number
+one_on old new number marks low = subst (λ ms. IsMarked ms number) (sym marks) (set_on old.marks.items number low)
+
+-- what is marked of a kind of numbers, after some steps
+pub record IsReached (Kind : ℕ → Type 0) (old new : Marking) : Type 0 where
+  pub grows : Grows old new
+  pub reached : (number : ℕ) → Kind number → number < length old.marks.items → IsMarked new.marks.items number
+
+-- one step more
+pub reached_more : (Kind Next Both : ℕ → Type 0) (old now new : Marking) → IsReached Kind old now → IsReached Next now new → ((number : ℕ) → Both number → Kind number ⊎ Next number) → IsReached Both old new
+reached_more Kind Next Both old now new one two either = record {
+  grows = grows_then old now new one.grows two.grows;
+  reached = λ n both low. ⊎_elim (λ k. two.grows.stays n (one.reached n k low)) (λ k. two.reached n k (subst (λ len. n < len) (sym one.grows.long) low)) (either n both);
+}
+
+pub reached_none : (Kind : ℕ → Type 0) (now : Marking) → ((number : ℕ) → Kind number → ⊥) → IsReached Kind now now
+reached_none Kind now none = record { grows = grows_none now; reached = λ n k low. absurd (none n k) }
+
+-- of the first places, and the next one
+pub input_next : (holders : Holders) (known vals : List Val) (places : List ℕ) (i place : ℕ) → slice_get places i ≡ Some place → (number : ℕ) → HoldsInput holders known vals (take (i + 1) places) number →
+    HoldsInput holders known vals (take i places) number ⊎ ((v : Val) × (slice_get vals place ≡ Some v) × (Contains known v → ⊥) × Contains (held_by holders v) number)
+input_next holders known vals places i place got number (at, v, among, there, unknown, holds) =
+    ⊎_elim (λ old. inl (at, v, old, there, unknown, holds)) (λ same. inr (v, subst (λ p. slice_get vals p ≡ Some v) (sym same) there, unknown, holds))
+    (Contains-push_cases (take i places) place at (subst (λ l. Contains l at) (take_got places i place got) among))
+
+pub asked_next : (methods : List Method) (holders : Holders) (known vals : List Val) (numbers : List ℕ) (i of : ℕ) → slice_get numbers i ≡ Some of → (number : ℕ) → IsAskedBy methods holders known vals (take (i + 1) numbers) number →
+    IsAskedBy methods holders known vals (take i numbers) number ⊎ ((method : Method) × (slice_get methods of ≡ Some method) × HoldsInput holders known vals method.inputs number)
+asked_next methods holders known vals numbers i of got number (at, method, among, named, holds) =
+    ⊎_elim (λ old. inl (at, method, old, named, holds)) (λ same. inr (method, subst (λ k. slice_get methods k ≡ Some method) (sym same) named, holds))
+    (Contains-push_cases (take i numbers) of at (subst (λ l. Contains l at) (take_got numbers i of got) among))
+
+module _ (schema : SchemaParts) (constants : List (List ℕ)) (facts : List Ground) where
+  -- more marks, and what was followed still is
+  followed_more : (old new : List Bool) (number : ℕ) → Keeps old new → IsFollowed schema constants facts old number → IsFollowed schema constants facts new number
+  followed_more old new number keeps is fact other place v got asks there has = keeps place (is fact other place v got asks there has)
+
+  -- a fact whose asked values were gone through
+  pub followed_here : (index : List (List ℕ)) (holders : Holders) (exposed : List Ground) (marks : List Bool) (count number : ℕ) (fact : Ground) → exposed ≡ [] → IsMethodIndex schema.methods index → AreHolders facts holders → count ≡ length facts → slice_get facts number ≡ Some fact →
+      ((n : ℕ) → IsAskedBy schema.methods holders (known_values constants exposed) fact.vals (methods_of index fact.rel) n → n < count → IsMarked marks n) → IsFollowed schema constants facts marks number
+  followed_here index holders exposed marks count number fact bare indexed are long got reached its other place v there asks at has =
+      let same : its ≡ fact = some_injective its fact (sym there ∙ got) in
+      let (of, named) = got_contained schema.methods asks.method asks.of_schema in
+      let low : place < length facts = slice_get_within facts place other at in
+      let rel : asks.method.rel ≡ fact.rel = asks.of_relation ∙ ap (λ (f : Ground). f.rel) same in
+      reached place (
+        of,
+        asks.method,
+        subst (λ r. Contains (methods_of index r) of) rel (indexed.all of asks.method named),
+        named,
+        (asks.place, v, asks.input, subst (λ (f : Ground). slice_get f.vals asks.place ≡ Some v) same asks.at, (λ c. unknown asks.unknown (known_to constants exposed v c)), are place other v at has),
+      ) (omega arith)
+    where
+      unknown : ((c : List ℕ) → Contains constants c → v ≡ Const c → ⊥) → IsKnownValue constants exposed v → ⊥
+      unknown none known = ⊎_elim (λ (c, among, is). none c among is) (λ (g, among, i). absurd (let c : Contains [] g = subst (λ gs. Contains gs g) bare among in omega arith)) known
+
+  -- the number that was taken was followed
+  pub following_next : (old popped new : Marking) (number : ℕ) → IsFollowing schema constants facts old → popped.marks.items ≡ old.marks.items → old.waiting.items ≡ popped.waiting.items ++ number ∷ [] → Grows popped new → IsFollowed schema constants facts new.marks.items number →
+      IsFollowing schema constants facts new
+  following_next old popped new number is marks waiting grows here = record {
+    long = grows.long ∙ ap length marks ∙ is.long;
+    followed = λ n on. ⊎_elim
+        (λ m. ⊎_elim
+        (λ w. ⊎_elim (λ c. inl (grows.waits n c)) (λ same. inr (subst (λ k. IsFollowed schema constants facts new.marks.items k) same here)) (Contains-push_cases popped.waiting.items number n (subst (λ ws. Contains ws n) waiting w)))
+        (λ f. inr (followed_more old.marks.items new.marks.items n (λ k was. grows.stays k (subst (λ ms. IsMarked ms k) (sym marks) was)) f))
+        (is.followed n (subst (λ ms. IsMarked ms n) marks m)))
+        (λ w. inl w) (grows.news n on);
+  }
+
+  pub followed_none : (marks : List Bool) (number : ℕ) → slice_get facts number ≡ None → IsFollowed schema constants facts marks number
+  followed_none marks number none fact other place v got asks there has = absurd (cc)
+
+  pub all_followed : (now : Marking) → now.waiting.items ≡ [] → IsFollowing schema constants facts now → (number : ℕ) → IsMarked now.marks.items number → IsFollowed schema constants facts now.marks.items number
+  all_followed now none is number on = ⊎_elim (λ w. absurd (let c : Contains [] number = subst (λ ws. Contains ws number) none w in omega arith)) (λ f. f) (is.followed number on)
+
+  -- closed marks
+  pub marks_relevant : (queries : List Query) (wanted begun marks : List Bool) → QueriesMarked wanted queries → BodiesFollow schema.rules (IsMarked wanted) → WantedMarked wanted facts begun → Keeps begun marks →
+      ((number : ℕ) → IsMarked marks number → IsFollowed schema constants facts marks number) → AreRelevant schema constants facts queries marks
+  marks_relevant queries wanted begun marks of_queries bodies begins keeps closed = (
+    wanted,
+    record {
+      atoms = λ query atom c d. of_queries query c atom d;
+      bodies = bodies;
+      facts = λ fact c wants. let (k, at) = got_contained facts fact c in picked_at facts marks k fact at (keeps k (begins k fact at wants));
+      inputs = λ fact other v among asks c has.
+          let (k, at, on) = picked_back facts marks fact among in
+          let (place, there) = got_contained facts other c in
+          picked_at facts marks place other there (closed k on fact other place v at asks there has);
+    },
+  )
+
+-- the first facts, each marked where its relation is wanted, and waiting
+pub record AreBegun (wanted : List Bool) (facts : List Ground) (count : ℕ) (now : Marking) : Type 0 where
+  pub long : length now.marks.items ≡ count
+  pub wants : (number : ℕ) (fact : Ground) → number < count → slice_get facts number ≡ Some fact → IsMarked wanted fact.rel → IsMarked now.marks.items number
+  pub waits : (number : ℕ) → IsMarked now.marks.items number → Contains now.waiting.items number
+
+push_cases : (marks : List Bool) (mark : Bool) (n : ℕ) → IsMarked (marks ++ mark ∷ []) n → IsMarked marks n ⊎ ((n ≡ length marks) × (mark ≡ true))
+push_cases [] mark zero on = inr (refl, some_injective mark true on)
+push_cases [] mark (suc n) on = absurd (cc)
+push_cases (m ∷ marks) mark zero on = inl on
+push_cases (m ∷ marks) mark (suc n) on = ⊎_elim (λ old. inl old) (λ (e, is). inr (ap suc e, is)) (push_cases marks mark n on)
+
+pub begun_more : (wanted : List Bool) (facts : List Ground) (count : ℕ) (now new : Marking) (fact : Ground) (mark : Bool) → AreBegun wanted facts count now → slice_get facts count ≡ Some fact → new.marks.items ≡ now.marks.items ++ mark ∷ [] →
+    ((n : ℕ) → Contains now.waiting.items n → Contains new.waiting.items n) → (mark ≡ true → Contains new.waiting.items (length now.marks.items)) → (IsMarked wanted fact.rel → mark ≡ true) → AreBegun wanted facts (count + 1) new
+begun_more wanted facts count now new fact mark are got marks waits here wants = record {
+  long = let e = length_push now.marks.items mark in let l = are.long in let m = ap length marks in omega arith;
+  wants = λ number its low there wanted_is. ⊎_elim
+      (λ same. let is : its ≡ fact = some_injective its fact (sym there ∙ ap (slice_get facts) same ∙ got) in
+      let on : mark ≡ true = wants (subst (λ (f : Ground). IsMarked wanted f.rel) is wanted_is) in
+      let at : length now.marks.items ≡ number = are.long ∙ sym same in
+      subst (λ ms. IsMarked ms number) (sym marks) (subst (λ k. IsMarked (now.marks.items ++ mark ∷ []) k) at (got_push now.marks.items mark ∙ ap (λ b. Some b) on)))
+      (λ other. subst (λ ms. IsMarked ms number) (sym marks) (keeps_push now.marks.items mark number (are.wants number its (omega arith) there wanted_is))) (cases_eq number count);
+  waits = λ number on. ⊎_elim (λ old. waits number (are.waits number old)) (λ (e, is). subst (λ k. Contains new.waiting.items k) (sym e) (here is)) (push_cases now.marks.items mark number (subst (λ ms. IsMarked ms number) marks on));
+}
+
+pub begun_none : (wanted : List Bool) (facts : List Ground) (now : Marking) → now.marks.items ≡ [] → AreBegun wanted facts 0 now
+begun_none wanted facts now none = record {
+  long = ap length none;
+  wants = λ number fact low got wants. absurd (omega arith);
+  waits = λ number on. absurd (let e : slice_get [] number ≡ Some true = subst (λ ms. IsMarked ms number) none on in cc);
+}
+
+pub none_left : {X : Type 0} (xs : List X) → length xs ≡ 0 → xs ≡ []
+none_left [] e = refl
+none_left (x ∷ xs) e = absurd (omega arith)
+
+pub none_asked : (methods : List Method) (n : ℕ) (method : Method) → slice_get methods n ≡ None → slice_get methods n ≡ Some method → ⊥
+none_asked methods n method none named = differ (sym none ∙ named)
+  where
+    differ : ◌≡◌ {A = Option Method} None (Some method) → ⊥
+    differ e = cc

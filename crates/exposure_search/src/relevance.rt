@@ -1,0 +1,192 @@
+// The base facts on which a match can rest.
+ghost use Rattle.std.specs.Prelude.{◌≡◌, ◌<◌, ℕ, [], ◌∷◌, ◌++◌, Contains, IfOk, OnOk, IfSome, IfNone, Some, length, slice_get, true};
+ghost use Rattle.meaning.specs.declared.types.Val.{Val as TheVal};
+ghost use Rattle.access_schema.specs.Meaning.{meaning_of};
+ghost use Rattle.accessible_copy.specs.Known.{known_values};
+ghost use Rattle.accessible_copy.specs.Methods.{methods_of, IsMethodIndex};
+ghost use Rattle.accessible_copy.specs.OpenFacts.{AreHolders};
+ghost use Rattle.exposure_search.specs.Tries.{IsMarked};
+ghost use Rattle.exposure_search.specs.Relevance.{AreRelevant, Keeps, WantedMarked, HoldsInput, IsAskedBy, Grows, IsFollowed, IsFollowing};
+
+use crate::marks::is_marked;
+use crate::wanted::wanted_relations;
+use access_schema::Schema;
+use accessible_copy::{Holders, MethodIndex, Proof};
+use lists::NoMemory;
+use meaning::types::{Ground, Queries, Val};
+use std::alloc::Global;
+
+/// A mark for each base fact on which a match of the queries can rest. `facts` are the base facts, none of which is exposed.
+///
+/// These are the facts of wanted relations, and each fact that holds a value which is no known constant and which a marked fact
+/// has at an input of a method. Each marked fact is followed once.
+pub(crate) fn relevant_facts(
+    alloc: Global,
+    proof: &Proof,
+    schema: &Schema,
+    queries: &Queries,
+    methods: &MethodIndex,
+    facts: &[Ground],
+) -> Result<Vec<bool>, NoMemory>
+    requires facts { facts.now ≡ proof.now.end.base }
+    requires none { proof.now.end.exposed ≡ [] }
+    requires methods { IsMethodIndex schema.now.methods methods.now }
+    ensures { IfOk result (λ marks. AreRelevant (meaning_of schema.now) proof.now.constants proof.now.end.base queries.now marks.items) }
+{
+    let wanted = wanted_relations(alloc, schema.rules.as_slice(), queries.as_slice())?;
+    let mut marking = wanted_facts(alloc, facts, wanted.as_slice())?;
+    let holders = proof.holders(alloc)?;
+    marking.follow_all(proof, schema, methods, &holders)?;
+    let Marking { marks, .. } = marking;
+    Ok(marks)
+}
+
+/// A mark for each fact of a wanted relation. Each of these waits.
+fn wanted_facts(alloc: Global, facts: &[Ground], wanted: &[bool]) -> Result<Marking, NoMemory>
+    ensures long { IfOk result (λ marking. length marking.marks.items ≡ length facts.now) }
+    ensures wanted { IfOk result (λ marking. WantedMarked wanted.now facts.now marking.marks.items) }
+    ensures wait { IfOk result (λ marking. (number : ℕ) → IsMarked marking.marks.items number → Contains marking.waiting.items number) }
+{
+    let mut marking = Marking {
+        marks: Vec::new(alloc),
+        waiting: Vec::new(alloc),
+    };
+    for fact in facts {
+        marking.add(is_marked(wanted, fact.rel as usize))?;
+    }
+    Ok(marking)
+}
+
+/// Marks of facts, and the numbers of those marked ones that were not followed yet.
+#[derive(Drop)]
+pub struct Marking {
+    marks: Vec<bool>,
+    waiting: Vec<usize>,
+}
+
+impl Marking {
+    /// One more mark; where it is set, its fact waits.
+    fn add(&mut self, mark: bool) -> Result<(), NoMemory>
+        ensures marks { OnOk result (self.new.marks.items ≡ self.old.marks.items ++ mark ∷ []) }
+        ensures waits { OnOk result ((number : ℕ) → Contains self.old.waiting.items number → Contains self.new.waiting.items number) }
+        ensures new { OnOk result (mark ≡ true → Contains self.new.waiting.items (length self.old.marks.items)) }
+    {
+        if mark {
+            self.waiting.push(self.marks.len())?;
+        }
+        self.marks.push(mark)?;
+        Ok(())
+    }
+
+    /// Follows the facts that wait, until none does.
+    fn follow_all(
+        &mut self,
+        proof: &Proof,
+        schema: &Schema,
+        methods: &MethodIndex,
+        holders: &Holders,
+    ) -> Result<(), NoMemory>
+        requires none { proof.now.end.exposed ≡ [] }
+        requires methods { IsMethodIndex schema.now.methods methods.now }
+        requires holders { AreHolders proof.now.end.base holders.now }
+        requires begun { IsFollowing (meaning_of schema.now) proof.now.constants proof.now.end.base self.old }
+        ensures stays { OnOk result (Keeps self.old.marks.items self.new.marks.items) }
+        ensures closed { OnOk result ((number : ℕ) → IsMarked self.new.marks.items number →
+            IsFollowed (meaning_of schema.now) proof.now.constants proof.now.end.base self.new.marks.items number) }
+    {
+        for _ in 0..usize::MAX {
+            let Some(number) = self.waiting.pop() else {
+                return Ok(());
+            };
+            if let Some(fact) = proof.base(number) {
+                self.follow(proof, schema, methods, holders, fact)?;
+            }
+        }
+        // each turn takes a fact that was kept in memory, which has no room for so many
+        Err(NoMemory)
+    }
+
+    /// Marks the facts that hold a value which the fact has at an input of one of its relation's methods.
+    fn follow(
+        &mut self,
+        proof: &Proof,
+        schema: &Schema,
+        methods: &MethodIndex,
+        holders: &Holders,
+        fact: &Ground,
+    ) -> Result<(), NoMemory>
+        ensures grows { OnOk result (Grows self.old self.new) }
+        ensures reached { OnOk result ((number : ℕ) → IsAskedBy schema.now.methods holders.now
+            (known_values proof.now.constants proof.now.end.exposed) fact.now.vals (methods_of methods.now fact.now.rel) number →
+            number < length self.old.marks.items → IsMarked self.new.marks.items number) }
+    {
+        for number in methods.numbers(fact.rel) {
+            if let Some(method) = schema.methods.get(*number as usize) {
+                self.follow_inputs(
+                    proof,
+                    holders,
+                    fact.vals.as_slice(),
+                    method.inputs.as_slice(),
+                )?;
+            }
+        }
+        Ok(())
+    }
+
+    /// Marks the facts that hold one of the values at these places which are not known.
+    fn follow_inputs(
+        &mut self,
+        proof: &Proof,
+        holders: &Holders,
+        vals: &[Val],
+        places: &[u32],
+    ) -> Result<(), NoMemory>
+        ensures grows { OnOk result (Grows self.old self.new) }
+        ensures reached { OnOk result ((number : ℕ) → HoldsInput holders.now
+            (known_values proof.now.constants proof.now.end.exposed) vals.now places.now number →
+            number < length self.old.marks.items → IsMarked self.new.marks.items number) }
+    {
+        for place in places {
+            if let Some(val) = unknown_at(proof, vals, *place) {
+                self.reach_all(holders.numbers(val))?;
+            }
+        }
+        Ok(())
+    }
+
+    /// Marks the facts with these numbers, where there are any.
+    fn reach_all(&mut self, numbers: &[usize]) -> Result<(), NoMemory>
+        ensures grows { OnOk result (Grows self.old self.new) }
+        ensures reached { OnOk result ((number : ℕ) → Contains numbers.now number →
+            number < length self.old.marks.items → IsMarked self.new.marks.items number) }
+    {
+        for number in numbers {
+            self.reach(*number)?;
+        }
+        Ok(())
+    }
+
+    /// Marks the fact with this number, where there is one; if it was not marked, it waits.
+    fn reach(&mut self, number: usize) -> Result<(), NoMemory>
+        ensures grows { OnOk result (Grows self.old self.new) }
+        ensures reached { OnOk result (number < length self.old.marks.items → IsMarked self.new.marks.items number) }
+    {
+        if number < self.marks.len() && !self.marks[number] {
+            self.waiting.push(number)?;
+            self.marks[number] = true;
+        }
+        Ok(())
+    }
+}
+
+/// The value at the place, where it is not known. Takes no memory.
+fn unknown_at<'a>(proof: &Proof, vals: &'a [Val], place: u32) -> Option<&'a Val>
+    ensures some { IfSome result (λ val. slice_get vals.now place ≡ Some val.now) }
+    ensures none { IfNone result ((val : TheVal) → slice_get vals.now place ≡ Some val →
+        Contains (known_values proof.now.constants proof.now.end.exposed) val) }
+{
+    match vals.get(place as usize) {
+        Some(val) if !proof.knows(val) => Some(val),
+        _ => None,
+    }
+}
