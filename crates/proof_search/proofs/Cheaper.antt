@@ -23,6 +23,9 @@ use Rattle.access_cost.proofs.Summing.{one_cost}
 use Rattle.access_schema.specs.declared.schema.Schema.{Schema}
 use Rattle.access_schema.specs.Meaning.{meaning_of}
 use Rattle.access_schema.proofs.Keeping.{well_formed, rules_fit}
+use Rattle.rule_pass.specs.Levels.{AreShort}
+use Rattle.rule_pass.proofs.Bounds.{orderly}
+use Rattle.rule_pass.proofs.Chains.{are_short}
 use Rattle.least_search.specs.declared.node.Node.{Node}
 use Rattle.access_cost.specs.declared.least.Least.{Least}
 use Rattle.access_cost.specs.declared.least.Least.TheVariants as known_cost
@@ -94,16 +97,18 @@ module _ (schema : SchemaParts) (queries : List Query) (query : Query) (firings 
         }
 
     -- what the search has shown is the least cost of a rival
-    pub least_for : IsWellFormed schema → (best : ℕ) → IsLeastCost (space_size space) (CanExpose space) (HasGoalAt space) best → (branch : Branch) → CostsAtMost schema branch best →
+    pub least_for : IsWellFormed schema → AreShort schema.rules → (best : ℕ) → IsLeastCost (space_size space) (CanExpose space) (HasGoalAt space) best → (branch : Branch) → CostsAtMost schema branch best →
         IsLeastFor schema space.constants queries query branch
-    least_for well best least branch (low, costs, cheap) rival cost other is_rival cost_is other_is =
+    least_for well short best least branch (low, costs, cheap) rival cost other is_rival cost_is other_is =
         let (exposures, exposing, few, goal) = rival_exposes schema space.constants queries query space.base (frozen_head query) rival other well rules have base_is is_rival other_is in
         let same : cost ≡ low = one_cost schema well branch.steps cost low cost_is costs in
         let here : IsExposing space.schema space.constants space.base.facts [] exposures = subst (λ s. IsExposing s space.constants space.base.facts [] exposures) (sym is.schema_is) exposing in
         let there : HasGoalAfter space.schema space.queries space.head space.base.next exposures =
         subst (λ s. HasGoalAfter s space.queries space.head space.base.next exposures) (sym is.schema_is)
         (subst (λ list. HasGoalAfter schema list space.head space.base.next exposures) (sym is.queries_are) (subst (λ head. HasGoalAfter schema queries head space.base.next exposures) (sym is.head) goal)) in
-        let most : best ≤ exposures_cost exposures = least_found space best is.founded least exposures here there in
+        let most : best ≤ exposures_cost exposures =
+        least_found space best is.founded (subst (λ (s : SchemaParts). AreShort s.rules) (sym is.schema_is) short) (subst (λ s. RulesFit s space.constants) (sym is.schema_is) rules) (λ q among. have q (subst (λ list. Contains list q) is.queries_are among))
+        base_is.named (subst (λ s. Fit s space.base.facts) (sym is.schema_is) base_is.fits) (λ v c. base_is.head_named v (subst (λ head. Contains head v) is.head c)) least exposures here there in
         omega arith
 
     goal_at : (set : List Bool) → HasMatchAt space set → HasGoalAt space set
@@ -136,7 +141,7 @@ module _ (schema : Schema) (queries : List Query) (query : Query) (firings searc
       IsSaidFor (meaning_of schema) space.constants queries firings search query branch least
   said_here searchable among have branch best costs ended.Shown least shown spent long is_least none beyond =
       subst (IsSaidFor (meaning_of schema) space.constants queries firings search query branch) (sym (shown refl))
-      (least_for (meaning_of schema) queries query firings space is (fits_rules have) (λ q there. (searchable q there).constants) (searchable query among).fits (searchable query among).constants (well_formed schema) best (is_least refl) branch costs)
+      (least_for (meaning_of schema) queries query firings space is (fits_rules have) (λ q there. (searchable q there).constants) (searchable query among).fits (searchable query among).constants (well_formed schema) (are_short schema.rules (orderly schema).non_recursive) best (is_least refl) branch costs)
   said_here searchable among have branch best costs (ended.SearchSpent units) least shown spent long is_least none beyond =
       subst (IsSaidFor (meaning_of schema) space.constants queries firings search query branch) (sym (spent units refl))
       (refl, none_enough (meaning_of schema) queries query firings space is search (none units refl))
