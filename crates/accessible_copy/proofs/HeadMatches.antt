@@ -19,10 +19,10 @@ none_given zero x v e = cc
 none_given (suc n) zero v e = cc
 none_given (suc n) (suc x) v e = none_given n x v e
 
-agrees_all : (n : ℕ) (a : ℕ → Val) → Agrees (replicate n None) a
+pub agrees_all : (n : ℕ) (a : ℕ → Val) → Agrees (replicate n None) a
 agrees_all n a x v e = absurd (none_given n x v e)
 
-long : (n : ℕ) → length {A = Option Val} (replicate n None) ≡ n
+pub long : (n : ℕ) → length {A = Option Val} (replicate n None) ≡ n
 long zero = refl
 long (suc n) = ap suc (long n)
 

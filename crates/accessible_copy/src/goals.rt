@@ -62,7 +62,7 @@ fn head_match(
 }
 
 /// No value for so many variables.
-fn no_values(alloc: Global, count: usize) -> Result<Bindings, NoMemory>
+pub fn no_values(alloc: Global, count: usize) -> Result<Bindings, NoMemory>
     ensures { IfOk result (λ given. given ≡ replicate count None) }
 {
     let mut given = Vec::with_capacity(alloc, count)?;

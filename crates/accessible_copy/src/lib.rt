@@ -24,7 +24,7 @@ mod ways;
 
 pub use entry::{Entry, Exposed, Mark, Sizes};
 pub use exposing::expose;
-pub use goals::{Match, goal};
+pub use goals::{Match, goal, no_values};
 pub use going::goes_on;
 pub use holders::Holders;
 pub use listing::{exposures, indexed_exposures};

@@ -35,10 +35,10 @@ use Rattle.accessible_copy.proofs.Listed.{proof_once}
 use Rattle.least_search.specs.declared.node.Node.{Node}
 use Rattle.least_search.specs.Walks.{IsNode, no_facts}
 use Rattle.least_search.specs.Costs.{IsLeastCost, AreRunsWithin}
-use Rattle.exposure_search.specs.Tries.{picked, IsMarked, exposures_in}
+use Rattle.exposure_search.specs.Tries.{picked, exposures_in}
 use Rattle.exposure_search.specs.Making.{bases_of, IsBaseProof, OnlyExposes}
 use Rattle.exposure_search.specs.Exploring.{Exploring, exploring_of, space_size, CanExpose, HasGoalAt, HasMatchAt, HasTry, IsRunBeyond, IsFounded}
-use Rattle.exposure_search.specs.Relevance.{AreRelevant}
+use Rattle.exposure_search.specs.Relevance.{IsWanted, AreRelevant}
 use Rattle.exposure_search.specs.Spaces.{open_walk}
 use Rattle.exposure_search.specs.Sets.{none_same, picked_back}
 use Rattle.exposure_search.proofs.Bridging.{least_exposing, exposed_base}
@@ -67,8 +67,8 @@ least_found space best founded short rules have named fit head_named least expos
     let (wanted, closed) = founded.relevant in
     let (log, end, run, quiet) = quiet_is_reached space.schema.rules (length space.schema.rules) (record { facts = exposed_facts exposures; next = space.base.next }) rules.numbered short in
     let (query, among, answer) = goal log end run quiet in
-    let (kept, less, last, exposes, leads, matched, cheap, matter) = relevant_trim space.schema space.constants space.base.facts space.queries (IsMarked wanted) (Contains (picked space.base.facts space.marks)) closed
-    space.base.next exposures log end query space.head exposing run among answer in
+    let (kept, less, last, exposes, leads, matched, cheap, matter) = relevant_trim space.schema space.constants space.base.facts space.base.next space.queries space.head (IsWanted space.queries space.head wanted) (Contains (picked space.base.facts space.marks)) closed
+    exposures log end query exposing run among answer in
     let has : HasGoalAfter space.schema space.queries space.head space.base.next kept =
     goal_everywhere space.schema space.constants space.queries (record { facts = exposed_facts kept; next = space.base.next }) space.head less last query rules have
     (λ fact v there i. named fact v (exposed_base space.schema space.constants space.base.facts kept [] exposes fact there) i) (λ fact there. fit fact (exposed_base space.schema space.constants space.base.facts kept [] exposes fact there)) head_named leads among matched in
@@ -111,7 +111,7 @@ begins_bare schema proof is =
     let its = laid schema proof is.run bases [] (is.log ∙ sym (append-nil (map Base bases))) in
     (lies schema proof (begins_only schema proof is)).exposed ∙ ap facts_of its.made_are
 
-pub founded : (schema : SchemaParts) (proof : Proving) (queries : List Query) (head : List Val) (budget : ℕ) (marks : List Bool) → OnlyExposes schema proof → AreRelevant schema proof.constants proof.end.base queries marks → IsFounded (exploring_of schema proof queries head budget marks)
+pub founded : (schema : SchemaParts) (proof : Proving) (queries : List Query) (head : List Val) (budget : ℕ) (marks : List Bool) → OnlyExposes schema proof → AreRelevant schema proof.constants proof.end.base proof.end.next queries head marks → IsFounded (exploring_of schema proof queries head budget marks)
 founded schema proof queries head budget marks is relevant = record {
   none_exposed = is.run.none_exposed;
   none_copied = is.run.none_copied;

@@ -5,7 +5,7 @@ use Rattle.std.proofs.lemmas.Bool.{cases_eq}
 use Rattle.std.proofs.lemmas.List.{length-set, length_push}
 use Rattle.std.proofs.lemmas.Option.{slice_get_within}
 use Rattle.std.proofs.lemmas.List.Elements.{Contains-append_left, Contains-push, Contains-push_cases}
-use Rattle.lists.proofs.Members.{some_injective, got_push}
+use Rattle.lists.proofs.Members.{contains_got, some_injective, got_push}
 use Rattle.meaning.specs.declared.types.SchemaParts.{SchemaParts}
 use Rattle.meaning.specs.declared.types.Ground.{Ground}
 use Rattle.meaning.specs.declared.types.Method.{Method}
@@ -13,7 +13,7 @@ use Rattle.meaning.specs.declared.types.Query.{Query}
 use Rattle.meaning.specs.declared.types.Val.{Val}
 use Rattle.meaning.specs.declared.types.Val.TheVariants.{Const}
 use Rattle.meaning.specs.Runs.{IsKnownValue}
-use Rattle.meaning_laws.specs.Trims.{BodiesFollow}
+use Rattle.meaning.specs.Triggers.{ground, assigned}
 use Rattle.accessible_copy.specs.declared.holders.Holders.{Holders}
 use Rattle.accessible_copy.specs.Known.{known_values}
 use Rattle.accessible_copy.specs.Methods.{methods_of, IsMethodIndex}
@@ -22,7 +22,8 @@ use Rattle.accessible_copy.proofs.Listed.{take_got, known_to}
 use Rattle.exposure_search.specs.declared.relevance.Marking.{Marking}
 use Rattle.exposure_search.specs.Tries.{IsMarked}
 use Rattle.exposure_search.specs.Sets.{got_contained, picked_at, picked_back, set_kept, set_cases}
-use Rattle.exposure_search.specs.Relevance.{AreRelevant, Keeps, QueriesMarked, WantedMarked, HoldsInput, IsAskedBy, Grows, IsFollowed, IsFollowing}
+use Rattle.exposure_search.specs.Relevance.{AreRelevant, IsImageOf, IsImageAmong, Keeps, BodiesMarked, AreFed, WantedMarked, IsOfKind, HoldsInput, IsAskedBy, Grows, IsFollowed, IsFollowing}
+use Rattle.exposure_search.proofs.Imaging.{image_next, image_none}
 use Rattle.exposure_search.proofs.Wanting.{keeps_push, set_on}
 
 pub grows_none : (now : Marking) → Grows now now
@@ -120,21 +121,51 @@ module _ (schema : SchemaParts) (constants : List (List ℕ)) (facts : List Grou
   pub all_followed : (now : Marking) → now.waiting.items ≡ [] → IsFollowing schema constants facts now → (number : ℕ) → IsMarked now.marks.items number → IsFollowed schema constants facts now.marks.items number
   all_followed now none is number on = ⊎_elim (λ w. absurd (let c : Contains [] number = subst (λ ws. Contains ws number) none w in omega arith)) (λ f. f) (is.followed number on)
 
-  -- closed marks
-  pub marks_relevant : (queries : List Query) (wanted begun marks : List Bool) → QueriesMarked wanted queries → BodiesFollow schema.rules (IsMarked wanted) → WantedMarked wanted facts begun → Keeps begun marks →
-      ((number : ℕ) → IsMarked marks number → IsFollowed schema constants facts marks number) → AreRelevant schema constants facts queries marks
-  marks_relevant queries wanted begun marks of_queries bodies begins keeps closed = (
+  -- closed marks: `begun` are those of wanted relations, and `seen` those of images too
+  pub marks_relevant : (next : ℕ) (queries : List Query) (head : List Val) (wanted begun seen marks : List Bool) → BodiesMarked schema.rules next (IsImageAmong queries head) wanted → AreFed schema.rules wanted →
+      length begun ≡ length facts → WantedMarked wanted facts begun → Keeps begun seen → ((number : ℕ) → IsOfKind facts (IsImageAmong queries head) number → number < length begun → IsMarked seen number) → Keeps seen marks →
+      ((number : ℕ) → IsMarked marks number → IsFollowed schema constants facts marks number) → AreRelevant schema constants facts next queries head marks
+  marks_relevant next queries head wanted begun seen marks served fed long begins sees images keeps closed = (
     wanted,
     record {
-      atoms = λ query atom c d. of_queries query c atom d;
-      bodies = bodies;
-      facts = λ fact c wants. let (k, at) = got_contained facts fact c in picked_at facts marks k fact at (keeps k (begins k fact at wants));
+      images = λ query atom fact c d i. inl (query, c, (atom, d, i));
+      bodies = λ trigger rule made body is of_head of_body needs.
+          let among = contains_got schema.rules trigger.rule rule is.numbered in
+          inr (⊎_elim
+          (λ image. served rule among (ground (assigned trigger) made) (record { trigger = trigger; head = made; width = is.width; fresh = is.fresh; of_rule = of_head; makes = refl }) image body of_body)
+          (λ on. fed rule made body among of_head of_body on) needs);
+      facts = λ fact c wants.
+          let (k, at) = got_contained facts fact c in
+          let low : k < length facts = slice_get_within facts k fact at in
+          picked_at facts marks k fact at (keeps k (⊎_elim (λ image. images k (fact, at, image) (omega arith)) (λ on. sees k (begins k fact at on)) wants));
       inputs = λ fact other v among asks c has.
           let (k, at, on) = picked_back facts marks fact among in
           let (place, there) = got_contained facts other c in
           picked_at facts marks place other there (closed k on fact other place v at asks there has);
     },
   )
+
+  -- what waits, and what was newly marked
+  pub following_begun : (old new : Marking) → length old.marks.items ≡ length facts → ((number : ℕ) → IsMarked old.marks.items number → Contains old.waiting.items number) → Grows old new → IsFollowing schema constants facts new
+  following_begun old new long waits grows = record {
+    long = grows.long ∙ long;
+    followed = λ number on. ⊎_elim (λ was. inl (grows.waits number (waits number was))) (λ w. inl w) (grows.news number on);
+  }
+
+-- the first facts that are of a kind, and the next one
+abbrev pub IsFront : List Ground → (Ground → Type 0) → ℕ → ℕ → Type 0
+IsFront facts Kind count number = (number < count) × IsOfKind facts Kind number
+
+pub front_next : (facts : List Ground) (Kind : Ground → Type 0) (count number : ℕ) → IsFront facts Kind (count + 1) number → IsFront facts Kind count number ⊎ ((number ≡ count) × IsOfKind facts Kind number)
+front_next facts Kind count number (low, kind) = ⊎_elim (λ same. inr (same, kind)) (λ other. inl (omega arith, kind)) (cases_eq number count)
+
+-- an image of one query more
+pub image_kinds : (facts : List Ground) (queries : List Query) (head : List Val) (i : ℕ) (query : Query) (number : ℕ) → slice_get queries i ≡ Some query → IsOfKind facts (IsImageAmong (take (i + 1) queries) head) number →
+    IsOfKind facts (IsImageAmong (take i queries) head) number ⊎ IsOfKind facts (IsImageOf query head) number
+image_kinds facts queries head i query number got (fact, at, image) = ⊎_elim (λ old. inl (fact, at, old)) (λ its. inr (fact, at, its)) (image_next queries head i query fact got image)
+
+pub no_image_kinds : (facts : List Ground) (head : List Val) (number : ℕ) → IsOfKind facts (IsImageAmong [] head) number → ⊥
+no_image_kinds facts head number (fact, at, image) = image_none head fact image
 
 -- the first facts, each marked where its relation is wanted, and waiting
 pub record AreBegun (wanted : List Bool) (facts : List Ground) (count : ℕ) (now : Marking) : Type 0 where

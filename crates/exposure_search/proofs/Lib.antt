@@ -1,6 +1,8 @@
 pub mod Bridging
 pub mod Trying
 pub mod Wanting
+pub mod Imaging
+pub mod Served
 pub mod Following
 pub mod Logs
 pub mod Steps

@@ -81,4 +81,4 @@ pub record IsFounded (space : Exploring) : Type 0 where
   pub run : IsBaseRun space.schema.rules (base_state space.start) space.log space.base
   pub quiet : IsQuiet space.schema.rules space.base
   pub once : AreDistinct space.base.facts
-  pub relevant : AreRelevant space.schema space.constants space.base.facts space.queries space.marks
+  pub relevant : AreRelevant space.schema space.constants space.base.facts space.base.next space.queries space.head space.marks

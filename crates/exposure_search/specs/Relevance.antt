@@ -1,22 +1,76 @@
 -- On which relations and base facts a match can rest, as marks.
-use Rattle.std.specs.Prelude.{◌≡◌, ◌⊎◌, ℕ, List, Contains, Bool, slice_get, length, Some}
+use Rattle.std.specs.Prelude.{◌≡◌, ◌⊎◌, ◌≤◌, ℕ, List, Contains, Bool, Option, slice_get, length, map, Some}
 use Rattle.meaning.specs.declared.types.SchemaParts.{SchemaParts}
 use Rattle.meaning.specs.declared.types.Atom.{Atom}
 use Rattle.meaning.specs.declared.types.Ground.{Ground}
 use Rattle.meaning.specs.declared.types.Method.{Method}
 use Rattle.meaning.specs.declared.types.Query.{Query}
+use Rattle.meaning.specs.declared.types.Rule.{Rule}
+use Rattle.meaning.specs.declared.types.Term.{Term}
+use Rattle.meaning.specs.declared.types.Trigger.{Trigger}
 use Rattle.meaning.specs.declared.types.Val.{Val}
+use Rattle.meaning.specs.declared.types.Val.TheVariants.{Const}
 use Rattle.meaning.specs.Values.{Value}
-use Rattle.meaning_laws.specs.Trims.{Asks, AreClosed}
+use Rattle.meaning.specs.Matching.{value_of}
+use Rattle.meaning.specs.Triggers.{bound, ground, assigned}
+use Rattle.meaning_laws.specs.Trims.{Asks, IsImage, AreClosed}
+use Rattle.homomorphism.specs.Bindings.{Agrees}
 use Rattle.accessible_copy.specs.declared.holders.Holders.{Holders}
 use Rattle.accessible_copy.specs.OpenFacts.{held_by}
 use Rattle.exposure_search.specs.declared.relevance.Marking.{Marking}
 use Rattle.exposure_search.specs.Tries.{picked, IsMarked}
 
--- With some relations that are wanted the marked base facts are closed, so that matches rest on no others.
-abbrev pub AreRelevant : SchemaParts → List Value → List Ground → List Query → List Bool → Type 0
-AreRelevant schema constants base queries marks =
-    (wanted : List Bool) × AreClosed schema constants base queries (IsMarked wanted) (Contains (picked base marks))
+-- A match of the query with this head makes the fact of one of the query's atoms.
+abbrev pub IsImageOf : Query → List Val → Ground → Type 0
+IsImageOf query head fact = (atom : Atom) × Contains query.atoms atom × IsImage query head atom fact
+
+-- The same of one of the queries.
+abbrev pub IsImageAmong : List Query → List Val → Ground → Type 0
+IsImageAmong queries head fact = (query : Query) × Contains queries query × IsImageOf query head fact
+
+-- The fact is one that a match makes of an atom, or its relation is marked.
+abbrev pub IsWanted : List Query → List Val → List Bool → Ground → Type 0
+IsWanted queries head wanted fact = IsImageAmong queries head fact ⊎ IsMarked wanted fact.rel
+
+-- With marks of some relations the marked base facts are closed, so that matches rest on no others.
+abbrev pub AreRelevant : SchemaParts → List Value → List Ground → ℕ → List Query → List Val → List Bool → Type 0
+AreRelevant schema constants base next queries head marks =
+    (wanted : List Bool) × AreClosed schema constants base next queries head (IsWanted queries head wanted)
+    (Contains (picked base marks))
+
+-- An assignment that agrees with what is given makes one of the atoms the fact.
+pub record IsMade (given : List (Option Val)) (atoms : List Atom) (fact : Ground) : Type 0 where
+  pub atom : Atom
+  pub assignment : ℕ → Val
+  pub of_atoms : Contains atoms atom
+  pub agrees : Agrees given assignment
+  pub makes : ground assignment atom ≡ fact
+
+-- What a match with this head makes of the query's atoms is made with these given values.
+pub record AreGiven (query : Query) (head : List Val) (given : List (Option Val)) : Type 0 where
+  pub covers : bound query.atoms ≤ length given
+  pub images : (fact : Ground) → IsImageOf query head fact → IsMade given query.atoms fact
+
+-- A trigger of the rule with labels from `next` on makes the fact.
+pub record Makes (next : ℕ) (rule : Rule) (fact : Ground) : Type 0 where
+  pub trigger : Trigger
+  pub head : Atom
+  pub width : length trigger.values ≡ bound rule.body
+  pub fresh : next ≤ trigger.fresh
+  pub of_rule : Contains rule.head head
+  pub makes : ground (assigned trigger) head ≡ fact
+
+-- A term of a rule's head has at no trigger, with so many values and labels from `next` on, the value of the other term.
+abbrev pub NeverMeet : List (Option Val) → ℕ → ℕ → Term → Term → Type 0
+NeverMeet given next width made asked =
+    (trigger : Trigger) (a : ℕ → Val) → length trigger.values ≡ width → next ≤ trigger.fresh → Agrees given a →
+    value_of Const (assigned trigger) made ≡ value_of Const a asked → ⊥
+
+-- The same of the terms of two atoms.
+abbrev pub NeverMatch : List (Option Val) → ℕ → ℕ → List Term → List Term → Type 0
+NeverMatch given next width made asked =
+    (trigger : Trigger) (a : ℕ → Val) → length trigger.values ≡ width → next ≤ trigger.fresh → Agrees given a →
+    map (value_of Const (assigned trigger)) made ≡ map (value_of Const a) asked → ⊥
 
 -- What is marked stays marked.
 abbrev pub Keeps : List Bool → List Bool → Type 0
@@ -26,9 +80,16 @@ Keeps old new = (number : ℕ) → IsMarked old number → IsMarked new number
 abbrev pub AllMarked : List Bool → List Atom → Type 0
 AllMarked marks atoms = (atom : Atom) → Contains atoms atom → IsMarked marks atom.rel
 
--- The relation of each atom of each query is marked.
-abbrev pub QueriesMarked : List Bool → List Query → Type 0
-QueriesMarked marks queries = (query : Query) → Contains queries query → AllMarked marks query.atoms
+-- Where a trigger of one of the rules makes a fact of a kind, the relations of the rule's body are marked.
+abbrev pub BodiesMarked : List Rule → ℕ → (Ground → Type 0) → List Bool → Type 0
+BodiesMarked rules next Kind marks =
+    (rule : Rule) → Contains rules rule → (fact : Ground) → Makes next rule fact → Kind fact → AllMarked marks rule.body
+
+-- Where a fact of a marked relation has one of the rules' heads, the relations of the rule's body are marked.
+abbrev pub AreFed : List Rule → List Bool → Type 0
+AreFed rules marks =
+    (rule : Rule) (head body : Atom) → Contains rules rule → Contains rule.head head → Contains rule.body body →
+    IsMarked marks head.rel → IsMarked marks body.rel
 
 -- Each fact of a wanted relation is marked.
 abbrev pub WantedMarked : List Bool → List Ground → List Bool → Type 0
@@ -55,6 +116,10 @@ pub record Grows (old new : Marking) : Type 0 where
   pub waits : (number : ℕ) → Contains old.waiting.items number → Contains new.waiting.items number
   pub news : (number : ℕ) → IsMarked new.marks.items number →
       IsMarked old.marks.items number ⊎ Contains new.waiting.items number
+
+-- The fact with that number is of a kind.
+abbrev pub IsOfKind : List Ground → (Ground → Type 0) → ℕ → Type 0
+IsOfKind facts Kind number = (fact : Ground) × (slice_get facts number ≡ Some fact) × Kind fact
 
 -- Each fact that has a value for which the fact with that number asks is marked.
 abbrev pub IsFollowed : SchemaParts → List Value → List Ground → List Bool → ℕ → Type 0

@@ -64,7 +64,15 @@ impl<'a> ExposureSpace<'a> {
         let facts = base_facts(alloc, &proof)?;
         let bases = mark(&proof).firings;
         let methods = MethodIndex::of(alloc, schema)?;
-        let relevant = relevant_facts(alloc, &proof, schema, queries, &methods, facts.as_slice())?;
+        let relevant = relevant_facts(
+            alloc,
+            &proof,
+            schema,
+            queries,
+            head,
+            &methods,
+            facts.as_slice(),
+        )?;
         let aim = Aim {
             alloc,
             schema,

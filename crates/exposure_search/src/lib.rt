@@ -7,9 +7,11 @@
 mod exposure_space;
 mod founding;
 mod going;
+mod images;
 pub mod laws;
 mod listing;
 mod looking;
+mod makers;
 mod marks;
 mod quieting;
 mod relevance;

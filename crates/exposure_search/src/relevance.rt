@@ -1,40 +1,49 @@
 // The base facts on which a match can rest.
-ghost use Rattle.std.specs.Prelude.{◌≡◌, ◌<◌, ℕ, [], ◌∷◌, ◌++◌, Contains, IfOk, OnOk, IfSome, IfNone, Some, length, slice_get, true};
+ghost use Rattle.std.specs.Prelude.{◌≡◌, ◌<◌, ◌≤◌, ℕ, [], ◌∷◌, ◌++◌, Contains, IfOk, OnOk, IfSome, IfNone, Some, length, slice_get, true};
+ghost use Rattle.meaning.specs.declared.types.Query.{Query as TheQuery};
 ghost use Rattle.meaning.specs.declared.types.Val.{Val as TheVal};
+ghost use Rattle.meaning.specs.Triggers.{bound};
 ghost use Rattle.access_schema.specs.Meaning.{meaning_of};
+ghost use Rattle.accessible_copy.specs.Goals.{IsCounted};
 ghost use Rattle.accessible_copy.specs.Known.{known_values};
 ghost use Rattle.accessible_copy.specs.Methods.{methods_of, IsMethodIndex};
 ghost use Rattle.accessible_copy.specs.OpenFacts.{AreHolders};
 ghost use Rattle.exposure_search.specs.Tries.{IsMarked};
-ghost use Rattle.exposure_search.specs.Relevance.{AreRelevant, Keeps, WantedMarked, HoldsInput, IsAskedBy, Grows, IsFollowed, IsFollowing};
+ghost use Rattle.exposure_search.specs.Relevance.{AreRelevant, Keeps, IsImageOf, IsImageAmong, IsMade, WantedMarked, HoldsInput, IsAskedBy, Grows, IsOfKind, IsFollowed, IsFollowing};
 
+use crate::images::{fits_some, head_bindings};
 use crate::marks::is_marked;
 use crate::wanted::wanted_relations;
 use access_schema::Schema;
 use accessible_copy::{Holders, MethodIndex, Proof};
 use lists::NoMemory;
-use meaning::types::{Ground, Queries, Val};
+use meaning::types::{Atom, Ground, Queries, Query, Val, Vals};
 use std::alloc::Global;
 
 /// A mark for each base fact on which a match of the queries can rest. `facts` are the base facts, none of which is exposed.
 ///
-/// These are the facts of wanted relations, and each fact that holds a value which is no known constant and which a marked fact
-/// has at an input of a method. Each marked fact is followed once.
+/// These are the facts that fit an atom of a query whose head has these values, the facts of wanted relations, and each fact that
+/// holds a value which is no known constant and which a marked fact has at an input of a method. Each marked fact is followed once.
 pub(crate) fn relevant_facts(
     alloc: Global,
     proof: &Proof,
     schema: &Schema,
     queries: &Queries,
+    head: &Vals,
     methods: &MethodIndex,
     facts: &[Ground],
 ) -> Result<Vec<bool>, NoMemory>
+    requires counted { (query : TheQuery) → Contains queries.now query → IsCounted query }
     requires facts { facts.now ≡ proof.now.end.base }
     requires none { proof.now.end.exposed ≡ [] }
     requires methods { IsMethodIndex schema.now.methods methods.now }
-    ensures { IfOk result (λ marks. AreRelevant (meaning_of schema.now) proof.now.constants proof.now.end.base queries.now marks.items) }
+    ensures { IfOk result (λ marks. AreRelevant (meaning_of schema.now) proof.now.constants proof.now.end.base
+        proof.now.end.next queries.now head.now marks.items) }
 {
-    let wanted = wanted_relations(alloc, schema.rules.as_slice(), queries.as_slice())?;
+    let rules = schema.rules.as_slice();
+    let wanted = wanted_relations(alloc, rules, proof.next(), queries.as_slice(), head)?;
     let mut marking = wanted_facts(alloc, facts, wanted.as_slice())?;
+    marking.reach_images(alloc, queries.as_slice(), head, facts)?;
     let holders = proof.holders(alloc)?;
     marking.follow_all(proof, schema, methods, &holders)?;
     let Marking { marks, .. } = marking;
@@ -75,6 +84,64 @@ impl Marking {
             self.waiting.push(self.marks.len())?;
         }
         self.marks.push(mark)?;
+        Ok(())
+    }
+
+    /// Marks the facts that a match with this head can make of the queries' atoms.
+    fn reach_images(
+        &mut self,
+        alloc: Global,
+        queries: &[Query],
+        head: &Vals,
+        facts: &[Ground],
+    ) -> Result<(), NoMemory>
+        requires { (query : TheQuery) → Contains queries.now query → IsCounted query }
+        ensures grows { OnOk result (Grows self.old self.new) }
+        ensures reached { OnOk result ((number : ℕ) → IsOfKind facts.now (IsImageAmong queries.now head.now) number →
+            number < length self.old.marks.items → IsMarked self.new.marks.items number) }
+    {
+        for query in queries {
+            self.reach_query(alloc, query, head, facts)?;
+        }
+        Ok(())
+    }
+
+    /// Marks the facts that a match with this head can make of the query's atoms.
+    fn reach_query(
+        &mut self,
+        alloc: Global,
+        query: &Query,
+        head: &Vals,
+        facts: &[Ground],
+    ) -> Result<(), NoMemory>
+        requires { IsCounted query.now }
+        ensures grows { OnOk result (Grows self.old self.new) }
+        ensures reached { OnOk result ((number : ℕ) → IsOfKind facts.now (IsImageOf query.now head.now) number →
+            number < length self.old.marks.items → IsMarked self.new.marks.items number) }
+    {
+        match head_bindings(alloc, query, head)? {
+            Some(given) => self.reach_fitting(given.as_slice(), query.atoms.as_slice(), facts),
+            None => Ok(()),
+        }
+    }
+
+    /// Marks the facts that fit one of the atoms.
+    fn reach_fitting(
+        &mut self,
+        given: &[Option<Val>],
+        atoms: &[Atom],
+        facts: &[Ground],
+    ) -> Result<(), NoMemory>
+        requires { bound atoms.now ≤ length given.now }
+        ensures grows { OnOk result (Grows self.old self.new) }
+        ensures reached { OnOk result ((number : ℕ) → IsOfKind facts.now (IsMade given.now atoms.now) number →
+            number < length self.old.marks.items → IsMarked self.new.marks.items number) }
+    {
+        for (number, fact) in facts.iter().enumerate() {
+            if fits_some(given, atoms, fact) {
+                self.reach(number)?;
+            }
+        }
         Ok(())
     }
 

@@ -1,44 +1,96 @@
-// The relations on which a match can rest.
+// The relations on which a match can rest, beside the facts of its atoms.
 ghost use Rattle.std.specs.Prelude.{◌≡◌, ◌<◌, ℕ, Contains, IfOk, OnOk, Ok, length, true, false};
 ghost use Rattle.meaning.specs.declared.types.Atom.{Atom as TheAtom};
-ghost use Rattle.meaning_laws.specs.Trims.{BodiesFollow};
+ghost use Rattle.meaning.specs.declared.types.Query.{Query as TheQuery};
+ghost use Rattle.accessible_copy.specs.Goals.{IsCounted};
 ghost use Rattle.exposure_search.specs.Tries.{IsMarked};
-ghost use Rattle.exposure_search.specs.Relevance.{Keeps, AllMarked, QueriesMarked};
+ghost use Rattle.exposure_search.specs.Relevance.{Keeps, AllMarked, BodiesMarked, AreFed, IsMade, IsImageOf, IsImageAmong};
 
+use crate::images::head_bindings;
+use crate::makers::serves_some;
 use crate::marks::is_marked;
 use lists::NoMemory;
-use meaning::types::{Atom, Query, Rule};
+use meaning::types::{Atom, Query, Rule, Val, Vals};
 use std::alloc::Global;
 
-/// A mark for each relation that is one of a query's atoms, or of a rule's body where one of the rule's head is marked.
+/// A mark for each relation in the body of a rule that can make a fact of a query's atom, under these head values and with labels
+/// from `next` on, or that has a marked relation in its head.
 pub(crate) fn wanted_relations(
     alloc: Global,
     rules: &[Rule],
+    next: u32,
     queries: &[Query],
+    head: &Vals,
 ) -> Result<Vec<bool>, NoMemory>
-    ensures queries { IfOk result (λ marks. QueriesMarked marks.items queries.now) }
-    ensures bodies { IfOk result (λ marks. BodiesFollow rules.now (IsMarked marks.items)) }
+    requires { (query : TheQuery) → Contains queries.now query → IsCounted query }
+    ensures served { IfOk result (λ marks. BodiesMarked rules.now next (IsImageAmong queries.now head.now) marks.items) }
+    ensures fed { IfOk result (λ marks. AreFed rules.now marks.items) }
 {
-    let mut marks = query_relations(alloc, queries)?;
+    let mut marks = serving_relations(alloc, rules, next, queries, head)?;
     mark_bodies(&mut marks, rules)?;
     Ok(marks)
 }
 
-/// A mark for each relation of the queries' atoms.
-fn query_relations(alloc: Global, queries: &[Query]) -> Result<Vec<bool>, NoMemory>
-    ensures { IfOk result (λ marks. QueriesMarked marks.items queries.now) }
+/// A mark for each relation in the body of a rule that can make a fact of a query's atom.
+fn serving_relations(
+    alloc: Global,
+    rules: &[Rule],
+    next: u32,
+    queries: &[Query],
+    head: &Vals,
+) -> Result<Vec<bool>, NoMemory>
+    requires { (query : TheQuery) → Contains queries.now query → IsCounted query }
+    ensures { IfOk result (λ marks. BodiesMarked rules.now next (IsImageAmong queries.now head.now) marks.items) }
 {
     let mut marks = Vec::new(alloc);
     for query in queries {
-        mark_all(&mut marks, query.atoms.as_slice())?;
+        mark_query(alloc, &mut marks, rules, next, query, head)?;
     }
     Ok(marks)
+}
+
+/// Marks the relations in the bodies of the rules that can make a fact of one of the query's atoms.
+fn mark_query(
+    alloc: Global,
+    marks: &mut Vec<bool>,
+    rules: &[Rule],
+    next: u32,
+    query: &Query,
+    head: &Vals,
+) -> Result<(), NoMemory>
+    requires { IsCounted query.now }
+    ensures stays { OnOk result (Keeps marks.old.items marks.new.items) }
+    ensures served { OnOk result (BodiesMarked rules.now next (IsImageOf query.now head.now) marks.new.items) }
+{
+    match head_bindings(alloc, query, head)? {
+        Some(given) => mark_servers(marks, rules, next, given.as_slice(), query.atoms.as_slice()),
+        None => Ok(()),
+    }
+}
+
+/// Marks the relations in the bodies of the rules that can make a fact of one of the atoms.
+fn mark_servers(
+    marks: &mut Vec<bool>,
+    rules: &[Rule],
+    next: u32,
+    given: &[Option<Val>],
+    atoms: &[Atom],
+) -> Result<(), NoMemory>
+    ensures stays { OnOk result (Keeps marks.old.items marks.new.items) }
+    ensures served { OnOk result (BodiesMarked rules.now next (IsMade given.now atoms.now) marks.new.items) }
+{
+    for rule in rules {
+        if serves_some(given, next, rule, atoms) {
+            mark_all(marks, rule.body.as_slice())?;
+        }
+    }
+    Ok(())
 }
 
 /// Marks the relations of the bodies of all rules that have a marked relation in the head, until there are no more.
 fn mark_bodies(marks: &mut Vec<bool>, rules: &[Rule]) -> Result<(), NoMemory>
     ensures stays { OnOk result (Keeps marks.old.items marks.new.items) }
-    ensures closed { OnOk result (BodiesFollow rules.now (IsMarked marks.new.items)) }
+    ensures closed { OnOk result (AreFed rules.now marks.new.items) }
 {
     for _ in 0..usize::MAX {
         if !mark_round(marks, rules)? {
@@ -52,7 +104,7 @@ fn mark_bodies(marks: &mut Vec<bool>, rules: &[Rule]) -> Result<(), NoMemory>
 /// Marks the relations of the body of each rule that has a marked relation in its head. Whether a mark was set.
 fn mark_round(marks: &mut Vec<bool>, rules: &[Rule]) -> Result<bool, NoMemory>
     ensures stays { OnOk result (Keeps marks.old.items marks.new.items) }
-    ensures closed { result ≡ Ok false → BodiesFollow rules.now (IsMarked marks.new.items) }
+    ensures closed { result ≡ Ok false → AreFed rules.now marks.new.items }
 {
     let mut grew = false;
     for rule in rules {

@@ -24,7 +24,7 @@ mod store;
 mod texts;
 
 pub use assignment::{Assignment, Assignments, Bindings};
-pub use bind::unify;
+pub use bind::{could_be, unify};
 pub use conditions::{is_covered, is_numbered};
 pub use find::{all_matches, first_match};
 pub use grounding::{Assigns, Freezing, ground_under, values_under};

@@ -1,5 +1,5 @@
 -- A match in some run is one in every run to a quiet state.
-use Rattle.std.proofs.Common.{◌≡◌, ℕ, ◌<◌, ◌≤◌, List, [], ◌∷◌, refl, sym, ap, ◌∙◌, subst}
+use Rattle.std.proofs.Common.{◌≡◌, ℕ, ◌<◌, List, refl, subst}
 use Rattle.std.specs.Prelude.{Contains, map}
 use Rattle.lists.proofs.Members.{contains_map, map_same}
 use Rattle.meaning_laws.proofs.Carrying.{extend_run}

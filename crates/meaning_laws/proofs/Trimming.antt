@@ -2,7 +2,7 @@
 use Rattle.std.proofs.Common.{◌≡◌, ◌⊎◌, ℕ, ◌≤◌, List, [], ◌∷◌, ◌++◌, refl, sym, ap, ◌∙◌, subst, inl, inr, ⊎_elim, arith, append_assoc}
 use Rattle.std.specs.Prelude.{Contains, map, slice_get, Some}
 use Rattle.std.proofs.lemmas.List.Elements.{Contains-append_cases, Contains-append_left, Contains-append_right, Contains-push, Contains-push_cases}
-use Rattle.lists.proofs.Members.{contains_here, contains_there, contains_cases, contains_got, contains_mapped, contains_map, some_injective}
+use Rattle.lists.proofs.Members.{contains_here, contains_there, contains_cases, contains_mapped, contains_map, some_injective}
 use Rattle.meaning_laws.proofs.Added.{added_cases, added_left, added_right}
 use Rattle.meaning_laws.proofs.Deciding.{dec_contains, Val-discrete}
 use Rattle.meaning.specs.declared.types.Val.{Val}
@@ -66,9 +66,9 @@ older (first ∷ facts) old new either =
     (λ there. (part, within, (λ f c. contains_there first facts f (inside f c)), (λ f c. ⊎_elim (λ e. inr (subst (λ g. Contains new g) e there)) (λ h. all f h) (contains_cases first facts f c))))
     (either first (contains_here first facts))
 
--- the relations of these facts are of a kind
-abbrev pub AreOf : (ℕ → Type 0) → List Ground → Type 0
-AreOf Wanted facts = (fact : Ground) → Contains facts fact → Wanted fact.rel
+-- these facts are of a kind
+abbrev pub AreOf : (Ground → Type 0) → List Ground → Type 0
+AreOf Needed facts = (fact : Ground) → Contains facts fact → Needed fact
 
 -- whether all facts of a list stand in another
 all_in : (facts larger : List Ground) → AreIn facts larger ⊎ ((fact : Ground) × Contains facts fact × (Contains larger fact → ⊥))
@@ -78,13 +78,14 @@ all_in (first ∷ facts) larger = elim (dec_contains larger first) [
   | no out ↦ inr (first, contains_here first facts, out)
 ]
 
--- a run of firings can be cut down to those that the wanted facts rest on, and these to facts of a kind of relations
-pub kinds_trim : (rules : List Rule) (Wanted : ℕ → Type 0) → BodiesFollow rules Wanted → (state end : State) (log : List Trigger) (wanted : List Ground) → IsFiringRun rules state log end → AreIn wanted end.facts → AreOf Wanted wanted →
-    (kept : List Trigger) × (needed : List Ground) × AreIn needed state.facts × AreOf Wanted needed × Serves rules state.next needed kept wanted
+-- a run of firings can be cut down to those that the wanted facts rest on, and these to facts of a kind
+pub kinds_trim : (rules : List Rule) (next : ℕ) (Needed : Ground → Type 0) → BodiesFollow rules next Needed → (state end : State) (log : List Trigger) (wanted : List Ground) → next ≤ state.next → IsFiringRun rules state log end → AreIn wanted end.facts → AreOf Needed wanted →
+    (kept : List Trigger) × (needed : List Ground) × AreIn needed state.facts × AreOf Needed needed × Serves rules state.next needed kept wanted
 unfolding body_facts head_facts
-kinds_trim rules Wanted follow state end [] wanted run within of_kind = ([], wanted, subst (λ (s : State). AreIn wanted s.facts) run within, of_kind, serves_none rules state.next wanted)
-kinds_trim rules Wanted follow state end (trigger ∷ log) wanted (rule, is, more) within of_kind =
-    let (kept, after, among, kinds, serves) = kinds_trim rules Wanted follow (fired state trigger rule) end log wanted more within of_kind in
+kinds_trim rules next Needed follow state end [] wanted low run within of_kind = ([], wanted, subst (λ (s : State). AreIn wanted s.facts) run within, of_kind, serves_none rules state.next wanted)
+kinds_trim rules next Needed follow state end (trigger ∷ log) wanted low (rule, is, more) within of_kind =
+    let up : state.next ≤ trigger.fresh = is.fresh in
+    let (kept, after, among, kinds, serves) = kinds_trim rules next Needed follow (fired state trigger rule) end log wanted (omega arith) more within of_kind in
     ⊎_elim (λ all. (kept, after, all, kinds, serves_skip rules state trigger rule after wanted kept is serves))
     (λ (made, there, new).
     let (part, old, inside, split) = older after state.facts (head_facts trigger rule) (λ f c. added_cases state.facts (map (ground (assigned trigger)) rule.head) f (among f c)) in
@@ -103,16 +104,17 @@ kinds_trim rules Wanted follow state end (trigger ∷ log) wanted (rule, is, mor
     body_of f c = let (atom, among, e) = contains_mapped (ground (assigned trigger)) rule.body f c in subst (λ g. Contains state.facts g) e (is.body atom among)
 
     -- the body of a firing that makes a fact of the kind
-    body_of_kind : (made : Ground) → Wanted made.rel → Contains (map (ground (assigned trigger)) rule.head) made → AreOf Wanted (map (ground (assigned trigger)) rule.body)
-    body_of_kind made wants there f c =
+    body_of_kind : (made : Ground) → Needed made → Contains (map (ground (assigned trigger)) rule.head) made → AreOf Needed (map (ground (assigned trigger)) rule.body)
+    body_of_kind made needs there f c =
+        let up : state.next ≤ trigger.fresh = is.fresh in
         let (head, of_head, makes) = contains_mapped (ground (assigned trigger)) rule.head made there in
         let (body, of_body, reads) = contains_mapped (ground (assigned trigger)) rule.body f c in
-        subst (λ (g : Ground). Wanted g.rel) reads (follow rule head body (contains_got rules trigger.rule rule is.numbered) of_head of_body (subst (λ (g : Ground). Wanted g.rel) (sym makes) wants))
+        subst Needed reads (follow trigger rule head body (record { numbered = is.numbered; width = is.width; fresh = omega arith }) of_head of_body (subst Needed (sym makes) needs))
 
 -- a run of firings can be cut down to those that the wanted facts rest on
 pub firings_trim : (rules : List Rule) (state end : State) (log : List Trigger) (wanted : List Ground) → IsFiringRun rules state log end → AreIn wanted end.facts → (kept : List Trigger) × (needed : List Ground) × AreIn needed state.facts × Serves rules state.next needed kept wanted
 firings_trim rules state end log wanted run within =
-    let (kept, needed, among, kinds, serves) = kinds_trim rules (λ rel. Unit {0}) (λ rule head body c d e w. tt) state end log wanted run within (λ f c. tt) in
+    let (kept, needed, among, kinds, serves) = kinds_trim rules 0 (λ fact. Unit {0}) (λ trigger rule head body is c d w. tt) state end log wanted (omega arith) run within (λ f c. tt) in
     (kept, needed, among, serves)
 
 -- the same for exposures
@@ -324,15 +326,15 @@ module _ (schema : SchemaParts) (constants : List (List ℕ)) (Relevant : Ground
           (values_older constants before e.fact.vals r.values (λ v c. known_or constants before e.fact v (r.known v c)))
 
 -- exposures and copy firings can be cut down to those that a match rests on, at no greater cost, and these are relevant
-pub relevant_trim : (schema : SchemaParts) (constants : List (List ℕ)) (base : List Ground) (queries : List Query) (Wanted : ℕ → Type 0) (Relevant : Ground → Type 0) → AreClosed schema constants base queries Wanted Relevant →
-    (next : ℕ) (exposures : List Exposure) (copy : List Trigger) (end : State) (goal : Query) (head : List Val) →
+pub relevant_trim : (schema : SchemaParts) (constants : List (List ℕ)) (base : List Ground) (next : ℕ) (queries : List Query) (head : List Val) (Needed Relevant : Ground → Type 0) → AreClosed schema constants base next queries head Needed Relevant →
+    (exposures : List Exposure) (copy : List Trigger) (end : State) (goal : Query) →
     IsExposing schema constants base [] exposures → IsFiringRun schema.rules (record { facts = exposed_facts exposures; next = next }) copy end → Contains queries goal → IsQueryAnswer Const (GroundsOf end.facts) goal head →
     (kept : List Exposure) × (less : List Trigger) × (last : State) × IsExposing schema constants base [] kept × IsFiringRun schema.rules (record { facts = exposed_facts kept; next = next }) less last × IsQueryAnswer Const (GroundsOf last.facts) goal head
     × (exposures_cost kept ≤ exposures_cost exposures) × ((e : Exposure) → Contains kept e → Relevant e.fact)
-relevant_trim schema constants base queries Wanted Relevant closed next exposures copy end goal head is run matched (a, are, e) =
-    let (less, needed, from, kinds, serves) = kinds_trim schema.rules Wanted closed.bodies (record { facts = exposed_facts exposures; next = next }) end copy (map (ground a) goal.atoms) run
+relevant_trim schema constants base next queries head Needed Relevant closed exposures copy end goal is run matched (a, are, e) =
+    let (less, needed, from, kinds, serves) = kinds_trim schema.rules next Needed closed.bodies (record { facts = exposed_facts exposures; next = next }) end copy (map (ground a) goal.atoms) (omega arith) run
     (λ f c. let (atom, among, same) = contains_mapped (ground a) goal.atoms f c in subst (λ g. Contains end.facts g) same (are atom among))
-    (λ f c. let (atom, among, same) = contains_mapped (ground a) goal.atoms f c in subst (λ (g : Ground). Wanted g.rel) same (closed.atoms goal atom matched among)) in
+    (λ f c. let (atom, among, same) = contains_mapped (ground a) goal.atoms f c in closed.images goal atom f matched among (record { assignment = a; heads = e; makes = same })) in
     let r = exposures_trim schema constants Relevant base closed.inputs [] exposures needed (λ f c of_base. closed.facts f of_base (kinds f c)) is from in
     let (last, its, leaves) = serves (record { facts = exposed_facts r.kept; next = next }) (omega arith) r.wanted_in in
     (r.kept, less, last, r.serves [] (λ f c. c) r.known, its, (a, (λ atom c. leaves (ground a atom) (contains_map (ground a) goal.atoms atom c)), e), r.cheap, r.relevant)
@@ -342,7 +344,7 @@ pub match_trim : (schema : SchemaParts) (constants : List (List ℕ)) (base : Li
     IsExposing schema constants base [] exposures → IsFiringRun schema.rules (record { facts = exposed_facts exposures; next = next }) copy end → IsQueryAnswer Const (GroundsOf end.facts) goal head →
     (kept : List Exposure) × (less : List Trigger) × (last : State) × IsExposing schema constants base [] kept × IsFiringRun schema.rules (record { facts = exposed_facts kept; next = next }) less last × IsQueryAnswer Const (GroundsOf last.facts) goal head × (exposures_cost kept ≤ exposures_cost exposures)
 match_trim schema constants base next exposures copy end goal head is run answer =
-    let all : AreClosed schema constants base (goal ∷ []) (λ rel. Unit {0}) (λ fact. Unit {0}) =
-    record { atoms = λ query atom c d. tt; bodies = λ rule head body c d f w. tt; facts = λ fact c w. tt; inputs = λ fact other v r asks c d. tt } in
-    let (kept, less, last, exposing, its, matches, cheap, relevant) = relevant_trim schema constants base (goal ∷ []) (λ rel. Unit {0}) (λ fact. Unit {0}) all next exposures copy end goal head is run (contains_here goal []) answer in
+    let all : AreClosed schema constants base next (goal ∷ []) head (λ fact. Unit {0}) (λ fact. Unit {0}) =
+    record { images = λ query atom fact c d i. tt; bodies = λ trigger rule head body is c d w. tt; facts = λ fact c w. tt; inputs = λ fact other v r asks c d. tt } in
+    let (kept, less, last, exposing, its, matches, cheap, relevant) = relevant_trim schema constants base next (goal ∷ []) head (λ fact. Unit {0}) (λ fact. Unit {0}) all exposures copy end goal is run (contains_here goal []) answer in
     (kept, less, last, exposing, its, matches, cheap)

@@ -1,5 +1,5 @@
 -- What a part of a run needs, so that it is a run by itself, and which base facts a match can rest on.
-use Rattle.std.specs.Prelude.{◌≡◌, ℕ, ◌≤◌, List, Contains, slice_get, Some}
+use Rattle.std.specs.Prelude.{◌≡◌, ◌⊎◌, ℕ, ◌≤◌, List, Contains, length, map, slice_get, Some}
 use Rattle.meaning.specs.declared.types.Val.{Val}
 use Rattle.meaning.specs.declared.types.Val.TheVariants.{Const}
 use Rattle.meaning.specs.declared.types.Atom.{Atom}
@@ -9,7 +9,8 @@ use Rattle.meaning.specs.declared.types.Query.{Query}
 use Rattle.meaning.specs.declared.types.Rule.{Rule}
 use Rattle.meaning.specs.declared.types.SchemaParts.{SchemaParts}
 use Rattle.meaning.specs.declared.types.Trigger.{Trigger}
-use Rattle.meaning.specs.Triggers.{State, IsFiringRun}
+use Rattle.meaning.specs.Matching.{value_of}
+use Rattle.meaning.specs.Triggers.{bound, ground, assigned, State, IsFiringRun}
 use Rattle.meaning.specs.Runs.{IsKnownValue}
 use Rattle.meaning.specs.Extract.{Exposure, IsExposing}
 
@@ -39,18 +40,38 @@ pub record Asks (schema : SchemaParts) (constants : List (List ℕ)) (fact : Gro
   pub at : slice_get fact.vals place ≡ Some v
   pub unknown : (c : List ℕ) → Contains constants c → v ≡ Const c → ⊥
 
--- The relations of a rule's body are of the kind where one of its head is.
-abbrev pub BodiesFollow : List Rule → (ℕ → Type 0) → Type 0
-BodiesFollow rules Wanted =
-    (rule : Rule) (head body : Atom) → Contains rules rule → Contains rule.head head → Contains rule.body body →
-    Wanted head.rel → Wanted body.rel
+-- The fact is one that a match makes of the query's atom, if the query's head has these values.
+pub record IsImage (query : Query) (head : List Val) (atom : Atom) (fact : Ground) : Type 0 where
+  pub assignment : ℕ → Val
+  pub heads : head ≡ map (value_of Const assignment) query.head
+  pub makes : ground assignment atom ≡ fact
 
--- The relations of the queries' atoms are wanted, and those of a rule's body where one of its head is; the base facts of wanted
--- relations are relevant, and those that have a value for which a relevant fact asks.
-pub record AreClosed (schema : SchemaParts) (constants : List (List ℕ)) (base : List Ground) (queries : List Query)
-    (Wanted : ℕ → Type 0) (Relevant : Ground → Type 0) : Type 0 where
-  pub atoms : (query : Query) (atom : Atom) → Contains queries query → Contains query.atoms atom → Wanted atom.rel
-  pub bodies : BodiesFollow schema.rules Wanted
-  pub facts : (fact : Ground) → Contains base fact → Wanted fact.rel → Relevant fact
+-- The fact is one that a match makes of an atom, or of a wanted relation.
+abbrev pub IsNeeded : List Query → List Val → List ℕ → Ground → Type 0
+IsNeeded queries head wanted fact =
+    ((query : Query) × (atom : Atom) × Contains queries query × Contains query.atoms atom × IsImage query head atom fact)
+    ⊎ Contains wanted fact.rel
+
+-- A firing of the rule with new labels, by the values for its body's variables.
+pub record IsFiringOf (rules : List Rule) (next : ℕ) (trigger : Trigger) (rule : Rule) : Type 0 where
+  pub numbered : slice_get rules trigger.rule ≡ Some rule
+  pub width : length trigger.values ≡ bound rule.body
+  pub fresh : next ≤ trigger.fresh
+
+-- Where a fact that a firing makes is needed, the facts of its body are.
+abbrev pub BodiesFollow : List Rule → ℕ → (Ground → Type 0) → Type 0
+BodiesFollow rules next Needed =
+    (trigger : Trigger) (rule : Rule) (head body : Atom) → IsFiringOf rules next trigger rule →
+    Contains rule.head head → Contains rule.body body →
+    Needed (ground (assigned trigger) head) → Needed (ground (assigned trigger) body)
+
+-- What a match makes of the queries' atoms is needed, and the body of a firing that makes a needed fact; the base facts that are
+-- needed are relevant, and those that have a value for which a relevant fact asks.
+pub record AreClosed (schema : SchemaParts) (constants : List (List ℕ)) (base : List Ground) (next : ℕ) (queries : List Query)
+    (head : List Val) (Needed Relevant : Ground → Type 0) : Type 0 where
+  pub images : (query : Query) (atom : Atom) (fact : Ground) → Contains queries query → Contains query.atoms atom →
+      IsImage query head atom fact → Needed fact
+  pub bodies : BodiesFollow schema.rules next Needed
+  pub facts : (fact : Ground) → Contains base fact → Needed fact → Relevant fact
   pub inputs : (fact other : Ground) (v : Val) → Relevant fact → Asks schema constants fact v →
       Contains base other → Contains other.vals v → Relevant other

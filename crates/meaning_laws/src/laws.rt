@@ -34,7 +34,7 @@ ghost use Rattle.meaning.specs.Conjunctive.{SelectFits, IsConjunctive, StandFor}
 ghost use Rattle.meaning.specs.Extract.{Exposure, exposed_facts, branch_of, IsDerivation, IsHeadKnown, IsExposing, exposures_cost, IsBase, IsQueryRival, HasGoalAfter, HasGoalFrom};
 ghost use Rattle.meaning.specs.Judge.{IsBranchQuery};
 ghost use Rattle.meaning.specs.Search.{AreDistinct, AreSets};
-ghost use Rattle.meaning_laws.specs.Trims.{AreIn, Serves, AreClosed};
+ghost use Rattle.meaning_laws.specs.Trims.{AreIn, Serves, IsNeeded, AreClosed};
 
 /// The rows of a lawful plan depend on the accessible part alone, and grow with it.
 pub fn rows_grow()
@@ -383,13 +383,13 @@ pub fn quiet_is_reached()
         (log : List Trigger) × (end : State) × IsFiringRun rules state log end × IsQuiet rules end }
 {}
 
-/// Where the wanted relations and the relevant base facts are closed, the exposures that a match is cut down to are of relevant
-/// facts.
+/// Where what a match makes is needed, with what makes it, and the needed base facts are relevant, with what they ask for, the
+/// exposures that a match is cut down to are of relevant facts.
 pub fn relevant_trims()
-    ensures { (schema : SchemaParts) (constants : List Value) (base : List Ground) (queries : List Query)
-        (wanted : List ℕ) (relevant : List Ground) (next : ℕ) (exposures : List Exposure) (copy : List Trigger)
-        (end : State) (goal : Query) (head : List Val) →
-        AreClosed schema constants base queries (Contains wanted) (Contains relevant) →
+    ensures { (schema : SchemaParts) (constants : List Value) (base : List Ground) (next : ℕ) (queries : List Query)
+        (head : List Val) (wanted : List ℕ) (relevant : List Ground) (exposures : List Exposure) (copy : List Trigger)
+        (end : State) (goal : Query) →
+        AreClosed schema constants base next queries head (IsNeeded queries head wanted) (Contains relevant) →
         IsExposing schema constants base [] exposures →
         IsFiringRun schema.rules (record { facts = exposed_facts exposures; next = next }) copy end →
         Contains queries goal → IsQueryAnswer Const (GroundsOf end.facts) goal head →

@@ -1,23 +1,33 @@
-use Rattle.std.proofs.Common.{List, Bool, length, ap, ◌∙◌, subst, inl}
+use Rattle.std.proofs.Common.{ℕ, ◌<◌, List, Bool, length, ap, ◌∙◌, subst}
 use Rattle.meaning.specs.declared.types.Ground.{Ground}
 use Rattle.meaning.specs.declared.types.Query.{Query}
 use Rattle.meaning.specs.declared.types.Rule.{Rule}
-use Rattle.meaning_laws.specs.Trims.{BodiesFollow}
 use Rattle.access_schema.specs.Meaning.{meaning_of}
 use Rattle.exposure_search.specs.Tries.{IsMarked}
-use Rattle.exposure_search.specs.Relevance.{QueriesMarked, WantedMarked}
-use Rattle.exposure_search.proofs.Following.{marks_relevant}
+use Rattle.exposure_search.specs.Relevance.{WantedMarked, BodiesMarked, AreFed, IsImageAmong, IsOfKind}
+use Rattle.exposure_search.proofs.Following.{marks_relevant, following_begun}
 use Rattle.exposure_search.proofs.relevance.relevant_facts.Goals as goal
 
 pub follow_all-requires-clause-begun : goal.follow_all-requires-clause-begun
-follow_all-requires-clause-begun c = record { long = c.in_ok-marking.ensures.long ∙ ap length c.requires.facts; followed = λ n on. inl (c.in_ok-marking.ensures.wait n on) }
+follow_all-requires-clause-begun c =
+    following_begun (meaning_of c.args.schema.now) c.args.proof.now.constants c.args.proof.now.end.base c.in_ok-marking.marking c.reach_images.new.self (c.in_ok-marking.ensures.long ∙ ap length c.requires.facts) c.in_ok-marking.ensures.wait c.in_ok-reach_images.ensures.grows
 
 pub returns : goal.returns
 returns c =
     let wanted = c.in_ok-wanted.wanted.items in
     let begun = c.in_ok-marking.marking.marks.items in
-    marks_relevant (meaning_of c.args.schema.now) c.args.proof.now.constants c.args.proof.now.end.base c.args.queries.now wanted begun c.follow_all.new.self.marks.items
-    (subst (λ (queries : List Query). QueriesMarked wanted queries) c.as_slice-2.ensures c.in_ok-wanted.ensures.queries)
-    (subst (λ (rules : List Rule). BodiesFollow rules (IsMarked wanted)) c.as_slice.ensures c.in_ok-wanted.ensures.bodies)
-    (subst (λ (facts : List Ground). WantedMarked wanted facts begun) c.requires.facts (subst (λ (marks : List Bool). WantedMarked marks c.args.facts.now begun) c.as_slice-3.ensures.value c.in_ok-marking.ensures.wanted))
+    let seen = c.reach_images.new.self.marks.items in
+    let queries = c.args.queries.now in
+    let head = c.args.head.now in
+    let next = c.args.proof.now.end.next in
+    marks_relevant (meaning_of c.args.schema.now) c.args.proof.now.constants c.args.proof.now.end.base next queries head wanted begun seen c.follow_all.new.self.marks.items
+    (subst (λ (from : ℕ). BodiesMarked c.args.schema.now.rules from (IsImageAmong queries head) wanted) c.next.ensures
+    (subst (λ (qs : List Query). BodiesMarked c.args.schema.now.rules c.next.result (IsImageAmong qs head) wanted) c.as_slice.ensures
+    (subst (λ (rules : List Rule). BodiesMarked rules c.next.result (IsImageAmong c.as_slice.result.now head) wanted) c.as_slice-rules.ensures c.in_ok-wanted.ensures.served)))
+    (subst (λ (rules : List Rule). AreFed rules wanted) c.as_slice-rules.ensures c.in_ok-wanted.ensures.fed)
+    (c.in_ok-marking.ensures.long ∙ ap length c.requires.facts)
+    (subst (λ (facts : List Ground). WantedMarked wanted facts begun) c.requires.facts (subst (λ (marks : List Bool). WantedMarked marks c.args.facts.now begun) c.as_slice-2.ensures.value c.in_ok-marking.ensures.wanted))
+    c.in_ok-reach_images.ensures.grows.stays
+    (subst (λ (qs : List Query). (number : ℕ) → IsOfKind c.args.proof.now.end.base (IsImageAmong qs head) number → number < length begun → IsMarked seen number) c.as_slice-3.ensures
+    (subst (λ (facts : List Ground). (number : ℕ) → IsOfKind facts (IsImageAmong c.as_slice-3.result.now head) number → number < length begun → IsMarked seen number) c.requires.facts c.in_ok-reach_images.ensures.reached))
     c.in_ok-follow_all.ensures.stays c.in_ok-follow_all.ensures.closed
