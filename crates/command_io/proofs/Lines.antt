@@ -2,7 +2,6 @@
 use Rattle.std.proofs.Common.{◌≡◌, ℕ, List, [], ◌∷◌, ◌++◌, length, take, Option, option_map, refl, ap, ◌∙◌, inl, inr, arith}
 use Rattle.command_io.specs.declared.stop.Stop.{Stop}
 use Rattle.command_io.specs.declared.stop.Stop.TheVariants as stop
-use Rattle.std.specs.Prelude.{OnErr, Result, Ok, Err}
 use Rattle.command_io.specs.Writing.{TookAll, TookPrefix, TookPart}
 use Rattle.command_io.specs.FaultLines.{Names, memory_line, fault_line}
 use Rattle.command_io.specs.Telling.{TookLine, Said, Tells}
@@ -20,11 +19,6 @@ all_prefix old new text all = (length text, omega arith, all ∙ whole old)
 pub part_prefix : (old new : Option (List ℕ)) (text : List ℕ) → TookPart old new text → TookPrefix old new text
 part_prefix old new text (n, few, took) = (n, omega (arith, few), took)
 
--- what is taken of a text that is refused is a first part of it
-pub on_part : (old new : Option (List ℕ)) (text : List ℕ) {X E : Type 0} (result : Result X E) → OnErr result (TookPart old new text) → OnErr result (TookPrefix old new text)
-on_part old new text (Ok x) part = tt
-on_part old new text (Err e) part = part_prefix old new text part
-
 pub line_prefix : (old new : Option (List ℕ)) (rose : Type 0) (text : List ℕ) → TookLine old new rose text → TookPrefix old new text
 line_prefix old new rose text (inl all) = all_prefix old new text all
 line_prefix old new rose text (inr part) = part_prefix old new text part.1
@@ -37,4 +31,4 @@ memory_tells old new rose names given result (inr begun) = inr (begun.0, inr (pa
 pub said_tells : (old new : Option (List ℕ)) (rose : Type 0) (names : Names) (given result : Stop) →
     Said old new rose (fault_line names given) given result → Tells old new rose names given result
 said_tells old new rose names given result (inl told) = inl told
-said_tells old new rose names given result (inr begun) = inr (begun.0, inl (part_prefix old new (fault_line names given) begun.1))
+said_tells old new rose names given result (inr begun) = inr (begun.0, inl begun.1)

@@ -13,11 +13,12 @@ TookLine old new rose line = TookAll old new line ⊎ (rose × TookPart old new 
 abbrev pub Said : Option (List ℕ) → Option (List ℕ) → Type 0 → List ℕ → Stop → Stop → Type 0
 Said old new rose line given result = ((result ≡ given) × TookLine old new rose line) ⊎ ((result ≡ stop.Memory) × TookPart old new line)
 
--- The stop stays, and its line was written; or memory was wanted, and that line or the one of want of memory was begun.
+-- The stop stays, and its line was written; or memory was wanted, and that line was begun and is not whole, or the one of want of
+-- memory was begun.
 abbrev pub Tells : Option (List ℕ) → Option (List ℕ) → Type 0 → Names → Stop → Stop → Type 0
 Tells old new rose names given result =
     ((result ≡ given) × TookLine old new rose (fault_line names given))
-    ⊎ ((result ≡ stop.Memory) × (TookPrefix old new (fault_line names given) ⊎ TookPrefix old new memory_line))
+    ⊎ ((result ≡ stop.Memory) × (TookPart old new (fault_line names given) ⊎ TookPrefix old new memory_line))
 
 -- A command stopped for a cause: it ends with that stop, whose line was written, or with want of memory for the line.
 pub record StopsFor (Cause : Stop → Type 0) (names : Names) (old new : Option (List ℕ)) (rose : Type 0) (end : Stop) : Type 0 where
