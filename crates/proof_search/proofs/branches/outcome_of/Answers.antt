@@ -14,7 +14,7 @@ pub spare-requires-clause-head : goal.spare-requires-clause-head
 spare-requires-clause-head c = c.from_vec-head.ensures ∙ c.in_ok-frozen_values.ensures ∙ ap (map (value_of Const Label)) c.as_slice.ensures
 
 pub spare-requires-clause-first : goal.spare-requires-clause-first
-spare-requires-clause-first c = rw c.in-Some.is at c.in_ok-branch_in.ensures.branch
+spare-requires-clause-first c = rw c.in-Some.is at c.in_ok-first.ensures.branch
 
 pub choose-requires-clause-head : goal.choose-requires-clause-head
 choose-requires-clause-head c = c.from_vec-head.ensures ∙ c.in_ok-frozen_values.ensures ∙ ap (map (value_of Const Label)) c.as_slice.ensures
@@ -22,7 +22,7 @@ choose-requires-clause-head c = c.from_vec-head.ensures ∙ c.in_ok-frozen_value
 pub returns : goal.returns
 returns c =
     let head : c.from_vec-head.result ≡ frozen_head c.args.query.now = c.from_vec-head.ensures ∙ c.in_ok-frozen_values.ensures ∙ ap (map (value_of Const Label)) c.as_slice.ensures in
-    let none : HasGoal c.args.queries.now c.args.proof.now.end c.from_vec-head.result → ⊥ = rw c.in-None.is at c.in_ok-branch_in.ensures.none in
+    let none : HasGoal c.args.queries.now c.args.proof.now.end c.from_vec-head.result → ⊥ = rw c.in-None.is at c.in_ok-first.ensures.none in
     ended (meaning_of c.args.schema.now) c.args.known.now c.args.queries.now c.args.firings c.args.search c.args.query.now c.args.proof.now c.requires.search
     (λ has. none (subst (HasGoal c.args.queries.now c.args.proof.now.end) (sym head) has)) c.args.quiet c.requires.quiet c.requires.spent c.from_vec-head.result head
     c.without_goal.result c.without_goal.ensures
