@@ -7,7 +7,6 @@ use Rattle.meaning.specs.declared.types.SchemaParts.{SchemaParts}
 use Rattle.meaning.specs.declared.types.Query.{Query}
 use Rattle.meaning.specs.declared.types.Branch.{Branch}
 use Rattle.meaning.specs.declared.types.Firing.{Firing}
-use Rattle.meaning.specs.declared.types.Firing.TheVariants.{Base, Copy, Expose}
 use Rattle.meaning.specs.declared.types.Val.{Val}
 use Rattle.meaning.specs.Values.{Value}
 use Rattle.meaning.specs.Plans.{IsWellFormed}
@@ -34,7 +33,6 @@ use Rattle.least_search.specs.declared.search.Ended.{Ended}
 use Rattle.least_search.specs.declared.search.Ended.TheVariants as ended
 use Rattle.least_search.specs.Walks.{IsNode, walk_cost}
 use Rattle.least_search.specs.Costs.{IsLeastCost, IsEnough as ServesRuns}
-use Rattle.exposure_search.specs.Tries.{exposures_in as shown_in}
 use Rattle.exposure_search.specs.Exploring.{Exploring, space_size, CanExpose, HasGoalAt, HasMatchAt, HasTry, IsRunBeyond, HasRunBeyond}
 use Rattle.exposure_search.proofs.Explored.{least_found, tries_within, match_goal}
 use Rattle.accessible_copy.specs.Proving.{Proving, IsProofOf}
@@ -46,14 +44,8 @@ use Rattle.plan_extract.specs.Trimmed.{IsShown, IsTrimmedBranch}
 use Rattle.plan_extract.proofs.Shown.{same_shown}
 use Rattle.proof_search.specs.Searches.{AreSearchable}
 use Rattle.proof_search.specs.Branches.{IsQueryBranch}
-use Rattle.proof_search.specs.Chosen.{IsRunOf, exposures_in, NoneIsEnough, HasLongRun}
+use Rattle.proof_search.specs.Chosen.{IsRunOf, NoneIsEnough, HasLongRun}
 use Rattle.proof_search.specs.Choices.{IsLeastFor, CostsAtMost, IsSpaceOf, IsSaidFor}
-
-same_count : (log : List Firing) → shown_in log ≡ exposures_in log
-same_count [] = refl
-same_count (Base trigger ∷ log) = same_count log
-same_count (Copy trigger ∷ log) = same_count log
-same_count (Expose number fact ∷ log) = ap (λ n. n + 1) (same_count log)
 
 module _ (schema : SchemaParts) (queries : List Query) (query : Query) (firings : ℕ) (space : Exploring) (is : IsSpaceOf schema queries query firings space) where
   -- a run from the space's start is one of the query
@@ -73,7 +65,7 @@ module _ (schema : SchemaParts) (queries : List Query) (query : Query) (firings 
       none m n (record {
         runs = tries_within space m n is.founded (λ log end run.
             let its : IsRunOf schema space.constants query log = (end, of_query log end run) in
-            (enough.few_firings log its, subst (λ k. k ≤ n) (sym (same_count log)) (enough.few_exposures log its)));
+            (enough.few_firings log its, enough.few_exposures log its));
         units = enough.units;
       })
 

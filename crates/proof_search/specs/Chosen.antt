@@ -3,7 +3,6 @@
 use Rattle.std.specs.Prelude.{◌≡◌, ℕ, ◌+◌, ◌*◌, ◌^◌, ◌<◌, ◌≤◌, List, [], ◌∷◌, length}
 use Rattle.meaning.specs.declared.types.Branch.{Branch}
 use Rattle.meaning.specs.declared.types.Firing.{Firing}
-use Rattle.meaning.specs.declared.types.Firing.TheVariants.{Base, Copy, Expose}
 use Rattle.meaning.specs.declared.types.Query.{Query}
 use Rattle.meaning.specs.declared.types.SchemaParts.{SchemaParts}
 use Rattle.meaning.specs.declared.types.Select.{Select}
@@ -12,6 +11,7 @@ use Rattle.meaning.specs.Values.{Value}
 use Rattle.meaning.specs.Conjunctive.{IsConjunctive}
 use Rattle.meaning.specs.Costs.{IsCost, IsLeast}
 use Rattle.meaning.specs.Runs.{Proof, IsRun, opening}
+use Rattle.exposure_search.specs.Tries.{exposures_in}
 use Rattle.access_cost.specs.declared.least.Least.{Least}
 use Rattle.access_cost.specs.declared.least.Least.TheVariants.{Shown, SearchSpent, FiringsSpent}
 use Rattle.access_schema.specs.declared.schema.Schema.{Schema}
@@ -24,13 +24,6 @@ use Rattle.proof_search.specs.Plans.{known_of}
 -- The log is that of a run from the opening proof of the query, ordered or not.
 abbrev pub IsRunOf : SchemaParts → List Value → Query → List Firing → Type 0
 IsRunOf schema known query log = (end : Proof) × IsRun schema known 0 (opening query) log end
-
--- How many exposures a log has.
-abbrev pub exposures_in : List Firing → ℕ
-exposures_in [] = 0
-exposures_in (Base trigger ∷ log) = exposures_in log
-exposures_in (Copy trigger ∷ log) = exposures_in log
-exposures_in (Expose number fact ∷ log) = exposures_in log + 1
 
 -- A pair of numbers is enough where every run of the query has at most m firings, which are no more than the budget, and at most n
 -- exposures, and so many units serve for all sets of n exposures.

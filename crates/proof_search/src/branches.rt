@@ -9,14 +9,17 @@ ghost use Rattle.proof_search.specs.Searches.{AreSearchable, IsSearch};
 ghost use Rattle.proof_search.specs.Outcomes.{IsQueryOutcome, IsWithoutGoal, IsOutcome};
 
 use crate::choosing::choose;
+use crate::exposing::Turn;
 use crate::outcome::{Outcome, QueryOutcome};
 use crate::proving::prove;
+use crate::reading::branch_in;
+use crate::sparing::spare;
 use access_schema::Schema;
-use accessible_copy::{Proof, goal};
+use accessible_copy::Proof;
 use lists::{Copies, NoMemory, Seq, Texts};
 use meaning::types::{Firings, Queries, Query, Vals};
 use no_plan_witness::witness;
-use plan_extract::{extract, frozen_values};
+use plan_extract::frozen_values;
 use std::alloc::Global;
 
 /// A branch for each of the queries, in order, each read off a proof of at most `firings` firings, and searched for a cheaper one with
@@ -70,7 +73,7 @@ fn branch_for(
     requires firings { firings ≤ MOST_FIRINGS }
     ensures { IfOk result (IsQueryOutcome (meaning_of schema.now) known.now queries.now firings search query.now) }
 {
-    let (proof, quiet) = prove(alloc, schema, query, known, firings)?;
+    let (proof, quiet) = prove(alloc, schema, query, known, firings, Turn::All)?;
     outcome_of(
         alloc, schema, query, queries, known, &proof, quiet, firings, search,
     )
@@ -99,9 +102,12 @@ fn outcome_of(
     ensures { IfOk result (IsQueryOutcome (meaning_of schema.now) known.now queries.now firings search query.now) }
 {
     let head = Seq::from_vec(frozen_values(alloc, query.head.as_slice())?);
-    match goal(alloc, proof, queries, &head)? {
-        Some(found) => {
-            let branch = extract(alloc, proof, schema, queries, &head, &found)?;
+    match branch_in(alloc, schema, query, queries, known, &head, proof, firings)? {
+        Some(first) => {
+            let facts = proof.sizes().base;
+            let branch = spare(
+                alloc, schema, query, queries, known, &head, first, facts, firings, search,
+            )?;
             let choice = choose(
                 alloc, schema, query, queries, known, &head, branch, firings, search,
             )?;

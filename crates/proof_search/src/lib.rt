@@ -10,5 +10,7 @@ mod deciding;
 mod exposing;
 mod outcome;
 mod proving;
+mod reading;
+mod sparing;
 
 pub use deciding::{MOST_UNITS, decide};

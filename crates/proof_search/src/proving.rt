@@ -9,7 +9,7 @@ ghost use Rattle.accessible_copy.specs.Proving.{log_of};
 ghost use Rattle.accessible_copy.specs.Rounds.{IsAllQuiet, GoesOn};
 ghost use Rattle.proof_search.specs.Searches.{IsSearchable, IsSearch};
 
-use crate::exposing::expose_all;
+use crate::exposing::{Turn, expose_all};
 use access_schema::Schema;
 use accessible_copy::{Proof, Round, settle};
 use lists::{NoMemory, Texts};
@@ -17,13 +17,14 @@ use meaning::types::Query;
 use std::alloc::Global;
 
 /// The proof of a query: base firings, exposures and copy firings, those of each kind while they are active and the log has
-/// fewer than `firings`. Whether nothing is active at the end.
+/// fewer than `firings`, and exposures in turns of this kind. Whether nothing is active at the end.
 pub fn prove(
     alloc: Global,
     schema: &Schema,
     query: &Query,
     known: &Texts,
     firings: u32,
+    turn: Turn,
 ) -> Result<(Proof, bool), NoMemory>
     requires query { IsSearchable (meaning_of schema.now) known.now query.now }
     requires firings { firings ≤ MOST_FIRINGS }
@@ -32,7 +33,7 @@ pub fn prove(
     ensures spent { IfOk result (λ made. made.1 ≡ false → (firings ≤ length made.0.entries) × GoesOn (meaning_of schema.now) made.0) }
 {
     let mut proof = Proof::start(alloc, schema, query, known)?;
-    let quiet = fire_all(alloc, &mut proof, schema, firings)?;
+    let quiet = fire_all(alloc, &mut proof, schema, firings, turn)?;
     Ok((proof, quiet))
 }
 
@@ -42,6 +43,7 @@ fn fire_all(
     proof: &mut Proof,
     schema: &Schema,
     firings: u32,
+    turn: Turn,
 ) -> Result<bool, NoMemory>
     requires search { IsSearch (meaning_of schema.now) firings proof.old.start proof.old.constants proof.old }
     requires empty { proof.old.entries ≡ [] }
@@ -53,7 +55,7 @@ fn fire_all(
     if !fire_base(alloc, proof, schema, firings)? {
         return Ok(false);
     }
-    if !expose_all(alloc, proof, schema, firings)? {
+    if !expose_all(alloc, proof, schema, firings, turn)? {
         return Ok(false);
     }
     fire_copies(alloc, proof, schema, firings)

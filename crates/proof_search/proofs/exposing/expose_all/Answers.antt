@@ -22,7 +22,8 @@ returns-then-mark-firings-clause-spent c = λ e. (
 
 pub expose_each-requires-clause-active : goal.expose_each-requires-clause-active
 expose_each-requires-clause-active c firing among =
-    let (number, fact, e, of, can) = c.in_ok-found.ensures.each firing (subst (λ list. Contains list firing) c.as_slice.ensures among) in (number, fact, e, can)
+    let old = c.in_ok-chosen.ensures.among firing (subst (λ list. Contains list firing) c.as_slice.ensures among) in
+    let (number, fact, e, of, can) = c.in_ok-found.ensures.each firing old in (number, fact, e, can)
 
 pub loop-found-preserved : goal.loop-found-preserved
 loop-found-preserved c =

@@ -8,14 +8,14 @@ use Rattle.rule_pass.proofs.OnePass.{met_quiet}
 use Rattle.accessible_copy.specs.Proving.{Proving}
 use Rattle.proof_search.specs.Searches.{Exposes}
 use Rattle.proof_search.proofs.Searching.{exposes_more, made_one, still_active, was_new}
-use Rattle.proof_search.proofs.exposing.expose_each.Goals.{in-Expose+then-mark-firings+then-not-is_exposed+in_ok-expose, in-Expose+else-mark-firings, else-mark-firings-via-then-mark-firings+else-not-is_exposed, else-mark-firings-via-else-mark-firings, in_default}
+use Rattle.proof_search.proofs.exposing.expose_each.Goals.{in-Expose+then-mark-firings+then-not-has_exposed+in_ok-expose, in-Expose+else-mark-firings, else-mark-firings-via-then-mark-firings+else-not-has_exposed, else-mark-firings-via-else-mark-firings, in_default}
 use Rattle.proof_search.proofs.exposing.expose_each.Goals as goal
 
 pub expose-requires-clause-active : goal.expose-requires-clause-active
 expose-requires-clause-active c =
     let here : Contains c.args.found.now c.firing-item.result = (c.loop-firing.firing-index, c.loop-firing-test.true, sym c.firing-item.is) in
     still_active (meaning_of c.args.schema.now) c.args.proof.now c.args.found.now c.requires.active c.firing-item.result here c.in-Expose.method c.in-Expose.fact c.in-Expose.is
-    c.args.firings c.loop-firing.proof c.loop-firing.invariant.exposes (λ among. let yes : false ≡ true = c.if-not-is_exposed.ensures.1 among in absurd (cc))
+    c.args.firings c.loop-firing.proof c.loop-firing.invariant.exposes (λ among. let yes : false ≡ true = c.if-not-has_exposed.ensures.1 among in absurd (cc))
 
 pub expose-requires-clause-quiet : goal.expose-requires-clause-quiet
 expose-requires-clause-quiet c =
@@ -24,7 +24,7 @@ expose-requires-clause-quiet c =
 pub loop-firing-preserved : goal.loop-firing-preserved
 loop-firing-preserved c =
     elim c.match-firing.branch [
-      | in-Expose+then-mark-firings+then-not-is_exposed+in_ok-expose w ↦
+      | in-Expose+then-mark-firings+then-not-has_exposed+in_ok-expose w ↦
           let room : length c.loop-firing.proof.entries < c.args.firings = let m = w.mark.ensures in let t = w.if-mark-firings.true in omega arith in
           let so_far = c.loop-firing.invariant.exposes in
           let both = exposes_more (meaning_of c.args.schema.now) c.args.firings c.args.proof.now c.loop-firing.proof w.expose.new.proof w.in-Expose.method w.in-Expose.fact so_far
@@ -40,9 +40,9 @@ loop-firing-preserved c =
           let here : Contains c.args.found.now c.firing-item.result = (c.loop-firing.firing-index, c.loop-firing-test.true, sym c.firing-item.is) in
           let never : c.loop-firing.firing-index ≡ 0 → ⊥ =
           λ zero. elim w.else-mark-firings.branch [
-            | else-mark-firings-via-then-mark-firings+else-not-is_exposed w' ↦
+            | else-mark-firings-via-then-mark-firings+else-not-has_exposed w' ↦
                 was_new (meaning_of c.args.schema.now) c.args.proof.now c.args.found.now c.requires.active c.firing-item.result here w.in-Expose.method w.in-Expose.fact w.in-Expose.is
-                c.loop-firing.proof (c.loop-firing.invariant.first zero) (w'.if-not-is_exposed.ensures.0 refl)
+                c.loop-firing.proof (c.loop-firing.invariant.first zero) (w'.if-not-has_exposed.ensures.0 refl)
             | else-mark-firings-via-else-mark-firings w' ↦
                 let room : length c.loop-firing.proof.entries < c.args.firings = subst (λ (p : Proving). length p.entries < c.args.firings) (sym (c.loop-firing.invariant.first zero)) c.requires.room in
                 let m = w.mark.ensures in let t = w'.if-mark-firings.false in omega arith
