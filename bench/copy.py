@@ -3,15 +3,15 @@
 
 usage: bench/copy.py [SCRATCH]
 
-Copies the crates to a scratch folder, puts bench/copy_speed.tests beside the helpers of accessible_copy's tests there, and runs the
+Copies the crates to a scratch folder, puts bench/copy_speed.tests beside the helpers of planner_cases' tests there, and runs the
 measurements by `rt try --test`, which needs no proof. That interprets the code, some hundred times as slowly as the built program
 runs it: the growth is what counts here, and the times of one series beside one another. Prints the CPU time of each measurement.
 """
 import glob, math, os, shutil, subprocess, sys, tempfile
 
 TOP = os.path.realpath(f"{os.path.dirname(os.path.realpath(__file__))}/..")
-CRATES = ["lists", "meaning", "meaning_laws", "access_schema", "homomorphism", "rule_pass", "accessible_copy"]
-# The files of accessible_copy's tests that the measurements use.
+CRATES = ["lists", "meaning", "meaning_laws", "access_schema", "homomorphism", "rule_pass", "accessible_copy", "least_search", "planner_cases"]
+# The files of planner_cases' tests that the measurements use.
 HELPERS = ["calls", "looks", "queries", "schemas", "texts"]
 # The measurements, and how many units of work each makes: firings made, relations, or sets exposed.
 UNITS = {
@@ -22,18 +22,18 @@ UNITS = {
 
 
 def scratch(folder):
-    """The crates, of which accessible_copy has the measurements in place of its tests."""
+    """The crates, of which planner_cases has the measurements in place of its tests."""
     for name in CRATES:
         shutil.copytree(f"{TOP}/crates/{name}", f"{folder}/crates/{name}", ignore=shutil.ignore_patterns("incremental"))
     shutil.copy2(f"{TOP}/HANDLES", folder)
     with open(f"{folder}/crates.txt", "w") as out:
         out.writelines(row for row in open(f"{TOP}/crates.txt") if row.split(":")[0] in CRATES)
-    crate = f"{folder}/crates/accessible_copy"
-    shutil.copy2(f"{TOP}/bench/copy_speed.tests", f"{crate}/src/tests/speed.rt")
-    for path in glob.glob(f"{crate}/src/tests/*.rt"):
+    crate = f"{folder}/crates/planner_cases"
+    shutil.copy2(f"{TOP}/bench/copy_speed.tests", f"{crate}/src/of_proofs/speed.rt")
+    for path in glob.glob(f"{crate}/src/of_proofs/*.rt"):
         if os.path.basename(path)[:-3] not in HELPERS + ["speed"]:
             os.remove(path)
-    with open(f"{crate}/src/tests.rt", "w") as out:
+    with open(f"{crate}/src/of_proofs.rt", "w") as out:
         out.writelines(f"mod {name};\n" for name in HELPERS + ["speed"])
     return crate
 

@@ -33,6 +33,3 @@ pub use method_index::MethodIndex;
 pub use proof::Proof;
 pub use rounds::round;
 pub use settling::{Round, settle};
-
-#[cfg(test)]
-mod tests;

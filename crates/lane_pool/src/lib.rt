@@ -17,6 +17,3 @@ mod worker;
 pub use draws::{Draws, Event};
 pub use parallel::fan_out;
 pub use worker::Worker;
-
-#[cfg(test)]
-mod tests;

@@ -7,4 +7,3 @@ pub mod Packing
 pub mod Queues
 pub mod Table
 pub mod Frontier
-pub mod Markets

@@ -16,6 +16,3 @@ mod waiting;
 pub use node::Node;
 pub use search::{Ended, Outcome, cheapest};
 pub use space::{End, Move, Space, Visit};
-
-#[cfg(test)]
-mod tests;

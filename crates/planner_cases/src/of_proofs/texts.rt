@@ -1,6 +1,6 @@
 // What a proof lends, as text.
 use super::calls::write_number;
-use crate::Proof;
+use accessible_copy::Proof;
 use lists::NoMemory;
 use meaning::types::{Firing, Ground, Trigger, Val};
 use std::alloc::Global;

@@ -6,7 +6,7 @@ use Rattle.access_schema.specs.Meaning.{meaning_of}
 use Rattle.rule_pass.proofs.Bounds.{orderly}
 use Rattle.accessible_copy.proofs.Pushing.{expose_low}
 use Rattle.accessible_copy.proofs.Rounding.{listed_can}
-use Rattle.accessible_copy.proofs.tests.calls.expose_listed.Goals as goal
+use Rattle.planner_cases.proofs.of_proofs.calls.expose_listed.Goals as goal
 
 pub active-requires : goal.active-requires
 active-requires c = orderly c.args.schema.now

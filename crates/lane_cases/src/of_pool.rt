@@ -1,5 +1,5 @@
 // What no clause says: that the lanes run at once, that calls succeed, and what the definitions give on a few events.
-use crate::{Draws, Event, Worker, fan_out};
+use lane_pool::{Draws, Event, Worker, fan_out};
 use std::alloc::Global;
 use std::sync::atomic::{AtomicU64, Ordering};
 use std::test::*;

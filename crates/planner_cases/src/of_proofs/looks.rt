@@ -6,7 +6,7 @@ use super::calls::{Call, make_all, round_word, settle_copies, start};
 use super::queries::{SECOND_PAIRS, counted, pair, query};
 use super::schemas::schema;
 use super::texts::{write_firing, write_log, write_state};
-use crate::{MethodIndex, Proof, exposures, goal, goes_on, indexed_exposures};
+use accessible_copy::{MethodIndex, Proof, exposures, goal, goes_on, indexed_exposures};
 use access_schema::Schema;
 use lists::NoMemory;
 use meaning::types::{Ground, Vals};

@@ -5,7 +5,7 @@ ghost use Rattle.accessible_copy.specs.Proving.{IsProofOf, IsOrdered};
 
 use super::queries::query;
 use super::schemas::words;
-use crate::{Mark, Proof, Round, expose, exposures, mark, round, settle, undo};
+use accessible_copy::{Mark, Proof, Round, expose, exposures, mark, round, settle, undo};
 use access_schema::Schema;
 use homomorphism::variables_width;
 use lists::{NoMemory, Texts};

@@ -1,10 +1,10 @@
 // A search over two facts, worked out by hand: fact 0 costs 4, and fact 1, the goal, costs 10, or 2 where fact 0 is there.
 ghost use Rattle.std.specs.Prelude.{◌≡◌, ◌↔◌, ◌≤◌, IsTrue, IfOk, Contains, slice_get, Some, true, false};
-ghost use Rattle.least_search.specs.Markets.{CanBuy, market_is_space};
-ghost use Rattle.least_search.specs.declared.tests.TheConstants.{FIRST, DEAR, CHEAP};
+ghost use Rattle.planner_cases.specs.Markets.{CanBuy, market_is_space};
+ghost use Rattle.planner_cases.specs.declared.of_search.TheConstants.{FIRST, DEAR, CHEAP};
 ghost use Rattle.least_search.specs.declared.space.Move.{Move as TheMove};
 
-use crate::{End, Ended, Move, Outcome, Space, Visit, cheapest};
+use least_search::{End, Ended, Move, Outcome, Space, Visit, cheapest};
 use lists::NoMemory;
 use std::alloc::{AllocError, Global};
 use std::test::Fail;

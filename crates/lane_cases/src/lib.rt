@@ -1,0 +1,9 @@
+//! Tests of lanes: items shared by workers, and rounds of requests shared by lanes of sources in memory.
+//!
+//! There is nothing here but tests: a crate with tests is proved twice, so these stand in a crate above.
+#![tactic(auto)]
+
+#[cfg(test)]
+mod of_pool;
+#[cfg(test)]
+mod of_rounds;
