@@ -1,7 +1,9 @@
 // Calls that change a proof, one after another.
-ghost use Rattle.std.specs.Prelude.{IfOk};
+ghost use Rattle.std.specs.Prelude.{IfOk, OnOk, false};
+ghost use Rattle.meaning.specs.Runs.{IsBaseQuiet};
 ghost use Rattle.access_schema.specs.Meaning.{meaning_of};
 ghost use Rattle.accessible_copy.specs.Proving.{IsProofOf, IsOrdered};
+ghost use Rattle.accessible_copy.specs.Settling.{Settles};
 
 use super::queries::query;
 use super::schemas::words;
@@ -10,7 +12,7 @@ use access_schema::Schema;
 use homomorphism::variables_width;
 use lists::{NoMemory, Texts};
 use meaning::types::{Firing, Query};
-use rule_pass::{HIGHEST_FIRST_LABEL, MOST_FIRINGS, active};
+use rule_pass::{HIGHEST_FIRST_LABEL, MOST_FIRINGS};
 use std::alloc::Global;
 use std::test::Fail;
 
@@ -58,6 +60,19 @@ pub(crate) fn start(
     start_of(alloc, schema, &query)
 }
 
+/// Fails where a base trigger is active: with no firing to spend, a pass makes none.
+fn is_quiet(alloc: Global, proof: &mut Proof, schema: &Schema) -> Result<(), Fail>
+    requires { IsProofOf (meaning_of schema.now) proof.old }
+    ensures run { IsProofOf (meaning_of schema.now) proof.new }
+    ensures more { Settles (meaning_of schema.now) false proof.old proof.new }
+    ensures quiet { OnOk result (IsBaseQuiet (meaning_of schema.now) proof.new.end) }
+{
+    match settle(alloc, proof, schema, false, 0)? {
+        Round::Quiet => Ok(()),
+        _ => Err(Fail::from("a base trigger is active")),
+    }
+}
+
 /// Makes the exposure that is listed with this number.
 fn expose_listed(
     alloc: Global,
@@ -70,9 +85,7 @@ fn expose_listed(
     ensures run { IsProofOf (meaning_of schema.now) proof.new }
     ensures ordered { IsOrdered (meaning_of schema.now) proof.new }
 {
-    if let Some(_) = active(alloc, &proof.base, &schema.rules)? {
-        return Err(Fail::from("a base trigger is active"));
-    }
+    is_quiet(alloc, proof, schema)?;
     let found = exposures(alloc, proof, schema)?;
     let Some(Firing::Expose { method, fact }) = found.get(number) else {
         return Err(Fail::from("no such exposure is active"));
@@ -157,8 +170,6 @@ pub(crate) fn settle_copies(
 ) -> Result<Round, Fail>
     requires { IsProofOf (meaning_of schema.now) proof.old }
 {
-    if let Some(_) = active(alloc, &proof.base, &schema.rules)? {
-        return Err(Fail::from("a base trigger is active"));
-    }
+    is_quiet(alloc, proof, schema)?;
     Ok(settle(alloc, proof, schema, true, 10)?)
 }
