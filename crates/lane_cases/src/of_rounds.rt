@@ -25,7 +25,7 @@ fn row(alloc: Global, words: &[&str]) -> Result<Row, AllocError>
 }
 
 // Four rows of two columns, in a source whose calls with these numbers fail.
-fn source(alloc: Global, failing: &[u64]) -> Result<MemorySource, Fail> {
+pub(crate) fn source(alloc: Global, failing: &[u64]) -> Result<MemorySource, Fail> {
     let mut rows = Seq::new(alloc);
     rows.push(row(alloc, &["a", "1"])?)?;
     rows.push(row(alloc, &["b", "2"])?)?;
@@ -81,7 +81,7 @@ fn ask(alloc: Global, kind: &Text, word: &str) -> Result<Ask, AllocError>
 }
 
 // The round of these words, on a lane for each of the sources.
-fn round_of<R: Threads + Sync, S: Source + Send + Drop>(
+pub(crate) fn round_of<R: Threads + Sync, S: Source + Send + Drop>(
     rt: &R,
     alloc: Global,
     kind: &Text,
@@ -96,7 +96,7 @@ fn round_of<R: Threads + Sync, S: Source + Send + Drop>(
     for source in sources {
         lanes.push(lane(alloc, kind, source)?)?;
     }
-    if lanes.is_empty() || lanes.len() > 8 || asks.len() > 9 {
+    if lanes.is_empty() || lanes.len() > 8 || asks.len() > 1_000_000 {
         return Err(Fail::from("a round of other sizes"));
     }
     Ok(ask_round(rt, alloc, asks.as_slice(), lanes.as_mut_slice()))
