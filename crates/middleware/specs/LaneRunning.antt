@@ -103,6 +103,11 @@ module _ {S : Type 0} (seen : S → Seen) (schema : Schema) (plan : Plan) where
   ExecutesOnLanes cap old new (Err (fault.CallFailed branch step)) = LanesStop cap (fault.CallFailed branch step) old new
   ExecutesOnLanes cap old new (Err (fault.OverCalls made wanted its)) = LanesStop cap (fault.OverCalls made wanted its) old new
 
+-- a refusal of an attach as that of the execution
+abbrev pub refused_as : ℕ → AttachFault → RunFault
+refused_as rel NoRoom = fault.NoMemory
+refused_as rel why = fault.Attach rel why
+
 -- after whole rounds no lane is stopped
 abbrev pub LanesGoOn : {S : Type 0} → Result Run RunFault → List (Lane S) → Type 0
 LanesGoOn (Ok run) lanes = NoneStopped lanes
