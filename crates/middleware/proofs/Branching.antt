@@ -1,4 +1,4 @@
--- The rounds of a branch: one more, one that stopped, and the output after all.
+-- What the rounds of a branch mean on an instance, and what requests leave of what a lane holds.
 use Rattle.std.proofs.Common.{◌≡◌, ◌↔◌, inl, inr, ⊎_elim, ℕ, zero, suc, ◌+◌, ◌-◌, ◌<◌, ◌≤◌, List, [], ◌∷◌, ◌++◌, length, map, take, drop, get_or, Option, None, Some, refl, sym, ◌∙◌, ap, subst, arith}
 use Rattle.std.specs.Prelude.{Contains, IsSomeAnd, slice_get}
 use Rattle.std.specs.List.{AllZip}

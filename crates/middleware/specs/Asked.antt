@@ -1,4 +1,4 @@
--- Which requests the sources of the used lane are asked.
+-- Which requests the sources of a lane are asked.
 use Rattle.std.specs.Prelude.{◌≡◌, ℕ, Bool, false, List, [], ◌++◌, Option, None, Some, option_map, slice_get, take, nat_eq}
 use Rattle.std.specs.List.{filter, AllZip}
 use Rattle.std.specs.Cmp.Lexicographic.{pointwise}

@@ -1,4 +1,4 @@
--- Which relations become attached on the used lane, and how.
+-- Which relations become attached on a lane, and how.
 use Rattle.std.specs.Prelude.{◌≡◌, ◌⊎◌, ◌↔◌, ℕ, List, [], ◌∷◌, Contains, Option, IfSome, IsOk, slice_get, Some, None, Result, Ok}
 use Rattle.std.specs.List.Sorted.{IsStrictlyIncreasing}
 use Rattle.meaning.specs.declared.types.Relation.{Relation}

@@ -1,4 +1,4 @@
--- How far the rounds of a branch, and of a plan, have come.
+-- What the rounds of a branch, and of a plan, need and mean.
 use Rattle.std.specs.Prelude.{◌≡◌, ◌↔◌, ◌⊎◌, ℕ, ◌-◌, ◌^◌, ◌<◌, min, List, [], ◌∷◌, map, take, Contains, slice_get, Option, Some, None, Bool}
 use Rattle.meaning.specs.declared.types.Fact.{Fact}
 use Rattle.meaning.specs.declared.types.Method.{Method}

@@ -1,4 +1,4 @@
--- The instance that the sources of the used lane hold, as far as a plan accesses it.
+-- The instance that the sources of a lane hold, as far as a plan accesses it.
 use Rattle.std.specs.Prelude.{◌↔◌, ℕ, List, Contains, IsSomeAnd}
 use Rattle.meaning.specs.declared.types.Fact.{Fact}
 use Rattle.meaning.specs.declared.types.Relation.{Relation}

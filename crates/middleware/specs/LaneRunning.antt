@@ -1,4 +1,4 @@
--- What an execution on several lanes does, and why it stops.
+-- What an execution does on its lanes, and why it stops.
 use Rattle.std.specs.Prelude.{◌≡◌, ◌≢◌, ◌↔◌, ◌⊎◌, ◌<◌, ℕ, true, false, List, [], map, length, Contains, None, Some, IsSome, Result, Ok, Err, slice_get}
 use Rattle.std.specs.List.Sorted.{IsStrictlyIncreasing}
 use Rattle.meaning.specs.declared.types.Plan.{Plan}

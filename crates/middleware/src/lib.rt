@@ -1,8 +1,8 @@
 //! Plans executed over sources: relations attached, requests asked round by round, and answers joined.
 //!
 //! Crates above call `execute` with a lawful plan, and print its rows with `csv_text`. Begin at `specs/Executing.antt`, which says what
-//! `execute` of `src/run_plan.rt` does; the words that it uses are in `specs/`, in the order of `specs/Lib.antt`. A crate that asks relations without
-//! a plan attaches them by `attach_all`.
+//! `execute` of `src/run_plan.rt` does; the words that it uses are in `specs/`, in the order of `specs/Lib.antt`. A crate that asks
+//! relations without a plan attaches them by `attach_all`.
 #![tactic(auto)]
 
 mod accesses;
