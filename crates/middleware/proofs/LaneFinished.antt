@@ -2,7 +2,7 @@
 use Rattle.std.proofs.Common.{◌≡◌, ◌≢◌, ◌↔◌, ◌⊎◌, inl, inr, ℕ, zero, suc, ◌+◌, ◌<◌, ◌≤◌, true, false, List, [], ◌∷◌, ◌++◌, length, map, take, get_or, Option, Some, refl, sym, ◌∙◌, ap, subst, arith}
 use Rattle.std.specs.Prelude.{Contains, IfOk, IfErr, OnOk, IsSome, slice_get, Ok, Err, Result}
 use Rattle.std.specs.List.{AllZip}
-use Rattle.std.specs.List.Sorted.{IsStrictlyIncreasing}
+use Rattle.std.specs.List.Sorted.{IsStrictlyIncreasing, IsStrictlySortedBy}
 use Rattle.std.proofs.lemmas.List.{take_more, take_all}
 use Rattle.std.proofs.lemmas.Option.{slice_get-get_or}
 use native.Mathlib.Decide.{dec_le}
@@ -12,7 +12,6 @@ use Rattle.meaning.specs.declared.types.Relation.{Relation}
 use Rattle.meaning.specs.declared.types.SchemaParts.{SchemaParts}
 use Rattle.meaning.specs.declared.types.Branch.{Branch}
 use Rattle.meaning.specs.declared.types.Plan.{Plan}
-use Rattle.meaning.specs.Rows.{IsRow}
 use Rattle.access_schema.specs.declared.schema.Schema.{Schema}
 use Rattle.access_schema.specs.declared.schema.SourceLine.{SourceLine}
 use Rattle.access_schema.specs.Meaning.{meaning_of}
@@ -22,19 +21,21 @@ use Rattle.source_trait.specs.declared.source.AttachFault.{AttachFault}
 use Rattle.source_trait.specs.declared.source.AttachFault.TheVariants as attach
 use Rattle.source_trait.specs.declared.lanes.Kind.{Kind}
 use Rattle.source_trait.specs.declared.lanes.Lane.{Lane}
+use Rattle.row_text.specs.RowText.{row_cmp}
 use Rattle.source_trait.proofs.LaneSteps.{KindsStay-refl, KindsStay-trans, LanesStay-refl, LanesStay-trans}
 use Rattle.middleware.specs.declared.fault.Run.{Run}
 use Rattle.middleware.specs.declared.fault.RunFault.{RunFault}
 use Rattle.middleware.specs.declared.fault.RunFault.TheVariants as fault
 use Rattle.middleware.specs.PlanSources.{line_for, IsAccessed, IsPlanSource, AllHaveLines}
 use Rattle.middleware.specs.Attaching.{AttachesInOrder}
-use Rattle.middleware.specs.Branches.{IsReadyBranch, AreAskable}
+use Rattle.middleware.specs.Branches.{IsReadyBranch, AreAskable, BranchesMean}
 use Rattle.middleware.specs.Sources.{first_lineless, has_place, IsPlaced}
 use Rattle.middleware.specs.Running.{refused_as, RunsAlone}
 use Rattle.middleware.specs.LaneAttaching.{LanesAttach, LanesBreak}
 use Rattle.middleware.specs.LaneRounds.{started, LanesAsked, AsksEach, NoneStopped}
 use Rattle.middleware.specs.LaneBranches.{OnEach, LanesHoldPlan, LanesDone, PlanHalts}
 use Rattle.middleware.specs.LaneRunning.{LanesHaveKind, LanesFind, LanesHavePlace, LacksPlace, LanesAttachEach, LanesAttachStops, ExecutesOnLanes, LanesGoOn}
+use Rattle.middleware.specs.Executing.{Executes}
 use Rattle.middleware.proofs.Lacking.{above, place_none, place_source, rises_strictly, lineless_some}
 use Rattle.middleware.proofs.Steps.{in_append}
 use Rattle.middleware.proofs.Attached.{order_stays, one_stays}
@@ -196,19 +197,51 @@ module _ {S : Type 0} (seen : S → Seen) where
     abbrev parts : SchemaParts
     parts = meaning_of schema
 
-    -- what an execution promises
+    -- what an execution did, of lanes that were or were not used
     pub record ExecutedOn (cap : ℕ) (old new : List (Lane S)) (result : Result Run RunFault) : Type 0 where
       pub executes : ExecutesOnLanes seen schema plan cap old new result
       pub found : LanesFind old schema plan result
       pub stay : LanesStay seen old new
 
-    -- the rows are the plan's on what the lanes hold
-    pub rows_are : (cap : ℕ) (old new : List (Lane S)) (result : Result Run RunFault) → ExecutesOnLanes seen schema plan cap old new result
-        → IfOk result (λ run. (instance : List Fact) → LanesHoldPlan seen schema plan new instance → (row : List (List ℕ)) → Contains run.rows row ↔ IsRow parts plan instance row)
-    rows_are cap old new (Ok run) r = λ instance holds.
-        (r.rounds.means instance (plan_held_earlier seen schema plan (map started r.attached) new
-        (each_asked seen schema r.rounds.list (map started r.attached) new r.rounds.asks) instance holds)).exactly
-    rows_are cap old new (Err why) r = tt
+    -- all that an execution promises
+    pub promised : (cap : ℕ) (old new : List (Lane S)) (result : Result Run RunFault) → ExecutedOn cap old new result
+        → IfOk result (λ run. IsStrictlySortedBy row_cmp run.rows) → IfOk result (λ run. run.made ≤ cap)
+        → (((rel : ℕ) → IsAccessed schema plan rel → ⊥) → new ≡ old) → ((rel : ℕ) → IsAccessed schema plan rel → LanesGoOn result new)
+        → Executes seen schema plan cap old new result
+    promised cap old new (Ok run) e ascends within idle going = record {
+      rows = λ instance holds. (mean instance holds).exactly;
+      ascends = ascends;
+      made = λ instance holds. (e.executes.rounds.list, (mean instance holds).are, e.executes.rounds.count);
+      within = within;
+      found = e.found;
+      does = e.executes;
+      stay = e.stay;
+      idle = idle;
+      going = going;
+    }
+      where
+        mean : (instance : List Fact) → LanesHoldPlan seen schema plan new instance
+            → BranchesMean parts instance plan.branches run.rows e.executes.rounds.list
+        mean instance holds =
+            let r = e.executes in
+            r.rounds.means instance (plan_held_earlier seen schema plan (map started r.attached) new
+            (each_asked seen schema r.rounds.list (map started r.attached) new r.rounds.asks) instance holds)
+    promised cap old new (Err why) e ascends within idle going = record {
+      rows = tt;
+      ascends = tt;
+      made = tt;
+      within = tt;
+      found = e.found;
+      does = e.executes;
+      stay = e.stay;
+      idle = idle;
+      going = going;
+    }
+
+    -- a refusal that left the lanes as they were
+    pub refused : (cap : ℕ) (lanes : List (Lane S)) (why : RunFault) → ExecutedOn cap lanes lanes (Err why)
+        → Executes seen schema plan cap lanes lanes (Err why)
+    refused cap lanes why e = promised cap lanes lanes (Err why) e tt tt (λ none. refl) (λ rel a. tt)
 
     -- nothing was done
     pub not_begun : (cap : ℕ) (lanes : List (Lane S)) (why : RunFault) → LanesFind lanes schema plan (Err why)

@@ -16,3 +16,4 @@ pub mod LaneAsking
 pub mod Sources
 pub mod Running
 pub mod LaneRunning
+pub mod Executing

@@ -1,18 +1,15 @@
 // A plan executed on several lanes.
-ghost use Rattle.std.specs.Prelude.{◌≡◌, ◌↔◌, ◌<◌, ◌≤◌, ◌^◌, List, ℕ, false, Contains, IfOk, IsTrue, MatchOption, length};
-ghost use Rattle.std.specs.List.Sorted.{IsStrictlyIncreasing, IsStrictlySortedBy};
-ghost use Rattle.meaning.specs.declared.types.Fact.{Fact};
+ghost use Rattle.std.specs.Prelude.{◌≡◌, ◌↔◌, ◌<◌, ◌≤◌, ◌^◌, List, ℕ, false, Contains, IsTrue, MatchOption, length};
+ghost use Rattle.std.specs.List.Sorted.{IsStrictlyIncreasing};
 ghost use Rattle.meaning.specs.declared.types.Branch.{Branch};
 ghost use Rattle.meaning.specs.Plans.{IsLawful};
-ghost use Rattle.meaning.specs.Rows.{IsRow};
 ghost use Rattle.access_schema.specs.Meaning.{meaning_of};
-ghost use Rattle.source_trait.specs.Lanes.{names_of, LanesStay};
+ghost use Rattle.source_trait.specs.Lanes.{names_of};
 ghost use Rattle.source_trait.specs.declared.lanes.Lane.{Lane};
-ghost use Rattle.row_text.specs.RowText.{row_cmp};
 ghost use Rattle.middleware.specs.PlanSources.{line_for, IsAccessed, AllHaveLines};
 ghost use Rattle.middleware.specs.Sources.{has_place};
-ghost use Rattle.middleware.specs.LaneBranches.{LanesHoldPlan};
-ghost use Rattle.middleware.specs.LaneRunning.{LanesFind, LanesHavePlace, LacksPlace, ExecutesOnLanes, LanesGoOn};
+ghost use Rattle.middleware.specs.LaneRunning.{LanesHavePlace, LacksPlace};
+ghost use Rattle.middleware.specs.Executing.{Executes};
 
 use crate::accesses::{accessed, first_lineless, has_source};
 use crate::fault::{Run, RunFault};
@@ -31,7 +28,7 @@ use std::thread::Threads;
 /// First the relations of the plan's methods are attached in ascending order, lane by lane. Then each step of each branch asks its
 /// distinct requests, each once by one of the lanes at once, and joins the answers with the rows so far. A plan without access
 /// steps needs no lane, and leaves the lanes as they are.
-pub fn execute_on_lanes<R: Threads + Sync, S: Source + Send + Drop>(
+pub fn execute<R: Threads + Sync, S: Source + Send + Drop>(
     rt: &R,
     alloc: Global,
     plan: &Plan,
@@ -44,21 +41,7 @@ pub fn execute_on_lanes<R: Threads + Sync, S: Source + Send + Drop>(
     requires cap { cap ≤ 1_000_000 }
     requires few { length plan.now.branches < 2 ^ 32 }
     requires short { (branch : Branch) → Contains plan.now.branches branch → length branch.steps < 2 ^ 32 }
-
-    // The rows are the plan's on whatever instance the sources of each lane hold, each once and ascending.
-    ensures rows { IfOk result (λ run. (instance : List Fact) → LanesHoldPlan S.seen schema.now plan.now lanes.new instance
-        → (row : List (List ℕ)) → Contains run.rows row ↔ IsRow (meaning_of schema.now) plan.now instance row) }
-    ensures ascends { IfOk result (λ run. IsStrictlySortedBy row_cmp run.rows) }
-
-    // Attaches and requests: all of them where the plan was executed; otherwise the first ones, up to why it stopped.
-    ensures executes { ExecutesOnLanes S.seen schema.now plan.now cap lanes.old lanes.new result }
-    ensures within { IfOk result (λ run. run.made ≤ cap) }
-    ensures found { LanesFind lanes.old schema.now plan.now result }
-
-    // What stays.
-    ensures stay { LanesStay S.seen lanes.old lanes.new }
-    ensures idle { ((rel : ℕ) → IsAccessed schema.now plan.now rel → ⊥) → lanes.new ≡ lanes.old }
-    ensures going { (rel : ℕ) → IsAccessed schema.now plan.now rel → LanesGoOn result lanes.new }
+    ensures executes { Executes S.seen schema.now plan.now cap lanes.old lanes.new result }
 {
     let rels = match accessed(alloc, schema, plan) {
         Ok(rels) => rels,
@@ -95,12 +78,7 @@ fn run_on_lanes<R: Threads + Sync, S: Source + Send + Drop>(
     requires cap { cap ≤ 1_000_000 }
     requires few { length plan.now.branches < 2 ^ 32 }
     requires short { (branch : Branch) → Contains plan.now.branches branch → length branch.steps < 2 ^ 32 }
-    ensures executes { ExecutesOnLanes S.seen schema.now plan.now cap lanes.old lanes.new result }
-    ensures ascends { IfOk result (λ run. IsStrictlySortedBy row_cmp run.rows) }
-    ensures within { IfOk result (λ run. run.made ≤ cap) }
-    ensures found { LanesFind lanes.old schema.now plan.now result }
-    ensures stay { LanesStay S.seen lanes.old lanes.new }
-    ensures going { LanesGoOn result lanes.new }
+    ensures executes { Executes S.seen schema.now plan.now cap lanes.old lanes.new result }
 {
     if let Some(rel) = first_without_place(lanes, schema.sources.as_slice(), rels) {
         return Err(RunFault::UnknownKind { rel });

@@ -1,7 +1,7 @@
 //! Plans executed over sources: relations attached, requests asked round by round, and answers joined.
 //!
 //! Crates above call `execute` with a lawful plan, and print its rows with `csv_text`. Begin at the clauses of `execute` in
-//! `src/run_plan.rt`; the words that they use are in `specs/`, in the order of `specs/Lib.antt`. A crate that asks relations without
+//! `src/lane_run.rt`; the words that they use are in `specs/`, in the order of `specs/Lib.antt`. A crate that asks relations without
 //! a plan attaches them by `attach_all`.
 #![tactic(auto)]
 
@@ -30,7 +30,6 @@ pub use attach::{Refused, attach_all};
 pub use fault::{Run, RunFault};
 pub use lane_attach::attach_lanes;
 pub use lane_round::{AskFault, ask_round};
-pub use lane_run::execute_on_lanes;
+pub use lane_run::execute;
 pub use lookup::find_line;
 pub use row_text::csv_text;
-pub use run_plan::execute;

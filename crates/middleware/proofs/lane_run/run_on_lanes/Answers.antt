@@ -1,19 +1,21 @@
-use Rattle.std.proofs.Common.{ℕ, List, subst, sym}
-use Rattle.std.specs.Prelude.{Contains}
+use Rattle.std.proofs.Common.{◌<◌, ℕ, List, length, subst, sym, arith}
+use Rattle.std.specs.Prelude.{Contains, Err}
 use Rattle.access_schema.specs.declared.schema.SourceLine.{SourceLine}
 use Rattle.middleware.specs.LaneRunning.{LanesHavePlace, LacksPlace}
 use Rattle.middleware.specs.LaneRounds.{NoneStopped}
-use Rattle.middleware.proofs.Finished.{all_ready}
-use Rattle.middleware.proofs.LaneFinished.{lacks_kind, all_placed, all_going, lanes_askable, ran, run_refused, on_going}
+use Rattle.middleware.specs.declared.fault.RunFault.TheVariants as fault
+use Rattle.middleware.specs.Running.{refused_as}
+use Rattle.middleware.proofs.Finished.{all_ready, some_first}
+use Rattle.middleware.proofs.LaneFinished.{promised, refused, lacks_kind, all_placed, all_going, lanes_askable, ran, run_refused, on_going}
 use Rattle.middleware.proofs.lane_run.run_on_lanes.Goals as goal
 
 pub returns-in-Some : goal.returns-in-Some
 returns-in-Some g c =
     let ready = all_ready g.S.Source.seen c.args.schema.now c.args.plan.now c.requires.lawful.0 c.requires.lawful.1 in
     let lacks = subst (λ (l : List SourceLine). LacksPlace c.args.lanes.now l c.args.rels.now c.in-Some.rel) c.as_slice.ensures c.in-Some.ensures in
-    let e = lacks_kind g.S.Source.seen c.args.schema.now c.args.plan.now ready c.args.rels.now c.requires.ascends c.requires.exactly c.requires.lines c.args.lanes.now
-    c.args.cap c.requires.lanes.0 c.in-Some.rel lacks in
-    record { executes = e.executes; ascends = tt; within = tt; found = e.found; stay = e.stay; going = tt }
+    refused g.S.Source.seen c.args.schema.now c.args.plan.now c.args.cap c.args.lanes.now (fault.UnknownKind c.in-Some.rel)
+    (lacks_kind g.S.Source.seen c.args.schema.now c.args.plan.now ready c.args.rels.now c.requires.ascends c.requires.exactly c.requires.lines c.args.lanes.now
+    c.args.cap c.requires.lanes.0 c.in-Some.rel lacks)
 
 pub attach_lanes-requires-clause-placed : goal.attach_lanes-requires-clause-placed
 attach_lanes-requires-clause-placed g c κs within =
@@ -47,22 +49,21 @@ pub returns-in-Ok : goal.returns-in-Ok
 returns-in-Ok g c =
     let ready = all_ready g.S.Source.seen c.args.schema.now c.args.plan.now c.requires.lawful.0 c.requires.lawful.1 in
     let places = subst (λ (l : List SourceLine). (rel : ℕ) → Contains c.args.rels.now rel → LanesHavePlace c.args.lanes.now l rel) c.as_slice.ensures c.in_default.ensures in
-    let e = ran g.S.Source.seen c.args.schema.now c.args.plan.now ready c.args.rels.now c.requires.ascends c.requires.exactly c.requires.lines c.args.lanes.now places
+    let some = some_first c.args.rels.now (λ e. let n : 0 < length c.args.rels.now = c.requires.some in omega (arith, n, e)) in
+    promised g.S.Source.seen c.args.schema.now c.args.plan.now c.args.cap c.args.lanes.now c.run_rounds_on.new.lanes c.run_rounds_on.result
+    (ran g.S.Source.seen c.args.schema.now c.args.plan.now ready c.args.rels.now c.requires.ascends c.requires.exactly c.requires.lines c.args.lanes.now places
     c.attach_lanes.new.lanes c.in-Ok.ensures.attached c.args.cap c.requires.lanes.0 c.run_rounds_on.result c.run_rounds_on.new.lanes c.start.new.lanes c.start.ensures
-    c.run_rounds_on.ensures.done c.run_rounds_on.ensures.stops in
-    record {
-      executes = e.executes;
-      ascends = c.run_rounds_on.ensures.ascends;
-      within = c.run_rounds_on.ensures.within;
-      found = e.found;
-      stay = e.stay;
-      going = on_going c.run_rounds_on.result c.run_rounds_on.new.lanes c.run_rounds_on.ensures.going;
-    }
+    c.run_rounds_on.ensures.done c.run_rounds_on.ensures.stops)
+    c.run_rounds_on.ensures.ascends c.run_rounds_on.ensures.within (λ none. absurd (none some.0 ((c.requires.exactly some.0).0 some.1)))
+    (λ rel a. on_going c.run_rounds_on.result c.run_rounds_on.new.lanes c.run_rounds_on.ensures.going)
 
 pub returns-in-Err : goal.returns-in-Err
 returns-in-Err g c =
     let ready = all_ready g.S.Source.seen c.args.schema.now c.args.plan.now c.requires.lawful.0 c.requires.lawful.1 in
     let places = subst (λ (l : List SourceLine). (rel : ℕ) → Contains c.args.rels.now rel → LanesHavePlace c.args.lanes.now l rel) c.as_slice.ensures c.in_default.ensures in
-    let e = run_refused g.S.Source.seen c.args.schema.now c.args.plan.now ready c.args.rels.now c.requires.ascends c.requires.exactly c.requires.lines c.args.lanes.now places
-    c.args.cap c.requires.lanes.0 c.in-Err.refused.rel c.in-Err.refused.fault c.attach_lanes.new.lanes c.attach_lanes.auto.lanes c.in-Err.ensures.breaks in
-    rw c.attach_fault.ensures (record { executes = e.executes; ascends = tt; within = tt; found = e.found; stay = e.stay; going = tt })
+    let some = some_first c.args.rels.now (λ e. let n : 0 < length c.args.rels.now = c.requires.some in omega (arith, n, e)) in
+    rw c.attach_fault.ensures (promised g.S.Source.seen c.args.schema.now c.args.plan.now c.args.cap c.args.lanes.now c.attach_lanes.new.lanes
+    (Err (refused_as c.in-Err.refused.rel c.in-Err.refused.fault))
+    (run_refused g.S.Source.seen c.args.schema.now c.args.plan.now ready c.args.rels.now c.requires.ascends c.requires.exactly c.requires.lines c.args.lanes.now places
+    c.args.cap c.requires.lanes.0 c.in-Err.refused.rel c.in-Err.refused.fault c.attach_lanes.new.lanes c.attach_lanes.auto.lanes c.in-Err.ensures.breaks)
+    tt tt (λ none. absurd (none some.0 ((c.requires.exactly some.0).0 some.1))) (λ rel a. tt))
