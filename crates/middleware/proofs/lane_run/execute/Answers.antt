@@ -8,31 +8,39 @@ use Rattle.middleware.proofs.LaneFinished.{promised, refused, no_memory, ran_alo
 use Rattle.middleware.proofs.lane_run.execute.Goals as goal
 
 pub returns-in-Err : goal.returns-in-Err
-returns-in-Err g c =
-    refused g.S.Source.seen c.args.schema.now c.args.plan.now c.args.cap c.args.lanes.now fault.NoMemory
-    (no_memory g.S.Source.seen c.args.schema.now c.args.plan.now c.args.cap c.args.lanes.now)
+returns-in-Err g c = record {
+  executes =
+      refused g.S.Source.seen c.args.schema.now c.args.plan.now c.args.cap c.args.lanes.now fault.NoMemory
+      (no_memory g.S.Source.seen c.args.schema.now c.args.plan.now c.args.cap c.args.lanes.now);
+}
 
 pub execute_alone-requires-clause-alone : goal.execute_alone-requires-clause-alone
 execute_alone-requires-clause-alone g c κs within = none_accessed c.args.schema.now c.args.plan.now c.in-Ok.rels.items (search rules) c.in-Ok.ensures.exactly
 
 pub returns-then-is_empty : goal.returns-then-is_empty
-returns-then-is_empty g c =
-    let alone = none_accessed c.args.schema.now c.args.plan.now c.in-Ok.rels.items (search rules) c.in-Ok.ensures.exactly in
-    promised g.S.Source.seen c.args.schema.now c.args.plan.now c.args.cap c.args.lanes.now c.args.lanes.now c.execute_alone.result
-    (ran_alone g.S.Source.seen c.args.schema.now c.args.plan.now alone c.args.cap c.args.lanes.now c.execute_alone.result c.execute_alone.ensures.gives)
-    c.execute_alone.ensures.ascends c.execute_alone.ensures.within (λ none. refl) (λ rel a. absurd (alone rel a))
+returns-then-is_empty g c = record {
+  executes =
+      let alone = none_accessed c.args.schema.now c.args.plan.now c.in-Ok.rels.items (search rules) c.in-Ok.ensures.exactly in
+      promised g.S.Source.seen c.args.schema.now c.args.plan.now c.args.cap c.args.lanes.now c.args.lanes.now c.execute_alone.result
+      (ran_alone g.S.Source.seen c.args.schema.now c.args.plan.now alone c.args.cap c.args.lanes.now c.execute_alone.result c.execute_alone.ensures.gives)
+      c.execute_alone.ensures.ascends c.execute_alone.ensures.within (λ none. refl) (λ rel a. absurd (alone rel a));
+}
 
 pub returns-in-Some : goal.returns-in-Some
-returns-in-Some g c =
-    let ready = all_ready g.S.Source.seen c.args.schema.now c.args.plan.now c.requires.lawful.0 c.requires.lawful.1 in
-    refused g.S.Source.seen c.args.schema.now c.args.plan.now c.args.cap c.args.lanes.now (fault.NoSource c.in-Some.rel)
-    (no_source g.S.Source.seen c.args.schema.now c.args.plan.now ready c.in-Ok.rels.items c.in-Ok.ensures.ascends c.in-Ok.ensures.exactly c.args.cap c.args.lanes.now c.in-Some.rel (c.in-Some.ensures ∙ ap (λ (l : List SourceLine). first_lineless l c.as_slice-2.result.now) c.as_slice.ensures ∙ ap (λ (r : List ℕ). first_lineless c.args.schema.now.sources r) c.as_slice-2.ensures.value))
+returns-in-Some g c = record {
+  executes =
+      let ready = all_ready g.S.Source.seen c.args.schema.now c.args.plan.now c.requires.lawful.0 c.requires.lawful.1 in
+      refused g.S.Source.seen c.args.schema.now c.args.plan.now c.args.cap c.args.lanes.now (fault.NoSource c.in-Some.rel)
+      (no_source g.S.Source.seen c.args.schema.now c.args.plan.now ready c.in-Ok.rels.items c.in-Ok.ensures.ascends c.in-Ok.ensures.exactly c.args.cap c.args.lanes.now c.in-Some.rel (c.in-Some.ensures ∙ ap (λ (l : List SourceLine). first_lineless l c.as_slice-2.result.now) c.as_slice.ensures ∙ ap (λ (r : List ℕ). first_lineless c.args.schema.now.sources r) c.as_slice-2.ensures.value));
+}
 
 pub returns-then-is_empty-2 : goal.returns-then-is_empty-2
-returns-then-is_empty-2 g c =
-    let ready = all_ready g.S.Source.seen c.args.schema.now c.args.plan.now c.requires.lawful.0 c.requires.lawful.1 in
-    refused g.S.Source.seen c.args.schema.now c.args.plan.now c.args.cap c.args.lanes.now (fault.UnknownKind c.index.result.now)
-    (no_lane g.S.Source.seen c.args.schema.now c.args.plan.now ready c.in-Ok.rels.items c.in-Ok.ensures.ascends c.in-Ok.ensures.exactly (all_lines g.S.Source.seen c.args.schema.now c.args.plan.now ready c.args.cap c.in-Ok.rels.items c.in-Ok.ensures.ascends c.in-Ok.ensures.exactly (c.in_default.ensures ∙ ap (λ (l : List SourceLine). first_lineless l c.as_slice-2.result.now) c.as_slice.ensures ∙ ap (λ (r : List ℕ). first_lineless c.args.schema.now.sources r) c.as_slice-2.ensures.value)) c.args.cap c.args.lanes.now (no_lanes c.args.lanes.now (search rules)) c.index.result.now (slice_get_read c.in-Ok.rels.items _ 0 c.index.result.now refl (search rules) c.index.ensures))
+returns-then-is_empty-2 g c = record {
+  executes =
+      let ready = all_ready g.S.Source.seen c.args.schema.now c.args.plan.now c.requires.lawful.0 c.requires.lawful.1 in
+      refused g.S.Source.seen c.args.schema.now c.args.plan.now c.args.cap c.args.lanes.now (fault.UnknownKind c.index.result.now)
+      (no_lane g.S.Source.seen c.args.schema.now c.args.plan.now ready c.in-Ok.rels.items c.in-Ok.ensures.ascends c.in-Ok.ensures.exactly (all_lines g.S.Source.seen c.args.schema.now c.args.plan.now ready c.args.cap c.in-Ok.rels.items c.in-Ok.ensures.ascends c.in-Ok.ensures.exactly (c.in_default.ensures ∙ ap (λ (l : List SourceLine). first_lineless l c.as_slice-2.result.now) c.as_slice.ensures ∙ ap (λ (r : List ℕ). first_lineless c.args.schema.now.sources r) c.as_slice-2.ensures.value)) c.args.cap c.args.lanes.now (no_lanes c.args.lanes.now (search rules)) c.index.result.now (slice_get_read c.in-Ok.rels.items _ 0 c.index.result.now refl (search rules) c.index.ensures));
+}
 
 pub run_on_lanes-requires-clause-exactly : goal.run_on_lanes-requires-clause-exactly
 run_on_lanes-requires-clause-exactly g c κs within = rw c.as_slice-3.ensures.value c.in-Ok.ensures.exactly

@@ -10,12 +10,14 @@ use Rattle.middleware.proofs.LaneFinished.{promised, refused, lacks_kind, all_pl
 use Rattle.middleware.proofs.lane_run.run_on_lanes.Goals as goal
 
 pub returns-in-Some : goal.returns-in-Some
-returns-in-Some g c =
-    let ready = all_ready g.S.Source.seen c.args.schema.now c.args.plan.now c.requires.lawful.0 c.requires.lawful.1 in
-    let lacks = subst (λ (l : List SourceLine). LacksPlace c.args.lanes.now l c.args.rels.now c.in-Some.rel) c.as_slice.ensures c.in-Some.ensures in
-    refused g.S.Source.seen c.args.schema.now c.args.plan.now c.args.cap c.args.lanes.now (fault.UnknownKind c.in-Some.rel)
-    (lacks_kind g.S.Source.seen c.args.schema.now c.args.plan.now ready c.args.rels.now c.requires.ascends c.requires.exactly c.requires.lines c.args.lanes.now
-    c.args.cap c.requires.lanes.0 c.in-Some.rel lacks)
+returns-in-Some g c = record {
+  executes =
+      let ready = all_ready g.S.Source.seen c.args.schema.now c.args.plan.now c.requires.lawful.0 c.requires.lawful.1 in
+      let lacks = subst (λ (l : List SourceLine). LacksPlace c.args.lanes.now l c.args.rels.now c.in-Some.rel) c.as_slice.ensures c.in-Some.ensures in
+      refused g.S.Source.seen c.args.schema.now c.args.plan.now c.args.cap c.args.lanes.now (fault.UnknownKind c.in-Some.rel)
+      (lacks_kind g.S.Source.seen c.args.schema.now c.args.plan.now ready c.args.rels.now c.requires.ascends c.requires.exactly c.requires.lines c.args.lanes.now
+      c.args.cap c.requires.lanes.0 c.in-Some.rel lacks);
+}
 
 pub attach_lanes-requires-clause-placed : goal.attach_lanes-requires-clause-placed
 attach_lanes-requires-clause-placed g c κs within =
@@ -46,24 +48,28 @@ pub run_rounds_on-requires-clause-going : goal.run_rounds_on-requires-clause-goi
 run_rounds_on-requires-clause-going g c κs within = subst (λ l. NoneStopped l) (sym c.start.ensures) (all_going c.attach_lanes.new.lanes)
 
 pub returns-in-Ok : goal.returns-in-Ok
-returns-in-Ok g c =
-    let ready = all_ready g.S.Source.seen c.args.schema.now c.args.plan.now c.requires.lawful.0 c.requires.lawful.1 in
-    let places = subst (λ (l : List SourceLine). (rel : ℕ) → Contains c.args.rels.now rel → LanesHavePlace c.args.lanes.now l rel) c.as_slice.ensures c.in_default.ensures in
-    let some = some_first c.args.rels.now (λ e. let n : 0 < length c.args.rels.now = c.requires.some in omega (arith, n, e)) in
-    promised g.S.Source.seen c.args.schema.now c.args.plan.now c.args.cap c.args.lanes.now c.run_rounds_on.new.lanes c.run_rounds_on.result
-    (ran g.S.Source.seen c.args.schema.now c.args.plan.now ready c.args.rels.now c.requires.ascends c.requires.exactly c.requires.lines c.args.lanes.now places
-    c.attach_lanes.new.lanes c.in-Ok.ensures.attached c.args.cap c.requires.lanes.0 c.run_rounds_on.result c.run_rounds_on.new.lanes c.start.new.lanes c.start.ensures
-    c.run_rounds_on.ensures.done c.run_rounds_on.ensures.stops)
-    c.run_rounds_on.ensures.ascends c.run_rounds_on.ensures.within (λ none. absurd (none some.0 ((c.requires.exactly some.0).0 some.1)))
-    (λ rel a. on_going c.run_rounds_on.result c.run_rounds_on.new.lanes c.run_rounds_on.ensures.going)
+returns-in-Ok g c = record {
+  executes =
+      let ready = all_ready g.S.Source.seen c.args.schema.now c.args.plan.now c.requires.lawful.0 c.requires.lawful.1 in
+      let places = subst (λ (l : List SourceLine). (rel : ℕ) → Contains c.args.rels.now rel → LanesHavePlace c.args.lanes.now l rel) c.as_slice.ensures c.in_default.ensures in
+      let some = some_first c.args.rels.now (λ e. let n : 0 < length c.args.rels.now = c.requires.some in omega (arith, n, e)) in
+      promised g.S.Source.seen c.args.schema.now c.args.plan.now c.args.cap c.args.lanes.now c.run_rounds_on.new.lanes c.run_rounds_on.result
+      (ran g.S.Source.seen c.args.schema.now c.args.plan.now ready c.args.rels.now c.requires.ascends c.requires.exactly c.requires.lines c.args.lanes.now places
+      c.attach_lanes.new.lanes c.in-Ok.ensures.attached c.args.cap c.requires.lanes.0 c.run_rounds_on.result c.run_rounds_on.new.lanes c.start.new.lanes c.start.ensures
+      c.run_rounds_on.ensures.done c.run_rounds_on.ensures.stops)
+      c.run_rounds_on.ensures.ascends c.run_rounds_on.ensures.within (λ none. absurd (none some.0 ((c.requires.exactly some.0).0 some.1)))
+      (λ rel a. on_going c.run_rounds_on.result c.run_rounds_on.new.lanes c.run_rounds_on.ensures.going);
+}
 
 pub returns-in-Err : goal.returns-in-Err
-returns-in-Err g c =
-    let ready = all_ready g.S.Source.seen c.args.schema.now c.args.plan.now c.requires.lawful.0 c.requires.lawful.1 in
-    let places = subst (λ (l : List SourceLine). (rel : ℕ) → Contains c.args.rels.now rel → LanesHavePlace c.args.lanes.now l rel) c.as_slice.ensures c.in_default.ensures in
-    let some = some_first c.args.rels.now (λ e. let n : 0 < length c.args.rels.now = c.requires.some in omega (arith, n, e)) in
-    rw c.attach_fault.ensures (promised g.S.Source.seen c.args.schema.now c.args.plan.now c.args.cap c.args.lanes.now c.attach_lanes.new.lanes
-    (Err (refused_as c.in-Err.refused.rel c.in-Err.refused.fault))
-    (run_refused g.S.Source.seen c.args.schema.now c.args.plan.now ready c.args.rels.now c.requires.ascends c.requires.exactly c.requires.lines c.args.lanes.now places
-    c.args.cap c.requires.lanes.0 c.in-Err.refused.rel c.in-Err.refused.fault c.attach_lanes.new.lanes c.attach_lanes.auto.lanes c.in-Err.ensures.breaks)
-    tt tt (λ none. absurd (none some.0 ((c.requires.exactly some.0).0 some.1))) (λ rel a. tt))
+returns-in-Err g c = record {
+  executes =
+      let ready = all_ready g.S.Source.seen c.args.schema.now c.args.plan.now c.requires.lawful.0 c.requires.lawful.1 in
+      let places = subst (λ (l : List SourceLine). (rel : ℕ) → Contains c.args.rels.now rel → LanesHavePlace c.args.lanes.now l rel) c.as_slice.ensures c.in_default.ensures in
+      let some = some_first c.args.rels.now (λ e. let n : 0 < length c.args.rels.now = c.requires.some in omega (arith, n, e)) in
+      rw c.attach_fault.ensures (promised g.S.Source.seen c.args.schema.now c.args.plan.now c.args.cap c.args.lanes.now c.attach_lanes.new.lanes
+      (Err (refused_as c.in-Err.refused.rel c.in-Err.refused.fault))
+      (run_refused g.S.Source.seen c.args.schema.now c.args.plan.now ready c.args.rels.now c.requires.ascends c.requires.exactly c.requires.lines c.args.lanes.now places
+      c.args.cap c.requires.lanes.0 c.in-Err.refused.rel c.in-Err.refused.fault c.attach_lanes.new.lanes c.attach_lanes.auto.lanes c.in-Err.ensures.breaks)
+      tt tt (λ none. absurd (none some.0 ((c.requires.exactly some.0).0 some.1))) (λ rel a. tt));
+}
