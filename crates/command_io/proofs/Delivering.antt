@@ -6,12 +6,13 @@ use Rattle.access_schema.specs.declared.schema.Schema.{Schema}
 use Rattle.source_trait.specs.Asking.{Seen}
 use Rattle.source_trait.specs.declared.lanes.Lane.{Lane}
 use Rattle.middleware.specs.declared.fault.Run.{Run}
+use Rattle.middleware.specs.Executing.{Executes}
 use Rattle.command_io.specs.declared.stop.Stop.{Stop}
 use Rattle.command_io.specs.declared.stop.Stop.TheVariants as stop
 use Rattle.command_io.specs.Moments.{ResultStop}
 use Rattle.command_io.specs.Moments.ResultStop.{no_memory, sink_failed}
 use Rattle.command_io.specs.Writing.{TookAll, TookPart}
-use Rattle.command_io.specs.Executing.{Executes, Delivers}
+use Rattle.command_io.specs.Executing.{Delivers}
 use Rattle.command_io.specs.Executing.Delivers.{done, cut}
 
 -- why a result was not printed

@@ -1,9 +1,9 @@
 // From a plan to what is written of its execution.
-ghost use Rattle.std.specs.Prelude.{◌≡◌, ◌≤◌, IfOk, List, ℕ};
+ghost use Rattle.std.specs.Prelude.{◌≡◌, ◌≤◌, IfOk, List, ℕ, length};
 ghost use Rattle.meaning.specs.Plans.{IsLawful};
 ghost use Rattle.access_schema.specs.Meaning.{meaning_of};
 ghost use Rattle.source_trait.specs.Causes.{Rose};
-ghost use Rattle.command_io.specs.Executing.{IsShort, Executes, Delivers, stop_of_run as stop_for};
+ghost use Rattle.command_io.specs.Executing.{IsShort, Delivers, stop_of_run as stop_for};
 ghost use Rattle.command_io.specs.Reports.{IsReport};
 
 use crate::stop::Stop;
@@ -15,6 +15,7 @@ use meaning::types::Plan;
 use middleware::{Run, RunFault, csv_text, execute};
 use source_trait::{Lane, Sink, Source};
 use std::alloc::Global;
+use std::thread::Threads;
 
 /// How many requests a command makes at most.
 pub const CALLS: u32 = 100000;
@@ -28,21 +29,23 @@ pub enum Report<'a> {
     Summary(u32),
 }
 
-/// Executes a lawful plan on the first lane, and writes the report of that.
-pub fn deliver<S: Source + Send + Drop, O: Sink>(
+/// Executes a lawful plan on all of the lanes, of which there are at most 8, and writes the report of that.
+pub fn deliver<R: Threads + Sync, S: Source + Send + Drop, O: Sink>(
+    rt: &R,
     alloc: Global,
     schema: &Schema,
     plan: &Plan,
     report: Report<'_>,
-    lanes: &mut Vec<Lane<S>>,
+    lanes: &mut [Lane<S>],
     out: &mut O,
 ) -> Result<(), Stop>
     requires lawful { (constants : List (List ℕ)) × IsLawful plan.now (meaning_of schema.now) constants }
     requires short { IsShort plan.now }
-    ensures delivers { Delivers S.seen schema.now plan.now CALLS (IsReport report.entry) lanes.old.items lanes.new.items (O.taken out.old) (O.taken out.new) (Rose (O.faults out.old) (O.faults out.new)) result }
+    requires lanes { length lanes.old ≤ 8 }
+    ensures delivers { Delivers S.seen schema.now plan.now CALLS (IsReport report.entry) lanes.old lanes.new (O.taken out.old) (O.taken out.new) (Rose (O.faults out.old) (O.faults out.new)) result }
     ensures later { O.faults out.old ≤ O.faults out.new }
 {
-    let executed = match run_plan(alloc, schema, plan, lanes) {
+    let executed = match execute(rt, alloc, plan, schema, lanes, CALLS) {
         Ok(executed) => executed,
         Err(fault) => return Err(stop_of_run(fault)),
     };
@@ -51,20 +54,6 @@ pub fn deliver<S: Source + Send + Drop, O: Sink>(
         Err(_) => return Err(Stop::Memory),
     };
     print(out, text.as_slice(), Stop::ResultWrite)
-}
-
-// Executes a lawful plan on the first lane.
-fn run_plan<S: Source + Send + Drop>(
-    alloc: Global,
-    schema: &Schema,
-    plan: &Plan,
-    lanes: &mut Vec<Lane<S>>,
-) -> Result<Run, RunFault>
-    requires lawful { (constants : List (List ℕ)) × IsLawful plan.now (meaning_of schema.now) constants }
-    requires short { IsShort plan.now }
-    ensures { Executes S.seen schema.now plan.now CALLS lanes.old.items lanes.new.items result }
-{
-    execute(alloc, plan, schema, lanes, CALLS)
 }
 
 fn report_text(alloc: Global, report: Report<'_>, run: &Run) -> Result<Bytes, NoMemory>

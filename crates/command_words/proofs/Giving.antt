@@ -3,13 +3,13 @@ use Rattle.std.proofs.Common.{◌≡◌, ℕ, ◌<◌, ◌≤◌, Bool, true, fa
 use Rattle.std.specs.Prelude.{if◌then◌else◌, IfNone, IfSome, MatchOption, IsSome}
 use Rattle.std.specs.Fmt.{decimal}
 use Rattle.std.proofs.lemmas.Bool.{eqb-true}
-use Rattle.command_words.specs.Table.{same_option, limit}
+use Rattle.command_words.specs.Table.{same_option, InRange}
 use Rattle.command_words.specs.Splits.{Item, Positional, Given, Begins, Splits, End, More, positionals_of, texts_of, IsSet, Once, Absent, item_of}
 use Rattle.command_words.specs.Arguments.{words_of, given_number, IsGiven, Give, AreArguments, MayBe}
 use Rattle.command_words.specs.declared.item.Item.{Item as Lent}
 use Rattle.command_words.specs.declared.table.CommandName.{CommandName}
 use Rattle.command_words.specs.declared.table.OptionName.{OptionName}
-use Rattle.command_words.specs.declared.table.OptionName.TheVariants.{Firings, Search}
+use Rattle.command_words.specs.declared.table.OptionName.TheVariants.{Firings, Search, Workers}
 use Rattle.command_words.specs.declared.given.Arguments.{Arguments}
 use Rattle.command_words.proofs.Splitting.{Parts, ended, more, parts, none_begins, first_once, same_options, same_itself}
 
@@ -43,8 +43,8 @@ moved : (option : OptionName) (items others : List Item) (number : Option ℕ) �
 moved option items others None e is = e ∙ is
 moved option items others (Some n) e is = (e ∙ is.0, is.1)
 
-pub give_positional : (items : List Item) (word : List ℕ) (arguments after : Arguments) → words_of after.positionals ≡ words_of arguments.positionals ++ word ∷ [] → after.firings ≡ arguments.firings → after.search ≡ arguments.search → Give items arguments → Give (items ++ Positional word ∷ []) after
-give_positional items word arguments after words same alike give = record {
+pub give_positional : (items : List Item) (word : List ℕ) (arguments after : Arguments) → words_of after.positionals ≡ words_of arguments.positionals ++ word ∷ [] → after.firings ≡ arguments.firings → after.search ≡ arguments.search → after.workers ≡ arguments.workers → Give items arguments → Give (items ++ Positional word ∷ []) after
+give_positional items word arguments after words same alike equal give = record {
   in_order = positionals_append items (Positional word ∷ []) ∙ ap (λ (ws : List (List ℕ)). ws ++ word ∷ []) give.in_order ∙ sym words;
   are_given = λ option.
       let texts = texts_append option items (Positional word ∷ []) ∙ append_none (texts_of option items) in
@@ -54,6 +54,7 @@ give_positional items word arguments after words same alike give = record {
     kept : (option : OptionName) → given_number option arguments ≡ given_number option after
     kept Firings = sym same
     kept Search = sym alike
+    kept Workers = sym equal
 
 long : (xs ys : List (List ℕ)) (word : List ℕ) → length xs ≡ 3 → length (xs ++ word ∷ ys) ≤ 3 → ⊥
 long [] ys word e le = absurd (omega arith)
@@ -71,18 +72,18 @@ fourth_positional items rest word arguments three give may =
 
 -- ---- one more option
 
-given_text : (option other : OptionName) (text : List ℕ) (items : List Item) (n : ℕ) (number after : Option ℕ) (t : Bool) → same_option option other ≡ t → text ≡ decimal n → n ≤ limit other → IsGiven option items number → (option ≡ other → number ≡ None) → after ≡ (if t then Some n else number) →
+given_text : (option other : OptionName) (text : List ℕ) (items : List Item) (n : ℕ) (number after : Option ℕ) (t : Bool) → same_option option other ≡ t → text ≡ decimal n → InRange other n → IsGiven option items number → (option ≡ other → number ≡ None) → after ≡ (if t then Some n else number) →
     texts_of option (items ++ Given other text ∷ []) ≡ texts_of option items ++ (if t then text ∷ [] else []) → IsGiven option (items ++ Given other text ∷ []) after
 given_text option other text items n number after true same is le given free numbers texts =
     let which = same_options option other same in
     let empty : texts_of option items ≡ [] = subst (IsGiven option items) (free which) given in
     let all : texts_of option (items ++ Given other text ∷ []) ≡ decimal n ∷ [] = texts ∙ ap (λ (ws : List (List ℕ)). ws ++ text ∷ []) empty ∙ ap (λ (w : List ℕ). w ∷ []) is in
-    let within : n ≤ limit option = subst (λ (o : OptionName). n ≤ limit o) (sym which) le in
+    let within : InRange option n = subst (λ (o : OptionName). InRange o n) (sym which) le in
     subst (IsGiven option (items ++ Given other text ∷ [])) (sym numbers) (all, within)
 given_text option other text items n number after false same is le given free numbers texts =
     subst (IsGiven option (items ++ Given other text ∷ [])) (sym numbers) (moved option items (items ++ Given other text ∷ []) number (texts ∙ append_none (texts_of option items)) given)
 
-pub give_option : (items : List Item) (other : OptionName) (text : List ℕ) (n : ℕ) (arguments after : Arguments) → text ≡ decimal n → n ≤ limit other → given_number other arguments ≡ None → after.positionals ≡ arguments.positionals →
+pub give_option : (items : List Item) (other : OptionName) (text : List ℕ) (n : ℕ) (arguments after : Arguments) → text ≡ decimal n → InRange other n → given_number other arguments ≡ None → after.positionals ≡ arguments.positionals →
     ((option : OptionName) → given_number option after ≡ (if same_option option other then Some n else given_number option arguments)) → Give items arguments → Give (items ++ Given other text ∷ []) after
 give_option items other text n arguments after is le free same numbers give = record {
   in_order = positionals_append items (Given other text ∷ []) ∙ append_none (positionals_of items) ∙ give.in_order ∙ ap words_of (sym same);
@@ -106,12 +107,12 @@ texts_with option text items rest =
     texts_append option items (Given option text ∷ rest)
     ∙ ap (λ (t : Bool). texts_of option items ++ (if t then text ∷ texts_of option rest else texts_of option rest)) (same_itself option)
 
-set_once : (option : OptionName) (text : List ℕ) (items rest : List Item) (n : ℕ) → IsSet option (items ++ Given option text ∷ rest) n → (texts_of option items ≡ []) × (text ≡ decimal n) × (n ≤ limit option)
+set_once : (option : OptionName) (text : List ℕ) (items rest : List Item) (n : ℕ) → IsSet option (items ++ Given option text ∷ rest) n → (texts_of option items ≡ []) × (text ≡ decimal n) × InRange option n
 set_once option text items rest n (Once is le) = let one = alone (texts_of option items) (texts_of option rest) text (decimal n) (sym (texts_with option text items rest) ∙ is) in (one.0, one.1, le)
 set_once option text items rest n (Absent is default) = absurd (inside (texts_of option items) (texts_of option rest) text (sym (texts_with option text items rest) ∙ is))
 
 -- a text that is no number in the range
-pub no_number : (items rest : List Item) (option : OptionName) (text : List ℕ) → ((n : ℕ) → n ≤ limit option → text ≡ decimal n → ⊥) → MayBe (items ++ Given option text ∷ rest) → ⊥
+pub no_number : (items rest : List Item) (option : OptionName) (text : List ℕ) → ((n : ℕ) → InRange option n → text ≡ decimal n → ⊥) → MayBe (items ++ Given option text ∷ rest) → ⊥
 no_number items rest option text none may =
     let (n, set) = may.settable option in
     let once = set_once option text items rest n set in
@@ -137,8 +138,8 @@ pub record Sofar (name : CommandName) (words left : List (List ℕ)) (arguments 
   pub behind : (items : List Item) → Splits name left items → Splits name words (done ++ items)
   pub only : (items : List Item) → Splits name words items → (others : List Item) × (items ≡ done ++ others) × Splits name left others
 
-pub sofar_none : (name : CommandName) (words : List (List ℕ)) (arguments : Arguments) → words_of arguments.positionals ≡ [] → arguments.firings ≡ None → arguments.search ≡ None → Sofar name words words arguments
-sofar_none name words arguments none unset unused = record {
+pub sofar_none : (name : CommandName) (words : List (List ℕ)) (arguments : Arguments) → words_of arguments.positionals ≡ [] → arguments.firings ≡ None → arguments.search ≡ None → arguments.workers ≡ None → Sofar name words words arguments
+sofar_none name words arguments none unset unused alone = record {
   done = [];
   give = record { in_order = sym none; are_given = λ option. subst (IsGiven option []) (sym (not_given option)) refl };
   behind = λ items splits. splits;
@@ -148,6 +149,7 @@ sofar_none name words arguments none unset unused = record {
     not_given : (option : OptionName) → given_number option arguments ≡ None
     not_given Firings = unset
     not_given Search = unused
+    not_given Workers = alone
 
 -- the items of words that begin with an item
 behind_first : (name : CommandName) (words : List (List ℕ)) (item : Item) (rest : List (List ℕ)) (items : List Item) → Begins name words item rest → Parts name words items → (others : List Item) × (items ≡ item ∷ others) × Splits name rest others
@@ -202,7 +204,7 @@ none_at None e is = is
 none_at (Some a) e is = absurd cc
 
 -- what `with_number` answers
-pub with_option : (lent : Lent) (option : OptionName) (text : List ℕ) (n : ℕ) (arguments : Arguments) (r : Option Arguments) → item_of lent ≡ Given option text → text ≡ decimal n → n ≤ limit option →
+pub with_option : (lent : Lent) (option : OptionName) (text : List ℕ) (n : ℕ) (arguments : Arguments) (r : Option Arguments) → item_of lent ≡ Given option text → text ≡ decimal n → InRange option n →
     MatchOption r (IsSome (given_number option arguments)) (λ more. given_number option arguments ≡ None) → IfSome r (λ more. more.positionals ≡ arguments.positionals) →
     IfSome r (λ more. (other : OptionName) → given_number other more ≡ (if same_option other option then Some n else given_number other arguments)) →
     IfSome r (λ more. (items : List Item) → Give items arguments → Give (items ++ item_of lent ∷ []) more)

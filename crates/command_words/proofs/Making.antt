@@ -1,20 +1,20 @@
 -- Commands from what the words give.
-use Rattle.std.proofs.Common.{◌≡◌, ℕ, ◌<◌, ◌≤◌, ◌&&◌, Bool, true, false, List, [], ◌∷◌, length, get_or, ◌^◌, Option, None, Some, refl, sym, ap, subst, ◌∙◌, arith}
+use Rattle.std.proofs.Common.{◌≡◌, ℕ, ◌<◌, ◌≤◌, ◌&&◌, Bool, true, false, List, [], ◌∷◌, ◌++◌, length, get_or, ◌^◌, Option, None, Some, refl, sym, ap, subst, ◌∙◌, arith}
 use Rattle.std.specs.Cmp.Lexicographic.{pointwise, bytes_decides}
 use Rattle.std.specs.Prelude.{nat_eq, nat_le, codes, if◌then◌else◌, option_map, unwrap_or, IfSome, IfNone}
 use Rattle.std.specs.Fmt.{decimal}
 use Rattle.std.specs.Str.Parse.{digits_value}
 use Rattle.std.proofs.lemmas.Bool.{and_parts, le-leb, leb-true}
 use Rattle.std.proofs.lemmas.Fmt.{decimal_injective, decimal_is_IsNumeral}
-use Rattle.command_words.specs.Table.{command_word, takes, limit, default_number}
+use Rattle.command_words.specs.Table.{command_word, takes, least, limit, InRange, default_number}
 use Rattle.command_words.specs.Splits.{Item, Splits, positionals_of, IsSet, Once, Absent}
-use Rattle.command_words.specs.Words.{Command, Help, Schema, Explain, Run, Exec, Check, Verify, World, Setting, Asks, firings, firings_and_search, IsCommand, seen_as}
+use Rattle.command_words.specs.Words.{Command, Help, Schema, Explain, Run, Exec, Check, Verify, World, Setting, Asks, firings, firings_and_search, workers, IsCommand, seen_as}
 use Rattle.command_words.specs.Arguments.{words_of, given_number, number_of, size_of, IsGiven, AreArguments, MayBe, made}
 use Rattle.command_words.specs.declared.command.Command.{Command as Coded}
 use Rattle.command_words.specs.declared.table.CommandName.{CommandName}
 use Rattle.command_words.specs.declared.table.CommandName.TheVariants as name
 use Rattle.command_words.specs.declared.table.OptionName.{OptionName}
-use Rattle.command_words.specs.declared.table.OptionName.TheVariants.{Firings, Search}
+use Rattle.command_words.specs.declared.table.OptionName.TheVariants.{Firings, Search, Workers}
 use Rattle.command_words.specs.declared.given.Arguments.{Arguments}
 use Rattle.command_words.proofs.Splitting.{splits_once, not_taken, front_and_rest}
 
@@ -79,12 +79,12 @@ size_zero text is =
     ∙ size_never (pointwise nat_eq text (decimal 0))
 
 -- what a text that is no size makes
-made_none : (text : List ℕ) (command : Command) (o : Option ℕ) → size_of text ≡ o → option_map World o ≡ Some command → (n : ℕ) × (World n ≡ command) × (text ≡ decimal n) × (1 ≤ n) × (n ≤ 10000)
-made_none text command None is e = absurd cc
-made_none text command (Some n) is e = let so = size_so text n is in (n, cc, so.0, so.1, so.2)
+made_none : (text : List ℕ) (lanes : ℕ) (command : Command) (o : Option ℕ) → size_of text ≡ o → option_map (λ size. World size lanes) o ≡ Some command → (n : ℕ) × (World n lanes ≡ command) × (text ≡ decimal n) × (1 ≤ n) × (n ≤ 10000)
+made_none text lanes command None is e = absurd cc
+made_none text lanes command (Some n) is e = let so = size_so text n is in (n, cc, so.0, so.1, so.2)
 
-made_size : (text : List ℕ) (command : Command) → option_map World (size_of text) ≡ Some command → (n : ℕ) × (World n ≡ command) × (text ≡ decimal n) × (1 ≤ n) × (n ≤ 10000)
-made_size text command e = made_none text command (size_of text) refl e
+made_size : (text : List ℕ) (lanes : ℕ) (command : Command) → option_map (λ size. World size lanes) (size_of text) ≡ Some command → (n : ℕ) × (World n lanes ≡ command) × (text ≡ decimal n) × (1 ≤ n) × (n ≤ 10000)
+made_size text lanes command e = made_none text lanes command (size_of text) refl e
 
 -- the words are the command that is made of their items
 record Makes (words : List (List ℕ)) (command : Command) : Type 0 where
@@ -93,24 +93,28 @@ record Makes (words : List (List ℕ)) (command : Command) : Type 0 where
   pub items : List Item
   pub number : ℕ
   pub units : ℕ
+  pub lanes : ℕ
   pub first : words ≡ command_word name ∷ behind
   pub splits : Splits name behind items
   pub set : IsSet Firings items number
   pub set_search : IsSet Search items units
-  pub is_made : made name (positionals_of items) number units ≡ Some command
+  pub set_workers : IsSet Workers items lanes
+  pub is_made : made name (positionals_of items) number units lanes ≡ Some command
 
-made_of : (words : List (List ℕ)) (which : CommandName) (positionals : List (List ℕ)) (settings : List Setting) (n units : ℕ) (command : Command) (asks : Asks words which positionals settings) → IsSet Firings asks.items n → IsSet Search asks.items units → made which positionals n units ≡ Some command → Makes words command
-made_of words which positionals settings n units command asks set searched is = record {
+made_of : (words : List (List ℕ)) (which : CommandName) (positionals : List (List ℕ)) (settings : List Setting) (n units lanes : ℕ) (command : Command) (asks : Asks words which positionals settings) → IsSet Firings asks.items n → IsSet Search asks.items units → IsSet Workers asks.items lanes → made which positionals n units lanes ≡ Some command → Makes words command
+made_of words which positionals settings n units lanes command asks set searched worked is = record {
   name = which;
   behind = asks.behind;
   items = asks.items;
   number = n;
   units = units;
+  lanes = lanes;
   first = asks.first;
   splits = asks.splits;
   set = set;
   set_search = searched;
-  is_made = ap (λ (ps : List (List ℕ)). made which ps n units) asks.in_order ∙ is;
+  set_workers = worked;
+  is_made = ap (λ (ps : List (List ℕ)). made which ps n units lanes) asks.in_order ∙ is;
 }
 
 -- an option that a command does not take
@@ -118,31 +122,39 @@ untaken : (words : List (List ℕ)) (which : CommandName) (positionals : List (L
 untaken words which positionals settings option asks off = Absent (not_taken which option asks.behind asks.items off asks.splits) refl
 
 -- a command without options
-unset : (words : List (List ℕ)) (which : CommandName) (positionals : List (List ℕ)) (command : Command) → takes which Firings ≡ false → takes which Search ≡ false → made which positionals 10000 10000 ≡ Some command → Asks words which positionals [] → Makes words command
-unset words which positionals command off without is asks =
-    made_of words which positionals [] 10000 10000 command asks (untaken words which positionals [] Firings asks off) (untaken words which positionals [] Search asks without) is
+unset : (words : List (List ℕ)) (which : CommandName) (positionals : List (List ℕ)) (command : Command) → takes which Firings ≡ false → takes which Search ≡ false → takes which Workers ≡ false → made which positionals 10000 10000 1 ≡ Some command → Asks words which positionals [] → Makes words command
+unset words which positionals command off without alone is asks =
+    made_of words which positionals [] 10000 10000 1 command asks (untaken words which positionals [] Firings asks off) (untaken words which positionals [] Search asks without) (untaken words which positionals [] Workers asks alone) is
+
+-- a command with no option but that of workers
+working : (words : List (List ℕ)) (which : CommandName) (positionals : List (List ℕ)) (lanes : ℕ) (command : Command) → takes which Firings ≡ false → takes which Search ≡ false → made which positionals 10000 10000 lanes ≡ Some command → Asks words which positionals (workers lanes) → Makes words command
+working words which positionals lanes command off without is asks =
+    made_of words which positionals (workers lanes) 10000 10000 lanes command asks (untaken words which positionals (workers lanes) Firings asks off) (untaken words which positionals (workers lanes) Search asks without) asks.are_set.0 is
 
 makes : (words : List (List ℕ)) (command : Command) → IsCommand words command → Makes words command
-makes words Help asks = unset words name.Help [] Help refl refl refl asks
-makes words (Schema schema) asks = unset words name.Schema (schema ∷ []) (Schema schema) refl refl refl asks
-makes words (Explain schema query n units) asks = made_of words name.Explain (schema ∷ query ∷ []) (firings_and_search n units) n units (Explain schema query n units) asks asks.are_set.0 asks.are_set.1.0 refl
-makes words (Run schema query n units) asks = made_of words name.Run (schema ∷ query ∷ []) (firings_and_search n units) n units (Run schema query n units) asks asks.are_set.0 asks.are_set.1.0 refl
-makes words (Exec schema plan) asks = unset words name.Exec (schema ∷ plan ∷ []) (Exec schema plan) refl refl refl asks
+makes words Help asks = unset words name.Help [] Help refl refl refl refl asks
+makes words (Schema schema) asks = unset words name.Schema (schema ∷ []) (Schema schema) refl refl refl refl asks
+makes words (Explain schema query n units) asks =
+    let these = schema ∷ query ∷ [] in
+    made_of words name.Explain these (firings_and_search n units) n units 1 (Explain schema query n units) asks asks.are_set.0 asks.are_set.1.0 (untaken words name.Explain these (firings_and_search n units) Workers asks refl) refl
+makes words (Run schema query n units lanes) asks =
+    made_of words name.Run (schema ∷ query ∷ []) (firings_and_search n units ++ workers lanes) n units lanes (Run schema query n units lanes) asks asks.are_set.0 asks.are_set.1.0 asks.are_set.1.1.0 refl
+makes words (Exec schema plan lanes) asks = working words name.Exec (schema ∷ plan ∷ []) lanes (Exec schema plan lanes) refl refl refl asks
 makes words (Check schema query plan n) asks =
     let these = schema ∷ query ∷ plan ∷ [] in
-    made_of words name.Check these (firings n) n 10000 (Check schema query plan n) asks asks.are_set.0 (untaken words name.Check these (firings n) Search asks refl) refl
-makes words (Verify schema) asks = unset words name.Verify (schema ∷ []) (Verify schema) refl refl refl asks
-makes words (World size) asks = unset words name.World (decimal size ∷ []) (World size) refl refl (ap (option_map World) (size_is (decimal size) size refl asks.1 asks.2)) asks.0
+    made_of words name.Check these (firings n) n 10000 1 (Check schema query plan n) asks asks.are_set.0 (untaken words name.Check these (firings n) Search asks refl) (untaken words name.Check these (firings n) Workers asks refl) refl
+makes words (Verify schema) asks = unset words name.Verify (schema ∷ []) (Verify schema) refl refl refl refl asks
+makes words (World size lanes) asks = working words name.World (decimal size ∷ []) lanes (World size lanes) refl refl (ap (option_map (λ n. World n lanes)) (size_is (decimal size) size refl asks.1 asks.2)) asks.0
 
 -- ---- the other way round
 
-asked : (words behind : List (List ℕ)) (which : CommandName) (items : List Item) (n units : ℕ) (positionals : List (List ℕ)) (command : Command) → words ≡ command_word which ∷ behind → Splits which behind items → IsSet Firings items n → IsSet Search items units → positionals_of items ≡ positionals → made which positionals n units ≡ Some command → IsCommand words command
-asked words behind which items n units positionals command first splits set searched order is = go which positionals first splits order is
+asked : (words behind : List (List ℕ)) (which : CommandName) (items : List Item) (n units lanes : ℕ) (positionals : List (List ℕ)) (command : Command) → words ≡ command_word which ∷ behind → Splits which behind items → IsSet Firings items n → IsSet Search items units → IsSet Workers items lanes → positionals_of items ≡ positionals → made which positionals n units lanes ≡ Some command → IsCommand words command
+asked words behind which items n units lanes positionals command first splits set searched worked order is = go which positionals first splits order is
   where
     named : (c : Command) → c ≡ command → IsCommand words c → IsCommand words command
     named c e here = subst (IsCommand words) e here
 
-    go : (which : CommandName) (positionals : List (List ℕ)) → words ≡ command_word which ∷ behind → Splits which behind items → positionals_of items ≡ positionals → made which positionals n units ≡ Some command → IsCommand words command
+    go : (which : CommandName) (positionals : List (List ℕ)) → words ≡ command_word which ∷ behind → Splits which behind items → positionals_of items ≡ positionals → made which positionals n units lanes ≡ Some command → IsCommand words command
     go name.Help [] first splits order is = named Help (cc) (record { behind = behind; items = items; first = first; splits = splits; in_order = order; are_set = tt })
     go name.Help (a ∷ ps) first splits order is = absurd cc
     go name.Schema [] first splits order is = absurd cc
@@ -154,11 +166,11 @@ asked words behind which items n units positionals command first splits set sear
     go name.Explain (a ∷ b ∷ c ∷ ps) first splits order is = absurd cc
     go name.Run [] first splits order is = absurd cc
     go name.Run (a ∷ []) first splits order is = absurd cc
-    go name.Run (a ∷ b ∷ []) first splits order is = named (Run a b n units) (cc) (record { behind = behind; items = items; first = first; splits = splits; in_order = order; are_set = (set, (searched, tt)) })
+    go name.Run (a ∷ b ∷ []) first splits order is = named (Run a b n units lanes) (cc) (record { behind = behind; items = items; first = first; splits = splits; in_order = order; are_set = (set, (searched, (worked, tt))) })
     go name.Run (a ∷ b ∷ c ∷ ps) first splits order is = absurd cc
     go name.Exec [] first splits order is = absurd cc
     go name.Exec (a ∷ []) first splits order is = absurd cc
-    go name.Exec (a ∷ b ∷ []) first splits order is = named (Exec a b) (cc) (record { behind = behind; items = items; first = first; splits = splits; in_order = order; are_set = tt })
+    go name.Exec (a ∷ b ∷ []) first splits order is = named (Exec a b lanes) (cc) (record { behind = behind; items = items; first = first; splits = splits; in_order = order; are_set = (worked, tt) })
     go name.Exec (a ∷ b ∷ c ∷ ps) first splits order is = absurd cc
     go name.Check [] first splits order is = absurd cc
     go name.Check (a ∷ []) first splits order is = absurd cc
@@ -170,8 +182,8 @@ asked words behind which items n units positionals command first splits set sear
     go name.Verify (a ∷ b ∷ ps) first splits order is = absurd cc
     go name.World [] first splits order is = absurd cc
     go name.World (a ∷ []) first splits order is =
-        let size = made_size a command is in
-        named (World size.0) size.1 (record { behind = behind; items = items; first = first; splits = splits; in_order = order ∙ ap (λ (w : List ℕ). w ∷ []) size.2; are_set = tt }, size.3, size.4)
+        let size = made_size a lanes command is in
+        named (World size.0 lanes) size.1 (record { behind = behind; items = items; first = first; splits = splits; in_order = order ∙ ap (λ (w : List ℕ). w ∷ []) size.2; are_set = (worked, tt) }, size.3, size.4)
     go name.World (a ∷ b ∷ ps) first splits order is = absurd cc
 
 -- ---- one command only
@@ -179,12 +191,21 @@ asked words behind which items n units positionals command first splits set sear
 small : (option : OptionName) (n : ℕ) → n ≤ limit option → n < 2 ^ 64
 small Firings n le = omega arith
 small Search n le = omega arith
+small Workers n le = omega arith
 
 set_once : (option : OptionName) (items : List Item) (n m : ℕ) → IsSet option items n → IsSet option items m → n ≡ m
-set_once option items n m (Once is le) (Once is' le') = let e : decimal n ≡ decimal m = cc in decimal_injective n m (small option n le) (small option m le') e
+set_once option items n m (Once is le) (Once is' le') = let e : decimal n ≡ decimal m = cc in decimal_injective n m (small option n le.1) (small option m le'.1) e
 set_once option items n m (Once is le) (Absent is' e) = absurd cc
 set_once option items n m (Absent is e) (Once is' le) = absurd cc
 set_once option items n m (Absent is e) (Absent is' e') = e ∙ sym e'
+
+-- a text of a number below the option's range is no number in it
+pub below_least : (option : OptionName) (text : List ℕ) (m : ℕ) → text ≡ decimal m → m ≤ limit option → m < least option → (n : ℕ) → InRange option n → text ≡ decimal n → ⊥
+below_least option text m is le low n within also =
+    let e : decimal m ≡ decimal n = cc in
+    let same = decimal_injective m n (small option m le) (small option n within.1) e in
+    let least_is = within.0 in
+    omega (arith, same, low, least_is)
 
 makes_once : (words : List (List ℕ)) (command other : Command) → Makes words command → Makes words other → command ≡ other
 makes_once words command other a b =
@@ -196,7 +217,8 @@ makes_once words command other a b =
     let items = splits_once a.name a.behind a.items b.items a.splits here in
     let number = set_once Firings a.items a.number b.number a.set (subst (λ (is : List Item). IsSet Firings is b.number) (sym items) b.set) in
     let units = set_once Search a.items a.units b.units a.set_search (subst (λ (is : List Item). IsSet Search is b.units) (sym items) b.set_search) in
-    let e : made a.name (positionals_of a.items) a.number a.units ≡ made b.name (positionals_of b.items) b.number b.units = cc in
+    let lanes = set_once Workers a.items a.lanes b.lanes a.set_workers (subst (λ (is : List Item). IsSet Workers is b.lanes) (sym items) b.set_workers) in
+    let e : made a.name (positionals_of a.items) a.number a.units a.lanes ≡ made b.name (positionals_of b.items) b.number b.units b.lanes = cc in
     cc
 
 pub one_command : (words : List (List ℕ)) (command other : Command) → IsCommand words command → IsCommand words other → command ≡ other
@@ -218,26 +240,27 @@ set_number : (option : OptionName) (items : List Item) (number : Option ℕ) →
 set_number option items None given = Absent given refl
 set_number option items (Some n) given = Once given.0 given.1
 
-pub is_command : (words behind : List (List ℕ)) (word : List ℕ) (which : CommandName) (arguments : Arguments) (r : Option Coded) → words ≡ word ∷ behind → word ≡ command_word which → AreArguments which behind arguments → option_map seen_as r ≡ made which (words_of arguments.positionals) (number_of Firings arguments) (number_of Search arguments) → IfSome r (λ command. IsCommand words (seen_as command))
+pub is_command : (words behind : List (List ℕ)) (word : List ℕ) (which : CommandName) (arguments : Arguments) (r : Option Coded) → words ≡ word ∷ behind → word ≡ command_word which → AreArguments which behind arguments → option_map seen_as r ≡ made which (words_of arguments.positionals) (number_of Firings arguments) (number_of Search arguments) (number_of Workers arguments) → IfSome r (λ command. IsCommand words (seen_as command))
 is_command words behind word which arguments None all is are e = tt
 is_command words behind word which arguments (Some command) all is are e =
-    asked words behind which are.items (number_of Firings arguments) (number_of Search arguments) (words_of arguments.positionals) (seen_as command) (all ∙ ap (λ (w : List ℕ). w ∷ behind) is) are.splits
+    asked words behind which are.items (number_of Firings arguments) (number_of Search arguments) (number_of Workers arguments) (words_of arguments.positionals) (seen_as command) (all ∙ ap (λ (w : List ℕ). w ∷ behind) is) are.splits
     (set_number Firings are.items (given_number Firings arguments) (are.give.are_given Firings))
-    (set_number Search are.items (given_number Search arguments) (are.give.are_given Search)) are.give.in_order (sym e)
+    (set_number Search are.items (given_number Search arguments) (are.give.are_given Search))
+    (set_number Workers are.items (given_number Workers arguments) (are.give.are_given Workers)) are.give.in_order (sym e)
 
-few_positionals : (which : CommandName) (positionals : List (List ℕ)) (n units : ℕ) (command : Command) → made which positionals n units ≡ Some command → length positionals ≤ 3
-few_positionals which [] n units command is = omega arith
-few_positionals which (a ∷ []) n units command is = omega arith
-few_positionals which (a ∷ b ∷ []) n units command is = omega arith
-few_positionals which (a ∷ b ∷ c ∷ []) n units command is = omega arith
-few_positionals name.Help (a ∷ b ∷ c ∷ d ∷ ps) n units command is = absurd cc
-few_positionals name.Schema (a ∷ b ∷ c ∷ d ∷ ps) n units command is = absurd cc
-few_positionals name.Explain (a ∷ b ∷ c ∷ d ∷ ps) n units command is = absurd cc
-few_positionals name.Run (a ∷ b ∷ c ∷ d ∷ ps) n units command is = absurd cc
-few_positionals name.Exec (a ∷ b ∷ c ∷ d ∷ ps) n units command is = absurd cc
-few_positionals name.Check (a ∷ b ∷ c ∷ d ∷ ps) n units command is = absurd cc
-few_positionals name.Verify (a ∷ b ∷ c ∷ d ∷ ps) n units command is = absurd cc
-few_positionals name.World (a ∷ b ∷ c ∷ d ∷ ps) n units command is = absurd cc
+few_positionals : (which : CommandName) (positionals : List (List ℕ)) (n units lanes : ℕ) (command : Command) → made which positionals n units lanes ≡ Some command → length positionals ≤ 3
+few_positionals which [] n units lanes command is = omega arith
+few_positionals which (a ∷ []) n units lanes command is = omega arith
+few_positionals which (a ∷ b ∷ []) n units lanes command is = omega arith
+few_positionals which (a ∷ b ∷ c ∷ []) n units lanes command is = omega arith
+few_positionals name.Help (a ∷ b ∷ c ∷ d ∷ ps) n units lanes command is = absurd cc
+few_positionals name.Schema (a ∷ b ∷ c ∷ d ∷ ps) n units lanes command is = absurd cc
+few_positionals name.Explain (a ∷ b ∷ c ∷ d ∷ ps) n units lanes command is = absurd cc
+few_positionals name.Run (a ∷ b ∷ c ∷ d ∷ ps) n units lanes command is = absurd cc
+few_positionals name.Exec (a ∷ b ∷ c ∷ d ∷ ps) n units lanes command is = absurd cc
+few_positionals name.Check (a ∷ b ∷ c ∷ d ∷ ps) n units lanes command is = absurd cc
+few_positionals name.Verify (a ∷ b ∷ c ∷ d ∷ ps) n units lanes command is = absurd cc
+few_positionals name.World (a ∷ b ∷ c ∷ d ∷ ps) n units lanes command is = absurd cc
 
 -- the command's word says which command it is
 module _ (words behind : List (List ℕ)) (word : List ℕ) (which : CommandName) (all : words ≡ word ∷ behind) (is : word ≡ command_word which) where
@@ -253,13 +276,14 @@ module _ (words behind : List (List ℕ)) (word : List ℕ) (which : CommandName
   no_arguments command none asks =
       let m = makes words command asks in
       let here = items_of command m in
-      none m.items here.1 (record { few = few_positionals m.name (positionals_of m.items) m.number m.units command m.is_made; settable = set m })
+      none m.items here.1 (record { few = few_positionals m.name (positionals_of m.items) m.number m.units m.lanes command m.is_made; settable = set m })
     where
       set : (m : Makes words command) (option : OptionName) → (n : ℕ) × IsSet option m.items n
       set m Firings = (m.number, m.set)
       set m Search = (m.units, m.set_search)
+      set m Workers = (m.lanes, m.set_workers)
 
-  pub not_made : (arguments : Arguments) (r : Option Coded) → AreArguments which behind arguments → option_map seen_as r ≡ made which (words_of arguments.positionals) (number_of Firings arguments) (number_of Search arguments) → IfNone r ((command : Command) → IsCommand words command → ⊥)
+  pub not_made : (arguments : Arguments) (r : Option Coded) → AreArguments which behind arguments → option_map seen_as r ≡ made which (words_of arguments.positionals) (number_of Firings arguments) (number_of Search arguments) (number_of Workers arguments) → IfNone r ((command : Command) → IsCommand words command → ⊥)
   not_made arguments (Some coded) are e = tt
   not_made arguments None are e = λ command asks.
       let m = makes words command asks in
@@ -267,8 +291,9 @@ module _ (words behind : List (List ℕ)) (word : List ℕ) (which : CommandName
       let items = splits_once which behind m.items are.items here.1 are.splits in
       let number = set_once Firings are.items m.number (number_of Firings arguments) (subst (λ (is : List Item). IsSet Firings is m.number) items m.set) (set_number Firings are.items (given_number Firings arguments) (are.give.are_given Firings)) in
       let units = set_once Search are.items m.units (number_of Search arguments) (subst (λ (is : List Item). IsSet Search is m.units) items m.set_search) (set_number Search are.items (given_number Search arguments) (are.give.are_given Search)) in
-      let same : made m.name (positionals_of m.items) m.number m.units ≡ made which (positionals_of are.items) (number_of Firings arguments) (number_of Search arguments) = let n = here.0 in cc in
-      let order = ap (λ (ps : List (List ℕ)). made which ps (number_of Firings arguments) (number_of Search arguments)) are.give.in_order in
+      let lanes = set_once Workers are.items m.lanes (number_of Workers arguments) (subst (λ (is : List Item). IsSet Workers is m.lanes) items m.set_workers) (set_number Workers are.items (given_number Workers arguments) (are.give.are_given Workers)) in
+      let same : made m.name (positionals_of m.items) m.number m.units m.lanes ≡ made which (positionals_of are.items) (number_of Firings arguments) (number_of Search arguments) (number_of Workers arguments) = let n = here.0 in cc in
+      let order = ap (λ (ps : List (List ℕ)). made which ps (number_of Firings arguments) (number_of Search arguments) (number_of Workers arguments)) are.give.in_order in
       let made' = m.is_made in
       absurd cc
 

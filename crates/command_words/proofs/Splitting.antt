@@ -7,7 +7,7 @@ use Rattle.command_words.specs.Splits.{Item, Positional, Given, IsPositional, Be
 use Rattle.command_words.specs.Cuts.{before_equals, behind_equals}
 use Rattle.command_words.specs.declared.table.CommandName.{CommandName}
 use Rattle.command_words.specs.declared.table.OptionName.{OptionName}
-use Rattle.command_words.specs.declared.table.OptionName.TheVariants.{Firings, Search}
+use Rattle.command_words.specs.declared.table.OptionName.TheVariants.{Firings, Search, Workers}
 use Rattle.command_words.proofs.Cutting.{cut, uncut}
 
 -- ---- options by their words
@@ -15,18 +15,22 @@ use Rattle.command_words.proofs.Cutting.{cut, uncut}
 before_word : (option : OptionName) → before_equals (option_word option) ≡ option_word option
 before_word Firings = refl
 before_word Search = refl
+before_word Workers = refl
 
 behind_word : (option : OptionName) → behind_equals (option_word option) ≡ None
 behind_word Firings = refl
 behind_word Search = refl
+behind_word Workers = refl
 
 before_setting : (option : OptionName) (value : List ℕ) → before_equals (option_word option ++ 61 ∷ value) ≡ option_word option
 before_setting Firings value = refl
 before_setting Search value = refl
+before_setting Workers value = refl
 
 behind_setting : (option : OptionName) (value : List ℕ) → behind_equals (option_word option ++ 61 ∷ value) ≡ Some value
 behind_setting Firings value = refl
 behind_setting Search value = refl
+behind_setting Workers value = refl
 
 -- an option's word is its own
 pub same_word : (option other : OptionName) → option_word option ≡ option_word other → option ≡ other
@@ -34,20 +38,32 @@ same_word Firings Firings e = refl
 same_word Search Search e = refl
 same_word Firings Search e = absurd cc
 same_word Search Firings e = absurd cc
+same_word Workers Workers e = refl
+same_word Workers Firings e = let first : 119 ≡ 102 = ap (λ (word : List ℕ). get_or word 0 0) e in absurd (omega (arith, first))
+same_word Workers Search e = absurd cc
+same_word Firings Workers e = let first : 102 ≡ 119 = ap (λ (word : List ℕ). get_or word 0 0) e in absurd (omega (arith, first))
+same_word Search Workers e = absurd cc
 
 pub same_options : (option other : OptionName) → same_option option other ≡ true → option ≡ other
 same_options Firings Firings e = refl
 same_options Search Search e = refl
 same_options Firings Search e = absurd cc
 same_options Search Firings e = absurd cc
+same_options Workers Workers e = refl
+same_options Workers Firings e = absurd cc
+same_options Workers Search e = absurd cc
+same_options Firings Workers e = absurd cc
+same_options Search Workers e = absurd cc
 
 pub same_itself : (option : OptionName) → same_option option option ≡ true
 same_itself Firings = refl
 same_itself Search = refl
+same_itself Workers = refl
 
 dashed_setting : (option : OptionName) (value : List ℕ) → codes "--" ++ option_word option ++ codes "=" ++ value ≡ 45 ∷ 45 ∷ (option_word option ++ 61 ∷ value)
 dashed_setting Firings value = refl
 dashed_setting Search value = refl
+dashed_setting Workers value = refl
 
 -- ---- how words begin, by equations
 

@@ -3,13 +3,13 @@ use Rattle.std.specs.Prelude.{◌≡◌, ◌≤◌, ◌&&◌, ℕ, List, [], ◌
 use Rattle.std.specs.Cmp.Lexicographic.{pointwise}
 use Rattle.std.specs.Fmt.{decimal}
 use Rattle.std.specs.Str.Parse.{digits_value}
-use Rattle.command_words.specs.Table.{limit, default_number}
+use Rattle.command_words.specs.Table.{InRange, default_number}
 use Rattle.command_words.specs.Splits.{Item, Splits, positionals_of, texts_of, IsSet}
 use Rattle.command_words.specs.Words.{Command, Help, Schema, Explain, Run, Exec, Check, Verify, World}
 use Rattle.command_words.specs.declared.table.CommandName.{CommandName}
 use Rattle.command_words.specs.declared.table.CommandName.TheVariants as name
 use Rattle.command_words.specs.declared.table.OptionName.{OptionName}
-use Rattle.command_words.specs.declared.table.OptionName.TheVariants.{Firings, Search}
+use Rattle.command_words.specs.declared.table.OptionName.TheVariants.{Firings, Search, Workers}
 use Rattle.command_words.specs.declared.given.Arguments.{Arguments}
 use Rattle.command_words.specs.declared.given.Positionals.{Positionals}
 use Rattle.command_words.specs.declared.given.Positionals.TheVariants as some
@@ -23,6 +23,7 @@ words_of (some.Three first second third) = first.now ∷ second.now ∷ third.no
 abbrev pub given_number : OptionName → Arguments → Option ℕ
 given_number Firings arguments = arguments.firings
 given_number Search arguments = arguments.search
+given_number Workers arguments = arguments.workers
 
 -- the number that is given, or the default
 abbrev pub number_of : OptionName → Arguments → ℕ
@@ -31,7 +32,7 @@ number_of option arguments = unwrap_or (given_number option arguments) (default_
 -- The items give the option this number once, or none.
 abbrev pub IsGiven : OptionName → List Item → Option ℕ → Type 0
 IsGiven option items None = texts_of option items ≡ []
-IsGiven option items (Some n) = (texts_of option items ≡ decimal n ∷ []) × (n ≤ limit option)
+IsGiven option items (Some n) = (texts_of option items ≡ decimal n ∷ []) × InRange option n
 
 -- The items give these arguments.
 pub record Give (items : List Item) (arguments : Arguments) : Type 0 where
@@ -54,14 +55,14 @@ abbrev pub size_of : List ℕ → Option ℕ
 size_of text =
     if pointwise nat_eq text (decimal (digits_value 10 text)) && (nat_le 1 (digits_value 10 text) && nat_le (digits_value 10 text) 10000) then Some (digits_value 10 text) else None
 
--- The command with these positionals, and these numbers of firings and of search units where it takes them.
-abbrev pub made : CommandName → List (List ℕ) → ℕ → ℕ → Option Command
-made name.Help [] n units = Some Help
-made name.Schema (schema ∷ []) n units = Some (Schema schema)
-made name.Explain (schema ∷ query ∷ []) n units = Some (Explain schema query n units)
-made name.Run (schema ∷ query ∷ []) n units = Some (Run schema query n units)
-made name.Exec (schema ∷ plan ∷ []) n units = Some (Exec schema plan)
-made name.Check (schema ∷ query ∷ plan ∷ []) n units = Some (Check schema query plan n)
-made name.Verify (schema ∷ []) n units = Some (Verify schema)
-made name.World (text ∷ []) n units = option_map World (size_of text)
-made _ _ _ _ = None
+-- The command with these positionals, and these numbers of firings, search units and workers where it takes them.
+abbrev pub made : CommandName → List (List ℕ) → ℕ → ℕ → ℕ → Option Command
+made name.Help [] n units lanes = Some Help
+made name.Schema (schema ∷ []) n units lanes = Some (Schema schema)
+made name.Explain (schema ∷ query ∷ []) n units lanes = Some (Explain schema query n units)
+made name.Run (schema ∷ query ∷ []) n units lanes = Some (Run schema query n units lanes)
+made name.Exec (schema ∷ plan ∷ []) n units lanes = Some (Exec schema plan lanes)
+made name.Check (schema ∷ query ∷ plan ∷ []) n units lanes = Some (Check schema query plan n)
+made name.Verify (schema ∷ []) n units lanes = Some (Verify schema)
+made name.World (text ∷ []) n units lanes = option_map (λ size. World size lanes) (size_of text)
+made _ _ _ _ _ = None

@@ -1,7 +1,7 @@
 -- How the words behind a command's name are items: positionals, and options with the texts of their numbers.
-use Rattle.std.specs.Prelude.{◌≡◌, ◌≢◌, ◌++◌, ◌≤◌, ℕ, true, List, [], ◌∷◌, codes, if◌then◌else◌}
+use Rattle.std.specs.Prelude.{◌≡◌, ◌≢◌, ◌++◌, ℕ, true, List, [], ◌∷◌, codes, if◌then◌else◌}
 use Rattle.std.specs.Fmt.{decimal}
-use Rattle.command_words.specs.Table.{option_word, same_option, takes, limit, default_number}
+use Rattle.command_words.specs.Table.{option_word, same_option, takes, InRange, default_number}
 use Rattle.command_words.specs.declared.table.CommandName.{CommandName}
 use Rattle.command_words.specs.declared.table.OptionName.{OptionName}
 use Rattle.command_words.specs.declared.item.Item.{Item as Lent}
@@ -47,7 +47,7 @@ texts_of option (Given other text ∷ items) = if same_option option other then 
 
 -- The option has this number: it is given once, in digits without a leading zero and within its range, or it is not given.
 pub data IsSet (option : OptionName) (items : List Item) (n : ℕ) : Type 0 where
-  Once : texts_of option items ≡ decimal n ∷ [] → n ≤ limit option → IsSet option items n
+  Once : texts_of option items ≡ decimal n ∷ [] → InRange option n → IsSet option items n
   Absent : texts_of option items ≡ [] → n ≡ default_number option → IsSet option items n
 
 -- an item that is lent, as one of the definition

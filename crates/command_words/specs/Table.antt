@@ -1,9 +1,9 @@
 -- The commands and the options: one case a row.
-use Rattle.std.specs.Prelude.{ℕ, Bool, true, false, List, [], ◌∷◌, codes}
+use Rattle.std.specs.Prelude.{◌≤◌, ℕ, Bool, true, false, List, [], ◌∷◌, codes}
 use Rattle.command_words.specs.declared.table.CommandName.{CommandName}
 use Rattle.command_words.specs.declared.table.CommandName.TheVariants.{Help, Schema, Explain, Run, Exec, Check, Verify, World}
 use Rattle.command_words.specs.declared.table.OptionName.{OptionName}
-use Rattle.command_words.specs.declared.table.OptionName.TheVariants.{Firings, Search}
+use Rattle.command_words.specs.declared.table.OptionName.TheVariants.{Firings, Search, Workers}
 
 -- the word that a command's list begins with
 abbrev pub command_word : CommandName → List ℕ
@@ -32,16 +32,18 @@ abbrev pub commands : List CommandName
 commands = Help ∷ Schema ∷ Explain ∷ Run ∷ Exec ∷ Check ∷ Verify ∷ World ∷ []
 
 abbrev pub options : List OptionName
-options = Firings ∷ Search ∷ []
+options = Firings ∷ Search ∷ Workers ∷ []
 
 -- the word that names an option, behind two dashes
 abbrev pub option_word : OptionName → List ℕ
 option_word Firings = codes "firings"
 option_word Search = codes "search"
+option_word Workers = codes "workers"
 
 abbrev pub same_option : OptionName → OptionName → Bool
 same_option Firings Firings = true
 same_option Search Search = true
+same_option Workers Workers = true
 same_option _ _ = false
 
 -- the options that a command takes
@@ -51,14 +53,29 @@ takes Run Firings = true
 takes Check Firings = true
 takes Explain Search = true
 takes Run Search = true
+takes Run Workers = true
+takes Exec Workers = true
+takes World Workers = true
 takes _ _ = false
+
+-- the least number that an option takes
+abbrev pub least : OptionName → ℕ
+least Firings = 0
+least Search = 0
+least Workers = 1
 
 -- the greatest number that an option takes
 abbrev pub limit : OptionName → ℕ
 limit Firings = 100000
 limit Search = 1000000
+limit Workers = 8
+
+-- an option takes the number
+abbrev pub InRange : OptionName → ℕ → Type 0
+InRange option n = (least option ≤ n) × (n ≤ limit option)
 
 -- the number of an option that is not given
 abbrev pub default_number : OptionName → ℕ
 default_number Firings = 10000
 default_number Search = 10000
+default_number Workers = 1

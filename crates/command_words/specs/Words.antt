@@ -1,12 +1,12 @@
 -- Which words are a command.
-use Rattle.std.specs.Prelude.{◌≡◌, ◌≤◌, ℕ, List, [], ◌∷◌}
+use Rattle.std.specs.Prelude.{◌≡◌, ◌≤◌, ℕ, List, [], ◌∷◌, ◌++◌}
 use Rattle.std.specs.Fmt.{decimal}
 use Rattle.command_words.specs.Table.{command_word}
 use Rattle.command_words.specs.Splits.{Item, Splits, positionals_of, IsSet}
 use Rattle.command_words.specs.declared.table.CommandName.{CommandName}
 use Rattle.command_words.specs.declared.table.CommandName.TheVariants as name
 use Rattle.command_words.specs.declared.table.OptionName.{OptionName}
-use Rattle.command_words.specs.declared.table.OptionName.TheVariants.{Firings, Search}
+use Rattle.command_words.specs.declared.table.OptionName.TheVariants.{Firings, Search, Workers}
 use Rattle.command_words.specs.declared.command.Command.TheVariants as code
 use Rattle.command_words.specs.declared.command.Command.{Command as Coded}
 
@@ -15,11 +15,11 @@ pub data Command : Type 0 where
   Help : Command
   Schema : List ℕ → Command
   Explain : List ℕ → List ℕ → ℕ → ℕ → Command
-  Run : List ℕ → List ℕ → ℕ → ℕ → Command
-  Exec : List ℕ → List ℕ → Command
+  Run : List ℕ → List ℕ → ℕ → ℕ → ℕ → Command
+  Exec : List ℕ → List ℕ → ℕ → Command
   Check : List ℕ → List ℕ → List ℕ → ℕ → Command
   Verify : List ℕ → Command
-  World : ℕ → Command
+  World : ℕ → ℕ → Command
 
 -- an option with its number
 pub record Setting : Type 0 where
@@ -47,23 +47,26 @@ firings n = record { option = Firings; number = n } ∷ []
 abbrev pub firings_and_search : ℕ → ℕ → List Setting
 firings_and_search n units = record { option = Firings; number = n } ∷ record { option = Search; number = units } ∷ []
 
+abbrev pub workers : ℕ → List Setting
+workers n = record { option = Workers; number = n } ∷ []
+
 -- The words are this command.
 abbrev pub IsCommand : List (List ℕ) → Command → Type 0
 IsCommand words Help = Asks words name.Help [] []
 IsCommand words (Schema schema) = Asks words name.Schema (schema ∷ []) []
 IsCommand words (Explain schema query n units) = Asks words name.Explain (schema ∷ query ∷ []) (firings_and_search n units)
-IsCommand words (Run schema query n units) = Asks words name.Run (schema ∷ query ∷ []) (firings_and_search n units)
-IsCommand words (Exec schema plan) = Asks words name.Exec (schema ∷ plan ∷ []) []
+IsCommand words (Run schema query n units lanes) = Asks words name.Run (schema ∷ query ∷ []) (firings_and_search n units ++ workers lanes)
+IsCommand words (Exec schema plan lanes) = Asks words name.Exec (schema ∷ plan ∷ []) (workers lanes)
 IsCommand words (Check schema query plan n) = Asks words name.Check (schema ∷ query ∷ plan ∷ []) (firings n)
 IsCommand words (Verify schema) = Asks words name.Verify (schema ∷ []) []
-IsCommand words (World size) = Asks words name.World (decimal size ∷ []) [] × (1 ≤ size) × (size ≤ 10000)
+IsCommand words (World size lanes) = Asks words name.World (decimal size ∷ []) (workers lanes) × (1 ≤ size) × (size ≤ 10000)
 
 abbrev pub seen_as : Coded → Command
 seen_as code.Help = Help
 seen_as (code.Schema schema) = Schema schema.now
 seen_as (code.Explain schema query n units) = Explain schema.now query.now n units
-seen_as (code.Run schema query n units) = Run schema.now query.now n units
-seen_as (code.Exec schema plan) = Exec schema.now plan.now
+seen_as (code.Run schema query n units lanes) = Run schema.now query.now n units lanes
+seen_as (code.Exec schema plan lanes) = Exec schema.now plan.now lanes
 seen_as (code.Check schema query plan n) = Check schema.now query.now plan.now n
 seen_as (code.Verify schema) = Verify schema.now
-seen_as (code.World size) = World size
+seen_as (code.World size lanes) = World size lanes

@@ -2,7 +2,7 @@
 ghost use Rattle.std.specs.Prelude.{◌≡◌, IfSome, IfNone, option_map};
 ghost use Rattle.command_words.specs.Words.{Command as Plain, IsCommand, seen_as};
 ghost use Rattle.command_words.specs.Arguments.{made, words_of, number_of, size_of};
-ghost use Rattle.command_words.specs.declared.table.OptionName.TheVariants.{Firings as TheFirings, Search as TheSearch};
+ghost use Rattle.command_words.specs.declared.table.OptionName.TheVariants.{Firings as TheFirings, Search as TheSearch, Workers as TheWorkers};
 
 use crate::given::{Arguments, Positionals, read_arguments};
 use crate::number::number_up_to;
@@ -27,10 +27,12 @@ pub enum Command<'a> {
         query: &'a Text,
         firings: u32,
         search: u32,
+        workers: u32,
     },
     Exec {
         schema: &'a Text,
         plan: &'a Text,
+        workers: u32,
     },
     Check {
         schema: &'a Text,
@@ -43,6 +45,7 @@ pub enum Command<'a> {
     },
     World {
         size: u32,
+        workers: u32,
     },
 }
 
@@ -62,10 +65,11 @@ pub fn read_words(words: &[Text]) -> Option<Command<'_>>
 // The command with these arguments; none where it has another number of positionals.
 fn command_with<'a>(name: CommandName, arguments: Arguments<'a>) -> Option<Command<'a>>
     ensures { option_map seen_as result ≡ made name (words_of arguments.entry.positionals)
-        (number_of TheFirings arguments.entry) (number_of TheSearch arguments.entry) }
+        (number_of TheFirings arguments.entry) (number_of TheSearch arguments.entry) (number_of TheWorkers arguments.entry) }
 {
     let firings = arguments.number_of(OptionName::Firings);
     let search = arguments.number_of(OptionName::Search);
+    let workers = arguments.number_of(OptionName::Workers);
     match (name, arguments.positionals) {
         (CommandName::Help, Positionals::Zero) => Some(Command::Help),
         (CommandName::Schema, Positionals::One(schema)) => Some(Command::Schema { schema }),
@@ -80,8 +84,13 @@ fn command_with<'a>(name: CommandName, arguments: Arguments<'a>) -> Option<Comma
             query,
             firings,
             search,
+            workers,
         }),
-        (CommandName::Exec, Positionals::Two(schema, plan)) => Some(Command::Exec { schema, plan }),
+        (CommandName::Exec, Positionals::Two(schema, plan)) => Some(Command::Exec {
+            schema,
+            plan,
+            workers,
+        }),
         (CommandName::Check, Positionals::Three(schema, query, plan)) => Some(Command::Check {
             schema,
             query,
@@ -90,7 +99,7 @@ fn command_with<'a>(name: CommandName, arguments: Arguments<'a>) -> Option<Comma
         }),
         (CommandName::Verify, Positionals::One(schema)) => Some(Command::Verify { schema }),
         (CommandName::World, Positionals::One(number)) => match size_of(number) {
-            Some(size) => Some(Command::World { size }),
+            Some(size) => Some(Command::World { size, workers }),
             None => None,
         },
         _ => None,

@@ -1,6 +1,7 @@
 // What the words behind a command's name give.
-ghost use Rattle.std.specs.Prelude.{◌≡◌, ◌++◌, ◌∷◌, [], List, ℕ, length, Option, None, Some, IsSome, IfSome, IfNone, MatchOption, if◌then◌else◌};
-ghost use Rattle.command_words.specs.Table.{same_option};
+ghost use Rattle.std.specs.Prelude.{◌≡◌, ◌≢◌, ◌++◌, ◌∷◌, [], List, ℕ, length, Option, None, Some, IsSome, IfSome, IfNone, MatchOption, if◌then◌else◌};
+ghost use Rattle.std.specs.Fmt.{decimal};
+ghost use Rattle.command_words.specs.Table.{same_option, InRange};
 ghost use Rattle.command_words.specs.Splits.{Item as PlainItem, Splits, item_of};
 ghost use Rattle.command_words.specs.Arguments.{words_of, given_number, number_of, Give, AreArguments, MayBe};
 ghost use Rattle.command_words.specs.declared.table.OptionName as options;
@@ -25,6 +26,7 @@ pub struct Arguments<'a> {
     pub positionals: Positionals<'a>,
     pub firings: Option<u32>,
     pub search: Option<u32>,
+    pub workers: Option<u32>,
 }
 
 /// The arguments that the words behind a command's name give; none where they can be no command's.
@@ -36,6 +38,7 @@ pub fn read_arguments<'a>(name: CommandName, words: &'a [Text]) -> Option<Argume
         positionals: Positionals::Zero,
         firings: None,
         search: None,
+        workers: None,
     };
     let mut left = words;
     while !left.is_empty() {
@@ -75,6 +78,7 @@ impl<'a> Arguments<'a> {
         match option {
             OptionName::Firings => self.firings,
             OptionName::Search => self.search,
+            OptionName::Workers => self.workers,
         }
     }
 
@@ -88,10 +92,7 @@ impl<'a> Arguments<'a> {
                 positionals: self.positionals.with(word)?,
                 ..self
             }),
-            Item::Given(option, text) => self.with_number(
-                option,
-                number_up_to(text, option.limit())?,
-            ),
+            Item::Given(option, text) => self.with_number(option, number_in_range(option, text)?),
         }
     }
 
@@ -111,7 +112,23 @@ impl<'a> Arguments<'a> {
                 search: Some(number),
                 ..self
             }),
+            (OptionName::Workers, None) => Some(Arguments {
+                workers: Some(number),
+                ..self
+            }),
             _ => None,
         }
+    }
+}
+
+// The number in the option's range that is written so.
+fn number_in_range(option: OptionName, text: &[u8]) -> Option<u32>
+    ensures { MatchOption result ((n : ℕ) → InRange option n → text.now ≢ decimal n) (λ n. (text.now ≡ decimal n) × InRange option n) }
+{
+    let number = number_up_to(text, option.limit())?;
+    if number < option.least() {
+        None
+    } else {
+        Some(number)
     }
 }

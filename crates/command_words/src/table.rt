@@ -1,6 +1,6 @@
 // The commands and the options: a command's word and the options that it takes; an option's word, limit and default.
 ghost use Rattle.std.specs.Prelude.{◌≡◌, ◌≢◌, ◌≤◌, ℕ, MatchOption};
-ghost use Rattle.command_words.specs.Table.{command_word, option_word, takes, limit, default_number};
+ghost use Rattle.command_words.specs.Table.{command_word, option_word, takes, least, limit, default_number};
 ghost use Rattle.command_words.specs.declared.table.CommandName as commands;
 ghost use Rattle.command_words.specs.declared.table.OptionName as options;
 
@@ -22,6 +22,7 @@ pub enum CommandName {
 pub enum OptionName {
     Firings,
     Search,
+    Workers,
 }
 
 /// The command with this word.
@@ -48,6 +49,7 @@ pub fn option_named(word: &[u8]) -> Option<OptionName>
     match word {
         b"firings" => Some(OptionName::Firings),
         b"search" => Some(OptionName::Search),
+        b"workers" => Some(OptionName::Workers),
         _ => None,
     }
 }
@@ -61,12 +63,24 @@ impl CommandName {
             (CommandName::Explain | CommandName::Run | CommandName::Check, OptionName::Firings) =>
                 true,
             (CommandName::Explain | CommandName::Run, OptionName::Search) => true,
+            (CommandName::Run | CommandName::Exec | CommandName::World, OptionName::Workers) =>
+                true,
             _ => false,
         }
     }
 }
 
 impl OptionName {
+    /// The least number that the option takes.
+    pub fn least(self) -> u32
+        ensures { result ≡ least self }
+    {
+        match self {
+            OptionName::Firings | OptionName::Search => 0,
+            OptionName::Workers => 1,
+        }
+    }
+
     /// The greatest number that the option takes.
     pub fn limit(self) -> u32
         ensures { result ≡ limit self }
@@ -74,6 +88,7 @@ impl OptionName {
         match self {
             OptionName::Firings => 100_000,
             OptionName::Search => 1_000_000,
+            OptionName::Workers => 8,
         }
     }
 
@@ -83,6 +98,7 @@ impl OptionName {
     {
         match self {
             OptionName::Firings | OptionName::Search => 10_000,
+            OptionName::Workers => 1,
         }
     }
 }

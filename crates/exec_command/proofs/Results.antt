@@ -12,6 +12,7 @@ use Rattle.source_trait.specs.declared.lanes.Lane.{Lane}
 use Rattle.row_text.specs.RowText.{IsRowText}
 use Rattle.row_text.proofs.Texts.{IsRowText-alike}
 use Rattle.middleware.specs.declared.fault.Run.{Run}
+use Rattle.middleware.specs.Executing.{Executes}
 use Rattle.command_io.specs.declared.stop.Stop.{Stop}
 use Rattle.command_io.specs.declared.outcome.Outcome.{Outcome}
 use Rattle.command_io.specs.declared.outcome.Outcome.TheVariants as outcome
@@ -19,7 +20,7 @@ use Rattle.command_io.specs.declared.delivery.TheConstants.{CALLS}
 use Rattle.command_io.specs.FaultLines.{Names}
 use Rattle.command_io.specs.Moments.{Moment}
 use Rattle.command_io.specs.Telling.{Tells}
-use Rattle.command_io.specs.Executing.{Executes, Delivers}
+use Rattle.command_io.specs.Executing.{Delivers}
 use Rattle.command_io.specs.Executing.Delivers.{done as delivered_all, no_rows, no_text as no_text_made, cut as delivered_part}
 use Rattle.exec_command.specs.Known.{column_names}
 use Rattle.exec_command.specs.Ends.{MayRun, IsResult, PlanEnds}

@@ -14,7 +14,8 @@ use Rattle.source_trait.specs.declared.lanes.Lane.{Lane}
 use Rattle.row_text.specs.RowText.{IsRowText}
 use Rattle.middleware.specs.declared.fault.Run.{Run}
 use Rattle.middleware.specs.declared.fault.RunFault.{RunFault}
-use Rattle.middleware.specs.Held.{Holds}
+use Rattle.middleware.specs.LaneBranches.{LanesHoldPlan}
+use Rattle.middleware.specs.Executing.{Executes}
 use Rattle.command_io.specs.declared.stop.Stop.{Stop}
 use Rattle.command_io.specs.declared.outcome.Outcome.{Outcome}
 use Rattle.command_io.specs.declared.outcome.Outcome.TheVariants as outcome
@@ -25,7 +26,7 @@ use Rattle.command_io.specs.Moments.{Moment, ResultStop}
 use Rattle.command_io.specs.Writing.{TookAll, TookPart}
 use Rattle.command_io.specs.FaultLines.{Names}
 use Rattle.command_io.specs.Telling.{StopsFor}
-use Rattle.command_io.specs.Executing.{Executes, stop_of_run}
+use Rattle.command_io.specs.Executing.{stop_of_run}
 use Rattle.exec_command.specs.Known.{known_to, column_names}
 
 -- The plan is lawful over the schema, its constants and the plan's own.
@@ -42,10 +43,10 @@ pub data IdleStop (schema : Schema) (plan : Plan) : Stop → Type 0 where
   no_memory : IdleStop schema plan stop.Memory
   illegal : (fault : PlanFault) → MayNotRun schema plan fault → IdleStop schema plan (stop.Illegal fault)
 
--- The text is that of the rows that the execution gave, which are the plan's on whatever instance the sources hold.
+-- The text is that of the rows that the execution gave, which are the plan's on whatever instance the sources of each lane hold.
 pub record IsResult {S : Type 0} (seen : S → Seen) (schema : Schema) (plan : Plan) (run : Run) (lanes : List (Lane S)) (text : List ℕ) : Type 0 where
   pub given : IsRowText (column_names plan.width) (Contains run.rows) text
-  pub rows : (instance : List Fact) → Holds seen schema plan lanes instance →
+  pub rows : (instance : List Fact) → LanesHoldPlan seen schema plan lanes instance →
       IsRowText (column_names plan.width) (IsRow (meaning_of schema) plan instance) text
 
 -- What became of a plan: it was not executed; or it is lawful and was, and standard output took the text of its rows,

@@ -1,5 +1,5 @@
 // A plan, from the texts of its files to its rows.
-ghost use Rattle.std.specs.Prelude.{◌≡◌, ◌≤◌, None, OnOk, IfErr};
+ghost use Rattle.std.specs.Prelude.{◌≡◌, ◌≤◌, None, OnOk, IfErr, length};
 ghost use Rattle.source_trait.specs.Causes.{Rose};
 ghost use Rattle.source_trait.specs.Lanes.{LanesStay};
 ghost use Rattle.plan_form.specs.Fitting.{PlanFits, HasFewSteps};
@@ -14,28 +14,32 @@ use meaning::types::Plan;
 use plan_form::lawful;
 use source_trait::{Files, Lane, Sink, Source};
 use std::alloc::Global;
+use std::thread::Threads;
 
 /// Executes the plan of the second file over the schema of the first, and says why it stopped.
 ///
-/// The plan is lawful over the constants of the schema and its own, or no source is attached. Its rows are written to
+/// The plan is lawful over the constants of the schema and its own, or no source is attached. It is executed on all of the lanes, of
+/// which there are at most 8, and its rows are written to
 /// `out`, under the names column1, column2 and so on.
-pub fn exec_plan<F: Files, S: Source + Send + Drop, O: Sink, E: Sink>(
+pub fn exec_plan<R: Threads + Sync, F: Files, S: Source + Send + Drop, O: Sink, E: Sink>(
+    rt: &R,
     alloc: Global,
     schema_name: &Text,
     plan_name: &Text,
     files: &mut F,
-    lanes: &mut Vec<Lane<S>>,
+    lanes: &mut [Lane<S>],
     out: &mut O,
     err: &mut E,
 ) -> Result<Outcome, Stop>
+    requires { length lanes.old ≤ 8 }
     ensures ends { ExecEnds S.seen schema_name.now plan_name.now
         (record { files = F.contents files.old; file_faults = F.faults files.old; out = O.taken out.old; out_faults = O.faults out.old; err = E.taken err.old; err_faults = E.faults err.old })
         (record { files = F.contents files.new; file_faults = F.faults files.new; out = O.taken out.new; out_faults = O.faults out.new; err = E.taken err.new; err_faults = E.faults err.new })
-        lanes.old.items lanes.new.items result }
+        lanes.old lanes.new result }
     ensures stays { Stays
         (record { files = F.contents files.old; file_faults = F.faults files.old; out = O.taken out.old; out_faults = O.faults out.old; err = E.taken err.old; err_faults = E.faults err.old })
         (record { files = F.contents files.new; file_faults = F.faults files.new; out = O.taken out.new; out_faults = O.faults out.new; err = E.taken err.new; err_faults = E.faults err.new }) }
-    ensures lanes { LanesStay S.seen lanes.old.items lanes.new.items }
+    ensures lanes { LanesStay S.seen lanes.old lanes.new }
 {
     let none = Text::new(String::new(alloc));
     let names = FileNames {
@@ -51,25 +55,27 @@ pub fn exec_plan<F: Files, S: Source + Send + Drop, O: Sink, E: Sink>(
         Ok(plan) => plan,
         Err(stop) => return Err(tell(alloc, err, stop, names, &[])),
     };
-    carry_out(alloc, names, &schema, &plan, lanes, out, err)
+    carry_out(rt, alloc, names, &schema, &plan, lanes, out, err)
 }
 
 // Tests that the plan is lawful, executes it and writes its rows.
-fn carry_out<S: Source + Send + Drop, O: Sink, E: Sink>(
+fn carry_out<R: Threads + Sync, S: Source + Send + Drop, O: Sink, E: Sink>(
+    rt: &R,
     alloc: Global,
     names: FileNames<'_>,
     schema: &Schema,
     plan: &Plan,
-    lanes: &mut Vec<Lane<S>>,
+    lanes: &mut [Lane<S>],
     out: &mut O,
     err: &mut E,
 ) -> Result<Outcome, Stop>
-    requires { PlanFits plan.now }
+    requires fits { PlanFits plan.now }
+    requires lanes { length lanes.old ≤ 8 }
     ensures ends { PlanEnds S.seen schema.now plan.now (record { schema = names.entry.schema.now; query = names.entry.query.now; plan = names.entry.plan.now; relations = schema.now.relations })
         (record { files = None; file_faults = 0; out = O.taken out.old; out_faults = O.faults out.old; err = E.taken err.old; err_faults = E.faults err.old })
         (record { files = None; file_faults = 0; out = O.taken out.new; out_faults = O.faults out.new; err = E.taken err.new; err_faults = E.faults err.new })
-        lanes.old.items lanes.new.items result }
-    ensures lanes { LanesStay S.seen lanes.old.items lanes.new.items }
+        lanes.old lanes.new result }
+    ensures lanes { LanesStay S.seen lanes.old lanes.new }
     ensures later_out { O.faults out.old ≤ O.faults out.new }
     ensures later_err { E.faults err.old ≤ E.faults err.new }
 {
@@ -82,7 +88,7 @@ fn carry_out<S: Source + Send + Drop, O: Sink, E: Sink>(
         Ok(columns) => columns,
         Err(_) => return Err(tell(alloc, err, Stop::Memory, names, relations)),
     };
-    match deliver(alloc, schema, plan, Report::Rows(&columns), lanes, out) {
+    match deliver(rt, alloc, schema, plan, Report::Rows(&columns), lanes, out) {
         Ok(()) => Ok(Outcome::Done),
         Err(stop) => Err(tell(alloc, err, stop, names, relations)),
     }

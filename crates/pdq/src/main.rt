@@ -1,11 +1,11 @@
 //! The program: the top call over the files of the system, standard output and standard error.
 //!
-//! `main` makes the files, one lane whose kind `csv` is a folder of data files and whose kind `world` is a source of
+//! `main` makes the files, eight lanes whose kind `csv` is a folder of data files and whose kind `world` is a source of
 //! generated rows, and the two outputs, and ends with the exit status of `run_words`, which says what the program does.
 //! Begin at `main`; `system_io` has the adapters.
 #![tactic(auto)]
 
-ghost use Rattle.std.specs.Prelude.{◌≡◌, ◌∷◌, [], List, map, drop, codes, IfOk};
+ghost use Rattle.std.specs.Prelude.{◌≡◌, ◌∷◌, ◌++◌, [], List, map, drop, codes, IfOk};
 ghost use Rattle.std.specs.Iterator.{IsFinite, Drains};
 ghost use Rattle.std.specs.String.{string_bytes};
 ghost use Rattle.std.specs.Process.{exit_status};
@@ -25,6 +25,9 @@ use std::process::ExitCode;
 use system_io::{RealErr, RealFiles, RealOut, System};
 use world_source::WorldSource;
 
+/// How many lanes there are, and so the most workers. A lane that is not used opens no file.
+const LANES: usize = 8;
+
 fn main(rt: HostRuntime) -> ExitCode {
     let alloc = rt.alloc();
     let mut out = RealOut::new(rt.stdout());
@@ -32,22 +35,25 @@ fn main(rt: HostRuntime) -> ExitCode {
     let Ok(words) = words_of(&rt) else {
         return want_of_memory(&mut err);
     };
-    let Ok(folder) = Box::new(
-        alloc,
-        CsvFolder::new(alloc, RealFiles::new(System::new(rt))),
-    ) else {
-        return want_of_memory(&mut err);
-    };
-    let Ok(generator) = Box::new(alloc, WorldSource::new(alloc)) else {
-        return want_of_memory(&mut err);
-    };
-    let Ok(lanes) = lanes_of(alloc, Boxed { object: folder }, Boxed { object: generator }) else {
-        return want_of_memory(&mut err);
-    };
-    let mut lanes = lanes;
+    let mut lanes = Vec::new(alloc);
+    for _ in 0..LANES {
+        let Ok(folder) = Box::new(
+            alloc,
+            CsvFolder::new(alloc, RealFiles::new(System::new(rt))),
+        ) else {
+            return want_of_memory(&mut err);
+        };
+        let Ok(generator) = Box::new(alloc, WorldSource::new(alloc)) else {
+            return want_of_memory(&mut err);
+        };
+        let (folder, generator) = (Boxed { object: folder }, Boxed { object: generator });
+        let Ok(()) = add_lane(alloc, &mut lanes, folder, generator) else {
+            return want_of_memory(&mut err);
+        };
+    }
     let mut files = RealFiles::new(System::new(rt));
     let words = words.as_slice();
-    let status = run_words(alloc, words, &mut files, &mut lanes, &mut out, &mut err);
+    let status = run_words(&rt, alloc, words, &mut files, &mut lanes, &mut out, &mut err);
     // the rows are not freed one by one: the system takes them back with the process
     forget(lanes);
     exit(status)
@@ -90,9 +96,15 @@ fn words_after_first<I: Iterator<Item = String> + Drop>(
     Ok(words)
 }
 
-// One lane with the one source under the kind `csv`, and the other under the kind `world`.
-fn lanes_of(alloc: Global, folder: Boxed, generator: Boxed) -> Result<Vec<Lane<Boxed>>, NoMemory>
-    ensures { IfOk result (λ lanes. map (λ lane. names_of lane.kinds.items) lanes.items ≡ (codes "csv" ∷ codes "world" ∷ []) ∷ []) }
+// One more lane, with the one source under the kind `csv`, and the other under the kind `world`.
+fn add_lane(
+    alloc: Global,
+    lanes: &mut Vec<Lane<Boxed>>,
+    folder: Boxed,
+    generator: Boxed,
+) -> Result<(), NoMemory>
+    ensures { IfOk result (λ _. map (λ lane. names_of lane.kinds.items) lanes.new.items
+        ≡ map (λ lane. names_of lane.kinds.items) lanes.old.items ++ (codes "csv" ∷ codes "world" ∷ []) ∷ []) }
 {
     let mut kinds = Vec::new(alloc);
     kinds.push(Kind {
@@ -103,9 +115,8 @@ fn lanes_of(alloc: Global, folder: Boxed, generator: Boxed) -> Result<Vec<Lane<B
         name: Text::from_str(alloc, "world")?,
         object: generator,
     })?;
-    let mut lanes = Vec::new(alloc);
     lanes.push(Lane::new(kinds))?;
-    Ok(lanes)
+    Ok(())
 }
 
 // The answer where the program finds no memory before the top call.

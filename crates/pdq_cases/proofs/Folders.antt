@@ -13,10 +13,9 @@ use Rattle.source_trait.specs.declared.source.AttachFault.{AttachFault}
 use Rattle.middleware.specs.PlanSources.{line_for}
 use Rattle.middleware.specs.Held.{SameFacts}
 use Rattle.csv_sources.specs.DataFile.{offered}
-use Rattle.csv_sources.specs.Folder.{IsFresh}
 use Rattle.csv_sources.proofs.Limits.{together}
 use Rattle.pdq_core.specs.Complete.{OffersFacts, OfferInstance, OfferUntold, located}
-use Rattle.pdq_cases.specs.Files.{AllHaveKind, FilesGive}
+use Rattle.pdq_cases.specs.Files.{AllHaveKind, FilesGive, HasFolder}
 
 -- the kind of a relation's line
 kind_is : (found : Option SourceLine) (kind : List ℕ) (line : SourceLine) → IsSomeAnd found (λ its. its.kind ≡ kind) → found ≡ Some line → line.kind ≡ kind
@@ -47,24 +46,23 @@ at_line {S = S} schema IsNeeded kinds kind folder there lines rel line needed is
     subst (λ (k : List ℕ). AtKind kinds k (P k)) (sym same) (subst (λ (o : Option S). IsSomeAnd o (P kind)) (sym there) holds)
 
 -- a new folder of files that tell nothing
-pub untold_offer : {S : Type 0} (seen : S → Seen) (schema : Schema) (IsNeeded : ℕ → Type 0) (kinds : List (Kind S)) (kind : List ℕ) (folder : S) (faults : ℕ) → source_of kinds kind ≡ Some folder →
-    IsFresh (seen folder) None faults → AllHaveKind schema IsNeeded kind → OfferUntold seen schema IsNeeded kinds
-untold_offer seen schema IsNeeded kinds kind folder faults there fresh lines = record {
+pub untold_offer : {S : Type 0} (seen : S → Seen) (schema : Schema) (IsNeeded : ℕ → Type 0) (kinds : List (Kind S)) (kind : List ℕ) → HasFolder seen kind None kinds → AllHaveKind schema IsNeeded kind → OfferUntold seen schema IsNeeded kinds
+untold_offer seen schema IsNeeded kinds kind has lines = record {
   lines = λ rel needed. line_there (line_for rel schema.sources) kind (lines rel needed);
   untold = λ rel line needed is.
-      at_line schema IsNeeded kinds kind folder there lines rel line needed is (λ k source. (columns : List (List ℕ)) → (seen source).offer rel columns line.locator ≡ None)
-      (λ columns. ap (λ (o : ℕ → List (List ℕ) → List ℕ → Option (Result RowList AttachFault)). o rel columns line.locator) fresh.offer);
+      at_line schema IsNeeded kinds kind has.folder has.there lines rel line needed is (λ k source. (columns : List (List ℕ)) → (seen source).offer rel columns line.locator ≡ None)
+      (λ columns. ap (λ (o : ℕ → List (List ℕ) → List ℕ → Option (Result RowList AttachFault)). o rel columns line.locator) has.fresh.offer);
 }
 
-module _ {S : Type 0} (seen : S → Seen) (schema : Schema) (IsNeeded : ℕ → Type 0) (kinds : List (Kind S)) (instance : List Fact) (kind : List ℕ) (folder : S) (files : List (List ℕ × List ℕ)) (faults : ℕ)
-    (there : source_of kinds kind ≡ Some folder) (fresh : IsFresh (seen folder) (Some files) faults) (give : FilesGive schema IsNeeded kind files instance) where
+module _ {S : Type 0} (seen : S → Seen) (schema : Schema) (IsNeeded : ℕ → Type 0) (kinds : List (Kind S)) (instance : List Fact) (kind : List ℕ) (files : List (List ℕ × List ℕ))
+    (has : HasFolder seen kind (Some files) kinds) (give : FilesGive schema IsNeeded kind files instance) where
   its_facts : (rel : ℕ) (columns : List (List ℕ)) (locator : List ℕ) (offer : Result RowList AttachFault) → offered (bytes_of files locator) columns ≡ offer →
-      IsOkAnd offer (λ rows. SameFacts rel (facts_of rel rows) instance) → OffersFacts (seen folder) rel columns locator instance
+      IsOkAnd offer (λ rows. SameFacts rel (facts_of rel rows) instance) → OffersFacts (seen has.folder) rel columns locator instance
   its_facts rel columns locator (Err fault) is same = absurd same
   its_facts rel columns locator (Ok rows) is same = record {
     rows = rows;
-    tells = ap is_some fresh.held;
-    offered = ap (λ (o : ℕ → List (List ℕ) → List ℕ → Option (Result RowList AttachFault)). o rel columns locator) fresh.offer ∙ ap (λ (o : Result RowList AttachFault). Some o) is;
+    tells = ap is_some has.fresh.held;
+    offered = ap (λ (o : ℕ → List (List ℕ) → List ℕ → Option (Result RowList AttachFault)). o rel columns locator) has.fresh.offer ∙ ap (λ (o : Result RowList AttachFault). Some o) is;
     same = same;
   }
 
@@ -72,13 +70,13 @@ module _ {S : Type 0} (seen : S → Seen) (schema : Schema) (IsNeeded : ℕ → 
   files_offer = record {
     lines = λ rel needed. line_there (line_for rel schema.sources) kind (give.lines rel needed);
     kinds_are = λ rel line needed is.
-        ap (λ (k : List ℕ). is_some (source_of kinds k)) (kind_is (line_for rel schema.sources) kind line (give.lines rel needed) is) ∙ ap is_some there;
+        ap (λ (k : List ℕ). is_some (source_of kinds k)) (kind_is (line_for rel schema.sources) kind line (give.lines rel needed) is) ∙ ap is_some has.there;
     fits = λ rels rel line up are needed is.
-        at_line schema IsNeeded kinds kind folder there give.lines rel line needed is (λ k source. (seen source).passes (located schema k (rels ++ rel ∷ [])) ≡ false)
+        at_line schema IsNeeded kinds kind has.folder has.there give.lines rel line needed is (λ k source. (seen source).passes (located schema k (rels ++ rel ∷ [])) ≡ false)
         (let within = give.fits (rels ++ rel ∷ []) up (all_needed IsNeeded rels rel are needed) in
-        ap (λ (passes : List (ℕ × List ℕ) → Bool). passes (located schema kind (rels ++ rel ∷ []))) fresh.passes
+        ap (λ (passes : List (ℕ × List ℕ) → Bool). passes (located schema kind (rels ++ rel ∷ []))) has.fresh.passes
         ∙ together (Some files) (located schema kind (rels ++ rel ∷ [])) [] (omega (arith, within)));
     facts = λ rel relation line needed relation_is is.
-        at_line schema IsNeeded kinds kind folder there give.lines rel line needed is (λ k source. OffersFacts (seen source) rel relation.columns line.locator instance)
+        at_line schema IsNeeded kinds kind has.folder has.there give.lines rel line needed is (λ k source. OffersFacts (seen source) rel relation.columns line.locator instance)
         (its_facts rel relation.columns line.locator (offered (bytes_of files line.locator) relation.columns) refl (give.rows rel relation line needed relation_is is));
   }

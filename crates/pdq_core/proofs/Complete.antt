@@ -1,5 +1,5 @@
 -- A run without faults is answered.
-use Rattle.std.proofs.Common.{◌≡◌, ℕ, List, subst}
+use Rattle.std.proofs.Common.{◌≡◌, ℕ, List, take, subst}
 use Rattle.source_trait.specs.Asking.{Seen}
 use Rattle.source_trait.specs.declared.lanes.Lane.{Lane}
 use Rattle.command_io.specs.declared.exit_status.Status.{Status}
@@ -32,19 +32,20 @@ module _ {S : Type 0} (seen : S → Seen) (words : List (List ℕ)) (command : C
   answered status calm (explain name query firings search result also ends same) =
       let given = its (Explain name query firings search) also in
       explain_answered name query firings search before after result calm given.schema given.statement given.schema_given given.query_given ends
-  answered status calm (run name query firings search result also ends) =
-      let given = its (Run name query firings search) also in
-      run_answered seen name query firings search before after old new result calm given.texts.schema given.texts.statement given.texts.schema_given given.texts.query_given given.execution ends
-  answered status calm (exec name plan result also ends) =
-      let given = its (Exec name plan) also in
-      exec_answered seen name plan before after old new result calm given.schema given.plan given.schema_given given.plan_given given.lawful given.execution ends
+  answered status calm (run name query firings search workers result also ends behind) =
+      let given = its (Run name query firings search workers) also in
+      run_answered seen name query firings search before after (take workers old) (take workers new) result calm given.texts.schema given.texts.statement given.texts.schema_given given.texts.query_given given.execution ends
+  answered status calm (exec name plan workers result also ends behind) =
+      let given = its (Exec name plan workers) also in
+      exec_answered seen name plan before after (take workers old) (take workers new) result calm given.schema given.plan given.schema_given given.plan_given given.lawful given.execution ends
   answered status calm (check name query plan firings result also ends same) =
       let given = its (Check name query plan firings) also in
       check_answered name query plan firings before after result calm given.texts.schema given.texts.statement given.plan given.texts.schema_given given.texts.query_given given.plan_given ends
   answered status calm (verify name result also ends) =
       let given = its (Verify name) also in
       verify_answered seen name before after old new result calm given.schema given.schema_given given.serve ends
-  answered status calm (world size result also ends) = world_answered seen size before after old new calm (its (World size) also) result ends
+  answered status calm (world size workers result also ends behind) =
+      world_answered seen size before after (take workers old) (take workers new) calm (its (World size workers) also) result ends
 
 pub whole : {S : Type 0} (seen : S → Seen) → ((words : List (List ℕ)) (command other : Command) → IsCommand words command → IsCommand words other → command ≡ other) → (words : List (List ℕ)) (command : Command) (before after : Moment) (old new : List (Lane S)) (status : Status) →
     Runs seen words before after old new status → IsCommand words command → NoneRose before after → IsSupplied seen command before after old new → IsAnswered status

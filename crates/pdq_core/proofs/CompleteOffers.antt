@@ -1,5 +1,5 @@
 -- Sources that tell and offer an instance serve, and hold it once they are attached.
-use Rattle.std.proofs.Common.{◌≡◌, ◌≢◌, inl, inr, ℕ, List, [], ◌∷◌, ◌++◌, map, Option, None, Some, Result, Ok, Err, Bool, true, false, cond, ◌&&◌, nat_eq, refl, sym, ◌∙◌, ap, subst, arith, append_assoc, true≢false}
+use Rattle.std.proofs.Common.{◌≡◌, ◌≢◌, ◌<◌, inl, inr, ℕ, List, [], ◌∷◌, ◌++◌, map, length, Option, None, Some, Result, Ok, Err, Bool, true, false, cond, ◌&&◌, nat_eq, refl, sym, ◌∙◌, ap, subst, arith, append_assoc, true≢false}
 use Rattle.std.specs.Prelude.{Contains, IfSome, IsSome, IsSomeAnd, IsOk, option_map, if◌then◌else◌}
 use Rattle.std.specs.List.{filter}
 use Rattle.std.specs.Bool.{Decides}
@@ -21,9 +21,9 @@ use Rattle.source_trait.proofs.LaneSteps.{StepsOn-keeps, StepsOn-others, StepsOn
 use Rattle.middleware.specs.PlanSources.{line_for, IsAccessed}
 use Rattle.middleware.specs.Attaching.{AttachesInOrder, AttachesOne, AllAttached, TellsSame}
 use Rattle.middleware.specs.Held.{SameFacts, HoldPlan}
+use Rattle.middleware.specs.LaneBranches.{OnEach, LanesHoldPlan}
 use Rattle.command_io.specs.declared.delivery.TheConstants.{CALLS}
-use Rattle.verify_command.specs.Verifying.{used}
-use Rattle.pdq_core.specs.Complete.{NoSourceRose, Serve, KeepsCap, CanExecute, OffersFacts, OfferInstance, OfferUntold, placed, located}
+use Rattle.pdq_core.specs.Complete.{OnLanes, NoSourceRose, Serve, KeepsCap, CanExecute, OffersFacts, OfferInstance, OfferUntold, placed, located}
 
 -- ---- the rows of a relation are its facts
 
@@ -244,10 +244,45 @@ module _ {S : Type 0} (seen : S → Seen) (schema : Schema) where
       subst (λ (o : Option S). IsSomeAnd o (λ s. IsSomeAnd (seen s).held (λ held. SameFacts rel held instance))) (sym each.now)
       (taken rel instance first.rows (seen each.after).held told rows_are first.same)
 
+  -- ---- on each lane
+
+  -- lanes whose sources offer it serve
+  pub lanes_serve : (IsNeeded : ℕ → Type 0) (Offers : List (Kind S) → Type 0) →
+      ((old new : List (Kind S)) → Offers old → NoSourceRose seen old new → Serve seen schema IsNeeded old new) →
+      (old new : List (Lane S)) → OnEach old Offers → OnLanes (NoSourceRose seen) old new → OnLanes (Serve seen schema IsNeeded) old new
+  lanes_serve IsNeeded Offers serve [] [] offer calm = tt
+  lanes_serve IsNeeded Offers serve [] (u ∷ us) offer calm = absurd calm
+  lanes_serve IsNeeded Offers serve (w ∷ ws) [] offer calm = absurd calm
+  lanes_serve IsNeeded Offers serve (w ∷ ws) (u ∷ us) offer calm = (
+    serve w.kinds.items u.kinds.items (offer w (contains_here w ws)) calm.0,
+    lanes_serve IsNeeded Offers serve ws us (λ lane among. offer lane (contains_there w ws lane among)) calm.1,
+  )
+
+  -- and hold it once it is attached
+  lanes_hold : (plan : Plan) (instance : List Fact) (old new : List (Lane S)) →
+      OnEach old (λ kinds. OfferInstance seen schema (IsAccessed schema plan) kinds instance) → OnLanes (AllAttached seen schema plan) old new → LanesHoldPlan seen schema plan new instance
+  lanes_hold plan instance [] [] offer attached = λ lane among. absurd (omega arith)
+  lanes_hold plan instance [] (u ∷ us) offer attached = absurd attached
+  lanes_hold plan instance (w ∷ ws) [] offer attached = absurd attached
+  lanes_hold plan instance (w ∷ ws) (u ∷ us) offer attached = λ lane among. elim (contains_cases u us lane among) [
+    | inl here ↦
+        subst (λ (l : Lane S). HoldPlan seen schema plan l.kinds.items instance) here
+        (offered_held plan w.kinds.items u.kinds.items instance (offer w (contains_here w ws)) attached.0)
+    | inr there ↦ lanes_hold plan instance ws us (λ l c. offer l (contains_there w ws l c)) attached.1 lane there
+  ]
+
   -- so the plan can be executed
-  pub offers_execute : (plan : Plan) (old new : List (Lane S)) (instance : List Fact) → OfferInstance seen schema (IsAccessed schema plan) (used old) instance →
-      NoSourceRose seen (used old) (used new) → KeepsCap schema plan instance CALLS → CanExecute seen schema plan old new
-  offers_execute plan old new instance offer calm within = record {
-    serve = offers_serve (IsAccessed schema plan) (used old) (used new) instance offer calm;
-    within = λ attached. record { instance = instance; held = offered_held plan (used old) (used new) instance offer attached; within = within };
+  pub offers_execute : (plan : Plan) (old new : List (Lane S)) (instance : List Fact) → ((rel : ℕ) → IsAccessed schema plan rel → 0 < length old) →
+      OnEach old (λ kinds. OfferInstance seen schema (IsAccessed schema plan) kinds instance) → OnLanes (NoSourceRose seen) old new →
+      KeepsCap schema plan instance CALLS → CanExecute seen schema plan old new
+  offers_execute plan old new instance some offer calm within = record {
+    some = some;
+    serve = lanes_serve (IsAccessed schema plan) (λ kinds. OfferInstance seen schema (IsAccessed schema plan) kinds instance)
+        (λ a b its quiet. offers_serve (IsAccessed schema plan) a b instance its quiet) old new offer calm;
+    within = λ attached. record { instance = instance; held = lanes_hold plan instance old new offer attached; within = within };
   }
+
+  -- where nothing is told they serve too
+  pub lanes_untold : (plan : Plan) (old new : List (Lane S)) → OnEach old (OfferUntold seen schema (IsAccessed schema plan)) → OnLanes (NoSourceRose seen) old new →
+      OnLanes (Serve seen schema (IsAccessed schema plan)) old new
+  lanes_untold plan = lanes_serve (IsAccessed schema plan) (OfferUntold seen schema (IsAccessed schema plan)) (untold_serve (IsAccessed schema plan))

@@ -1,4 +1,5 @@
 pub mod Ways
+pub mod FirstLanes
 pub mod CompleteTexts
 pub mod CompleteSources
 pub mod CompleteExecution

@@ -1,5 +1,5 @@
 -- The status of a run says what was decided of the statement.
-use Rattle.std.proofs.Common.{◌≡◌, ◌++◌, ℕ, List, [], ◌∷◌, length-append, Option, Result, sym, subst, arith}
+use Rattle.std.proofs.Common.{◌≡◌, ◌++◌, ℕ, List, [], ◌∷◌, take, length-append, Option, Result, sym, subst, arith}
 use Rattle.lists.proofs.Members.{contains_got}
 use Rattle.meaning.specs.declared.types.Firing.{Firing}
 use Rattle.meaning.specs.declared.types.Plan.{Plan}
@@ -107,14 +107,14 @@ module _ {S : Type 0} (seen : S → Seen) (words : List (List ℕ)) (command : C
   says status (explain name query firings search result also (explained schema statement same_result schema_is statement_is ends) same) =
       its (Explain name query firings search) (ended result) also
       (explained_says before.files name query firings schema statement schema_is statement_is search (record { schema = name; query = query; plan = []; relations = schema.relations }) before after result ends)
-  says status (run name query firings search result also (refused end why quiet same)) = its (Run name query firings search) (status_of end) also (stop_says before.files name query firings end)
-  says status (run name query firings search result also (read schema statement same_result schema_is statement_is ends)) =
-      its (Run name query firings search) (ended result) also
-      (run_says before.files name query firings schema statement schema_is statement_is seen search _ (record { schema = name; query = query; plan = []; relations = schema.relations }) before after old new result ends)
-  says status (exec name plan result also ends) = its (Exec name plan) (ended result) also tt
+  says status (run name query firings search workers result also (refused end why quiet same) behind) = its (Run name query firings search workers) (status_of end) also (stop_says before.files name query firings end)
+  says status (run name query firings search workers result also (read schema statement same_result schema_is statement_is ends) behind) =
+      its (Run name query firings search workers) (ended result) also
+      (run_says before.files name query firings schema statement schema_is statement_is seen search _ (record { schema = name; query = query; plan = []; relations = schema.relations }) before after (take workers old) (take workers new) result ends)
+  says status (exec name plan workers result also ends behind) = its (Exec name plan workers) (ended result) also tt
   says status (check name query plan firings result also ends same) = its (Check name query plan firings) (ended result) also (checked_says name query plan firings before after result ends)
   says status (verify name result also ends) = its (Verify name) (ended result) also tt
-  says status (world size result also ends) = its (World size) (ended result) also tt
+  says status (world size workers result also ends behind) = its (World size workers) (ended result) also tt
 
 pub whole : {S : Type 0} (seen : S → Seen) → ((words : List (List ℕ)) (command other : Command) → IsCommand words command → IsCommand words other → command ≡ other) → (words : List (List ℕ)) (command : Command) (before after : Moment) (old new : List (Lane S)) (status : Status) →
     Runs seen words before after old new status → IsCommand words command → SaysOf command before.files status

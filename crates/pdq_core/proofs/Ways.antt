@@ -6,9 +6,9 @@ use Rattle.rule_pass.specs.declared.pass.TheConstants.{MOST_FIRINGS}
 use Rattle.proof_search.specs.declared.deciding.TheConstants.{MOST_UNITS}
 use Rattle.command_words.specs.Splits.{Item, IsSet}
 use Rattle.command_words.specs.Splits.IsSet.{Once, Absent}
-use Rattle.command_words.specs.declared.table.OptionName.TheVariants.{Firings, Search}
+use Rattle.command_words.specs.declared.table.OptionName.TheVariants.{Firings, Search, Workers}
 use Rattle.command_words.specs.Words.{IsCommand}
-use Rattle.command_words.specs.Words.Command.{Explain, Run, Check, World}
+use Rattle.command_words.specs.Words.Command.{Explain, Run, Exec, Check, World}
 use Rattle.command_io.specs.declared.stop.Stop.{Stop}
 use Rattle.command_io.specs.declared.outcome.Outcome.{Outcome}
 use Rattle.command_io.specs.Moments.{Moment}
@@ -20,31 +20,45 @@ use Rattle.pdq_core.specs.Help.HelpEnds.{printed, cut}
 
 -- a number of firings is within its range, given or not
 in_range : (items : List Item) (n : ℕ) → IsSet Firings items n → n ≤ MOST_FIRINGS
-in_range items n (Once text most) = most
+in_range items n (Once text within) = within.1
 in_range items n (Absent none is) = omega (arith, is)
 
 -- and so is a number of search units
 units_in_range : (items : List Item) (n : ℕ) → IsSet Search items n → n ≤ MOST_UNITS
-units_in_range items n (Once text most) = most
+units_in_range items n (Once text within) = within.1
 units_in_range items n (Absent none is) = omega (arith, is)
+
+-- and at most 8 workers
+workers_in_range : (items : List Item) (n : ℕ) → IsSet Workers items n → n ≤ 8
+workers_in_range items n (Once text within) = within.1
+workers_in_range items n (Absent none is) = omega (arith, is)
 
 pub few_explained : (words : List (List ℕ)) (schema query : List ℕ) (n units : ℕ) → IsCommand words (Explain schema query n units) → n ≤ MOST_FIRINGS
 few_explained words schema query n units is = in_range is.items n is.are_set.0
 
-pub few_run : (words : List (List ℕ)) (schema query : List ℕ) (n units : ℕ) → IsCommand words (Run schema query n units) → n ≤ MOST_FIRINGS
-few_run words schema query n units is = in_range is.items n is.are_set.0
+pub few_run : (words : List (List ℕ)) (schema query : List ℕ) (n units workers : ℕ) → IsCommand words (Run schema query n units workers) → n ≤ MOST_FIRINGS
+few_run words schema query n units workers is = in_range is.items n is.are_set.0
 
 pub units_explained : (words : List (List ℕ)) (schema query : List ℕ) (n units : ℕ) → IsCommand words (Explain schema query n units) → units ≤ MOST_UNITS
 units_explained words schema query n units is = units_in_range is.items units is.are_set.1.0
 
-pub units_run : (words : List (List ℕ)) (schema query : List ℕ) (n units : ℕ) → IsCommand words (Run schema query n units) → units ≤ MOST_UNITS
-units_run words schema query n units is = units_in_range is.items units is.are_set.1.0
+pub units_run : (words : List (List ℕ)) (schema query : List ℕ) (n units workers : ℕ) → IsCommand words (Run schema query n units workers) → units ≤ MOST_UNITS
+units_run words schema query n units workers is = units_in_range is.items units is.are_set.1.0
+
+pub workers_run : (words : List (List ℕ)) (schema query : List ℕ) (n units workers : ℕ) → IsCommand words (Run schema query n units workers) → workers ≤ 8
+workers_run words schema query n units workers is = workers_in_range is.items workers is.are_set.1.1.0
+
+pub workers_exec : (words : List (List ℕ)) (schema plan : List ℕ) (workers : ℕ) → IsCommand words (Exec schema plan workers) → workers ≤ 8
+workers_exec words schema plan workers is = workers_in_range is.items workers is.are_set.0
+
+pub workers_world : (words : List (List ℕ)) (size workers : ℕ) → IsCommand words (World size workers) → workers ≤ 8
+workers_world words size workers is = workers_in_range is.0.items workers is.0.are_set.0
 
 pub few_checked : (words : List (List ℕ)) (schema query plan : List ℕ) (n : ℕ) → IsCommand words (Check schema query plan n) → n ≤ MOST_FIRINGS
 few_checked words schema query plan n is = in_range is.items n is.are_set.0
 
-pub small_world : (words : List (List ℕ)) (size : ℕ) → IsCommand words (World size) → size ≤ 10000
-small_world words size is = is.2
+pub small_world : (words : List (List ℕ)) (size workers : ℕ) → IsCommand words (World size workers) → size ≤ 10000
+small_world words size workers is = is.2
 
 -- the ends of `help` rest on the two outputs alone
 pub help_with_files : (before after : Moment) (result : Result Outcome Stop) →

@@ -1,6 +1,7 @@
 -- What a run without faults is given, command by command, and the statuses with which it ends.
-use Rattle.std.specs.Prelude.{◌≡◌, ◌≤◌, ◌+◌, ◌++◌, ℕ, List, [], ◌∷◌, Contains, false, Option, None, Some, IfSome, IsSome, IsOk, Ok, length, nat_eq, slice_get, if◌then◌else◌}
+use Rattle.std.specs.Prelude.{◌≡◌, ◌≤◌, ◌<◌, ◌+◌, ◌++◌, ℕ, List, [], ◌∷◌, take, Contains, false, Option, None, Some, IfSome, IsSome, IsOk, Ok, length, nat_eq, slice_get, if◌then◌else◌}
 use Rattle.std.specs.Cmp.Lexicographic.{pointwise}
+use Rattle.std.specs.List.{AllZip}
 use Rattle.meaning.specs.declared.types.Fact.{Fact}
 use Rattle.meaning.specs.declared.types.Plan.{Plan}
 use Rattle.meaning.specs.declared.types.Relation.{Relation}
@@ -23,7 +24,8 @@ use Rattle.source_trait.specs.declared.lanes.Lane.{Lane}
 use Rattle.middleware.specs.PlanSources.{line_for, IsAccessed}
 use Rattle.middleware.specs.Attaching.{AttachesInOrder, AllAttached}
 use Rattle.middleware.specs.Asked.{IsRoundAt}
-use Rattle.middleware.specs.Held.{HoldPlan, SameFacts}
+use Rattle.middleware.specs.Held.{SameFacts}
+use Rattle.middleware.specs.LaneBranches.{LanesHoldPlan}
 use Rattle.command_io.specs.declared.delivery.TheConstants.{CALLS}
 use Rattle.command_io.specs.declared.exit_status.Status.{Status}
 use Rattle.command_io.specs.declared.exit_status.Status.TheVariants as is
@@ -86,7 +88,11 @@ abbrev pub NoSourceRose : {S : Type 0} → (S → Seen) → List (Kind S) → Li
 NoSourceRose {S} seen old new = (kind : List ℕ) (before after : S) → source_of old kind ≡ Some before → source_of new kind ≡ Some after →
     Rose (seen before).faults (seen after).faults → ⊥
 
--- The sources of the used lane, from before a command to after it, serve the relations that it needs.
+-- it holds of the sources of each lane, from before a command to after it
+abbrev pub OnLanes : {S : Type 0} → (List (Kind S) → List (Kind S) → Type 0) → List (Lane S) → List (Lane S) → Type 0
+OnLanes P old new = AllZip (λ before after. P before.kinds.items after.kinds.items) old new
+
+-- The sources of a used lane, from before a command to after it, serve the relations that it needs.
 pub record Serve {S : Type 0} (seen : S → Seen) (schema : Schema) (IsNeeded : ℕ → Type 0) (old new : List (Kind S)) : Type 0 where
   -- each of the relations has a source line, of a kind that the lane has
   pub lines : (rel : ℕ) → IsNeeded rel → IsSome (line_for rel schema.sources)
@@ -101,17 +107,18 @@ abbrev pub KeepsCap : Schema → Plan → List Fact → ℕ → Type 0
 KeepsCap schema plan instance cap = (branch step : ℕ) (earlier now : List Request) → IsRoundAt (meaning_of schema) plan instance branch step earlier now →
     length earlier + length now ≤ cap
 
--- The sources hold some instance, on which no round of the plan passes the cap.
-pub record HoldWithin {S : Type 0} (seen : S → Seen) (schema : Schema) (plan : Plan) (cap : ℕ) (kinds : List (Kind S)) : Type 0 where
+-- The sources of each lane hold one instance, on which no round of the plan passes the cap.
+pub record HoldWithin {S : Type 0} (seen : S → Seen) (schema : Schema) (plan : Plan) (cap : ℕ) (lanes : List (Lane S)) : Type 0 where
   pub instance : List Fact
-  pub held : HoldPlan seen schema plan kinds instance
+  pub held : LanesHoldPlan seen schema plan lanes instance
   pub within : KeepsCap schema plan instance cap
 
--- The sources of the used lane serve the plan's relations, and where all of these came to be attached, no round passes the cap. So
--- without a lane a plan can be executed that accesses no relation.
+-- Of the used lanes: there is one where the plan accesses a relation, the sources of each serve the plan's relations, and where all of
+-- these came to be attached on each, no round passes the cap.
 pub record CanExecute {S : Type 0} (seen : S → Seen) (schema : Schema) (plan : Plan) (old new : List (Lane S)) : Type 0 where
-  pub serve : Serve seen schema (IsAccessed schema plan) (used old) (used new)
-  pub within : AllAttached seen schema plan (used old) (used new) → HoldWithin seen schema plan CALLS (used new)
+  pub some : (rel : ℕ) → IsAccessed schema plan rel → 0 < length old
+  pub serve : OnLanes (Serve seen schema (IsAccessed schema plan)) old new
+  pub within : OnLanes (AllAttached seen schema plan) old new → HoldWithin seen schema plan CALLS new
 
 -- ---- sources that tell
 
@@ -197,13 +204,13 @@ pub record WorldIsSupplied {S : Type 0} (seen : S → Seen) (size : ℕ) (before
   pub execution : (plan : Plan) (entries : List Chosen) → IsPlanned schema statement FIRINGS UNITS plan entries →
       IsPrinted entries plan before after → CanExecute seen schema plan old new
 
--- What a command needs is supplied.
+-- What a command needs is supplied, on the lanes that it uses.
 abbrev pub IsSupplied : {S : Type 0} → (S → Seen) → Command → Moment → Moment → List (Lane S) → List (Lane S) → Type 0
 IsSupplied seen Help before after old new = Unit {0}
 IsSupplied seen (Print name) before after old new = (schema : Schema) × SchemaIsGiven before.files name schema
 IsSupplied seen (Explain name query firings search) before after old new = TextsAreGiven before.files name query
-IsSupplied seen (Run name query firings search) before after old new = RunIsSupplied seen name query firings search before after old new
-IsSupplied seen (Exec name plan) before after old new = ExecIsSupplied seen name plan before.files old new
+IsSupplied seen (Run name query firings search workers) before after old new = RunIsSupplied seen name query firings search before after (take workers old) (take workers new)
+IsSupplied seen (Exec name plan workers) before after old new = ExecIsSupplied seen name plan before.files (take workers old) (take workers new)
 IsSupplied seen (Check name query plan firings) before after old new = CheckIsSupplied before.files name query plan
 IsSupplied seen (Verify name) before after old new = VerifyIsSupplied seen name before.files old new
-IsSupplied seen (World size) before after old new = WorldIsSupplied seen size before after old new
+IsSupplied seen (World size workers) before after old new = WorldIsSupplied seen size before after (take workers old) (take workers new)

@@ -1,5 +1,5 @@
 -- What a run of the program does: the ways in which it ends, with the exit status of each.
-use Rattle.std.specs.Prelude.{◌≡◌, ℕ, List, [], Result, Ok, Err}
+use Rattle.std.specs.Prelude.{◌≡◌, ℕ, List, [], take, drop, Result, Ok, Err}
 use Rattle.source_trait.specs.Asking.{Seen}
 use Rattle.source_trait.specs.Causes.{Rose}
 use Rattle.source_trait.specs.declared.lanes.Lane.{Lane}
@@ -30,7 +30,8 @@ ended (Ok outcome.No) = is.No
 ended (Ok outcome.Undecided) = is.Undecided
 ended (Err end) = status_of end
 
--- A run ends in one of these ways.
+-- A run ends in one of these ways. Of the lanes as many are used as there are workers, the first ones, or all where there are fewer;
+-- those behind stay.
 pub data Runs {S : Type 0} (seen : S → Seen) (words : List (List ℕ)) (before after : Moment) (old new : List (Lane S)) : Status → Type 0 where
   -- the words are no command, and nothing but the line was written
   no_command : (end : Stop) → ((command : Command) → IsCommand words command → ⊥) →
@@ -45,18 +46,18 @@ pub data Runs {S : Type 0} (seen : S → Seen) (words : List (List ℕ)) (before
   -- the words are `explain SCHEMA QUERY`, with a number of firings and one of search units
   explain : (name query : List ℕ) (firings search : ℕ) (result : Result Outcome Stop) → IsCommand words (Explain name query firings search) →
       ExplainEnds name query firings search before after result → new ≡ old → Runs seen words before after old new (ended result)
-  -- the words are `run SCHEMA QUERY`, with a number of firings and one of search units
-  run : (name query : List ℕ) (firings search : ℕ) (result : Result Outcome Stop) → IsCommand words (Run name query firings search) →
-      RunEnds seen name query firings search before after old new result → Runs seen words before after old new (ended result)
-  -- the words are `exec SCHEMA PLAN`
-  exec : (name plan : List ℕ) (result : Result Outcome Stop) → IsCommand words (Exec name plan) →
-      ExecEnds seen name plan before after old new result → Runs seen words before after old new (ended result)
+  -- the words are `run SCHEMA QUERY`, with a number of firings, one of search units and one of workers
+  run : (name query : List ℕ) (firings search workers : ℕ) (result : Result Outcome Stop) → IsCommand words (Run name query firings search workers) →
+      RunEnds seen name query firings search before after (take workers old) (take workers new) result → drop workers new ≡ drop workers old → Runs seen words before after old new (ended result)
+  -- the words are `exec SCHEMA PLAN`, with a number of workers
+  exec : (name plan : List ℕ) (workers : ℕ) (result : Result Outcome Stop) → IsCommand words (Exec name plan workers) →
+      ExecEnds seen name plan before after (take workers old) (take workers new) result → drop workers new ≡ drop workers old → Runs seen words before after old new (ended result)
   -- the words are `check SCHEMA QUERY PLAN`, with a number of firings
   check : (name query plan : List ℕ) (firings : ℕ) (result : Result Outcome Stop) → IsCommand words (Check name query plan firings) →
       CheckEnds name query plan firings before after result → new ≡ old → Runs seen words before after old new (ended result)
   -- the words are `verify SCHEMA`
   verify : (name : List ℕ) (result : Result Outcome Stop) → IsCommand words (Verify name) →
       VerifyEnds seen name before after old new result → Runs seen words before after old new (ended result)
-  -- the words are `world N`
-  world : (size : ℕ) (result : Result Outcome Stop) → IsCommand words (World size) →
-      WorldEnds seen size before after old new result → Runs seen words before after old new (ended result)
+  -- the words are `world N`, with a number of workers
+  world : (size workers : ℕ) (result : Result Outcome Stop) → IsCommand words (World size workers) →
+      WorldEnds seen size before after (take workers old) (take workers new) result → drop workers new ≡ drop workers old → Runs seen words before after old new (ended result)

@@ -1,10 +1,11 @@
 // What runs of the program promise: laws on the definitions alone, as functions that do nothing.
-ghost use Rattle.std.specs.Prelude.{ℕ, List};
+ghost use Rattle.std.specs.Prelude.{◌<◌, ℕ, List, length};
 ghost use Rattle.meaning.specs.declared.types.Fact.{Fact};
 ghost use Rattle.meaning.specs.declared.types.Plan.{Plan};
 ghost use Rattle.access_schema.specs.declared.schema.Schema.{Schema};
 ghost use Rattle.source_trait.specs.declared.lanes.Lane.{Lane};
 ghost use Rattle.middleware.specs.PlanSources.{IsAccessed};
+ghost use Rattle.middleware.specs.LaneBranches.{OnEach};
 ghost use Rattle.command_io.specs.declared.delivery.TheConstants.{CALLS};
 ghost use Rattle.command_io.specs.declared.exit_status.Status.{Status};
 ghost use Rattle.command_io.specs.Moments.{Moment};
@@ -12,7 +13,7 @@ ghost use Rattle.command_words.specs.Words.{Command, IsCommand};
 ghost use Rattle.verify_command.specs.RuleRelations.{RulesName};
 ghost use Rattle.verify_command.specs.Verifying.{used};
 ghost use Rattle.pdq_core.specs.Runs.{Runs};
-ghost use Rattle.pdq_core.specs.Complete.{NoneRose, NoSourceRose, OfferInstance, OfferUntold, KeepsCap, Serve, CanExecute, IsSupplied, IsAnswered};
+ghost use Rattle.pdq_core.specs.Complete.{NoneRose, OnLanes, NoSourceRose, OfferInstance, OfferUntold, KeepsCap, Serve, CanExecute, IsSupplied, IsAnswered};
 ghost use Rattle.pdq_core.specs.Statuses.{SaysOf};
 
 use command_words::words_are_one_command;
@@ -28,11 +29,11 @@ pub fn runs_without_faults_are_answered<S: Source>()
     words_are_one_command();
 }
 
-/// What the law above needs of sources can be given. Where those of the used lane tell what they hold, offer an instance within
+/// What the law above needs of sources can be given. Where those of each used lane tell what they hold, offer one instance within
 /// their limits and do not fail, they serve; and a plan can be executed if no round of it on the instance passes the cap.
 pub fn sources_that_tell_serve<S: Source>()
-    ensures plan { (schema : Schema) (plan : Plan) (old new : List (Lane S)) (instance : List Fact) →
-        OfferInstance S.seen schema (IsAccessed schema plan) (used old) instance → NoSourceRose S.seen (used old) (used new) →
+    ensures plan { (schema : Schema) (plan : Plan) (old new : List (Lane S)) (instance : List Fact) → ((rel : ℕ) → IsAccessed schema plan rel → 0 < length old) →
+        OnEach old (λ kinds. OfferInstance S.seen schema (IsAccessed schema plan) kinds instance) → OnLanes (NoSourceRose S.seen) old new →
         KeepsCap schema plan instance CALLS → CanExecute S.seen schema plan old new }
     ensures rules { (schema : Schema) (old new : List (Lane S)) (instance : List Fact) →
         OfferInstance S.seen schema (RulesName schema) (used old) instance → NoSourceRose S.seen (used old) (used new) →
@@ -40,11 +41,11 @@ pub fn sources_that_tell_serve<S: Source>()
 {}
 
 /// Sources that tell nothing of what they offer can supply it too, as those over files of the system: they serve where each line has a
-/// source of its kind and none failed.
+/// source of its kind on each used lane and none failed.
 pub fn sources_that_do_not_tell_serve<S: Source>()
     ensures plan { (schema : Schema) (plan : Plan) (old new : List (Lane S)) →
-        OfferUntold S.seen schema (IsAccessed schema plan) (used old) → NoSourceRose S.seen (used old) (used new) →
-        Serve S.seen schema (IsAccessed schema plan) (used old) (used new) }
+        OnEach old (OfferUntold S.seen schema (IsAccessed schema plan)) → OnLanes (NoSourceRose S.seen) old new →
+        OnLanes (Serve S.seen schema (IsAccessed schema plan)) old new }
     ensures rules { (schema : Schema) (old new : List (Lane S)) →
         OfferUntold S.seen schema (RulesName schema) (used old) → NoSourceRose S.seen (used old) (used new) →
         Serve S.seen schema (RulesName schema) (used old) (used new) }

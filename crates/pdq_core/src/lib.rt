@@ -4,6 +4,7 @@
 //! command but `help` in a crate below.
 #![tactic(auto)]
 
+mod first_lanes;
 mod help;
 pub mod laws;
 mod top;

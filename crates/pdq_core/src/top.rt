@@ -4,23 +4,26 @@ ghost use Rattle.source_trait.specs.Lanes.{LanesStay};
 ghost use Rattle.command_io.specs.Moments.{Moment, Stays};
 ghost use Rattle.pdq_core.specs.Runs.{Runs, ended as ended_by};
 
+use crate::first_lanes::{exec_on_first, run_on_first, world_on_first};
 use crate::help::print_usage;
 use check_command::check_plan;
 use command_io::{Outcome, Status, Stop, say, status};
 use command_words::{Command, read_words};
-use exec_command::exec_plan;
 use lists::Text;
-use run_command::{explain_query, run_query, run_world};
+use run_command::explain_query;
 use schema_command::print_schema;
 use source_trait::{Files, Lane, Sink, Source};
 use std::alloc::Global;
+use std::thread::Threads;
 use verify_command::verify_rules;
 
 /// Runs the command that the words are, and answers how it ended.
 ///
-/// `words` are those after the program's name. The command reads its texts from `files`, uses the first of the lanes,
-/// writes its result to `out`, and its decision and the line of what stopped it to `err`.
-pub fn run_words<F: Files, S: Source + Send + Drop, O: Sink, E: Sink>(
+/// `words` are those after the program's name. The command reads its texts from `files`, writes its result to `out`, and its decision
+/// and the line of what stopped it to `err`. `run`, `exec` and `world` use the first lanes, as many as the words say or all where there
+/// are fewer, which ask at once in threads of `rt`; `verify` uses the first.
+pub fn run_words<R: Threads + Sync, F: Files, S: Source + Send + Drop, O: Sink, E: Sink>(
+    rt: &R,
     alloc: Global,
     words: &[Text],
     files: &mut F,
@@ -59,13 +62,18 @@ pub fn run_words<F: Files, S: Source + Send + Drop, O: Sink, E: Sink>(
                 query,
                 firings,
                 search,
+                workers,
             },
-        ) => ended(run_query(
-            alloc, schema, query, firings, search, files, lanes, out, err,
+        ) => ended(run_on_first(
+            rt, alloc, schema, query, firings, search, workers, files, lanes, out, err,
         )),
-        Some(Command::Exec { schema, plan }) => {
-            ended(exec_plan(alloc, schema, plan, files, lanes, out, err))
-        }
+        Some(
+            Command::Exec {
+                schema,
+                plan,
+                workers,
+            },
+        ) => ended(exec_on_first(rt, alloc, schema, plan, workers, files, lanes, out, err)),
         Some(
             Command::Check {
                 schema,
@@ -77,7 +85,9 @@ pub fn run_words<F: Files, S: Source + Send + Drop, O: Sink, E: Sink>(
         Some(Command::Verify { schema }) => {
             ended(verify_rules(alloc, schema, files, lanes, out, err))
         }
-        Some(Command::World { size }) => ended(run_world(alloc, size, lanes, out, err)),
+        Some(Command::World { size, workers }) => {
+            ended(world_on_first(rt, alloc, size, workers, lanes, out, err))
+        }
     }
 }
 

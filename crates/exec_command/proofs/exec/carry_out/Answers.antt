@@ -17,7 +17,7 @@ returns-in-Err-clause-ends g c = idle c.tell.result (record {
 }) refl refl
 
 pub returns-in-Err-clause-lanes : goal.returns-in-Err-clause-lanes
-returns-in-Err-clause-lanes g c = LanesStay-refl g.S.Source.seen c.args.lanes.now.items
+returns-in-Err-clause-lanes g c = LanesStay-refl g.S.Source.seen c.args.lanes.now
 
 pub returns-in-Err-column_names-clause-ends : goal.returns-in-Err-column_names-clause-ends
 returns-in-Err-column_names-clause-ends g c = idle c.tell-in-Err-column_names.result (record {
@@ -27,13 +27,13 @@ returns-in-Err-column_names-clause-ends g c = idle c.tell-in-Err-column_names.re
 }) refl refl
 
 pub returns-in-Err-column_names-clause-lanes : goal.returns-in-Err-column_names-clause-lanes
-returns-in-Err-column_names-clause-lanes g c = LanesStay-refl g.S.Source.seen c.args.lanes.now.items
+returns-in-Err-column_names-clause-lanes g c = LanesStay-refl g.S.Source.seen c.args.lanes.now
 
 pub deliver-requires-clause-lawful : goal.deliver-requires-clause-lawful
 deliver-requires-clause-lawful g c κs within = (known_to c.args.schema.now c.args.plan.now, c.in-Ok.ensures.lawful)
 
 pub deliver-requires-clause-short : goal.deliver-requires-clause-short
-deliver-requires-clause-short g c κs within = short c.args.plan.now c.requires.few
+deliver-requires-clause-short g c κs within = short c.args.plan.now c.requires.fits.few
 
 pub returns-in-Ok-deliver-clause-ends : goal.returns-in-Ok-deliver-clause-ends
 returns-in-Ok-deliver-clause-ends g c =

@@ -14,7 +14,7 @@ returns-in-Err-clause-ends g c = no_schema c.tell.result (record {
 }) refl refl
 
 pub returns-in-Err-clause-lanes : goal.returns-in-Err-clause-lanes
-returns-in-Err-clause-lanes g c = LanesStay-refl g.S.Source.seen c.args.lanes.now.items
+returns-in-Err-clause-lanes g c = LanesStay-refl g.S.Source.seen c.args.lanes.now
 
 pub returns-in-Err-plan_of_file-clause-ends : goal.returns-in-Err-plan_of_file-clause-ends
 returns-in-Err-plan_of_file-clause-ends g c =
@@ -26,7 +26,7 @@ returns-in-Err-plan_of_file-clause-ends g c =
     }) refl refl
 
 pub returns-in-Err-plan_of_file-clause-lanes : goal.returns-in-Err-plan_of_file-clause-lanes
-returns-in-Err-plan_of_file-clause-lanes g c = LanesStay-refl g.S.Source.seen c.args.lanes.now.items
+returns-in-Err-plan_of_file-clause-lanes g c = LanesStay-refl g.S.Source.seen c.args.lanes.now
 
 pub returns-clause-ends : goal.returns-clause-ends
 returns-clause-ends g c =

@@ -5,11 +5,11 @@ use Rattle.pdq_cases.proofs.Folders.{files_offer}
 use Rattle.pdq_cases.proofs.laws.told_files_serve.Goals as goal
 
 pub returns-clause-plan : goal.returns-clause-plan
-returns-clause-plan g c = λ schema plan old new instance kind folder files faults there fresh give calm within.
-    c.sources_that_tell_serve.ensures.plan schema plan old new instance
-    (files_offer g.S.Source.seen schema (IsAccessed schema plan) (used old) instance kind folder files faults there fresh give) calm within
+returns-clause-plan g c = λ schema plan old new instance kind files some folders give calm within.
+    c.sources_that_tell_serve.ensures.plan schema plan old new instance some
+    (λ lane among. files_offer g.S.Source.seen schema (IsAccessed schema plan) lane.kinds.items instance kind files (folders lane among) give) calm within
 
 pub returns-clause-rules : goal.returns-clause-rules
-returns-clause-rules g c = λ schema old new instance kind folder files faults there fresh give calm.
+returns-clause-rules g c = λ schema old new instance kind files folder give calm.
     c.sources_that_tell_serve.ensures.rules schema old new instance
-    (files_offer g.S.Source.seen schema (RulesName schema) (used old) instance kind folder files faults there fresh give) calm
+    (files_offer g.S.Source.seen schema (RulesName schema) (used old) instance kind files folder give) calm

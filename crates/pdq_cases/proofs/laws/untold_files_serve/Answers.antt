@@ -5,11 +5,11 @@ use Rattle.pdq_cases.proofs.Folders.{untold_offer}
 use Rattle.pdq_cases.proofs.laws.untold_files_serve.Goals as goal
 
 pub returns-clause-plan : goal.returns-clause-plan
-returns-clause-plan g c = λ schema plan old new kind folder faults there fresh lines calm.
+returns-clause-plan g c = λ schema plan old new kind folders lines calm.
     c.sources_that_do_not_tell_serve.ensures.plan schema plan old new
-    (untold_offer g.S.Source.seen schema (IsAccessed schema plan) (used old) kind folder faults there fresh lines) calm
+    (λ lane among. untold_offer g.S.Source.seen schema (IsAccessed schema plan) lane.kinds.items kind (folders lane among) lines) calm
 
 pub returns-clause-rules : goal.returns-clause-rules
-returns-clause-rules g c = λ schema old new kind folder faults there fresh lines calm.
+returns-clause-rules g c = λ schema old new kind folder lines calm.
     c.sources_that_do_not_tell_serve.ensures.rules schema old new
-    (untold_offer g.S.Source.seen schema (RulesName schema) (used old) kind folder faults there fresh lines) calm
+    (untold_offer g.S.Source.seen schema (RulesName schema) (used old) kind folder lines) calm

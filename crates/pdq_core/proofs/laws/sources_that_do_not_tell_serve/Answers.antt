@@ -1,11 +1,10 @@
-use Rattle.middleware.specs.PlanSources.{IsAccessed}
 use Rattle.verify_command.specs.RuleRelations.{RulesName}
 use Rattle.verify_command.specs.Verifying.{used}
-use Rattle.pdq_core.proofs.CompleteOffers.{untold_serve}
+use Rattle.pdq_core.proofs.CompleteOffers.{untold_serve, lanes_untold}
 use Rattle.pdq_core.proofs.laws.sources_that_do_not_tell_serve.Goals as goal
 
 pub returns-clause-plan : goal.returns-clause-plan
-returns-clause-plan g c = λ schema plan old new. untold_serve g.S.Source.seen schema (IsAccessed schema plan) (used old) (used new)
+returns-clause-plan g c = λ schema. lanes_untold g.S.Source.seen schema
 
 pub returns-clause-rules : goal.returns-clause-rules
 returns-clause-rules g c = λ schema old new. untold_serve g.S.Source.seen schema (RulesName schema) (used old) (used new)

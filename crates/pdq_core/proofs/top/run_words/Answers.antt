@@ -6,7 +6,7 @@ use Rattle.command_io.proofs.Lines.{said_tells}
 use Rattle.command_words.specs.Words.{IsCommand}
 use Rattle.command_words.specs.Words.Command.{Help, Schema, Explain, Run, Exec, Check, Verify, World}
 use Rattle.pdq_core.specs.Runs.Runs.{no_command, help, schema, explain, run, exec, check, verify, world}
-use Rattle.pdq_core.proofs.Ways.{few_explained, few_run, few_checked, units_explained, units_run, small_world, help_with_files, world_with_files}
+use Rattle.pdq_core.proofs.Ways.{few_explained, few_run, few_checked, units_explained, units_run, workers_run, workers_exec, workers_world, small_world, help_with_files, world_with_files}
 use Rattle.pdq_core.proofs.top.run_words.Goals as goal
 
 pub returns-in-None-clause-run : goal.returns-in-None-clause-run
@@ -32,6 +32,9 @@ returns-in-Some-Schema-clause-run g c =
     let is : IsCommand c.args.words.now (Schema c.in-Some-Schema.schema.now) = rw c.in-Some-Schema.field-0-is at c.in-Some-Schema.ensures.some in
     rw c.ended-in-Some-Schema.ensures (schema c.in-Some-Schema.schema.now c.print_schema.result is c.print_schema.ensures.ends refl)
 
+pub returns-in-Some-Schema-clause-stays : goal.returns-in-Some-Schema-clause-stays
+returns-in-Some-Schema-clause-stays g c = c.print_schema.ensures.stays
+
 pub returns-in-Some-Schema-clause-lanes : goal.returns-in-Some-Schema-clause-lanes
 returns-in-Some-Schema-clause-lanes g c = LanesStay-refl g.S.Source.seen c.args.lanes.now.items
 
@@ -40,6 +43,9 @@ returns-in-Some-Explain-clause-run g c =
     let is : IsCommand c.args.words.now (Explain c.in-Some-Explain.schema.now c.in-Some-Explain.query.now c.in-Some-Explain.firings c.in-Some-Explain.search) =
     rw c.in-Some-Explain.field-0-is at c.in-Some-Explain.ensures.some in
     rw c.ended-in-Some-Explain.ensures (explain c.in-Some-Explain.schema.now c.in-Some-Explain.query.now c.in-Some-Explain.firings c.in-Some-Explain.search c.explain_query.result is c.explain_query.ensures.ends refl)
+
+pub returns-in-Some-Explain-clause-stays : goal.returns-in-Some-Explain-clause-stays
+returns-in-Some-Explain-clause-stays g c = c.explain_query.ensures.stays
 
 pub returns-in-Some-Explain-clause-lanes : goal.returns-in-Some-Explain-clause-lanes
 returns-in-Some-Explain-clause-lanes g c = LanesStay-refl g.S.Source.seen c.args.lanes.now.items
@@ -56,30 +62,46 @@ explain_query-requires-clause-units g c =
 
 pub returns-in-Some-Run-clause-run : goal.returns-in-Some-Run-clause-run
 returns-in-Some-Run-clause-run g c =
-    let is : IsCommand c.args.words.now (Run c.in-Some-Run.schema.now c.in-Some-Run.query.now c.in-Some-Run.firings c.in-Some-Run.search) =
-    rw c.in-Some-Run.field-0-is at c.in-Some-Run.ensures.some in
-    rw c.ended-in-Some-Run.ensures (run c.in-Some-Run.schema.now c.in-Some-Run.query.now c.in-Some-Run.firings c.in-Some-Run.search c.run_query.result is c.run_query.ensures.ends)
+    let is : IsCommand c.args.words.now (Run c.in-Some-Run.schema.now c.in-Some-Run.query.now c.in-Some-Run.firings c.in-Some-Run.search c.in-Some-Run.workers) = rw c.in-Some-Run.field-0-is at c.in-Some-Run.ensures.some in
+    rw c.ended-in-Some-Run.ensures (run c.in-Some-Run.schema.now c.in-Some-Run.query.now c.in-Some-Run.firings c.in-Some-Run.search c.in-Some-Run.workers c.run_on_first.result is c.run_on_first.ensures.ends c.run_on_first.ensures.behind)
 
-pub run_query-requires-clause-budget : goal.run_query-requires-clause-budget
-run_query-requires-clause-budget g c κs within =
-    few_run c.args.words.now c.in-Some-Run.schema.now c.in-Some-Run.query.now c.in-Some-Run.firings c.in-Some-Run.search
-    (rw c.in-Some-Run.field-0-is at c.in-Some-Run.ensures.some)
+pub returns-in-Some-Run-clause-stays : goal.returns-in-Some-Run-clause-stays
+returns-in-Some-Run-clause-stays g c = c.run_on_first.ensures.stays
 
-pub run_query-requires-clause-units : goal.run_query-requires-clause-units
-run_query-requires-clause-units g c κs within =
-    units_run c.args.words.now c.in-Some-Run.schema.now c.in-Some-Run.query.now c.in-Some-Run.firings c.in-Some-Run.search
-    (rw c.in-Some-Run.field-0-is at c.in-Some-Run.ensures.some)
+pub returns-in-Some-Run-clause-lanes : goal.returns-in-Some-Run-clause-lanes
+returns-in-Some-Run-clause-lanes g c = c.run_on_first.ensures.lanes
+
+pub run_on_first-requires-clause-budget : goal.run_on_first-requires-clause-budget
+run_on_first-requires-clause-budget g c κs within = few_run c.args.words.now c.in-Some-Run.schema.now c.in-Some-Run.query.now c.in-Some-Run.firings c.in-Some-Run.search c.in-Some-Run.workers (rw c.in-Some-Run.field-0-is at c.in-Some-Run.ensures.some)
+
+pub run_on_first-requires-clause-units : goal.run_on_first-requires-clause-units
+run_on_first-requires-clause-units g c κs within = units_run c.args.words.now c.in-Some-Run.schema.now c.in-Some-Run.query.now c.in-Some-Run.firings c.in-Some-Run.search c.in-Some-Run.workers (rw c.in-Some-Run.field-0-is at c.in-Some-Run.ensures.some)
+
+pub run_on_first-requires-clause-workers : goal.run_on_first-requires-clause-workers
+run_on_first-requires-clause-workers g c κs within = workers_run c.args.words.now c.in-Some-Run.schema.now c.in-Some-Run.query.now c.in-Some-Run.firings c.in-Some-Run.search c.in-Some-Run.workers (rw c.in-Some-Run.field-0-is at c.in-Some-Run.ensures.some)
 
 pub returns-in-Some-Exec-clause-run : goal.returns-in-Some-Exec-clause-run
 returns-in-Some-Exec-clause-run g c =
-    let is : IsCommand c.args.words.now (Exec c.in-Some-Exec.schema.now c.in-Some-Exec.plan.now) = rw c.in-Some-Exec.field-0-is at c.in-Some-Exec.ensures.some in
-    rw c.ended-in-Some-Exec.ensures (exec c.in-Some-Exec.schema.now c.in-Some-Exec.plan.now c.exec_plan.result is c.exec_plan.ensures.ends)
+    let is : IsCommand c.args.words.now (Exec c.in-Some-Exec.schema.now c.in-Some-Exec.plan.now c.in-Some-Exec.workers) = rw c.in-Some-Exec.field-0-is at c.in-Some-Exec.ensures.some in
+    rw c.ended-in-Some-Exec.ensures (exec c.in-Some-Exec.schema.now c.in-Some-Exec.plan.now c.in-Some-Exec.workers c.exec_on_first.result is c.exec_on_first.ensures.ends c.exec_on_first.ensures.behind)
+
+pub returns-in-Some-Exec-clause-stays : goal.returns-in-Some-Exec-clause-stays
+returns-in-Some-Exec-clause-stays g c = c.exec_on_first.ensures.stays
+
+pub returns-in-Some-Exec-clause-lanes : goal.returns-in-Some-Exec-clause-lanes
+returns-in-Some-Exec-clause-lanes g c = c.exec_on_first.ensures.lanes
+
+pub exec_on_first-requires-clause-workers : goal.exec_on_first-requires-clause-workers
+exec_on_first-requires-clause-workers g c κs within = workers_exec c.args.words.now c.in-Some-Exec.schema.now c.in-Some-Exec.plan.now c.in-Some-Exec.workers (rw c.in-Some-Exec.field-0-is at c.in-Some-Exec.ensures.some)
 
 pub returns-in-Some-Check-clause-run : goal.returns-in-Some-Check-clause-run
 returns-in-Some-Check-clause-run g c =
     let is : IsCommand c.args.words.now (Check c.in-Some-Check.schema.now c.in-Some-Check.query.now c.in-Some-Check.plan.now c.in-Some-Check.firings) =
     rw c.in-Some-Check.field-0-is at c.in-Some-Check.ensures.some in
     rw c.ended-in-Some-Check.ensures (check c.in-Some-Check.schema.now c.in-Some-Check.query.now c.in-Some-Check.plan.now c.in-Some-Check.firings c.check_plan.result is c.check_plan.ensures.ends refl)
+
+pub returns-in-Some-Check-clause-stays : goal.returns-in-Some-Check-clause-stays
+returns-in-Some-Check-clause-stays g c = c.check_plan.ensures.stays
 
 pub returns-in-Some-Check-clause-lanes : goal.returns-in-Some-Check-clause-lanes
 returns-in-Some-Check-clause-lanes g c = LanesStay-refl g.S.Source.seen c.args.lanes.now.items
@@ -94,10 +116,24 @@ returns-in-Some-Verify-clause-run g c =
     let is : IsCommand c.args.words.now (Verify c.in-Some-Verify.schema.now) = rw c.in-Some-Verify.field-0-is at c.in-Some-Verify.ensures.some in
     rw c.ended-in-Some-Verify.ensures (verify c.in-Some-Verify.schema.now c.verify_rules.result is c.verify_rules.ensures.ends)
 
+pub returns-in-Some-Verify-clause-stays : goal.returns-in-Some-Verify-clause-stays
+returns-in-Some-Verify-clause-stays g c = c.verify_rules.ensures.stays
+
+pub returns-in-Some-Verify-clause-lanes : goal.returns-in-Some-Verify-clause-lanes
+returns-in-Some-Verify-clause-lanes g c = c.verify_rules.ensures.lanes
+
 pub returns-in-Some-World-clause-run : goal.returns-in-Some-World-clause-run
 returns-in-Some-World-clause-run g c =
-    let is : IsCommand c.args.words.now (World c.in-Some-World.size) = rw c.in-Some-World.field-0-is at c.in-Some-World.ensures.some in
-    rw c.ended-in-Some-World.ensures (world c.in-Some-World.size c.run_world.result is (world_with_files g.S.Source.seen c.in-Some-World.size _ _ _ _ c.run_world.result c.run_world.ensures.ends))
+    let is : IsCommand c.args.words.now (World c.in-Some-World.size c.in-Some-World.workers) = rw c.in-Some-World.field-0-is at c.in-Some-World.ensures.some in
+    rw c.ended-in-Some-World.ensures
+    (world c.in-Some-World.size c.in-Some-World.workers c.world_on_first.result is
+    (world_with_files g.S.Source.seen c.in-Some-World.size _ _ _ _ c.world_on_first.result c.world_on_first.ensures.ends) c.world_on_first.ensures.behind)
 
-pub run_world-requires-clause-small : goal.run_world-requires-clause-small
-run_world-requires-clause-small g c κs within = small_world c.args.words.now c.in-Some-World.size (rw c.in-Some-World.field-0-is at c.in-Some-World.ensures.some)
+pub returns-in-Some-World-clause-lanes : goal.returns-in-Some-World-clause-lanes
+returns-in-Some-World-clause-lanes g c = c.world_on_first.ensures.lanes
+
+pub world_on_first-requires-clause-small : goal.world_on_first-requires-clause-small
+world_on_first-requires-clause-small g c κs within = small_world c.args.words.now c.in-Some-World.size c.in-Some-World.workers (rw c.in-Some-World.field-0-is at c.in-Some-World.ensures.some)
+
+pub world_on_first-requires-clause-workers : goal.world_on_first-requires-clause-workers
+world_on_first-requires-clause-workers g c κs within = workers_world c.args.words.now c.in-Some-World.size c.in-Some-World.workers (rw c.in-Some-World.field-0-is at c.in-Some-World.ensures.some)

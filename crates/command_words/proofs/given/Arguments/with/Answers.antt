@@ -1,4 +1,4 @@
-use Rattle.std.proofs.Common.{◌++◌, ◌∷◌, [], sym, ap, subst, ℕ, refl, ◌≤◌}
+use Rattle.std.proofs.Common.{◌++◌, ◌∷◌, [], sym, ap, subst, refl}
 use Rattle.command_words.specs.Splits.{item_of}
 use Rattle.command_words.specs.Arguments.{Give, MayBe}
 use Rattle.command_words.specs.declared.item.Item.{Item as Lent}
@@ -12,28 +12,28 @@ returns-in_err-with-in-Positional-clause-none c =
     (λ items rest give may. fourth_positional items rest c.in-Positional.word.now c.args.self c.in_err-with-in-Positional.ensures give
     (subst (λ (i : Lent). MayBe (items ++ item_of i ∷ rest)) c.in-Positional.is may))
 
-pub returns-in_err-number_up_to-in-Given-clause-none :
-    goal.returns-in_err-number_up_to-in-Given-clause-none
-returns-in_err-number_up_to-in-Given-clause-none c =
-    none_at c.from_residual-in_err-number_up_to-in-Given.result c.from_residual-in_err-number_up_to-in-Given.ensures
+pub returns-in_err-number_in_range-in-Given-clause-none :
+    goal.returns-in_err-number_in_range-in-Given-clause-none
+returns-in_err-number_in_range-in-Given-clause-none c =
+    none_at c.from_residual-in_err-number_in_range-in-Given.result c.from_residual-in_err-number_in_range-in-Given.ensures
     (λ items rest give may. no_number items rest c.in-Given.option c.in-Given.text.now
-    (λ n le. c.in_err-number_up_to-in-Given.ensures n (subst (λ (m : ℕ). n ≤ m) (sym c.limit.ensures) le))
+    c.in_err-number_in_range-in-Given.ensures
     (subst (λ (i : Lent). MayBe (items ++ item_of i ∷ rest)) c.in-Given.is may))
 
 pub returns-in_ok-with-in-Positional-clause-some :
     goal.returns-in_ok-with-in-Positional-clause-some
 returns-in_ok-with-in-Positional-clause-some c items give =
-    subst (λ (i : Lent). Give (items ++ item_of i ∷ []) (record { positionals = c.in_ok-with-in-Positional.field-0; firings = c.args.self.firings; search = c.args.self.search })) (sym c.in-Positional.is)
-    (give_positional items c.in-Positional.word.now c.args.self (record { positionals = c.in_ok-with-in-Positional.field-0; firings = c.args.self.firings; search = c.args.self.search }) c.in_ok-with-in-Positional.ensures refl refl give)
+    subst (λ (i : Lent). Give (items ++ item_of i ∷ []) (record { positionals = c.in_ok-with-in-Positional.field-0; firings = c.args.self.firings; search = c.args.self.search; workers = c.args.self.workers })) (sym c.in-Positional.is)
+    (give_positional items c.in-Positional.word.now c.args.self (record { positionals = c.in_ok-with-in-Positional.field-0; firings = c.args.self.firings; search = c.args.self.search; workers = c.args.self.workers }) c.in_ok-with-in-Positional.ensures refl refl refl give)
 
-pub returns-in_ok-number_up_to-in-Given-clause-some :
-    goal.returns-in_ok-number_up_to-in-Given-clause-some
-returns-in_ok-number_up_to-in-Given-clause-some c =
-    let number = c.in_ok-number_up_to-in-Given.ensures in
-    with_option c.args.item c.in-Given.option c.in-Given.text.now c.in_ok-number_up_to-in-Given.field-0 c.args.self c.with_number.result (ap item_of c.in-Given.is) number.0
-    (subst (λ (m : ℕ). c.in_ok-number_up_to-in-Given.field-0 ≤ m) c.limit.ensures number.1) c.with_number.ensures.given c.with_number.ensures.positionals c.with_number.ensures.numbers
+pub returns-in_ok-number_in_range-in-Given-clause-some :
+    goal.returns-in_ok-number_in_range-in-Given-clause-some
+returns-in_ok-number_in_range-in-Given-clause-some c =
+    let number = c.in_ok-number_in_range-in-Given.ensures in
+    with_option c.args.item c.in-Given.option c.in-Given.text.now c.in_ok-number_in_range-in-Given.field-0 c.args.self c.with_number.result (ap item_of c.in-Given.is) number.0 number.1
+    c.with_number.ensures.given c.with_number.ensures.positionals c.with_number.ensures.numbers
 
-pub returns-in_ok-number_up_to-in-Given-clause-none :
-    goal.returns-in_ok-number_up_to-in-Given-clause-none
-returns-in_ok-number_up_to-in-Given-clause-none c =
+pub returns-in_ok-number_in_range-in-Given-clause-none :
+    goal.returns-in_ok-number_in_range-in-Given-clause-none
+returns-in_ok-number_in_range-in-Given-clause-none c =
     without_option c.args.item c.in-Given.option c.in-Given.text.now c.args.self c.with_number.result (ap item_of c.in-Given.is) c.with_number.ensures.given

@@ -1,0 +1,113 @@
+// The commands that execute a plan, on the first lanes: as many as there are workers, or all where there are fewer.
+ghost use Rattle.std.specs.Prelude.{◌≡◌, ◌≤◌, ◌++◌, None, take, drop};
+ghost use Rattle.std.specs.Borrow.{sem, LendsBoth, Array};
+ghost use Rattle.source_trait.specs.Lanes.{LanesStay};
+ghost use Rattle.rule_pass.specs.declared.pass.TheConstants.{MOST_FIRINGS};
+ghost use Rattle.proof_search.specs.declared.deciding.TheConstants.{MOST_UNITS};
+ghost use Rattle.command_io.specs.Moments.{Moment, Stays};
+ghost use Rattle.run_command.specs.Ends.{RunEnds};
+ghost use Rattle.run_command.specs.World.{WorldEnds};
+ghost use Rattle.exec_command.specs.Ends.{ExecEnds};
+
+use command_io::{Outcome, Stop};
+use exec_command::exec_plan;
+use lists::Text;
+use run_command::{run_query, run_world};
+use source_trait::{Files, Lane, Sink, Source};
+use std::alloc::Global;
+use std::thread::Threads;
+
+/// `run` on the first lanes. Those behind stay.
+pub fn run_on_first<R: Threads + Sync, F: Files, S: Source + Send + Drop, O: Sink, E: Sink>(
+    rt: &R,
+    alloc: Global,
+    schema: &Text,
+    query: &Text,
+    firings: u32,
+    search: u32,
+    workers: u32,
+    files: &mut F,
+    lanes: &mut Vec<Lane<S>>,
+    out: &mut O,
+    err: &mut E,
+) -> Result<Outcome, Stop>
+    requires budget { firings ≤ MOST_FIRINGS }
+    requires units { search ≤ MOST_UNITS }
+    requires workers { workers ≤ 8 }
+    ensures ends { RunEnds S.seen schema.now query.now firings search
+        (record { files = F.contents files.old; file_faults = F.faults files.old; out = O.taken out.old; out_faults = O.faults out.old; err = E.taken err.old; err_faults = E.faults err.old })
+        (record { files = F.contents files.new; file_faults = F.faults files.new; out = O.taken out.new; out_faults = O.faults out.new; err = E.taken err.new; err_faults = E.faults err.new })
+        (take workers lanes.old.items) (take workers lanes.new.items) result }
+    ensures behind { drop workers lanes.new.items ≡ drop workers lanes.old.items }
+    ensures stays { Stays
+        (record { files = F.contents files.old; file_faults = F.faults files.old; out = O.taken out.old; out_faults = O.faults out.old; err = E.taken err.old; err_faults = E.faults err.old })
+        (record { files = F.contents files.new; file_faults = F.faults files.new; out = O.taken out.new; out_faults = O.faults out.new; err = E.taken err.new; err_faults = E.faults err.new }) }
+    ensures lanes { LanesStay S.seen lanes.old.items lanes.new.items }
+{
+    let (used, _behind) = first_and_behind(lanes.as_mut_slice(), workers as usize);
+    run_query(
+        rt, alloc, schema, query, firings, search, files, used, out, err,
+    )
+}
+
+/// `exec` on the first lanes. Those behind stay.
+pub fn exec_on_first<R: Threads + Sync, F: Files, S: Source + Send + Drop, O: Sink, E: Sink>(
+    rt: &R,
+    alloc: Global,
+    schema: &Text,
+    plan: &Text,
+    workers: u32,
+    files: &mut F,
+    lanes: &mut Vec<Lane<S>>,
+    out: &mut O,
+    err: &mut E,
+) -> Result<Outcome, Stop>
+    requires workers { workers ≤ 8 }
+    ensures ends { ExecEnds S.seen schema.now plan.now
+        (record { files = F.contents files.old; file_faults = F.faults files.old; out = O.taken out.old; out_faults = O.faults out.old; err = E.taken err.old; err_faults = E.faults err.old })
+        (record { files = F.contents files.new; file_faults = F.faults files.new; out = O.taken out.new; out_faults = O.faults out.new; err = E.taken err.new; err_faults = E.faults err.new })
+        (take workers lanes.old.items) (take workers lanes.new.items) result }
+    ensures behind { drop workers lanes.new.items ≡ drop workers lanes.old.items }
+    ensures stays { Stays
+        (record { files = F.contents files.old; file_faults = F.faults files.old; out = O.taken out.old; out_faults = O.faults out.old; err = E.taken err.old; err_faults = E.faults err.old })
+        (record { files = F.contents files.new; file_faults = F.faults files.new; out = O.taken out.new; out_faults = O.faults out.new; err = E.taken err.new; err_faults = E.faults err.new }) }
+    ensures lanes { LanesStay S.seen lanes.old.items lanes.new.items }
+{
+    let (used, _behind) = first_and_behind(lanes.as_mut_slice(), workers as usize);
+    exec_plan(rt, alloc, schema, plan, files, used, out, err)
+}
+
+/// `world` on the first lanes. Those behind stay.
+pub fn world_on_first<R: Threads + Sync, S: Source + Send + Drop, O: Sink, E: Sink>(
+    rt: &R,
+    alloc: Global,
+    size: u32,
+    workers: u32,
+    lanes: &mut Vec<Lane<S>>,
+    out: &mut O,
+    err: &mut E,
+) -> Result<Outcome, Stop>
+    requires small { size ≤ 10000 }
+    requires workers { workers ≤ 8 }
+    ensures ends { WorldEnds S.seen size
+        (record { files = None; file_faults = 0; out = O.taken out.old; out_faults = O.faults out.old; err = E.taken err.old; err_faults = E.faults err.old })
+        (record { files = None; file_faults = 0; out = O.taken out.new; out_faults = O.faults out.new; err = E.taken err.new; err_faults = E.faults err.new })
+        (take workers lanes.old.items) (take workers lanes.new.items) result }
+    ensures behind { drop workers lanes.new.items ≡ drop workers lanes.old.items }
+    ensures lanes { LanesStay S.seen lanes.old.items lanes.new.items }
+    ensures later_out { O.faults out.old ≤ O.faults out.new }
+    ensures later_err { E.faults err.old ≤ E.faults err.new }
+{
+    let (used, _behind) = first_and_behind(lanes.as_mut_slice(), workers as usize);
+    run_world(rt, alloc, size, used, out, err)
+}
+
+// The first of the items, so many or all where there are fewer, and those behind them.
+fn first_and_behind<T>(items: &mut [T], count: usize) -> (&mut [T], &mut [T])
+    ensures* writes_back { sem 𝓛 (LendsBoth (Array T.row 0) (Array T.row 0) (Array T.row 0) items.entry result ◌++◌) }
+    ensures first { result.0.now ≡ take count items.old }
+    ensures behind { result.1.now ≡ drop count items.old }
+{
+    let count = items.len().min(count);
+    items.split_at_mut(count)
+}
