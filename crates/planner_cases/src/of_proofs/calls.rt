@@ -1,9 +1,8 @@
 // Calls that change a proof, one after another.
-ghost use Rattle.std.specs.Prelude.{IfOk, OnOk, false};
+ghost use Rattle.std.specs.Prelude.{IfOk, OnOk};
 ghost use Rattle.meaning.specs.Runs.{IsBaseQuiet};
 ghost use Rattle.access_schema.specs.Meaning.{meaning_of};
 ghost use Rattle.accessible_copy.specs.Proving.{IsProofOf, IsOrdered};
-ghost use Rattle.accessible_copy.specs.Settling.{Settles};
 
 use super::queries::query;
 use super::schemas::words;
@@ -62,9 +61,9 @@ pub(crate) fn start(
 
 /// Fails where a base trigger is active: with no firing to spend, a pass makes none.
 fn is_quiet(alloc: Global, proof: &mut Proof, schema: &Schema) -> Result<(), Fail>
-    requires { IsProofOf (meaning_of schema.now) proof.old }
+    requires run { IsProofOf (meaning_of schema.now) proof.old }
     ensures run { IsProofOf (meaning_of schema.now) proof.new }
-    ensures more { Settles (meaning_of schema.now) false proof.old proof.new }
+    ensures ordered { IsOrdered (meaning_of schema.now) proof.old → IsOrdered (meaning_of schema.now) proof.new }
     ensures quiet { OnOk result (IsBaseQuiet (meaning_of schema.now) proof.new.end) }
 {
     match settle(alloc, proof, schema, false, 0)? {
