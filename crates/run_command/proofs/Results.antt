@@ -16,14 +16,15 @@ use Rattle.source_trait.specs.declared.lanes.Lane.{Lane}
 use Rattle.row_text.specs.RowText.{IsRowText}
 use Rattle.row_text.proofs.Texts.{IsRowText-alike}
 use Rattle.middleware.specs.declared.fault.Run.{Run}
-use Rattle.middleware.specs.Held.{Holds}
+use Rattle.middleware.specs.LaneBranches.{LanesHoldPlan}
+use Rattle.middleware.specs.Executing.{Executes}
 use Rattle.command_io.specs.declared.stop.Stop.{Stop}
 use Rattle.command_io.specs.declared.delivery.TheConstants.{CALLS}
 use Rattle.command_io.specs.FaultLines.{Names}
 use Rattle.command_io.specs.Moments.{Moment, Between}
 use Rattle.command_io.specs.Writing.{TookAll}
 use Rattle.command_io.specs.Telling.{Tells}
-use Rattle.command_io.specs.Executing.{Executes, Delivers}
+use Rattle.command_io.specs.Executing.{Delivers}
 use Rattle.command_io.specs.Reports.{summary}
 use Rattle.command_io.specs.Executing.Delivers.{done as delivered_all, no_rows, no_text as no_text_made, cut as delivered_part}
 use Rattle.sql_select.specs.Statements.{result_names}
@@ -57,10 +58,10 @@ module _ {S : Type 0} (seen : S → Seen) (schema : Schema) (statement : Stateme
       IsResult seen schema statement new plan run text
   result_of run text executes of_rows = record { given = rw named of_rows; rows = rows; answers = answers }
     where
-      rows : (instance : List Fact) → Holds seen schema plan new instance → IsRowText (result_names statement.selects) (IsRow (meaning_of schema) plan instance) text
+      rows : (instance : List Fact) → LanesHoldPlan seen schema plan new instance → IsRowText (result_names statement.selects) (IsRow (meaning_of schema) plan instance) text
       rows instance holds = rw named (IsRowText-alike columns (Contains run.rows) (IsRow (meaning_of schema) plan instance) text (executes.rows instance holds) of_rows)
 
-      answers : (instance : List Fact) → Holds seen schema plan new instance → IsModel (meaning_of schema) instance → IsRowText (result_names statement.selects) (Answers statement instance) text
+      answers : (instance : List Fact) → LanesHoldPlan seen schema plan new instance → IsModel (meaning_of schema) instance → IsRowText (result_names statement.selects) (Answers statement instance) text
       answers instance holds model = IsRowText-alike (result_names statement.selects) (IsRow (meaning_of schema) plan instance) (Answers statement instance) text
           (λ row. (is.is.equivalent.sound instance row model, is.is.equivalent.complete instance row model)) (rows instance holds)
 

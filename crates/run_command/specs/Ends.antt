@@ -16,7 +16,8 @@ use Rattle.source_trait.specs.declared.lanes.Lane.{Lane}
 use Rattle.row_text.specs.RowText.{IsRowText}
 use Rattle.middleware.specs.declared.fault.Run.{Run}
 use Rattle.middleware.specs.declared.fault.RunFault.{RunFault}
-use Rattle.middleware.specs.Held.{Holds}
+use Rattle.middleware.specs.LaneBranches.{LanesHoldPlan}
+use Rattle.middleware.specs.Executing.{Executes}
 use Rattle.command_io.specs.declared.stop.Stop.{Stop}
 use Rattle.command_io.specs.declared.stop.Stop.TheVariants as stop
 use Rattle.command_io.specs.declared.outcome.Outcome.{Outcome}
@@ -27,7 +28,7 @@ use Rattle.command_io.specs.Moments.{Moment, Between, ResultStop, DecisionStop}
 use Rattle.command_io.specs.Writing.{TookAll, TookPart}
 use Rattle.command_io.specs.FaultLines.{Names}
 use Rattle.command_io.specs.Telling.{StopsFor}
-use Rattle.command_io.specs.Executing.{Executes, stop_of_run}
+use Rattle.command_io.specs.Executing.{stop_of_run}
 use Rattle.no_plan_witness.specs.declared.decision.Chosen.{Chosen}
 use Rattle.no_plan_witness.specs.declared.decision.Decision.{Decision}
 use Rattle.explain.specs.Printing.{IsDecisionText, planned_text, undecided_text}
@@ -35,13 +36,13 @@ use Rattle.proof_search.specs.Decisions.{IsUndecided}
 use Rattle.run_command.specs.Deciding.{IsPlanned, IsDecided, IsRefuted, TookPartOf}
 use Rattle.run_command.specs.Texts.{TextsStop}
 
--- The text is that of the rows that the execution gave. They are the plan's on whatever instance the sources hold, and so the
--- statement's answers where the instance meets the rules.
+-- The text is that of the rows that the execution gave. They are the plan's on whatever instance the sources of each lane hold, and so
+-- the statement's answers where the instance meets the rules.
 pub record IsResult {S : Type 0} (seen : S → Seen) (schema : Schema) (statement : Statement) (lanes : List (Lane S)) (plan : Plan) (run : Run) (text : List ℕ) : Type 0 where
   pub given : IsRowText (result_names statement.selects) (Contains run.rows) text
-  pub rows : (instance : List Fact) → Holds seen schema plan lanes instance →
+  pub rows : (instance : List Fact) → LanesHoldPlan seen schema plan lanes instance →
       IsRowText (result_names statement.selects) (IsRow (meaning_of schema) plan instance) text
-  pub answers : (instance : List Fact) → Holds seen schema plan lanes instance → IsModel (meaning_of schema) instance →
+  pub answers : (instance : List Fact) → LanesHoldPlan seen schema plan lanes instance → IsModel (meaning_of schema) instance →
       IsRowText (result_names statement.selects) (Answers statement instance) text
 
 -- What became of a statement: nothing was decided; or standard error took the text of a decision, whole or not; and where that was a

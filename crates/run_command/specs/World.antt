@@ -18,7 +18,7 @@ use Rattle.sql_select.specs.Statements.{IsStatementText, IsSqlFault}
 use Rattle.sql_select.specs.declared.fault.SqlFault.{SqlFault}
 use Rattle.sql_select.specs.declared.fault.SqlFault.TheVariants as query_fault
 use Rattle.middleware.specs.declared.fault.Run.{Run}
-use Rattle.middleware.specs.Held.{Holds}
+use Rattle.middleware.specs.LaneBranches.{LanesHoldPlan}
 use Rattle.command_io.specs.declared.stop.Stop.{Stop}
 use Rattle.command_io.specs.declared.stop.Stop.TheVariants as stop
 use Rattle.command_io.specs.declared.outcome.Outcome.{Outcome}
@@ -31,12 +31,12 @@ use Rattle.run_command.specs.declared.world.TheConstants.{FIRINGS, UNITS}
 
 -- ---- the summary of an execution
 
--- The text is the summary of the requests and the rows of the execution. They are the plan's on whatever instance the sources hold, and
+-- The text is the summary of the requests and the rows of the execution. They are the plan's on whatever instance the sources of each lane hold, and
 -- so the statement's answers where the instance meets the rules.
 pub record IsSummary {S : Type 0} (seen : S → Seen) (size : ℕ) (schema : Schema) (statement : Statement) (lanes : List (Lane S)) (plan : Plan) (run : Run) (text : List ℕ) : Type 0 where
   pub given : text ≡ summary size run.made run.rows
-  pub rows : (instance : List Fact) → Holds seen schema plan lanes instance → (row : List (List ℕ)) → Contains run.rows row ↔ IsRow (meaning_of schema) plan instance row
-  pub answers : (instance : List Fact) → Holds seen schema plan lanes instance → IsModel (meaning_of schema) instance →
+  pub rows : (instance : List Fact) → LanesHoldPlan seen schema plan lanes instance → (row : List (List ℕ)) → Contains run.rows row ↔ IsRow (meaning_of schema) plan instance row
+  pub answers : (instance : List Fact) → LanesHoldPlan seen schema plan lanes instance → IsModel (meaning_of schema) instance →
       (row : List (List ℕ)) → Contains run.rows row ↔ Answers statement instance row
 
 -- ---- ends

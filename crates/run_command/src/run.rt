@@ -1,5 +1,5 @@
 // A query, from the texts of its files to its answer.
-ghost use Rattle.std.specs.Prelude.{◌≡◌, ◌≤◌, None};
+ghost use Rattle.std.specs.Prelude.{◌≡◌, ◌≤◌, None, length};
 ghost use Rattle.source_trait.specs.Causes.{Rose};
 ghost use Rattle.source_trait.specs.Lanes.{LanesStay};
 ghost use Rattle.sql_select.specs.Statements.{StatementFits};
@@ -18,32 +18,35 @@ use no_plan_witness::Decision;
 use source_trait::{Files, Lane, Sink, Source};
 use sql_select::result_names;
 use std::alloc::Global;
+use std::thread::Threads;
 
 /// Answers the query of the second file over the schema of the first, and says why it stopped.
 ///
 /// The decision, with at most so many firings for the proof of each select and so many units for the search of a cheaper branch, is written to `err` before any source is attached, and
-/// where it is a plan, the answer to `out`.
-pub fn run_query<F: Files, S: Source + Send + Drop, O: Sink, E: Sink>(
+/// where it is a plan, the answer to `out`. The plan is executed on all of the lanes, of which there are at most 8.
+pub fn run_query<R: Threads + Sync, F: Files, S: Source + Send + Drop, O: Sink, E: Sink>(
+    rt: &R,
     alloc: Global,
     schema_name: &Text,
     query_name: &Text,
     firings: u32,
     search: u32,
     files: &mut F,
-    lanes: &mut Vec<Lane<S>>,
+    lanes: &mut [Lane<S>],
     out: &mut O,
     err: &mut E,
 ) -> Result<Outcome, Stop>
     requires budget { firings ≤ MOST_FIRINGS }
     requires units { search ≤ MOST_UNITS }
+    requires lanes { length lanes.old ≤ 8 }
     ensures ends { RunEnds S.seen schema_name.now query_name.now firings search
         (record { files = F.contents files.old; file_faults = F.faults files.old; out = O.taken out.old; out_faults = O.faults out.old; err = E.taken err.old; err_faults = E.faults err.old })
         (record { files = F.contents files.new; file_faults = F.faults files.new; out = O.taken out.new; out_faults = O.faults out.new; err = E.taken err.new; err_faults = E.faults err.new })
-        lanes.old.items lanes.new.items result }
+        lanes.old lanes.new result }
     ensures stays { Stays
         (record { files = F.contents files.old; file_faults = F.faults files.old; out = O.taken out.old; out_faults = O.faults out.old; err = E.taken err.old; err_faults = E.faults err.old })
         (record { files = F.contents files.new; file_faults = F.faults files.new; out = O.taken out.new; out_faults = O.faults out.new; err = E.taken err.new; err_faults = E.faults err.new }) }
-    ensures lanes { LanesStay S.seen lanes.old.items lanes.new.items }
+    ensures lanes { LanesStay S.seen lanes.old lanes.new }
 {
     let none = Text::new(String::new(alloc));
     let names = FileNames {
@@ -55,15 +58,16 @@ pub fn run_query<F: Files, S: Source + Send + Drop, O: Sink, E: Sink>(
         Ok((schema, statement)) => {
             let report = Report::Rows(result_names(&statement));
             answer(
-                alloc, names, &schema, &statement, firings, search, report, lanes, out, err,
+                rt, alloc, names, &schema, &statement, firings, search, report, lanes, out, err,
             )
         }
         Err(stop) => Err(stop),
     }
 }
 
-/// Decides the statement, writes the decision to `err`, and where it is a plan, executes it and writes the report of that to `out`.
-pub fn answer<S: Source + Send + Drop, O: Sink, E: Sink>(
+/// Decides the statement, writes the decision to `err`, and where it is a plan, executes it on all of the lanes and writes the report of that to `out`.
+pub fn answer<R: Threads + Sync, S: Source + Send + Drop, O: Sink, E: Sink>(
+    rt: &R,
     alloc: Global,
     names: FileNames<'_>,
     schema: &Schema,
@@ -71,18 +75,19 @@ pub fn answer<S: Source + Send + Drop, O: Sink, E: Sink>(
     firings: u32,
     search: u32,
     report: Report<'_>,
-    lanes: &mut Vec<Lane<S>>,
+    lanes: &mut [Lane<S>],
     out: &mut O,
     err: &mut E,
 ) -> Result<Outcome, Stop>
     requires fits { StatementFits schema.now statement.now }
     requires budget { firings ≤ MOST_FIRINGS }
     requires units { search ≤ MOST_UNITS }
+    requires lanes { length lanes.old ≤ 8 }
     ensures ends { StatementEnds S.seen schema.now statement.now firings search (λ plan. IsReport report.entry) (record { schema = names.entry.schema.now; query = names.entry.query.now; plan = names.entry.plan.now; relations = schema.now.relations })
         (record { files = None; file_faults = 0; out = O.taken out.old; out_faults = O.faults out.old; err = E.taken err.old; err_faults = E.faults err.old })
         (record { files = None; file_faults = 0; out = O.taken out.new; out_faults = O.faults out.new; err = E.taken err.new; err_faults = E.faults err.new })
-        lanes.old.items lanes.new.items result }
-    ensures lanes { LanesStay S.seen lanes.old.items lanes.new.items }
+        lanes.old lanes.new result }
+    ensures lanes { LanesStay S.seen lanes.old lanes.new }
     ensures later_out { O.faults out.old ≤ O.faults out.new }
     ensures later_err { E.faults err.old ≤ E.faults err.new }
 {
@@ -100,7 +105,7 @@ pub fn answer<S: Source + Send + Drop, O: Sink, E: Sink>(
         Decision::NoPlan(_) => return Ok(Outcome::No),
         Decision::Undecided { select: _, log: _ } => return Ok(Outcome::Undecided),
     };
-    match deliver(alloc, schema, plan, report, lanes, out) {
+    match deliver(rt, alloc, schema, plan, report, lanes, out) {
         Ok(()) => Ok(Outcome::Done),
         Err(stop) => Err(tell(alloc, err, stop, names, relations)),
     }

@@ -15,6 +15,7 @@ use meaning::types::Statement;
 use source_trait::{Lane, Sink, Source};
 use sql_select::{SqlFault, read_select};
 use std::alloc::Global;
+use std::thread::Threads;
 use tgd_reader::{ReadFault, read_schema};
 use world_source::{WorldTexts, world};
 
@@ -24,22 +25,25 @@ pub const FIRINGS: u32 = 10_000;
 /// How many units the search for a cheaper branch may take there.
 pub const UNITS: u32 = 10_000;
 
-/// Answers the query of the world of a size over the lanes, and says why it stopped.
+/// Answers the query of the world of a size, and says why it stopped.
 ///
-/// The decision is written to `err` before any source is attached, and where it is a plan, the summary of its execution to `out`.
-pub fn run_world<S: Source + Send + Drop, O: Sink, E: Sink>(
+/// The decision is written to `err` before any source is attached, and where it is a plan, the summary of its execution on all of the
+/// lanes, of which there are at most 8, to `out`.
+pub fn run_world<R: Threads + Sync, S: Source + Send + Drop, O: Sink, E: Sink>(
+    rt: &R,
     alloc: Global,
     size: u32,
-    lanes: &mut Vec<Lane<S>>,
+    lanes: &mut [Lane<S>],
     out: &mut O,
     err: &mut E,
 ) -> Result<Outcome, Stop>
     requires small { size ≤ 10000 }
+    requires lanes { length lanes.old ≤ 8 }
     ensures ends { WorldEnds S.seen size
         (record { files = None; file_faults = 0; out = O.taken out.old; out_faults = O.faults out.old; err = E.taken err.old; err_faults = E.faults err.old })
         (record { files = None; file_faults = 0; out = O.taken out.new; out_faults = O.faults out.new; err = E.taken err.new; err_faults = E.faults err.new })
-        lanes.old.items lanes.new.items result }
-    ensures lanes { LanesStay S.seen lanes.old.items lanes.new.items }
+        lanes.old lanes.new result }
+    ensures lanes { LanesStay S.seen lanes.old lanes.new }
     ensures later_out { O.faults out.old ≤ O.faults out.new }
     ensures later_err { E.faults err.old ≤ E.faults err.new }
 {
@@ -51,6 +55,7 @@ pub fn run_world<S: Source + Send + Drop, O: Sink, E: Sink>(
     };
     match read_world(alloc, size) {
         Ok((schema, statement)) => answer(
+            rt,
             alloc,
             names,
             &schema,

@@ -16,7 +16,7 @@ returns-in-Err-clause-ends g c = no_decision c.tell.result (record {
 }) refl refl
 
 pub returns-in-Err-clause-lanes : goal.returns-in-Err-clause-lanes
-returns-in-Err-clause-lanes g c = LanesStay-refl g.S.Source.seen c.args.lanes.now.items
+returns-in-Err-clause-lanes g c = LanesStay-refl g.S.Source.seen c.args.lanes.now
 
 pub returns-in-Err-write_decision-clause-ends : goal.returns-in-Err-write_decision-clause-ends
 returns-in-Err-write_decision-clause-ends g c =
@@ -29,7 +29,7 @@ returns-in-Err-write_decision-clause-ends g c =
     }) refl refl
 
 pub returns-in-Err-write_decision-clause-lanes : goal.returns-in-Err-write_decision-clause-lanes
-returns-in-Err-write_decision-clause-lanes g c = LanesStay-refl g.S.Source.seen c.args.lanes.now.items
+returns-in-Err-write_decision-clause-lanes g c = LanesStay-refl g.S.Source.seen c.args.lanes.now
 
 pub returns-in-NoPlan-clause-ends : goal.returns-in-NoPlan-clause-ends
 returns-in-NoPlan-clause-ends g c =
@@ -37,7 +37,7 @@ returns-in-NoPlan-clause-ends g c =
     _ _ _ _ _ _ refl refl c.in-NoPlan.field-0 c.in-NoPlan.is c.in-Ok-write_decision.ensures.whole
 
 pub returns-in-NoPlan-clause-lanes : goal.returns-in-NoPlan-clause-lanes
-returns-in-NoPlan-clause-lanes g c = LanesStay-refl g.S.Source.seen c.args.lanes.now.items
+returns-in-NoPlan-clause-lanes g c = LanesStay-refl g.S.Source.seen c.args.lanes.now
 
 pub returns-in-Undecided-clause-ends : goal.returns-in-Undecided-clause-ends
 returns-in-Undecided-clause-ends g c =
@@ -45,7 +45,7 @@ returns-in-Undecided-clause-ends g c =
     _ _ _ _ _ _ refl refl c.in-Undecided.select c.in-Undecided.log c.in-Undecided.is c.in-Ok-write_decision.ensures.whole
 
 pub returns-in-Undecided-clause-lanes : goal.returns-in-Undecided-clause-lanes
-returns-in-Undecided-clause-lanes g c = LanesStay-refl g.S.Source.seen c.args.lanes.now.items
+returns-in-Undecided-clause-lanes g c = LanesStay-refl g.S.Source.seen c.args.lanes.now
 
 pub deliver-requires-clause-lawful : goal.deliver-requires-clause-lawful
 deliver-requires-clause-lawful g c κs within =

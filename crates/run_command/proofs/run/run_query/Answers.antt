@@ -19,4 +19,4 @@ pub returns-clause-ends : goal.returns-clause-ends
 returns-clause-ends g c = refused c.in-Err.stop (texts_with_out _ _ _ c.in-Err.stop (rw (c.new-none.ensures, c.new.ensures.bytes) at c.in-Err.ensures.stops)) refl refl
 
 pub returns-clause-lanes : goal.returns-clause-lanes
-returns-clause-lanes g c = LanesStay-refl g.S.Source.seen c.args.lanes.now.items
+returns-clause-lanes g c = LanesStay-refl g.S.Source.seen c.args.lanes.now

@@ -21,4 +21,4 @@ returns-clause-ends g c = refused c.tell.result (record {
 }) refl refl
 
 pub returns-clause-lanes : goal.returns-clause-lanes
-returns-clause-lanes g c = LanesStay-refl g.S.Source.seen c.args.lanes.now.items
+returns-clause-lanes g c = LanesStay-refl g.S.Source.seen c.args.lanes.now
