@@ -1,35 +1,32 @@
 -- What attaching relations one after another does to a lane.
-use Rattle.std.proofs.Common.{◌≡◌, ◌≢◌, ◌⊎◌, inl, inr, ⊎_elim, ◌+◌, ◌≤◌, ◌<◌, ℕ, suc, List, [], ◌∷◌, ◌++◌, length, map, take, get_or, Option, None, Some, Bool, true, false, cond, not, ◌&&◌, nat_eq, refl, sym, ◌∙◌, ap, subst, arith}
-use Rattle.std.specs.Prelude.{Contains, IfSome, IsSome, IsSomeAnd, IsOk, OnOk, OnErr, option_map, slice_get, Ok, Err, Result}
+use Rattle.std.proofs.Common.{◌≡◌, ◌≢◌, ◌⊎◌, inl, inr, ◌+◌, ◌<◌, ℕ, suc, List, [], ◌∷◌, ◌++◌, length, map, take, get_or, Option, None, Some, Bool, true, false, cond, not, ◌&&◌, nat_eq, refl, sym, ◌∙◌, ap, subst, arith}
+use Rattle.std.specs.Prelude.{Contains, IfSome, IsSome, IsSomeAnd, IsOk, option_map, slice_get, Ok, Err, Result}
 use Rattle.std.specs.Option.{is_some}
 use Rattle.std.specs.List.{filter, AllByRecursion}
-use Rattle.std.proofs.lemmas.Bool.{cases_eq}
 use Rattle.std.proofs.lemmas.Bool.Decides.{nat_tests}
-use Rattle.std.proofs.lemmas.List.{map-append, append-nil, take_more, take_all}
+use Rattle.std.proofs.lemmas.List.{map-append, append-nil, take_more}
 use Rattle.std.proofs.lemmas.Option.{slice_get-get_or}
 use Rattle.std.proofs.lemmas.List.Elements.{filter-append}
-use Rattle.lists.proofs.Members.{some_injective, contains_here, contains_there, contains_cases, contains_got}
+use Rattle.lists.proofs.Members.{some_injective, contains_here, contains_there, contains_cases}
 use Rattle.meaning.specs.declared.types.Fact.{Fact}
 use Rattle.meaning.specs.declared.types.Method.{Method}
 use Rattle.meaning.specs.declared.types.Relation.{Relation}
-use Rattle.meaning.specs.declared.types.Plan.{Plan}
 use Rattle.meaning.specs.declared.types.Request.{Request}
 use Rattle.access_schema.specs.declared.schema.Schema.{Schema}
 use Rattle.access_schema.specs.declared.schema.SourceLine.{SourceLine}
 use Rattle.source_trait.specs.Asking.{RowList, Seen, Attached, AttachGives, Takes, CanAsk, Rises, pick, without, facts_of, offered_now}
-use Rattle.source_trait.specs.Lanes.{names_of, place_from, source_of, KindsStay}
+use Rattle.source_trait.specs.Lanes.{place_from, source_of, KindsStay}
 use Rattle.source_trait.specs.declared.source.AttachFault.{AttachFault}
 use Rattle.source_trait.specs.declared.source.AttachFault.TheVariants as attach
 use Rattle.source_trait.specs.declared.lanes.Kind.{Kind}
 use Rattle.source_trait.proofs.LaneSteps.{StepsOn-stays, StepsOn-source, StepsAt-source, KindsStay-refl, KindsStay-trans, KindsStay-names}
-use Rattle.middleware.specs.PlanSources.{line_for, IsAccessed}
-use Rattle.middleware.specs.Attaching.{IsTouched, TouchesPlan, OnlyFirst, IsAttached, AttachesOne, AttachesInOrder, TellsSame}
-use Rattle.middleware.specs.Asked.{of_kind, AskedJust, AsksLane}
+use Rattle.middleware.specs.PlanSources.{line_for}
+use Rattle.middleware.specs.Attaching.{IsAttached, AttachesOne, AttachesInOrder, TellsSame}
+use Rattle.middleware.specs.Asked.{AsksLane}
 use Rattle.middleware.specs.Branches.{IsAskable}
 use Rattle.middleware.specs.Rounds.{CanAskAll}
 use Rattle.middleware.specs.Sources.{IsPlaced, AttachBreaks}
-use Rattle.middleware.proofs.Answering.{twice, asked_nothing}
-use Rattle.middleware.proofs.LaneRuns.{placed, later_source, earlier_source, StepsOn-only, OnlyFirst-refl, OnlyFirst-trans}
+use Rattle.middleware.proofs.LaneRuns.{placed, later_source, earlier_source}
 
 -- ---- what is picked after the data of a relation were replaced
 
@@ -163,13 +160,6 @@ all_below (x ∷ xs) n each = (each x (contains_here x xs), all_below xs n (λ p
 
 module _ {S : Type 0} (seen : S → Seen) where
   module _ (schema : Schema) where
-    -- requests of nothing, and then of more
-    pub asked_after : (requests : List Request) (old mid new : List (Kind S)) → KindsStay seen old mid → AskedJust seen schema [] old mid → AskedJust seen schema requests mid new → AskedJust seen schema requests old new
-    asked_after requests old mid new stay h k kind before after was now =
-        let (between, at, less) = later_source seen old mid kind before stay was in
-        k kind between after at now ∙ ap (option_map (λ (asked : List Request). asked ++ of_kind schema kind requests)) (h kind before between was at)
-        ∙ twice [] (of_kind schema kind requests) ((seen before).asked)
-
     module _ (rel : ℕ) (result : Result (Unit {0}) AttachFault) (old new : List (Kind S)) (one : AttachesOne seen schema rel result old new) where
       abbrev Gives : S → S → Type 0
       Gives s t = AttachGives (seen s) (seen t) rel one.relation.columns one.line.locator result
@@ -189,72 +179,15 @@ module _ {S : Type 0} (seen : S → Seen) where
                 inr (subst (λ (s : S). Gives s after) first (subst (λ (t : S). Gives moved.before t) last moved.steps))
           ]
 
-      pub one_asked : AskedJust seen schema [] old new
-      one_asked kind before after was now = elim (one_source kind before after was now) [
-        | inl same ↦ ap (λ (s : S). (seen s).asked) same ∙ asked_nothing ((seen before).asked)
-        | inr gives ↦ gives.asked ∙ asked_nothing ((seen before).asked)
-      ]
-
       one_offers : (kind : List ℕ) (before after : S) → source_of old kind ≡ Some before → source_of new kind ≡ Some after → (seen after).offer ≡ (seen before).offer
       one_offers kind before after was now = elim (one_source kind before after was now) [
         | inl same ↦ ap (λ (s : S). (seen s).offer) same
         | inr gives ↦ gives.offers
       ]
 
-      pub one_only : (plan : Plan) → IsAccessed schema plan rel → OnlyFirst (TouchesPlan seen schema plan) old new
-      one_only plan accessed = StepsOn-only old new one.line.kind Gives (TouchesPlan seen schema plan) touches one.steps
-        where
-          own : (s t : S) → Gives s t → ((seen t).attached rel ≡ Some (one.relation.columns, one.line.locator)) ⊎ ((seen t).attached rel ≡ None)
-          own s t gives = by result gives.attached gives.detached
-            where
-              by : (r : Result (Unit {0}) AttachFault) → OnOk r ((seen t).attached rel ≡ Some (one.relation.columns, one.line.locator)) → OnErr r ((seen t).attached rel ≡ None)
-                  → ((seen t).attached rel ≡ Some (one.relation.columns, one.line.locator)) ⊎ ((seen t).attached rel ≡ None)
-              by (Ok x) a d = inl a
-              by (Err e) a d = inr d
-
-          touches : (s t : S) → Gives s t → TouchesPlan seen schema plan one.line.kind s t
-          touches s t gives r = elim (cases_eq r rel) [
-            | inl at ↦ inr (subst (λ n. IsTouched schema plan one.line.kind n (seen t)) (sym at) (record {
-              relation = one.relation;
-              line = one.line;
-              is_source = record { accessed = accessed; relation_is = one.relation_is; line_is = one.line_is };
-              of_kind = refl;
-              attached = own s t gives;
-            }))
-            | inr apart ↦ inl (gives.others r apart)
-          ]
-
-    -- touching relations of the plan goes on
-    pub touches_on : (plan : Plan) (kind : List ℕ) (s t u : S) → TouchesPlan seen schema plan kind s t → TouchesPlan seen schema plan kind t u → TouchesPlan seen schema plan kind s u
-    touches_on plan kind s t u h k rel = elim (k rel) [
-      | inr touched ↦ inr touched
-      | inl same ↦ elim (h rel) [
-        | inl before ↦ inl (same ∙ before)
-        | inr touched ↦ inr (record {
-          relation = touched.relation;
-          line = touched.line;
-          is_source = touched.is_source;
-          of_kind = touched.of_kind;
-          attached = ⊎_elim (λ e. inl (same ∙ e)) (λ e. inr (same ∙ e)) touched.attached;
-        })
-      ]
-    ]
-
     pub order_stays : (rels : List ℕ) (old new : List (Kind S)) → AttachesInOrder seen schema rels old new → KindsStay seen old new
     order_stays [] old new e = subst (λ (l : List (Kind S)). KindsStay seen old l) (sym e) (KindsStay-refl seen old)
     order_stays (rel ∷ rels) old new (mid, one, rest) = KindsStay-trans seen old mid new (one_stays rel (Ok tt) old mid one) (order_stays rels mid new rest)
-
-    pub order_asked : (rels : List ℕ) (old new : List (Kind S)) → AttachesInOrder seen schema rels old new → AskedJust seen schema [] old new
-    order_asked [] old new e kind before after was now =
-        ap (λ (s : S). (seen s).asked) (some_injective after before (sym now ∙ ap (λ (l : List (Kind S)). source_of l kind) e ∙ was)) ∙ asked_nothing ((seen before).asked)
-    order_asked (rel ∷ rels) old new (mid, one, rest) kind before after was now =
-        asked_after [] old mid new (one_stays rel (Ok tt) old mid one) (one_asked rel (Ok tt) old mid one) (order_asked rels mid new rest) kind before after was now
-
-    pub order_only : (plan : Plan) (rels : List ℕ) → ((rel : ℕ) → Contains rels rel → IsAccessed schema plan rel) → (old new : List (Kind S)) → AttachesInOrder seen schema rels old new → OnlyFirst (TouchesPlan seen schema plan) old new
-    order_only plan [] are old new e = subst (λ (l : List (Kind S)). OnlyFirst (TouchesPlan seen schema plan) old l) (sym e) (OnlyFirst-refl (TouchesPlan seen schema plan) old)
-    order_only plan (rel ∷ rels) are old new (mid, one, rest) =
-        OnlyFirst-trans seen (TouchesPlan seen schema plan) (touches_on plan) old mid new (one_stays rel (Ok tt) old mid one) (one_only rel (Ok tt) old mid one plan (are rel (contains_here rel rels)))
-        (order_only plan rels (λ r c. are r (contains_there rel rels r c)) mid new rest)
 
     -- one attach more at the end
     pub order_more : (rels : List ℕ) (rel : ℕ) (old mid new : List (Kind S)) → AttachesInOrder seen schema rels old mid → AttachesOne seen schema rel (Ok tt) mid new → AttachesInOrder seen schema (rels ++ rel ∷ []) old new
@@ -385,9 +318,6 @@ module _ {S : Type 0} (seen : S → Seen) where
     pub order_break : (rels : List ℕ) (i : ℕ) → i < length rels → (why : AttachFault) (old mid new : List (Kind S)) → AttachesInOrder seen schema (take i rels) old mid → AttachesOne seen schema (get_or rels i 0) (Err why) mid new → AttachBreaks seen schema rels (get_or rels i 0) why old new
     order_break rels i less why old mid new order one = record { n = i; at = slice_get-get_or rels i 0 less; middle = mid; attached = order; refused = one }
 
-    pub order_whole : (rels : List ℕ) (i : ℕ) → length rels ≤ i → (old new : List (Kind S)) → AttachesInOrder seen schema (take i rels) old new → AttachesInOrder seen schema rels old new
-    order_whole rels i over old new order = subst (λ (r : List ℕ). AttachesInOrder seen schema r old new) (take_all i rels over) order
-
     -- a relation keeps its place on the lane
     pub placed_later : (rels : List ℕ) (rel : ℕ) (old mid : List (Kind S)) → AttachesInOrder seen schema rels old mid → IsPlaced schema old rel → IsPlaced schema mid rel
     placed_later rels rel old mid order p = record {
@@ -402,14 +332,3 @@ module _ {S : Type 0} (seen : S → Seen) where
 module _ {S : Type 0} (schema : Schema) (kinds : List (Kind S)) (rel : ℕ) (placed : IsPlaced schema kinds rel) where
   pub relation_missing : None ≡ slice_get schema.relations rel → ⊥
   relation_missing e = let h : None ≡ Some placed.relation = e ∙ placed.relation_is in cc
-
-  pub place_of_line : (line : SourceLine) → line_for rel schema.sources ≡ Some line → IsSome (place_from 0 line.kind (names_of kinds))
-  place_of_line line is =
-      let same : placed.line ≡ line = some_injective placed.line line (sym placed.line_is ∙ is) in
-      subst (λ (l : SourceLine). IsSome (place_from 0 l.kind (names_of kinds))) same placed.place
-
-pub columns_some : (schema : Schema) (rel : ℕ) (relation : Relation) → Some relation ≡ slice_get schema.relations rel → 1 ≤ length relation.columns
-columns_some schema rel relation e = (schema.valid.relations_are.columns relation (contains_got schema.relations rel relation (sym e))).some
-
-pub columns_few : (schema : Schema) (rel : ℕ) (relation : Relation) → Some relation ≡ slice_get schema.relations rel → length relation.columns ≤ 64
-columns_few schema rel relation e = (schema.valid.relations_are.columns relation (contains_got schema.relations rel relation (sym e))).few

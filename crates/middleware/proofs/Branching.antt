@@ -1,10 +1,9 @@
--- The rounds of a branch: one more, one that stopped, and the output after all.
-use Rattle.std.proofs.Common.{◌≡◌, ◌↔◌, inl, inr, ⊎_elim, ℕ, zero, suc, ◌+◌, ◌-◌, ◌<◌, ◌≤◌, List, [], ◌∷◌, ◌++◌, length, length-append, map, take, drop, get_or, Option, None, Some, Bool, refl, sym, ◌∙◌, ap, subst, append_assoc, arith}
+-- What the rounds of a branch mean on an instance, and what requests leave of what a lane holds.
+use Rattle.std.proofs.Common.{◌≡◌, ◌↔◌, inl, inr, ⊎_elim, ℕ, zero, suc, ◌+◌, ◌-◌, ◌<◌, ◌≤◌, List, [], ◌∷◌, ◌++◌, length, map, take, drop, get_or, Option, None, Some, refl, sym, ◌∙◌, ap, subst, arith}
 use Rattle.std.specs.Prelude.{Contains, IsSomeAnd, slice_get}
 use Rattle.std.specs.List.{AllZip}
-use Rattle.std.proofs.lemmas.List.{take_more, length-take-le, drop_more, append-nil, map-append, take-append-drop, take-map, take_all}
-use Rattle.std.proofs.lemmas.Option.{slice_get_read}
-use Rattle.lists.proofs.Members.{contains_here, contains_there, contains_map, contains_mapped, contains_got, got_below}
+use Rattle.std.proofs.lemmas.List.{drop_more, take-append-drop}
+use Rattle.lists.proofs.Members.{contains_here, contains_there, contains_map, contains_mapped, got_below}
 use Rattle.meaning.specs.declared.types.Fact.{Fact}
 use Rattle.meaning.specs.declared.types.Method.{Method}
 use Rattle.meaning.specs.declared.types.SchemaParts.{SchemaParts}
@@ -17,9 +16,8 @@ use Rattle.meaning.specs.declared.types.Branch.{Branch}
 use Rattle.meaning.specs.declared.types.Request.{Request}
 use Rattle.meaning.specs.Plans.{made, IsWellFormed, IsMethod, AreLawfulPlaces, IsLawfulOut, AreLawfulFrom, IsLawfulBranch}
 use Rattle.meaning.specs.Rows.{IsOut}
-use Rattle.meaning.specs.Requests.{IsRound, AreStepsRequests}
+use Rattle.meaning.specs.Requests.{IsRound}
 use Rattle.access_schema.specs.declared.schema.Schema.{Schema}
-use Rattle.access_schema.specs.Meaning.{meaning_of}
 use Rattle.source_trait.specs.Asking.{RowList, Seen}
 use Rattle.source_trait.specs.Lanes.{source_of}
 use Rattle.source_trait.specs.declared.lanes.Kind.{Kind}
@@ -27,16 +25,12 @@ use Rattle.middleware.specs.Held.{SameFacts, HoldsRelation}
 use Rattle.middleware.specs.Attaching.{TellsSame}
 use Rattle.middleware.specs.Asked.{AsksLane, HasConstant, IsStepRequest}
 use Rattle.middleware.specs.Joining.{input_row_of, input_value_or}
-use Rattle.middleware.specs.Rounds.{requests_of, IsWanted, CanAskAll, RoundCause, next_rows}
-use Rattle.middleware.specs.Branches.{HasAdded, AddsBranch, IsInput, columns_after, IsReady, AreReady, IsReadyOut, IsReadyBranch, out_value, output_of, IsAskable, HoldSteps, RoseAt, RoundGoes, RoundStops, ArePartial, Means, Reached, BranchCause, BranchStops, stop_of, BranchGoes}
+use Rattle.middleware.specs.Rounds.{requests_of, IsWanted, CanAskAll, next_rows}
+use Rattle.middleware.specs.Branches.{HasAdded, AddsBranch, IsInput, columns_after, IsReady, IsReadyOut, IsReadyBranch, out_value, output_of, IsAskable, Means}
 use Rattle.middleware.specs.Live.{AreAlike, is_live, is_shown}
-use Rattle.middleware.specs.declared.round.RoundFault.{RoundFault}
-use Rattle.middleware.specs.declared.round.RoundFault.TheVariants as round
 use Rattle.middleware.specs.declared.branch.BranchFault.TheVariants as branch
-use Rattle.middleware.proofs.Steps.{in_append, append_first, append_second, steps_length, requests_append, requests_one, next_partial, is_round, len_requests}
-use Rattle.middleware.proofs.Existing.{first_partial, steps_exist, steps_rest}
-use Rattle.middleware.proofs.Alike.{all_alike, alike_through, outputs_alike, round_wanted, round_alike}
-use Rattle.middleware.proofs.Laning.{AsksLane-refl, AsksLane-trans}
+use Rattle.middleware.proofs.Steps.{append_first, steps_length, requests_append, requests_one, next_partial, is_round}
+use Rattle.middleware.proofs.Alike.{alike_through, outputs_alike, round_wanted, round_alike}
 
 -- ---- what a lawful branch makes ready
 
@@ -244,224 +238,3 @@ module _ {S : Type 0} (seen : S → Seen) where
       line_is = a.line_is;
       ready = attached_later (source_of old a.line.kind) (source_of new a.line.kind) (λ attached. CanAskAll (attached method.rel) method) (asks.tells a.line.kind) a.ready;
     }
-
-  -- ---- the rounds of the steps
-
-  module _ (schema : Schema) where
-    abbrev parts : SchemaParts
-    parts = meaning_of schema
-
-    module _ (well : IsWellFormed parts) where
-      pub reached_none : (live : ℕ → Bool) (rows : RowList) → rows ≡ [] ∷ [] → (count : ℕ) (kinds : List (Kind S)) → Reached seen schema live [] rows count count kinds kinds
-      reached_none live rows e count kinds = record {
-        list = [];
-        asks = AsksLane-refl seen schema kinds;
-        count = omega arith;
-        of_steps = λ request c. absurd (none request c);
-        means = λ instance holds. record {
-          partial = rows;
-          partial_are = subst (λ (r : RowList). ArePartial parts instance [] r) (sym e) (first_partial parts well instance);
-          alike = all_alike live rows;
-          are = refl;
-        };
-      }
-        where
-          none : (request : Request) → Contains [] request → ⊥
-          none request c = omega arith
-
-      goes_on : (before : List Step) (step : Step) (steps : List Step) (outs : List Out) (rows kept next : RowList) (start count after : ℕ) (old mid new : List (Kind S)) → IsReady parts before step
-          → Reached seen schema (is_live (step ∷ steps) outs) before rows start count old mid → AreAlike (is_live (step ∷ steps) outs) rows kept
-          → RoundGoes seen schema step kept next count after mid new → Reached seen schema (is_live steps outs) (before ++ step ∷ []) next start after old new
-      goes_on before step steps outs rows kept next start count after old mid new ready r near goes = record {
-        list = r.list ++ requests_of goes.method.rel goes.method.inputs goes.list;
-        asks = AsksLane-trans seen schema r.list (requests_of goes.method.rel goes.method.inputs goes.list) old mid new r.asks goes.asks;
-        count = let a = r.count in let b = goes.count in omega (arith, a, b, length-append r.list (requests_of goes.method.rel goes.method.inputs goes.list), len_requests goes.method.rel goes.method.inputs goes.list);
-        of_steps = λ request c. elim (in_append r.list (requests_of goes.method.rel goes.method.inputs goes.list) request c) [
-          | inl first ↦ let (s, among, is) = r.of_steps request first in (s, append_first before (step ∷ []) s among, is)
-          | inr second ↦ (
-            step,
-            append_second before (step ∷ []) step (contains_here step []),
-            of_step parts step goes.method (columns_after 0 before) goes.named inputs kept goes.list goes.wanted (length goes.list) request
-                (subst (λ (l : RowList). Contains (requests_of goes.method.rel goes.method.inputs l) request) (sym (all goes.list)) second),
-          )
-        ];
-        means = λ instance holds.
-            let m = r.means instance (λ s method line c. holds s method line (append_first before (step ∷ []) s c)) in
-            let here : HoldSteps seen schema (step ∷ []) mid instance = λ s method line c named line_is.
-            relation_later schema r.list old mid r.asks line.kind method.rel instance (holds s method line (append_second before (step ∷ []) s c) named line_is) in
-            means_more parts well instance outs before step steps goes.method goes.named ready rows kept goes.list r.list m near goes.wanted next (goes.rows_are instance here);
-      }
-        where
-          inputs : (p : ℕ) → Contains goes.method.inputs p → IsInput (columns_after 0 before) (slice_get step.places p)
-          inputs = inputs_for parts well before step goes.method goes.named ready
-
-          all : (xs : RowList) → take (length xs) xs ≡ xs
-          all [] = refl
-          all (x ∷ xs) = ap (λ (l : RowList). x ∷ l) (all xs)
-
-      -- the rounds of one step more
-      pub one_more : (steps : List Step) → AreReady parts steps → (outs : List Out) (i : ℕ) (step : Step) → i < length steps → step ≡ get_or steps i step → (rows kept next : RowList) (start count after : ℕ) (old mid new : List (Kind S))
-          → Reached seen schema (is_live (drop i steps) outs) (take i steps) rows start count old mid → AreAlike (is_live (drop i steps) outs) rows kept
-          → RoundGoes seen schema step kept next count after mid new → Reached seen schema (is_live (drop (i + 1) steps) outs) (take (i + 1) steps) next start after old new
-      one_more steps ready outs i step less at rows kept next start count after old mid new r near goes =
-          let got : slice_get steps i ≡ Some step = slice_get_read steps (length steps) i step refl less at in
-          let more : take (i + 1) steps ≡ take i steps ++ step ∷ [] = take_more steps i step less ∙ ap (λ (s : Step). take i steps ++ s ∷ []) (sym at) in
-          let left = left_at steps i step less at in
-          subst (λ (s : List Step). Reached seen schema (is_live (drop (i + 1) steps) outs) s next start after old new) (sym more)
-          (goes_on (take i steps) step (drop (i + 1) steps) outs rows kept next start count after old mid new (ready i step got)
-          (subst (λ (s : List Step). Reached seen schema (is_live s outs) (take i steps) rows start count old mid) left r)
-          (subst (λ (s : List Step). AreAlike (is_live s outs) rows kept) left near) goes)
-
-      pub all_reached : (steps : List Step) (outs : List Out) (i : ℕ) → length steps ≤ i → (rows : RowList) (start after : ℕ) (old new : List (Kind S))
-          → Reached seen schema (is_live (drop i steps) outs) (take i steps) rows start after old new → Reached seen schema (is_shown outs) steps rows start after old new
-      all_reached steps outs i over rows start after old new r =
-          subst (λ (s : List Step). Reached seen schema (is_shown outs) s rows start after old new) (take_all i steps over)
-          (subst (λ (s : List Step). Reached seen schema (is_live s outs) (take i steps) rows start after old new) (drop_all steps i over) r)
-
-      -- the next round stopped
-      pub steps_stop : (steps : List Step) → AreReady parts steps → (n number : ℕ) → number ≡ n → (step : Step) → n < length steps → step ≡ get_or steps n step → (outs : List Out) (rows kept : RowList) (start count most : ℕ) → count ≤ most → (fault : RoundFault) (old mid new : List (Kind S))
-          → Reached seen schema (is_live (drop n steps) outs) (take n steps) rows start count old mid → AreAlike (is_live (drop n steps) outs) rows kept → RoundStops seen schema step kept (most - count) fault mid new → BranchStops seen schema steps start most (stop_of number count fault) old new
-      steps_stop steps ready n number ne step less at outs rows kept start count most fits fault old mid new r near stops = record {
-        list = r.list ++ part;
-        asks = AsksLane-trans seen schema r.list part old mid new r.asks stops.asks;
-        of_steps = λ request c. elim (in_append r.list part request c) [
-          | inl first ↦ let (s, among, is) = r.of_steps request first in (s, in_take n steps s among, is)
-          | inr second ↦ (step, contains_got steps n step got, of_part request second)
-        ];
-        part = λ instance holds.
-            let m = means instance holds in
-            let (later, are) = steps_rest parts well instance steps ready n step got m.partial m.partial_are r.list now m.are (round_at instance holds) in
-            (requests_of stops.method.rel stops.method.inputs (drop stops.count stops.list) ++ later, subst (λ (l : List Request). AreStepsRequests parts instance [] steps l) (whole later) are);
-        cause = subst (λ k. BranchCause seen schema steps start most (r.list ++ part) old new (stop_of k count fault)) (sym ne) (cause_of fault stops.cause);
-      }
-        where
-          part : List Request
-          part = requests_of stops.method.rel stops.method.inputs (take stops.count stops.list)
-
-          now : List Request
-          now = requests_of stops.method.rel stops.method.inputs stops.list
-
-          got : slice_get steps n ≡ Some step
-          got = slice_get_read steps (length steps) n step refl less at
-
-          inputs : (p : ℕ) → Contains stops.method.inputs p → IsInput (columns_after 0 (take n steps)) (slice_get step.places p)
-          inputs = inputs_for parts well (take n steps) step stops.method stops.named (ready n step got)
-
-          means : (instance : List Fact) → HoldSteps seen schema steps old instance → Means parts instance (is_live (drop n steps) outs) (take n steps) rows r.list
-          means instance holds = r.means instance (λ s method line c. holds s method line (in_take n steps s c))
-
-          round_at : (instance : List Fact) → HoldSteps seen schema steps old instance → IsRound parts instance (take n steps) step now
-          round_at instance holds =
-              let left = left_at steps n step less at in
-              round_means parts well instance outs (take n steps) step (drop (n + 1) steps) stops.method stops.named (ready n step got) rows kept stops.list r.list
-              (subst (λ (s : List Step). Means parts instance (is_live s outs) (take n steps) rows r.list) left (means instance holds))
-              (subst (λ (s : List Step). AreAlike (is_live s outs) rows kept) left near) stops.wanted
-
-          whole : (later : List Request) → (r.list ++ now) ++ later ≡ (r.list ++ part) ++ (requests_of stops.method.rel stops.method.inputs (drop stops.count stops.list) ++ later)
-          whole later =
-              let f : List (List ℕ) → Request = λ v. record { rel = stops.method.rel; positions = stops.method.inputs; values = v } in
-              let e : now ≡ part ++ requests_of stops.method.rel stops.method.inputs (drop stops.count stops.list) = ap (map f) (sym (take-append-drop stops.count stops.list)) ∙ map-append f (take stops.count stops.list) (drop stops.count stops.list) in
-              ap (λ (l : List Request). (r.list ++ l) ++ later) e
-              ∙ ap (λ (l : List Request). l ++ later) (sym (append_assoc r.list part (requests_of stops.method.rel stops.method.inputs (drop stops.count stops.list))))
-              ∙ append_assoc (r.list ++ part) (requests_of stops.method.rel stops.method.inputs (drop stops.count stops.list)) later
-
-          of_part : (request : Request) → Contains part request → IsStepRequest parts step request
-          of_part request c = of_step parts step stops.method (columns_after 0 (take n steps)) stops.named inputs kept stops.list stops.wanted stops.count request c
-
-          asked : length part ≡ stops.count
-          asked = len_requests stops.method.rel stops.method.inputs (take stops.count stops.list) ∙ length-take-le stops.count stops.list stops.within
-
-          long : length now ≡ length stops.list
-          long = len_requests stops.method.rel stops.method.inputs stops.list
-
-          cause_of : (fault : RoundFault) → RoundCause fault (most - count) (length stops.list) stops.count (RoseAt seen schema stops.method.rel mid new) → BranchCause seen schema steps start most (r.list ++ part) old new (stop_of n count fault)
-          cause_of round.NoMemory why = tt
-          cause_of round.Failed why = record {
-            step = step;
-            at = got;
-            method = stops.method;
-            named = stops.named;
-            before = mid;
-            earlier = r.list;
-            now = part;
-            asks_earlier = r.asks;
-            asks_now = stops.asks;
-            some = let s = why.0 in omega (arith, s, asked);
-            of_step = of_part;
-            rose = why.2;
-            means = λ instance holds. record {
-              step = step;
-              at = got;
-              round = now;
-              earlier_are = (means instance holds).are;
-              round_is = round_at instance holds;
-              fits = let a = why.1 in let b = r.count in omega (arith, a, b, fits, long);
-              first = sym (take-map (λ (v : List (List ℕ)). record { rel = stops.method.rel; positions = stops.method.inputs; values = v }) stops.count stops.list) ∙ ap (λ (k : ℕ). take k now) (sym asked);
-            };
-          }
-          cause_of (round.OverCalls wanted) why =
-              let nothing : part ≡ [] = ap (λ k. requests_of stops.method.rel stops.method.inputs (take k stops.list)) why.0 in
-              let only : r.list ++ part ≡ r.list = ap (λ (l : List Request). r.list ++ l) nothing ∙ append-nil r.list in
-              record {
-                total_is = r.count ∙ ap (λ (l : List Request). start + length l) (sym only);
-                within = fits;
-                over = let a = why.2 in let b = why.1 in omega (arith, a, b, fits);
-                means = λ instance holds. record {
-                  n = n;
-                  step = step;
-                  at = got;
-                  now = now;
-                  asked_are = subst (λ (l : List Request). AreStepsRequests parts instance [] (take n steps) l) (sym only) (means instance holds).are;
-                  now_is = round_at instance holds;
-                  wanted_is = why.1 ∙ sym long;
-                };
-              }
-
-      -- ---- the whole branch
-
-      -- no memory for the first partial row
-      pub branch_none : (steps : List Step) → AreReady parts steps → (start most : ℕ) (kinds : List (Kind S)) → BranchStops seen schema steps start most branch.NoMemory kinds kinds
-      branch_none steps ready start most kinds = record {
-        list = [];
-        asks = AsksLane-refl seen schema kinds;
-        of_steps = λ request c. absurd (none request c);
-        part = λ instance holds. steps_exist parts well instance steps ready;
-        cause = tt;
-      }
-        where
-          none : (request : Request) → Contains [] request → ⊥
-          none request c = omega arith
-
-      -- no memory for its output
-      pub branch_full : (live : ℕ → Bool) (steps lent : List Step) → lent ≡ steps → (partial : RowList) (start after most : ℕ) (old new : List (Kind S)) → Reached seen schema live lent partial start after old new → BranchStops seen schema steps start most branch.NoMemory old new
-      branch_full live steps lent e partial start after most old new reached =
-          let r = subst (λ (s : List Step). Reached seen schema live s partial start after old new) e reached in
-          record {
-            list = r.list;
-            asks = r.asks;
-            of_steps = r.of_steps;
-            part = λ instance holds. ([], subst (λ (l : List Request). AreStepsRequests parts instance [] steps l) (sym (append-nil r.list)) (r.means instance holds).are);
-            cause = tt;
-          }
-
-      pub branch_goes : (branch : Branch) → IsReadyBranch parts branch → (steps : List Step) → steps ≡ branch.steps → (outs : List Out) → outs ≡ branch.output → (partial lent rows next : RowList) → lent ≡ partial
-          → (count after : ℕ) (old new : List (Kind S)) → Reached seen schema (is_shown outs) steps partial count after old new → HasAdded rows (map (output_of outs) lent) next → BranchGoes seen schema branch rows next count after old new
-      branch_goes branch ready steps se outs oe partial lent rows next le count after old new reached is =
-          let r = subst (λ (o : List Out). Reached seen schema (is_shown o) branch.steps partial count after old new) oe (subst (λ (s : List Step). Reached seen schema (is_shown outs) s partial count after old new) se reached) in
-          record {
-            list = r.list;
-            asks = r.asks;
-            count = r.count;
-            of_steps = r.of_steps;
-            means = λ instance holds. adds_branch parts instance branch ready partial rows next r.list added (r.means instance holds);
-          }
-        where
-          added : HasAdded rows (map (output_of branch.output) partial) next
-          added = subst (λ (l : RowList). HasAdded rows (map (output_of branch.output) l) next) le (subst (λ (o : List Out). HasAdded rows (map (output_of o) lent) next) oe is)
-
--- the outputs of one row more
-pub outputs_more : (outs : List Out) (base into rows : RowList) (i : ℕ) (row : List (List ℕ)) → into ≡ base ++ map (output_of outs) (take i rows) → i < length rows → row ≡ get_or rows i row → into ++ output_of outs row ∷ [] ≡ base ++ map (output_of outs) (take (i + 1) rows)
-outputs_more outs base into rows i row e less at =
-    let more : take (i + 1) rows ≡ take i rows ++ row ∷ [] = take_more rows i row less ∙ ap (λ (r : List (List ℕ)). take i rows ++ r ∷ []) (sym at) in
-    ap (λ (l : RowList). l ++ output_of outs row ∷ []) e ∙ append_assoc base (map (output_of outs) (take i rows)) (output_of outs row ∷ [])
-    ∙ ap (λ (l : RowList). base ++ l) (sym (map-append (output_of outs) (take i rows) (row ∷ [])) ∙ ap (map (output_of outs)) (sym more))

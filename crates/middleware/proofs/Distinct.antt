@@ -1,5 +1,5 @@
 -- Partial rows without doubles want the same requests and give the same next rows.
-use Rattle.std.proofs.Common.{◌≡◌, ◌↔◌, ℕ, List, map, sym, subst}
+use Rattle.std.proofs.Common.{◌≡◌, ◌↔◌, ℕ, List, map, subst}
 use Rattle.std.specs.Prelude.{Contains, flat_map}
 use Rattle.std.specs.List.Sorted.{IsStrictlySortedBy}
 use Rattle.lists.proofs.Members.{contains_map, contains_mapped}
@@ -21,19 +21,23 @@ flat_within f xs ys within y c =
     flat_in f ys x y (within x among) there
 
 module _ (rows distinct : RowList) (same : (row : List (List ℕ)) → Contains distinct row ↔ Contains rows row) where
-  pub wanted_same : (places : List Place) (inputs : List ℕ) (asked list : RowList) → asked ≡ map (input_row_of places inputs) distinct
-      → IsStrictlySortedBy row_cmp list → ((values : List (List ℕ)) → Contains list values ↔ Contains asked values) → IsWanted places inputs rows list
-  wanted_same places inputs asked list is ascends members = record {
-    ascends = ascends;
+  pub wanted_same : (places : List Place) (inputs : List ℕ) (list : RowList) → IsWanted places inputs distinct list → IsWanted places inputs rows list
+  wanted_same places inputs list wanted = record {
+    ascends = wanted.ascends;
     same = λ values. (
-      (λ c. map_within (input_row_of places inputs) distinct rows (λ row. (same row).0) values (subst (λ (l : RowList). Contains l values) is ((members values).0 c))),
-      (λ c. (members values).1 (subst (λ (l : RowList). Contains l values) (sym is) (map_within (input_row_of places inputs) rows distinct (λ row. (same row).1) values c))),
+      (λ c. map_within (input_row_of places inputs) distinct rows (λ row. (same row).0) values ((wanted.same values).0 c)),
+      (λ c. (wanted.same values).1 (map_within (input_row_of places inputs) rows distinct (λ row. (same row).1) values c)),
     );
   }
 
-  -- the rows that a join gives
-  pub joined_same : (f : List (List ℕ) → RowList) (next : RowList) → next ≡ flat_map f distinct → (row : List (List ℕ)) → Contains next row ↔ Contains (flat_map f rows) row
-  joined_same f next is row = (
-    (λ c. flat_within f distinct rows (λ row. (same row).0) row (subst (λ (l : RowList). Contains l row) is c)),
-    (λ c. subst (λ (l : RowList). Contains l row) (sym is) (flat_within f rows distinct (λ row. (same row).1) row c)),
-  )
+  -- the rows that joins give
+  pub joined_same : (f : List (List ℕ) → RowList) (row : List (List ℕ)) → Contains (flat_map f distinct) row ↔ Contains (flat_map f rows) row
+  joined_same f row = ((λ c. flat_within f distinct rows (λ r. (same r).0) row c), (λ c. flat_within f rows distinct (λ r. (same r).1) row c))
+
+-- the distinct ones of the requests of some rows
+pub wanted_of : (places : List Place) (inputs : List ℕ) (rows asked list : RowList) → asked ≡ map (input_row_of places inputs) rows
+    → IsStrictlySortedBy row_cmp list → ((values : List (List ℕ)) → Contains list values ↔ Contains asked values) → IsWanted places inputs rows list
+wanted_of places inputs rows asked list is ascends members = record {
+  ascends = ascends;
+  same = λ values. subst (λ (l : RowList). Contains list values ↔ Contains l values) is (members values);
+}

@@ -1,5 +1,5 @@
 -- Methods and source lines that are found.
-use Rattle.std.proofs.Common.{◌≡◌, ◌≢◌, ℕ, List, None, Some, sym, ◌∙◌, ap, subst}
+use Rattle.std.proofs.Common.{◌≡◌, ◌≢◌, ℕ, List, Some, sym, ◌∙◌, ap, subst}
 use Rattle.std.specs.Prelude.{Contains, slice_get}
 use Rattle.lists.proofs.Members.{map_got, some_injective}
 use Rattle.meaning.specs.declared.types.Method.{Method}
@@ -19,9 +19,6 @@ pub no_method : (methods : List Method) (name : List ℕ) → ((k : ℕ) → sli
 no_method methods name none method named =
     let there = named.0 in
     none there.0 (map_got (λ (m : Method). m.name) methods there.0 method (got_contained methods method there) ∙ ap Some named.1)
-
-pub no_line : (rel : ℕ) (lines sources : List SourceLine) (line : SourceLine) → None ≡ line_for rel lines → lines ≡ sources → line_for rel sources ≡ Some line → ⊥
-no_line rel lines sources line e is there = let h : None ≡ Some line = e ∙ ap (line_for rel) is ∙ there in cc
 
 pub line_found : (rel : ℕ) (lines sources : List SourceLine) (line : SourceLine) → Some line ≡ line_for rel lines → lines ≡ sources → line_for rel sources ≡ Some line
 line_found rel lines sources line e is = sym (e ∙ ap (line_for rel) is)

@@ -1,17 +1,18 @@
 -- From attaches and rounds on several lanes to what an execution promises of them.
-use Rattle.std.proofs.Common.{◌≡◌, ◌≢◌, ◌↔◌, ◌⊎◌, inl, inr, ℕ, zero, suc, ◌+◌, ◌<◌, ◌≤◌, true, false, List, [], ◌∷◌, ◌++◌, length, map, take, get_or, Option, Some, refl, sym, ◌∙◌, ap, subst, arith}
+use Rattle.std.proofs.Common.{◌≡◌, ◌≢◌, ◌↔◌, ◌⊎◌, inl, inr, ℕ, zero, suc, ◌+◌, ◌-◌, ◌^◌, ◌<◌, ◌≤◌, min, true, false, List, [], ◌∷◌, ◌++◌, length, length-append, map, take, get_or, Option, Some, refl, sym, ◌∙◌, ap, subst, arith}
 use Rattle.std.specs.Prelude.{Contains, IfOk, IfErr, OnOk, IsSome, slice_get, Ok, Err, Result}
 use Rattle.std.specs.List.{AllZip}
 use Rattle.std.specs.List.Sorted.{IsStrictlyIncreasing, IsStrictlySortedBy}
-use Rattle.std.proofs.lemmas.List.{take_more, take_all}
+use Rattle.std.proofs.lemmas.List.{take_all}
 use Rattle.std.proofs.lemmas.Option.{slice_get-get_or}
 use native.Mathlib.Decide.{dec_le}
-use Rattle.lists.proofs.Members.{some_injective, contains_cases, contains_got, contains_mapped}
+use Rattle.lists.proofs.Members.{some_injective, contains_here, contains_cases, contains_got, contains_mapped}
 use Rattle.meaning.specs.declared.types.Fact.{Fact}
 use Rattle.meaning.specs.declared.types.Relation.{Relation}
 use Rattle.meaning.specs.declared.types.SchemaParts.{SchemaParts}
 use Rattle.meaning.specs.declared.types.Branch.{Branch}
 use Rattle.meaning.specs.declared.types.Plan.{Plan}
+use Rattle.meaning.specs.declared.types.Request.{Request}
 use Rattle.access_schema.specs.declared.schema.Schema.{Schema}
 use Rattle.access_schema.specs.declared.schema.SourceLine.{SourceLine}
 use Rattle.access_schema.specs.Meaning.{meaning_of}
@@ -28,20 +29,19 @@ use Rattle.middleware.specs.declared.fault.RunFault.{RunFault}
 use Rattle.middleware.specs.declared.fault.RunFault.TheVariants as fault
 use Rattle.middleware.specs.PlanSources.{line_for, IsAccessed, IsPlanSource, AllHaveLines}
 use Rattle.middleware.specs.Attaching.{AttachesInOrder}
-use Rattle.middleware.specs.Branches.{IsReadyBranch, AreAskable, BranchesMean}
+use Rattle.middleware.specs.Branches.{AreAskable, BranchesMean, AreOfBranches}
 use Rattle.middleware.specs.Sources.{first_lineless, has_place, IsPlaced}
-use Rattle.middleware.specs.Running.{refused_as, RunsAlone}
 use Rattle.middleware.specs.LaneAttaching.{LanesAttach, LanesBreak}
 use Rattle.middleware.specs.LaneRounds.{started, LanesAsked, AsksEach, NoneStopped}
-use Rattle.middleware.specs.LaneBranches.{OnEach, LanesHoldPlan, LanesDone, PlanHalts}
-use Rattle.middleware.specs.LaneRunning.{LanesHaveKind, LanesFind, LanesHavePlace, LacksPlace, LanesAttachEach, LanesAttachStops, ExecutesOnLanes, LanesGoOn}
+use Rattle.middleware.specs.LaneBranches.{OnEach, LanesHoldPlan, LanesDone, PlanCause, PlanHalts}
+use Rattle.middleware.specs.LaneRunning.{LanesHaveKind, LanesFind, LanesHavePlace, LacksPlace, LanesAttachEach, LanesAttachStops, ExecutesOnLanes, LanesGoOn, refused_as}
 use Rattle.middleware.specs.Executing.{Executes}
 use Rattle.middleware.proofs.Lacking.{above, place_none, place_source, rises_strictly, lineless_some}
-use Rattle.middleware.proofs.Steps.{in_append}
 use Rattle.middleware.proofs.Attached.{order_stays, one_stays}
-use Rattle.middleware.proofs.Finished.{source_at, all_askable}
+use Rattle.middleware.proofs.Starting.{source_at, all_askable}
 use Rattle.middleware.proofs.LaneShares.{AsksEach-refl, OnlyAsked, only_asked}
 use Rattle.middleware.proofs.LaneBranching.{no_request, each_asked}
+use Rattle.middleware.proofs.Planning.{accessed_by}
 use Rattle.middleware.proofs.LanePlanning.{plan_held_earlier}
 
 -- where the numbers rise, a lower one stands before
@@ -73,19 +73,6 @@ module _ {S : Type 0} where
   started_each lanes P all lane among =
       let (its, c, is) = contains_mapped started lanes lane among in
       subst (λ (l : Lane S). P l.kinds.items) is (all its c)
-
-  -- what holds of one lane more
-  pub each_more : (P : List (Kind S) → Type 0) (lanes : List (Lane S)) (i : ℕ) (lane : Lane S) → i < length lanes → lane ≡ get_or lanes i lane
-      → OnEach (take i lanes) P → P lane.kinds.items → OnEach (take (i + 1) lanes) P
-  each_more P lanes i lane less at before here its among =
-      let more : take (i + 1) lanes ≡ take i lanes ++ lane ∷ [] = take_more lanes i lane less ∙ ap (λ (l : Lane S). take i lanes ++ l ∷ []) (sym at) in
-      elim (in_append (take i lanes) (lane ∷ []) its (subst (λ (l : List (Lane S)). Contains l its) more among)) [
-        | inl first ↦ before its first
-        | inr last ↦ elim (contains_cases lane [] its last) [
-          | inl same ↦ subst (λ (l : Lane S). P l.kinds.items) same here
-          | inr none ↦ absurd (omega arith)
-        ]
-      ]
 
   pub each_all : (P : List (Kind S) → Type 0) (lanes : List (Lane S)) (i : ℕ) → length lanes ≤ i → OnEach (take i lanes) P → OnEach lanes P
   each_all P lanes i past all = subst (λ (l : List (Lane S)). OnEach l P) (take_all i lanes past) all
@@ -252,38 +239,75 @@ module _ {S : Type 0} (seen : S → Seen) where
     no_memory cap lanes = not_begun cap lanes fault.NoMemory tt (inl refl)
 
     -- no lane was used
-    pub ran_alone : ((rel : ℕ) → IsAccessed schema plan rel → ⊥) → (cap : ℕ) (lanes : List (Lane S)) (result : Result Run RunFault)
-        → RunsAlone schema plan result → ExecutedOn cap lanes lanes result
-    ran_alone alone cap lanes (Ok run) runs = record {
-      executes = record {
-        attached = lanes;
-        attaches = record {
-          rels = [];
-          ascends = λ k less. absurd (omega arith);
-          exactly = λ rel. ((λ c. absurd (none rel c)), (λ a. absurd (alone rel a)));
-          order = unchanged lanes;
-        };
-        rounds = record {
-          list = [];
-          asks = unstarted schema lanes;
-          count = (runs []).2;
-          of_branches = λ request c. absurd (no_request request c);
-          means = λ instance holds. record { exactly = (runs instance).0; are = (runs instance).1 };
-        };
-      };
-      found = ((λ rel a. absurd (alone rel a)), (λ rel relation line source. absurd (alone rel source.accessed)));
-      stay = LanesStay-refl seen lanes;
-    }
-      where
-        none : (rel : ℕ) → Contains [] rel → ⊥
-        none rel c = omega arith
+    module _ (alone : (rel : ℕ) → IsAccessed schema plan rel → ⊥) where
+      of_none : (list : List Request) → AreOfBranches parts plan.branches list → list ≡ []
+      of_none [] of = refl
+      of_none (x ∷ list) of =
+          let (its, step, among, there, is) = of x (contains_here x list) in
+          absurd (alone is.method.rel (accessed_by schema plan its step is.method among there is.named))
 
-        unchanged : (ws : List (Lane S)) → LanesAttach seen schema [] ws ws
-        unchanged [] = tt
-        unchanged (w ∷ ws) = ((refl, refl), unchanged ws)
-    ran_alone alone cap lanes (Err why) runs = subst (λ (f : RunFault). ExecutedOn cap lanes lanes (Err f)) (sym runs.0) (no_memory cap lanes)
+      done_alone : (run : Run) (old new : List (Lane S)) → LanesDone seen schema plan plan.branches run.rows run.made old new
+          → (lanes : List (Lane S)) → LanesDone seen schema plan plan.branches run.rows run.made (map started lanes) lanes
+      done_alone run old new d lanes =
+          let empty = of_none d.list d.of_branches in
+          record {
+            list = [];
+            asks = unstarted schema lanes;
+            count = d.count ∙ ap (λ (l : List Request). length l) empty;
+            of_branches = λ request c. absurd (no_request request c);
+            means = λ instance holds. subst (λ (l : List Request). BranchesMean parts instance plan.branches run.rows l) empty
+                (d.means instance (λ lane among rel relation line source. absurd (alone rel source.accessed)));
+          }
 
-    module _ (ready : (its : Branch) → Contains plan.branches its → IsReadyBranch parts its) (rels : List ℕ) (up : IsStrictlyIncreasing rels)
+      -- nothing but memory can stop it
+      halted_alone : (cap : ℕ) (why : RunFault) (old new : List (Lane S)) → PlanHalts seen schema plan cap why old new → why ≡ fault.NoMemory
+      halted_alone cap why old new h = go why h.cause
+        where
+          none : length h.earlier + length h.now ≡ 0
+          none = sym (length-append h.earlier h.now) ∙ ap (λ (l : List Request). length l) (of_none (h.earlier ++ h.now) h.of_branches)
+
+          go : (e : RunFault) → PlanCause seen schema plan cap h.earlier h.now old h.middle new e → e ≡ fault.NoMemory
+          go fault.NoMemory c = refl
+          go (fault.NoSource rel) c = absurd c
+          go (fault.UnknownKind rel) c = absurd c
+          go (fault.Attach rel e) c = absurd c
+          go (fault.CallFailed branch step) c = let some = c.some in absurd (omega (arith, none, some))
+          go (fault.OverCalls made wanted its) c =
+              let t = c.1.total_is in
+              let w = c.1.wanted_is in
+              let over = c.1.over in
+              let short : length h.now ≡ 0 = omega (arith, none) in
+              let few : min (length h.now) (2 ^ 32 - 1) ≡ 0 = ap (λ n. min n (2 ^ 32 - 1)) short in
+              absurd (omega (arith, none, t, w, few, over))
+
+      pub ran_alone : (cap : ℕ) (old new : List (Lane S)) (result : Result Run RunFault)
+          → IfOk result (λ run. LanesDone seen schema plan plan.branches run.rows run.made old new)
+          → IfErr result (λ why. PlanHalts seen schema plan cap why old new) → (lanes : List (Lane S)) → ExecutedOn cap lanes lanes result
+      ran_alone cap old new (Ok run) done halts lanes = record {
+        executes = record {
+          attached = lanes;
+          attaches = record {
+            rels = [];
+            ascends = λ k less. absurd (omega arith);
+            exactly = λ rel. ((λ c. absurd (none rel c)), (λ a. absurd (alone rel a)));
+            order = unchanged lanes;
+          };
+          rounds = done_alone run old new done lanes;
+        };
+        found = ((λ rel a. absurd (alone rel a)), (λ rel relation line source. absurd (alone rel source.accessed)));
+        stay = LanesStay-refl seen lanes;
+      }
+        where
+          none : (rel : ℕ) → Contains [] rel → ⊥
+          none rel c = omega arith
+
+          unchanged : (ws : List (Lane S)) → LanesAttach seen schema [] ws ws
+          unchanged [] = tt
+          unchanged (w ∷ ws) = ((refl, refl), unchanged ws)
+      ran_alone cap old new (Err why) done halts lanes =
+          subst (λ (f : RunFault). ExecutedOn cap lanes lanes (Err f)) (sym (halted_alone cap why old new halts)) (no_memory cap lanes)
+
+    module _ (rels : List ℕ) (up : IsStrictlyIncreasing rels)
         (exactly : (rel : ℕ) → Contains rels rel ↔ IsAccessed schema plan rel) where
       -- a relation has no line
       pub no_source : (cap : ℕ) (lanes : List (Lane S)) (rel : ℕ) → Some rel ≡ first_lineless schema.sources rels
@@ -298,7 +322,7 @@ module _ {S : Type 0} (seen : S → Seen) where
             → ExecutedOn cap lanes lanes (Err (fault.UnknownKind rel))
         no_lane cap lanes e rel at =
             let a = (exactly rel).0 (contains_got rels 0 rel at) in
-            let (relation, line, source) = source_at seen schema plan ready rels up exactly lines rel a in
+            let (relation, line, source) = source_at schema plan lines rel a in
             not_begun cap lanes (fault.UnknownKind rel) (
               lines,
               record {
@@ -329,7 +353,7 @@ module _ {S : Type 0} (seen : S → Seen) where
           pub lacks_kind : (cap : ℕ) → 0 < length lanes → (rel : ℕ) → LacksPlace lanes schema.sources rels rel
               → ExecutedOn cap lanes lanes (Err (fault.UnknownKind rel))
           lacks_kind cap some rel l =
-              let (relation, line, source) = source_at seen schema plan ready rels up exactly lines rel ((exactly rel).0 (contains_got rels l.n rel l.at)) in
+              let (relation, line, source) = source_at schema plan lines rel ((exactly rel).0 (contains_got rels l.n rel l.at)) in
               not_begun cap lanes (fault.UnknownKind rel) (
                 lines,
                 record {
@@ -354,7 +378,7 @@ module _ {S : Type 0} (seen : S → Seen) where
             -- each relation has its place on each lane
             pub all_placed : (lane : Lane S) → Contains lanes lane → (rel : ℕ) → Contains rels rel → IsPlaced schema lane.kinds.items rel
             all_placed lane among rel c =
-                let (relation, line, source) = source_at seen schema plan ready rels up exactly lines rel ((exactly rel).0 c) in
+                let (relation, line, source) = source_at schema plan lines rel ((exactly rel).0 c) in
                 record {
                   relation = relation;
                   line = line;
@@ -407,7 +431,7 @@ module _ {S : Type 0} (seen : S → Seen) where
                   subst (λ (l : List (Lane S)). OnEach l (λ kinds. AreAskable seen schema kinds its.steps)) (sym is)
                   (started_each attached (λ kinds. AreAskable seen schema kinds its.steps)
                   (attached_each schema rels (λ kinds. AreAskable seen schema kinds its.steps)
-                  (λ a b o. all_askable seen schema plan ready rels up exactly lines a b o its c) lanes attached order))
+                  (λ a b o. all_askable schema plan seen rels up exactly lines a b o its c) lanes attached order))
 
               stay_by : (new : List (Lane S)) → LanesStay seen (map started attached) new → LanesStay seen lanes new
               stay_by new later =

@@ -38,6 +38,7 @@ use Rattle.middleware.specs.LaneAsking.{ask_of, LanesHoldRelation, AnswersFrom, 
 use Rattle.middleware.specs.declared.lane_round.AskFault.TheVariants as asking
 use Rattle.middleware.specs.declared.round.RoundFault.{RoundFault}
 use Rattle.middleware.specs.declared.round.RoundFault.TheVariants as round
+use Rattle.middleware.proofs.Distinct.{wanted_same, joined_same}
 use Rattle.middleware.proofs.Existing.{wanted_exists}
 use Rattle.middleware.proofs.Finding.{ready_line}
 use Rattle.middleware.proofs.LaneShares.{AsksSome-none, first_each, first_some}
@@ -230,13 +231,6 @@ module _ {S : Type 0} (seen : S → Seen) (schema : Schema) (method : Method) (l
     same_requests : requests_in lent ≡ requests_of method.rel method.inputs requests
     same_requests = ap requests_in is ∙ asked_are
 
-    pub lent_long : length lent ≡ length requests
-    lent_long = ap length is ∙ go requests
-      where
-        go : (list : RowList) → length (map (ask_of line.kind method) list) ≡ length list
-        go [] = refl
-        go (v ∷ list) = ap suc (go list)
-
     pub ready_lent : (lanes : List (Lane S)) → OnEach lanes (λ kinds. IsAskable seen schema kinds method)
         → ((values : List (List ℕ)) → Contains requests values → length values ≡ length method.inputs) → AllReady (MayAsk seen) lent lanes
     ready_lent lanes askable fit = subst (λ (l : List Ask). AllReady (MayAsk seen) l lanes) (sym is) (all_ready lanes askable fit)
@@ -428,16 +422,13 @@ module _ {S : Type 0} (seen : S → Seen) (schema : Schema) (places : List Place
         cause = tt;
       }
 
-  module _ (inputs : List ℕ) (ie : inputs ≡ method.inputs) (list : RowList) (is : IsWanted places inputs rows list) where
-    wanted_by : IsWanted places method.inputs rows list
-    wanted_by = subst (λ (i : List ℕ). IsWanted places i rows list) ie is
-
+  module _ (list : RowList) (wanted : IsWanted places method.inputs rows list) where
     -- no room for the requests
-    pub too_many : (room wanted : ℕ) → wanted ≡ length list → room < wanted → (lanes : List (Lane S))
-        → RoundUnshared seen schema places method rows room (round.OverCalls wanted) lanes lanes
-    too_many room wanted e over lanes = record {
+    pub too_many : (room count : ℕ) → count ≡ length list → room < count → (lanes : List (Lane S))
+        → RoundUnshared seen schema places method rows room (round.OverCalls count) lanes lanes
+    too_many room count e over lanes = record {
       list = list;
-      wanted = wanted_by;
+      wanted = wanted;
       asks = AsksSome-none seen schema (requests_of method.rel method.inputs list) lanes;
       cause = (e, subst (λ n. room < n) e over, refl);
     }
@@ -447,37 +438,60 @@ module _ {S : Type 0} (seen : S → Seen) (schema : Schema) (places : List Place
           → HaltCause seen schema why room (length list) method.rel old new → RoundUnshared seen schema places method rows room why old new
       was_refused room why some cause = record {
         list = list;
-        wanted = wanted_by;
+        wanted = wanted;
         asks = subst (λ (l : RowList). AsksSome seen schema (requests_of method.rel method.inputs l) old new) e some;
         cause = cause;
       }
 
-      pub was_shared : (answers told : List RowList) → told ≡ answers → (second next : RowList) → second ≡ list
-          → ((answer : List (List ℕ) → RowList) → told ≡ map answer second
-          → (row : List (List ℕ)) → Contains next row ↔ Contains (flat_map (λ r. grown places (answer (input_row_of places inputs r)) r) rows) row)
+      pub was_shared : (inputs : List ℕ) → inputs ≡ method.inputs → (answers told : List RowList) → told ≡ answers → (next : RowList)
+          → ((answer : List (List ℕ) → RowList) → told ≡ map answer asked
+          → next ≡ flat_map (λ r. grown places (answer (input_row_of places inputs r)) r) rows)
           → AsksEach seen schema (requests_of method.rel method.inputs asked) old new
           → ((instance : List Fact) → LanesHoldRelation seen schema method.rel old instance → AnswersFrom instance method asked answers)
           → RoundShared seen schema places method rows list next old new
-      was_shared answers told te second next se joins each from = record {
-        wanted = wanted_by;
+      was_shared inputs ie answers told te next joins each from = record {
+        wanted = wanted;
         asks = subst (λ (l : RowList). AsksEach seen schema (requests_of method.rel method.inputs l) old new) e each;
         rows_are = are;
       }
         where
           there : (row : List (List ℕ)) → Contains rows row → Contains list (input_row_of places method.inputs row)
-          there row c = (wanted_by.same (input_row_of places method.inputs row)).1 (contains_map (input_row_of places method.inputs) rows row c)
+          there row c = (wanted.same (input_row_of places method.inputs row)).1 (contains_map (input_row_of places method.inputs) rows row c)
 
           are : (instance : List Fact) → LanesHoldRelation seen schema method.rel old instance
               → (row : List (List ℕ)) → Contains next row ↔ Contains (next_rows places method instance rows) row
           are instance holds =
               let of_asked : AnswersFrom instance method asked answers = from instance holds in
               let of_list : AnswersFrom instance method list answers = subst (λ (l : RowList). AnswersFrom instance method l answers) e of_asked in
-              let is_map : told ≡ map (answer_at list answers) second =
-              te ∙ answers_at list answers wanted_by.ascends of_list.len ∙ ap (map (answer_at list answers)) (sym se) in
-              let joined = joins (answer_at list answers) is_map in
-              answered_rows places method instance rows list answers wanted_by.ascends of_list there next
-              (subst (λ (i : List ℕ). (row : List (List ℕ)) → Contains next row
-              ↔ Contains (flat_map (λ r. grown places (answer_at list answers (input_row_of places i r)) r) rows) row) ie joined)
+              let is_map : told ≡ map (answer_at list answers) asked =
+              te ∙ answers_at list answers wanted.ascends of_list.len ∙ ap (map (answer_at list answers)) (sym e) in
+              let joined : next ≡ flat_map (λ r. grown places (answer_at list answers (input_row_of places method.inputs r)) r) rows =
+              subst (λ (i : List ℕ). next ≡ flat_map (λ r. grown places (answer_at list answers (input_row_of places i r)) r) rows) ie
+              (joins (answer_at list answers) is_map) in
+              answered_rows places method instance rows list answers wanted.ascends of_list there next
+              (λ row. (λ c. subst (λ (l : RowList). Contains l row) joined c, λ c. subst (λ (l : RowList). Contains l row) (sym joined) c))
+
+  -- the same of other partial rows with the same members
+  module _ (other : RowList) (same : (row : List (List ℕ)) → Contains rows row ↔ Contains other row) (old new : List (Lane S)) where
+    pub shared_same : (list next : RowList) → RoundShared seen schema places method rows list next old new
+        → RoundShared seen schema places method other list next old new
+    shared_same list next s = record {
+      wanted = wanted_same other rows same places method.inputs list s.wanted;
+      asks = s.asks;
+      rows_are = λ instance holds row.
+          let is = s.rows_are instance holds row in
+          let members = joined_same other rows same (λ r. grown places (pick instance method.rel method.inputs (input_row_of places method.inputs r)) r) row in
+          ((λ c. members.0 (is.0 c)), (λ c. is.1 (members.1 c)));
+    }
+
+    pub unshared_same : (room : ℕ) (why : RoundFault) → RoundUnshared seen schema places method rows room why old new
+        → RoundUnshared seen schema places method other room why old new
+    unshared_same room why u = record {
+      list = u.list;
+      wanted = wanted_same other rows same places method.inputs u.list u.wanted;
+      asks = u.asks;
+      cause = u.cause;
+    }
 
 -- ---- one round of a step
 

@@ -25,8 +25,8 @@ use Rattle.middleware.specs.declared.branch.BranchFault.TheVariants as branch
 use Rattle.middleware.specs.declared.fault.RunFault.TheVariants as fault
 use Rattle.middleware.proofs.Steps.{in_append, append_first, append_second}
 use Rattle.middleware.proofs.Branching.{in_take}
-use Rattle.middleware.proofs.Planning.{hold_steps, branches_more, branches_rest, plan_later, plan_earlier}
-use Rattle.middleware.proofs.LaneShares.{AsksEach-refl, AsksEach-trans, AsksSome-none, OnlyAsked, each_later, each_earlier}
+use Rattle.middleware.proofs.Planning.{hold_steps, branches_more, branches_rest, plan_earlier}
+use Rattle.middleware.proofs.LaneShares.{AsksEach-refl, AsksEach-trans, AsksSome-none, OnlyAsked, each_earlier}
 use Rattle.middleware.proofs.LaneBranching.{no_request, steps_later, each_asked}
 
 module _ {S : Type 0} (seen : S → Seen) (schema : Schema) (plan : Plan) where
@@ -36,13 +36,6 @@ module _ {S : Type 0} (seen : S → Seen) (schema : Schema) (plan : Plan) where
   lanes_hold_steps : (lanes : List (Lane S)) (instance : List Fact) → LanesHoldPlan seen schema plan lanes instance → (its : Branch)
       → Contains plan.branches its → LanesHoldSteps seen schema its.steps lanes instance
   lanes_hold_steps lanes instance holds its of_plan lane among = hold_steps seen schema plan lane.kinds.items instance (holds lane among) its of_plan
-
-  -- what the lanes hold for the plan stays
-  pub plan_holds_later : (old new : List (Lane S)) → OnlyAsked seen schema old new → (instance : List Fact)
-      → LanesHoldPlan seen schema plan old instance → LanesHoldPlan seen schema plan new instance
-  plan_holds_later old new only instance holds =
-      each_later seen schema (λ kinds. HoldPlan seen schema plan kinds instance)
-      (λ list a b asks h. plan_later seen schema plan list a b asks instance h) old new only holds
 
   pub plan_held_earlier : (old new : List (Lane S)) → OnlyAsked seen schema old new → (instance : List Fact)
       → LanesHoldPlan seen schema plan new instance → LanesHoldPlan seen schema plan old instance

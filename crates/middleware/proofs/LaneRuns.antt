@@ -115,11 +115,6 @@ module _ {S : Type 0} where
         steps = together one.before.object one.after.object two.after.object one.steps moves;
       })
 
-  pub StepsOn-map : (old new : List (Kind S)) (kind : List ℕ) (first second : S → S → Type 0) → ((s t : S) → first s t → second s t) → StepsOn old new kind first → StepsOn old new kind second
-  StepsOn-map old new kind first second follows h =
-      let (p, is, one) = placed old new kind first h in
-      steps_here old new kind second p is (record { before = one.before; after = one.after; there = one.there; now = one.now; name = one.name; steps = follows one.before.object one.after.object one.steps })
-
   -- what a step does to each place
   pub StepsOn-only : (old new : List (Kind S)) (kind : List ℕ) (step : S → S → Type 0) (each : List ℕ → S → S → Type 0) → ((s t : S) → step s t → each kind s t) → StepsOn old new kind step → OnlyFirst each old new
   StepsOn-only old new kind step each follows steps = λ place before after got now.
@@ -145,12 +140,6 @@ module _ {S : Type 0} where
 
   pub OnlyFirst-refl : (each : List ℕ → S → S → Type 0) (kinds : List (Kind S)) → OnlyFirst each kinds kinds
   OnlyFirst-refl each kinds = λ place before after got now. inl (some_injective after before (sym now ∙ got))
-
-  pub OnlyFirst-map : (first second : List ℕ → S → S → Type 0) → ((n : List ℕ) (s t : S) → first n s t → second n s t) → (old new : List (Kind S)) → OnlyFirst first old new → OnlyFirst second old new
-  OnlyFirst-map first second follows old new h = λ place before after got now. elim (h place before after got now) [
-    | inl same ↦ inl same
-    | inr moved ↦ inr (moved.0, follows before.name before.object after.object moved.1)
-  ]
 
   stays_got : (seen : S → Seen) (old new : List (Kind S)) (place : ℕ) (before : Kind S) → KindsStay seen old new → slice_get old place ≡ Some before → (after : Kind S) × (slice_get new place ≡ Some after) × (after.name ≡ before.name)
   stays_got seen [] new place before stay got = absurd (cc)

@@ -22,7 +22,7 @@ pub mod Planning
 pub mod LanePlanning
 pub mod Accessing
 pub mod Lacking
-pub mod Finished
+pub mod Starting
 pub mod LaneFinished
 pub mod Whole
 pub mod Parting

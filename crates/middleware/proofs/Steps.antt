@@ -147,16 +147,6 @@ module _ (facts : List Fact) (rel : ℕ) (positions : List ℕ) (values : List (
   pub pick_in : (row : List (List ℕ)) → Contains facts (record { rel = rel; row = row }) → agrees positions values row ≡ true → Contains (pick facts rel positions values) row
   pick_in row c t = contains_map (λ (f : Fact). f.row) (filter fits_at facts) (record { rel = rel; row = row }) (filter_in fits_at facts (record { rel = rel; row = row }) c (grind (arith, nat_tests, t)))
 
--- lists with the same facts of a relation give the same next rows
-pub rows_through : (places : List Place) (method : Method) (facts instance : List Fact) (rows : RowList) → ((row : List (List ℕ)) → Contains facts (record { rel = method.rel; row = row }) → Contains instance (record { rel = method.rel; row = row }))
-    → (row : List (List ℕ)) → Contains (next_rows places method facts rows) row → Contains (next_rows places method instance rows) row
-rows_through places method facts instance rows through row c =
-    let (last, among, h) = in_flat (λ r. grown places (pick facts method.rel method.inputs (input_row_of places method.inputs r)) r) rows row c in
-    let (values, of, j) = grown_joins places (pick facts method.rel method.inputs (input_row_of places method.inputs last)) last row h in
-    let picked = in_pick facts method.rel method.inputs (input_row_of places method.inputs last) values of in
-    let there = pick_in instance method.rel method.inputs (input_row_of places method.inputs last) values (through values picked.0) picked.1 in
-    flat_in (λ r. grown places (pick instance method.rel method.inputs (input_row_of places method.inputs r)) r) rows last row among (joins_grown places (pick instance method.rel method.inputs (input_row_of places method.inputs last)) last row values there j)
-
 -- the fact has the input value at each input place
 pub joins_input : (start : List (List ℕ)) (places : List Place) (values row next : List (List ℕ)) (p : ℕ) → Joins places values row next → ((k : ℕ) → k < length start → slice_get row k ≡ slice_get start k) → length start ≤ length row
     → IsInput (length start) (slice_get places p) → slice_get values p ≡ Some (input_value_or start (slice_get places p))

@@ -1,5 +1,5 @@
--- Which requests the sources of the used lane are asked.
-use Rattle.std.specs.Prelude.{◌≡◌, ℕ, Bool, false, List, [], ◌++◌, Contains, Option, None, Some, option_map, slice_get, take, nat_eq}
+-- Which requests the sources of a lane are asked.
+use Rattle.std.specs.Prelude.{◌≡◌, ℕ, Bool, false, List, [], ◌++◌, Option, None, Some, option_map, slice_get, take, nat_eq}
 use Rattle.std.specs.List.{filter, AllZip}
 use Rattle.std.specs.Cmp.Lexicographic.{pointwise}
 use Rattle.meaning.specs.declared.types.Fact.{Fact}
@@ -12,10 +12,9 @@ use Rattle.meaning.specs.declared.types.Plan.{Plan}
 use Rattle.meaning.specs.declared.types.Request.{Request}
 use Rattle.meaning.specs.declared.types.SchemaParts.{SchemaParts}
 use Rattle.meaning.specs.Plans.{IsMethod}
-use Rattle.meaning.specs.Requests.{AreRequests, AreStepsRequests, AreBranchesRequests, IsRound}
+use Rattle.meaning.specs.Requests.{AreStepsRequests, AreBranchesRequests, IsRound}
 use Rattle.access_schema.specs.declared.schema.Schema.{Schema}
 use Rattle.access_schema.specs.declared.schema.SourceLine.{SourceLine}
-use Rattle.access_schema.specs.Meaning.{meaning_of}
 use Rattle.source_trait.specs.Asking.{Seen}
 use Rattle.source_trait.specs.Lanes.{source_of, KindsStay}
 use Rattle.source_trait.specs.declared.lanes.Kind.{Kind}
@@ -43,18 +42,6 @@ pub record AsksLane {S : Type 0} (seen : S → Seen) (schema : Schema) (requests
   pub only : OnlyFirst (λ kind s t. (seen t).attached ≡ (seen s).attached) old new
   pub tells : (kind : List ℕ) → TellsSame seen (source_of old kind) (source_of new kind)
 
--- the first source of each kind was asked the requests up to the nth
-abbrev pub AskedTo : {S : Type 0} → (S → Seen) → Schema → ℕ → List Request → List (Kind S) → List (Kind S) → Type 0
-AskedTo seen schema n requests old new = AskedJust seen schema (take n requests) old new
-
--- some first part of the plan's requests on the instance was asked; all of them where the run is done
-pub record AskedPart {S : Type 0} (seen : S → Seen) (schema : Schema) (plan : Plan) (instance : List Fact) (done : Type 0) (old new : List (Kind S)) : Type 0 where
-  pub requests : List Request
-  pub are : AreRequests (meaning_of schema) plan instance requests
-  pub count : ℕ
-  pub asked : AskedTo seen schema count requests old new
-  pub all : done → take count requests ≡ requests
-
 -- a constant at an input place is the request's value there
 abbrev pub HasConstant : Option Place → List ℕ → Type 0
 HasConstant None value = ⊥
@@ -69,16 +56,6 @@ pub record IsStepRequest (schema : SchemaParts) (step : Step) (request : Request
   pub of_relation : request.rel ≡ method.rel
   pub positions : request.positions ≡ method.inputs
   pub constants : AllZip (λ p value. HasConstant (slice_get step.places p) value) request.positions request.values
-
--- the request is one of some step of the plan
-abbrev pub IsPlanRequest : SchemaParts → Plan → Request → Type 0
-IsPlanRequest schema plan request = (branch : Branch) × (step : Step) × Contains plan.branches branch × Contains branch.steps step × IsStepRequest schema step request
-
--- Whatever is held, the first source of each kind was asked nothing but requests of the plan's steps, on relations of its kind.
-pub record AsksOnly {S : Type 0} (seen : S → Seen) (schema : Schema) (plan : Plan) (old new : List (Kind S)) : Type 0 where
-  pub requests : List Request
-  pub asked : AskedJust seen schema requests old new
-  pub of_plan : (request : Request) → Contains requests request → IsPlanRequest (meaning_of schema) plan request
 
 -- the branch and the step of these numbers
 pub record IsStepAt (plan : Plan) (branch step : ℕ) (its_branch : Branch) (its_step : Step) : Type 0 where

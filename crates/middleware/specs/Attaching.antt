@@ -1,4 +1,4 @@
--- Which relations become attached on the used lane, and how.
+-- Which relations become attached on a lane, and how.
 use Rattle.std.specs.Prelude.{◌≡◌, ◌⊎◌, ◌↔◌, ℕ, List, [], ◌∷◌, Contains, Option, IfSome, IsOk, slice_get, Some, None, Result, Ok}
 use Rattle.std.specs.List.Sorted.{IsStrictlyIncreasing}
 use Rattle.meaning.specs.declared.types.Relation.{Relation}
@@ -9,33 +9,12 @@ use Rattle.source_trait.specs.Asking.{Seen, AttachGives, pick}
 use Rattle.source_trait.specs.Lanes.{names_of, place_from, source_of, StepsOn, KindsStay}
 use Rattle.source_trait.specs.declared.source.AttachFault.{AttachFault}
 use Rattle.source_trait.specs.declared.lanes.Kind.{Kind}
-use Rattle.source_trait.specs.declared.lanes.Lane.{Lane}
 use Rattle.middleware.specs.PlanSources.{line_for, IsAccessed, IsPlanSource}
-
--- a relation of the plan was attached with its columns and its locator, or was refused and is not attached
-pub record IsTouched (schema : Schema) (plan : Plan) (kind : List ℕ) (rel : ℕ) (new : Seen) : Type 0 where
-  pub relation : Relation
-  pub line : SourceLine
-  pub is_source : IsPlanSource schema plan rel relation line
-  pub of_kind : line.kind ≡ kind
-  pub attached : (new.attached rel ≡ Some (relation.columns, line.locator)) ⊎ (new.attached rel ≡ None)
-
--- each relation stays attached as it was, or is one of the plan
-abbrev pub TouchesPlan : {S : Type 0} → (S → Seen) → Schema → Plan → List ℕ → S → S → Type 0
-TouchesPlan seen schema plan kind before after =
-    (rel : ℕ) → ((seen after).attached rel ≡ (seen before).attached rel) ⊎ IsTouched schema plan kind rel (seen after)
 
 -- each source stays, or is the first of its kind and made the step
 abbrev pub OnlyFirst : {S : Type 0} → (List ℕ → S → S → Type 0) → List (Kind S) → List (Kind S) → Type 0
 OnlyFirst {S} step old new = (place : ℕ) (before after : Kind S) → slice_get old place ≡ Some before → slice_get new place ≡ Some after →
     (after ≡ before) ⊎ ((place_from 0 before.name (names_of old) ≡ Some place) × step before.name before.object after.object)
-
--- Nothing but relations of the plan became attached on the lane: each source stays, or is the first of its kind, and every
--- relation on it stays attached as it was or is one of the plan.
-pub record AttachesOnly {S : Type 0} (seen : S → Seen) (schema : Schema) (plan : Plan) (old new : List (Kind S)) : Type 0 where
-  -- the kinds keep their order, and no count of faults falls
-  pub stay : KindsStay seen old new
-  pub each : OnlyFirst (TouchesPlan seen schema plan) old new
 
 -- The relation is attached with its columns and its locator. Where the offer is told it was one of rows, and they are the
 -- rows that are held, where that is told.
@@ -47,12 +26,6 @@ pub record IsAttached {S : Type 0} (seen : S → Seen) (rel : ℕ) (relation : R
   pub attached : (seen after).attached rel ≡ Some (relation.columns, line.locator)
   pub offered : IfSome ((seen before).offer rel relation.columns line.locator) IsOk
   pub held : IfSome ((seen before).offer rel relation.columns line.locator) (λ offer. IfSome ((seen after).held) (λ facts. offer ≡ Ok (pick facts rel [] [])))
-
--- the first lane did so, and the others stay
-abbrev pub OnUsed : {S : Type 0} → List (Lane S) → List (Lane S) → (List (Kind S) → List (Kind S) → Type 0) → Type 0
-OnUsed [] new P = new ≡ []
-OnUsed (lane ∷ rest) [] P = ⊥
-OnUsed (lane ∷ rest) (after ∷ others) P = P lane.kinds.items after.kinds.items × (others ≡ rest)
 
 -- the source of the relation's line was asked to attach it, and nothing else on the lane changed
 pub record AttachesOne {S : Type 0} (seen : S → Seen) (schema : Schema) (rel : ℕ) (result : Result (Unit {0}) AttachFault) (old new : List (Kind S)) : Type 0 where

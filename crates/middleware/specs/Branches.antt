@@ -1,5 +1,5 @@
--- How far the rounds of a branch, and of a plan, have come.
-use Rattle.std.specs.Prelude.{◌≡◌, ◌↔◌, ◌⊎◌, ℕ, ◌-◌, ◌+◌, ◌^◌, ◌<◌, ◌≤◌, min, List, [], ◌∷◌, ◌++◌, length, map, take, Contains, slice_get, Option, Some, None, Bool}
+-- What the rounds of a branch, and of a plan, need and mean.
+use Rattle.std.specs.Prelude.{◌≡◌, ◌↔◌, ◌⊎◌, ℕ, ◌-◌, ◌^◌, ◌<◌, min, List, [], ◌∷◌, map, take, Contains, slice_get, Option, Some, None, Bool}
 use Rattle.meaning.specs.declared.types.Fact.{Fact}
 use Rattle.meaning.specs.declared.types.Method.{Method}
 use Rattle.meaning.specs.declared.types.SchemaParts.{SchemaParts}
@@ -9,11 +9,10 @@ use Rattle.meaning.specs.declared.types.Out.{Out}
 use Rattle.meaning.specs.declared.types.Out.TheVariants.{Const as Fixed, Col as Made}
 use Rattle.meaning.specs.declared.types.Step.{Step}
 use Rattle.meaning.specs.declared.types.Branch.{Branch}
-use Rattle.meaning.specs.declared.types.Plan.{Plan}
 use Rattle.meaning.specs.declared.types.Request.{Request}
 use Rattle.meaning.specs.Plans.{made, IsMethod}
 use Rattle.meaning.specs.Rows.{LeadsTo, IsBranchRow}
-use Rattle.meaning.specs.Requests.{IsRound, AreStepsRequests, AreBranchesRequests}
+use Rattle.meaning.specs.Requests.{AreStepsRequests, AreBranchesRequests}
 use Rattle.access_schema.specs.declared.schema.Schema.{Schema}
 use Rattle.access_schema.specs.declared.schema.SourceLine.{SourceLine}
 use Rattle.access_schema.specs.Meaning.{meaning_of}
@@ -22,11 +21,10 @@ use Rattle.source_trait.specs.Causes.{Rose}
 use Rattle.source_trait.specs.Lanes.{AtKind, SourceSteps}
 use Rattle.source_trait.specs.declared.lanes.Kind.{Kind}
 use Rattle.middleware.specs.PlanSources.{line_for}
-use Rattle.middleware.specs.Held.{HoldsRelation, HoldPlan}
-use Rattle.middleware.specs.Asked.{AsksLane, IsStepRequest}
-use Rattle.middleware.specs.Causes.{RoundFails, CapStops}
+use Rattle.middleware.specs.Held.{HoldsRelation}
+use Rattle.middleware.specs.Asked.{IsStepRequest}
 use Rattle.middleware.specs.Joining.{text_or}
-use Rattle.middleware.specs.Rounds.{requests_of, IsWanted, CanAskAll, next_rows, RoundCause}
+use Rattle.middleware.specs.Rounds.{CanAskAll}
 use Rattle.middleware.specs.Live.{AreAlike}
 use Rattle.middleware.specs.declared.round.RoundFault.{RoundFault}
 use Rattle.middleware.specs.declared.branch.BranchFault.{BranchFault}
@@ -105,28 +103,6 @@ pub record RoseAt {S : Type 0} (seen : S → Seen) (schema : Schema) (rel : ℕ)
   pub line_is : line_for rel schema.sources ≡ Some line
   pub rose : SourceSteps old new line.kind (λ s t. Rose (seen s).faults (seen t).faults)
 
--- A round was asked whole: the requests that the partial rows want, and the next partial rows.
-pub record RoundGoes {S : Type 0} (seen : S → Seen) (schema : Schema) (step : Step) (rows next : RowList) (before after : ℕ) (old new : List (Kind S)) : Type 0 where
-  pub method : Method
-  pub named : IsMethod (meaning_of schema) step.method method
-  pub list : RowList
-  pub wanted : IsWanted step.places method.inputs rows list
-  pub asks : AsksLane seen schema (requests_of method.rel method.inputs list) old new
-  pub count : after ≡ before + length list
-  pub rows_are : (instance : List Fact) → HoldSteps seen schema (step ∷ []) old instance →
-      (row : List (List ℕ)) → Contains next row ↔ Contains (next_rows step.places method instance rows) row
-
--- A round stopped after the first of its requests.
-pub record RoundStops {S : Type 0} (seen : S → Seen) (schema : Schema) (step : Step) (rows : RowList) (room : ℕ) (fault : RoundFault) (old new : List (Kind S)) : Type 0 where
-  pub method : Method
-  pub named : IsMethod (meaning_of schema) step.method method
-  pub list : RowList
-  pub wanted : IsWanted step.places method.inputs rows list
-  pub count : ℕ
-  pub within : count ≤ length list
-  pub asks : AsksLane seen schema (requests_of method.rel method.inputs (take count list)) old new
-  pub cause : RoundCause fault room (length list) count (RoseAt seen schema method.rel old new)
-
 -- ---- the rounds of a branch
 
 -- a list of rows is the partial rows that the steps lead to
@@ -144,72 +120,6 @@ pub record Means (schema : SchemaParts) (facts : List Fact) (live : ℕ → Bool
   pub alike : AreAlike live partial rows
   pub are : AreStepsRequests schema facts [] steps requests
 
--- the rounds of these steps are done: rows alike the partial ones, and the requests
-pub record Reached {S : Type 0} (seen : S → Seen) (schema : Schema) (live : ℕ → Bool) (steps : List Step) (rows : RowList) (before after : ℕ) (old new : List (Kind S)) : Type 0 where
-  pub list : List Request
-  pub asks : AsksLane seen schema list old new
-  pub count : after ≡ before + length list
-  pub of_steps : AreOfSteps (meaning_of schema) steps list
-  pub means : (instance : List Fact) → HoldSteps seen schema steps old instance → Means (meaning_of schema) instance live steps rows list
-
--- on an instance: the requests of the rounds before that of the nth step, and the first ones of its own, for which there was room
-pub record BrokenAt (schema : SchemaParts) (facts : List Fact) (steps : List Step) (n start most : ℕ) (earlier now : List Request) : Type 0 where
-  pub step : Step
-  pub at : slice_get steps n ≡ Some step
-  pub round : List Request
-  pub earlier_are : AreStepsRequests schema facts [] (take n steps) earlier
-  pub round_is : IsRound schema facts (take n steps) step round
-  pub fits : start + length earlier + length round ≤ most
-  pub first : now ≡ take (length now) round
-
--- on an instance: the requests of the rounds before some step, whose own round wants so many
-pub record FullAt (schema : SchemaParts) (facts : List Fact) (steps : List Step) (wanted : ℕ) (asked : List Request) : Type 0 where
-  pub n : ℕ
-  pub step : Step
-  pub at : slice_get steps n ≡ Some step
-  pub now : List Request
-  pub asked_are : AreStepsRequests schema facts [] (take n steps) asked
-  pub now_is : IsRound schema facts (take n steps) step now
-  pub wanted_is : wanted ≡ length now
-
--- a call of the nth round failed
-pub record FailsAt {S : Type 0} (seen : S → Seen) (schema : Schema) (steps : List Step) (n start most : ℕ) (old new : List (Kind S)) : Type 0 where
-  pub step : Step
-  pub at : slice_get steps n ≡ Some step
-  pub method : Method
-  pub named : IsMethod (meaning_of schema) step.method method
-  -- the lane before the round, and what was asked until then and in it
-  pub before : List (Kind S)
-  pub earlier : List Request
-  pub now : List Request
-  pub asks_earlier : AsksLane seen schema earlier old before
-  pub asks_now : AsksLane seen schema now before new
-  pub some : 1 ≤ length now
-  pub of_step : (request : Request) → Contains now request → IsStepRequest (meaning_of schema) step request
-  pub rose : RoseAt seen schema method.rel before new
-  pub means : (instance : List Fact) → HoldSteps seen schema steps old instance → BrokenAt (meaning_of schema) instance steps n start most earlier now
-
--- the next round would pass the cap
-pub record FillsAt {S : Type 0} (seen : S → Seen) (schema : Schema) (steps : List Step) (before most total wanted : ℕ) (asked : List Request) (old : List (Kind S)) : Type 0 where
-  pub total_is : total ≡ before + length asked
-  pub within : total ≤ most
-  pub over : most < total + wanted
-  pub means : (instance : List Fact) → HoldSteps seen schema steps old instance → FullAt (meaning_of schema) instance steps wanted asked
-
--- why the rounds of a branch stopped
-abbrev pub BranchCause : {S : Type 0} → (S → Seen) → Schema → List Step → ℕ → ℕ → List Request → List (Kind S) → List (Kind S) → BranchFault → Type 0
-BranchCause seen schema steps before most asked old new branch.NoMemory = Unit {0}
-BranchCause seen schema steps before most asked old new (branch.Failed step) = FailsAt seen schema steps step before most old new
-BranchCause seen schema steps before most asked old new (branch.OverCalls total wanted) = FillsAt seen schema steps before most total wanted asked old
-
--- The rounds of a branch stopped after some first part of its requests.
-pub record BranchStops {S : Type 0} (seen : S → Seen) (schema : Schema) (steps : List Step) (before most : ℕ) (fault : BranchFault) (old new : List (Kind S)) : Type 0 where
-  pub list : List Request
-  pub asks : AsksLane seen schema list old new
-  pub of_steps : AreOfSteps (meaning_of schema) steps list
-  pub part : (instance : List Fact) → HoldSteps seen schema steps old instance → (rest : List Request) × AreStepsRequests (meaning_of schema) instance [] steps (list ++ rest)
-  pub cause : BranchCause seen schema steps before most list old new fault
-
 -- a round's refusal as that of the branch
 abbrev pub stop_of : ℕ → ℕ → RoundFault → BranchFault
 stop_of step total round.NoMemory = branch.NoMemory
@@ -223,14 +133,6 @@ pub record AddsBranch (schema : SchemaParts) (facts : List Fact) (branch : Branc
   pub exactly : (row : List (List ℕ)) → Contains next row ↔ (Contains rows row ⊎ IsBranchRow schema branch facts row)
   pub are : AreStepsRequests schema facts [] branch.steps requests
 
--- a branch is done: its rows were added
-pub record BranchGoes {S : Type 0} (seen : S → Seen) (schema : Schema) (branch : Branch) (rows next : RowList) (before after : ℕ) (old new : List (Kind S)) : Type 0 where
-  pub list : List Request
-  pub asks : AsksLane seen schema list old new
-  pub count : after ≡ before + length list
-  pub of_steps : AreOfSteps (meaning_of schema) branch.steps list
-  pub means : (instance : List Fact) → HoldSteps seen schema branch.steps old instance → AddsBranch (meaning_of schema) instance branch rows next list
-
 -- each request is one of a step of a branch
 abbrev pub AreOfBranches : SchemaParts → List Branch → List Request → Type 0
 AreOfBranches schema branches requests = (request : Request) → Contains requests request →
@@ -240,29 +142,6 @@ AreOfBranches schema branches requests = (request : Request) → Contains reques
 pub record BranchesMean (schema : SchemaParts) (facts : List Fact) (branches : List Branch) (rows : RowList) (requests : List Request) : Type 0 where
   pub exactly : (row : List (List ℕ)) → Contains rows row ↔ ((branch : Branch) × Contains branches branch × IsBranchRow schema branch facts row)
   pub are : AreBranchesRequests schema facts branches requests
-
--- the branches are done: their rows, and their requests
-pub record Done {S : Type 0} (seen : S → Seen) (schema : Schema) (plan : Plan) (branches : List Branch) (rows : RowList) (total : ℕ) (old new : List (Kind S)) : Type 0 where
-  pub list : List Request
-  pub asks : AsksLane seen schema list old new
-  pub count : total ≡ length list
-  pub of_branches : AreOfBranches (meaning_of schema) branches list
-  pub means : (instance : List Fact) → HoldPlan seen schema plan old instance → BranchesMean (meaning_of schema) instance branches rows list
-
--- why the rounds of a plan stopped
-abbrev pub RoundsCause : {S : Type 0} → (S → Seen) → Schema → Plan → ℕ → List (Kind S) → List (Kind S) → RunFault → Type 0
-RoundsCause seen schema plan cap old new fault.NoMemory = Unit {0}
-RoundsCause seen schema plan cap old new (fault.CallFailed branch step) = RoundFails seen schema plan cap branch step old new
-RoundsCause seen schema plan cap old new (fault.OverCalls total wanted its) = (its ≡ cap) × CapStops seen schema plan cap total wanted old new
-RoundsCause seen schema plan cap old new end = ⊥
-
--- The rounds of a plan stopped after some first part of its requests.
-pub record PlanStops {S : Type 0} (seen : S → Seen) (schema : Schema) (plan : Plan) (cap : ℕ) (fault : RunFault) (old new : List (Kind S)) : Type 0 where
-  pub list : List Request
-  pub asks : AsksLane seen schema list old new
-  pub of_branches : AreOfBranches (meaning_of schema) plan.branches list
-  pub part : (instance : List Fact) → HoldPlan seen schema plan old instance → (rest : List Request) × AreBranchesRequests (meaning_of schema) instance plan.branches (list ++ rest)
-  pub cause : RoundsCause seen schema plan cap old new fault
 
 -- a branch's refusal as that of the plan
 abbrev pub fault_of : ℕ → ℕ → BranchFault → RunFault

@@ -1,5 +1,5 @@
--- The instance that the sources of the used lane hold, as far as a plan accesses it.
-use Rattle.std.specs.Prelude.{◌↔◌, ℕ, List, [], ◌∷◌, Contains, IsSomeAnd}
+-- The instance that the sources of a lane hold, as far as a plan accesses it.
+use Rattle.std.specs.Prelude.{◌↔◌, ℕ, List, Contains, IsSomeAnd}
 use Rattle.meaning.specs.declared.types.Fact.{Fact}
 use Rattle.meaning.specs.declared.types.Relation.{Relation}
 use Rattle.meaning.specs.declared.types.Plan.{Plan}
@@ -8,8 +8,7 @@ use Rattle.access_schema.specs.declared.schema.SourceLine.{SourceLine}
 use Rattle.source_trait.specs.Asking.{Seen}
 use Rattle.source_trait.specs.Lanes.{AtKind}
 use Rattle.source_trait.specs.declared.lanes.Kind.{Kind}
-use Rattle.source_trait.specs.declared.lanes.Lane.{Lane}
-use Rattle.middleware.specs.PlanSources.{IsAccessed, IsPlanSource}
+use Rattle.middleware.specs.PlanSources.{IsPlanSource}
 
 -- the facts of one relation are the same in both
 abbrev pub SameFacts : ℕ → List Fact → List Fact → Type 0
@@ -23,8 +22,3 @@ HoldsRelation seen kinds kind rel instance = AtKind kinds kind (λ s. IsSomeAnd 
 abbrev pub HoldPlan : {S : Type 0} → (S → Seen) → Schema → Plan → List (Kind S) → List Fact → Type 0
 HoldPlan seen schema plan kinds instance = (rel : ℕ) (relation : Relation) (line : SourceLine) → IsPlanSource schema plan rel relation line →
     HoldsRelation seen kinds line.kind rel instance
-
--- The sources of the first lane, which is the used one, hold the instance as far as the plan accesses it.
-abbrev pub Holds : {S : Type 0} → (S → Seen) → Schema → Plan → List (Lane S) → List Fact → Type 0
-Holds seen schema plan [] instance = (rel : ℕ) → IsAccessed schema plan rel → ⊥
-Holds seen schema plan (lane ∷ rest) instance = HoldPlan seen schema plan lane.kinds.items instance

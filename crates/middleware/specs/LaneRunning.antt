@@ -1,4 +1,4 @@
--- What an execution on several lanes does, and why it stops.
+-- What an execution does on its lanes, and why it stops.
 use Rattle.std.specs.Prelude.{◌≡◌, ◌≢◌, ◌↔◌, ◌⊎◌, ◌<◌, ℕ, true, false, List, [], map, length, Contains, None, Some, IsSome, Result, Ok, Err, slice_get}
 use Rattle.std.specs.List.Sorted.{IsStrictlyIncreasing}
 use Rattle.meaning.specs.declared.types.Plan.{Plan}
@@ -102,6 +102,11 @@ module _ {S : Type 0} (seen : S → Seen) (schema : Schema) (plan : Plan) where
   ExecutesOnLanes cap old new (Err (fault.Attach rel why)) = LanesAttachStops rel why old new × (why ≢ NoRoom)
   ExecutesOnLanes cap old new (Err (fault.CallFailed branch step)) = LanesStop cap (fault.CallFailed branch step) old new
   ExecutesOnLanes cap old new (Err (fault.OverCalls made wanted its)) = LanesStop cap (fault.OverCalls made wanted its) old new
+
+-- a refusal of an attach as that of the execution
+abbrev pub refused_as : ℕ → AttachFault → RunFault
+refused_as rel NoRoom = fault.NoMemory
+refused_as rel why = fault.Attach rel why
 
 -- after whole rounds no lane is stopped
 abbrev pub LanesGoOn : {S : Type 0} → Result Run RunFault → List (Lane S) → Type 0

@@ -2,7 +2,6 @@ pub mod PlanSources
 pub mod Held
 pub mod Attaching
 pub mod Asked
-pub mod Causes
 pub mod Joining
 pub mod WholeAnswer
 pub mod Rounds
@@ -14,6 +13,5 @@ pub mod LaneRounds
 pub mod LaneBranches
 pub mod LaneAsking
 pub mod Sources
-pub mod Running
 pub mod LaneRunning
 pub mod Executing

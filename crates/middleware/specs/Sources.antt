@@ -1,11 +1,10 @@
 -- The relations of a plan as lists, and how far their attaches came.
-use Rattle.std.specs.Prelude.{◌≡◌, ℕ, Bool, false, List, [], ◌∷◌, Contains, Option, None, Some, IsSome, slice_get, take, Result, Ok, Err, if◌then◌else◌}
+use Rattle.std.specs.Prelude.{◌≡◌, ℕ, Bool, false, List, [], ◌∷◌, Contains, Option, None, Some, IsSome, slice_get, take, Err, if◌then◌else◌}
 use Rattle.std.specs.Option.{is_some}
 use Rattle.meaning.specs.declared.types.Method.{Method}
 use Rattle.meaning.specs.declared.types.Relation.{Relation}
 use Rattle.meaning.specs.declared.types.Step.{Step}
 use Rattle.meaning.specs.declared.types.Branch.{Branch}
-use Rattle.meaning.specs.declared.types.Plan.{Plan}
 use Rattle.meaning.specs.Plans.{IsMethod}
 use Rattle.access_schema.specs.declared.schema.Schema.{Schema}
 use Rattle.access_schema.specs.declared.schema.SourceLine.{SourceLine}
@@ -16,9 +15,6 @@ use Rattle.source_trait.specs.declared.source.AttachFault.{AttachFault}
 use Rattle.source_trait.specs.declared.lanes.Kind.{Kind}
 use Rattle.middleware.specs.PlanSources.{line_for}
 use Rattle.middleware.specs.Attaching.{AttachesOne, AttachesInOrder}
-use Rattle.middleware.specs.declared.fault.Run.{Run}
-use Rattle.middleware.specs.declared.fault.RunFault.{RunFault}
-use Rattle.middleware.specs.Branches.{Done, PlanStops}
 
 -- the step accesses the relation
 pub record StepAccesses (schema : Schema) (step : Step) (rel : ℕ) : Type 0 where
@@ -62,11 +58,6 @@ pub record AttachBreaks {S : Type 0} (seen : S → Seen) (schema : Schema) (rels
   pub middle : List (Kind S)
   pub attached : AttachesInOrder seen schema (take n rels) old middle
   pub refused : AttachesOne seen schema rel (Err fault) middle new
-
--- what the rounds of a plan gave
-abbrev pub RoundsGive : {S : Type 0} → (S → Seen) → Schema → Plan → ℕ → List (Kind S) → List (Kind S) → Result Run RunFault → Type 0
-RoundsGive seen schema plan cap old new (Ok run) = Done seen schema plan plan.branches run.rows run.made old new
-RoundsGive seen schema plan cap old new (Err fault) = PlanStops seen schema plan cap fault old new
 
 -- a step of some of the branches accesses the relation
 pub record BranchesAccess (schema : Schema) (branches : List Branch) (rel : ℕ) : Type 0 where

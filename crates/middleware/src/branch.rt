@@ -1,7 +1,9 @@
 // The rounds of one branch.
-ghost use Rattle.std.specs.Prelude.{◌≡◌, ◌≤◌, IfOk, IfErr, OnOk, [], ◌∷◌, length, drop, map};
+ghost use Rattle.std.specs.Prelude.{◌≡◌, ◌≤◌, ◌<◌, IfOk, IfErr, OnOk, [], ◌∷◌, length, drop, map};
 ghost use Rattle.access_schema.specs.Meaning.{meaning_of};
-ghost use Rattle.middleware.specs.Branches.{AreReady, IsReadyBranch, AreAskable, Reached, BranchStops, BranchGoes, stop_of, out_value, output_of, HasAdded};
+ghost use Rattle.middleware.specs.Branches.{AreReady, IsReadyBranch, AreAskable, stop_of, out_value, output_of, HasAdded};
+ghost use Rattle.middleware.specs.LaneBranches.{OnEach, LanesReached, StepsHalt, LanesAdd};
+ghost use Rattle.middleware.specs.LaneRounds.{NoneStopped};
 ghost use Rattle.middleware.specs.Live.{is_shown};
 
 use crate::live::live_rows;
@@ -12,6 +14,7 @@ use meaning::types::{Branch, Out, Step};
 use row_text::{LentRow, PackedRows, Recent};
 use source_trait::{Lane, Source};
 use std::alloc::{AllocError, Global};
+use std::thread::Threads;
 
 /// Why the rounds of a branch stop.
 #[derive(Clone, Copy, Debug, PartialEq, Eq)]
@@ -21,22 +24,26 @@ pub enum BranchFault {
     OverCalls { made: u32, wanted: usize },
 }
 
-/// Executes one branch more, and adds its rows.
-pub fn next_branch<S: Source + Send + Drop>(
+/// Executes one branch more on the lanes, and adds its rows.
+pub fn next_branch<R: Threads + Sync, S: Source + Send + Drop>(
+    rt: &R,
     alloc: Global,
     schema: &Schema,
-    lane: &mut Lane<S>,
+    lanes: &mut [Lane<S>],
     branch: &Branch,
     progress: Progress,
     cap: u32,
 ) -> Result<Progress, BranchFault>
+    requires lanes { (0 < length lanes.old) × (length lanes.old ≤ 8) }
     requires ready { IsReadyBranch (meaning_of schema.now) branch.now }
-    requires askable { AreAskable S.seen schema.now lane.old.kinds.items branch.now.steps }
-    requires cap { progress.made ≤ cap }
-    ensures goes { IfOk result (λ p. BranchGoes S.seen schema.now branch.now progress.rows p.rows progress.made p.made lane.old.kinds.items lane.new.kinds.items) }
+    requires askable { OnEach lanes.old (λ kinds. AreAskable S.seen schema.now kinds branch.now.steps) }
+    requires made { progress.made ≤ cap }
+    requires cap { cap ≤ 1_000_000 }
+    requires going { NoneStopped lanes.old }
+    ensures goes { IfOk result (λ p. LanesAdd S.seen schema.now branch.now progress.rows p.rows progress.made p.made lanes.old lanes.new) }
     ensures within { IfOk result (λ p. p.made ≤ cap) }
-    ensures stops { IfErr result (λ fault. BranchStops S.seen schema.now branch.now.steps progress.made cap fault lane.old.kinds.items lane.new.kinds.items) }
-    ensures stopped { lane.new.stopped ≡ lane.old.stopped }
+    ensures stops { IfErr result (λ fault. StepsHalt S.seen schema.now branch.now.steps progress.made cap fault lanes.old lanes.new) }
+    ensures going { OnOk result (NoneStopped lanes.new) }
 {
     let Progress { rows, made } = progress;
     let first = match no_columns(alloc) {
@@ -45,9 +52,10 @@ pub fn next_branch<S: Source + Send + Drop>(
     };
     let outs = branch.output.as_slice();
     match run_steps(
+        rt,
         alloc,
         schema,
-        lane,
+        lanes,
         branch.steps.as_slice(),
         outs,
         first,
@@ -66,31 +74,35 @@ pub fn next_branch<S: Source + Send + Drop>(
     }
 }
 
-/// The one partial row before the first step.
-pub fn no_columns(alloc: Global) -> Result<PackedRows, AllocError>
+// The one partial row before the first step.
+fn no_columns(alloc: Global) -> Result<PackedRows, AllocError>
     ensures { IfOk result (λ rows. rows ≡ [] ∷ []) }
 {
     PackedRows::new(alloc).with_texts(&[])
 }
 
 // Asks the rounds of the steps in order. Of the partial rows before each, the values that are named no more are dropped.
-fn run_steps<S: Source + Send + Drop>(
+fn run_steps<R: Threads + Sync, S: Source + Send + Drop>(
+    rt: &R,
     alloc: Global,
     schema: &Schema,
-    lane: &mut Lane<S>,
+    lanes: &mut [Lane<S>],
     steps: &[Step],
     outs: &[Out],
     first: Progress,
     cap: u32,
 ) -> Result<Progress, BranchFault>
+    requires lanes { (0 < length lanes.old) × (length lanes.old ≤ 8) }
     requires ready { AreReady (meaning_of schema.now) steps.now }
-    requires askable { AreAskable S.seen schema.now lane.old.kinds.items steps.now }
+    requires askable { OnEach lanes.old (λ kinds. AreAskable S.seen schema.now kinds steps.now) }
     requires empty { first.rows ≡ [] ∷ [] }
-    requires cap { first.made ≤ cap }
-    ensures reached { IfOk result (λ p. Reached S.seen schema.now (is_shown outs.now) steps.now p.rows first.made p.made lane.old.kinds.items lane.new.kinds.items) }
+    requires made { first.made ≤ cap }
+    requires cap { cap ≤ 1_000_000 }
+    requires going { NoneStopped lanes.old }
+    ensures reached { IfOk result (λ p. LanesReached S.seen schema.now (is_shown outs.now) steps.now p.rows first.made p.made lanes.old lanes.new) }
     ensures within { IfOk result (λ p. p.made ≤ cap) }
-    ensures stops { IfErr result (λ fault. BranchStops S.seen schema.now steps.now first.made cap fault lane.old.kinds.items lane.new.kinds.items) }
-    ensures stopped { lane.new.stopped ≡ lane.old.stopped }
+    ensures stops { IfErr result (λ fault. StepsHalt S.seen schema.now steps.now first.made cap fault lanes.old lanes.new) }
+    ensures going { OnOk result (NoneStopped lanes.new) }
 {
     let mut progress = first;
     let mut number: usize = 0;
@@ -100,7 +112,7 @@ fn run_steps<S: Source + Send + Drop>(
             rows: live_rows(alloc, after(steps, number), outs, rows),
             made,
         };
-        progress = match next_round(alloc, schema, lane, step, live, cap) {
+        progress = match next_round(rt, alloc, schema, lanes, step, live, cap) {
             Ok(progress) => progress,
             Err(fault) => return Err(stop_at(number, made, fault)),
         };
@@ -109,16 +121,16 @@ fn run_steps<S: Source + Send + Drop>(
     Ok(progress)
 }
 
-/// The steps from a number on.
-pub fn after(steps: &[Step], number: usize) -> &[Step]
+// The steps from a number on.
+fn after(steps: &[Step], number: usize) -> &[Step]
     requires { number ≤ length steps.now }
     ensures { result.now ≡ drop number steps.now }
 {
     &steps[number..]
 }
 
-/// A round's refusal as that of the branch.
-pub fn stop_at(step: usize, made: u32, fault: RoundFault) -> BranchFault
+// A round's refusal as that of the branch.
+fn stop_at(step: usize, made: u32, fault: RoundFault) -> BranchFault
     ensures { result ≡ stop_of step made fault }
 {
     match fault {
@@ -128,8 +140,8 @@ pub fn stop_at(step: usize, made: u32, fault: RoundFault) -> BranchFault
     }
 }
 
-/// Adds the outputs of the partial rows, but for most doubles.
-pub fn add_outputs(
+// Adds the outputs of the partial rows, but for most doubles.
+fn add_outputs(
     alloc: Global,
     outs: &[Out],
     rows: &PackedRows,
@@ -157,8 +169,8 @@ fn add_row(texts: &[&str], recent: &mut Recent, into: PackedRows) -> Result<Pack
     into.with_texts(texts)
 }
 
-/// The texts of the output places, in place of those that were there.
-pub fn output_texts<'a>(
+// The texts of the output places, in place of those that were there.
+fn output_texts<'a>(
     outs: &'a [Out],
     row: &LentRow<'a>,
     texts: &mut Vec<&'a str>,

@@ -15,7 +15,7 @@ pub enum RunFault {
     NoMemory,
     /// The relation has no source line.
     NoSource { rel: u32 },
-    /// The used lane has no source of the kind of the relation's source line.
+    /// Some lane has no source of the kind of the relation's source line, or there is no lane.
     UnknownKind { rel: u32 },
     /// The relation was not attached.
     Attach { rel: u32, fault: AttachFault },

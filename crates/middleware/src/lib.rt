@@ -1,21 +1,17 @@
 //! Plans executed over sources: relations attached, requests asked round by round, and answers joined.
 //!
-//! Crates above call `execute` with a lawful plan, and print its rows with `csv_text`. Begin at the clauses of `execute` in
-//! `src/lane_run.rt`; the words that they use are in `specs/`, in the order of `specs/Lib.antt`. A crate that asks relations without
-//! a plan attaches them by `attach_all`.
+//! Crates above call `execute` with a lawful plan, and print its rows with `csv_text`. Begin at `specs/Executing.antt`, which says what
+//! `execute` of `src/run_plan.rt` does; the words that it uses are in `specs/`, in the order of `specs/Lib.antt`. A crate that asks
+//! relations without a plan attaches them by `attach_all`.
 #![tactic(auto)]
 
 mod accesses;
 mod ask;
+mod asking;
 mod attach;
 mod branch;
 mod fault;
-mod lane_attach;
-mod lane_branch;
 mod lane_round;
-mod lane_rounds;
-mod lane_run;
-mod lane_step;
 mod live;
 mod lookup;
 mod partial_rows;
@@ -26,10 +22,9 @@ mod run_plan;
 mod whole_answer;
 
 pub use accesses::{first_kindless, first_lineless};
-pub use attach::{Refused, attach_all};
+pub use attach::{Refused, attach_all, attach_lanes};
 pub use fault::{Run, RunFault};
-pub use lane_attach::attach_lanes;
 pub use lane_round::{AskFault, ask_round};
-pub use lane_run::execute;
 pub use lookup::find_line;
 pub use row_text::csv_text;
+pub use run_plan::execute;

@@ -1,21 +1,24 @@
 // One round: the requests of a step, their answers, and the next partial rows.
-ghost use Rattle.std.specs.Prelude.{◌≡◌, ◌≤◌, ◌<◌, ◌-◌, ◌↔◌, List, ℕ, Contains, IfOk, IfErr, length};
+ghost use Rattle.std.specs.Prelude.{◌≤◌, ◌<◌, ◌-◌, ◌↔◌, List, ℕ, Contains, IfOk, IfErr, OnOk, length};
 ghost use Rattle.meaning.specs.declared.types.Method.{Method};
 ghost use Rattle.meaning.specs.Plans.{IsMethod};
 ghost use Rattle.access_schema.specs.Meaning.{meaning_of};
-ghost use Rattle.source_trait.specs.Lanes.{AtKind, StepsOn};
-ghost use Rattle.middleware.specs.Rounds.{IsWanted, CanAskAll, RoundAnswers, RoundRefused};
-ghost use Rattle.middleware.specs.Branches.{IsAskable, RoundGoes, RoundStops};
+ghost use Rattle.middleware.specs.Rounds.{IsWanted};
+ghost use Rattle.middleware.specs.Branches.{IsAskable};
+ghost use Rattle.middleware.specs.LaneBranches.{OnEach, LanesGo, LanesHalt};
+ghost use Rattle.middleware.specs.LaneAsking.{RoundShared, RoundUnshared};
+ghost use Rattle.middleware.specs.LaneRounds.{NoneStopped};
 
-use crate::ask::ask_all;
-use crate::lookup::{find_line, find_method};
+use crate::asking::ask_wanted;
+use crate::lookup::find_method;
 use crate::partial_rows::{input_rows, join};
 use access_schema::{Method, Schema};
-use lists::{Row, Text};
+use lists::Row;
 use meaning::types::{Place, Step};
 use row_text::{PackedRows, ascending_distinct};
 use source_trait::{CallFault, Lane, Source};
 use std::alloc::{AllocError, Global};
+use std::thread::Threads;
 
 /// The rows so far, and how many requests were made for them.
 #[derive(Drop)]
@@ -32,48 +35,115 @@ pub enum RoundFault {
     OverCalls { wanted: usize },
 }
 
-/// Asks the round of a step, and goes on to the next partial rows.
-pub fn next_round<S: Source + Send + Drop>(
+/// Asks the round of a step on the lanes, and goes on to the next partial rows.
+pub fn next_round<R: Threads + Sync, S: Source + Send + Drop>(
+    rt: &R,
     alloc: Global,
     schema: &Schema,
-    lane: &mut Lane<S>,
+    lanes: &mut [Lane<S>],
     step: &Step,
     progress: Progress,
     cap: u32,
 ) -> Result<Progress, RoundFault>
+    requires lanes { (0 < length lanes.old) × (length lanes.old ≤ 8) }
     requires named { (method : Method) × IsMethod (meaning_of schema.now) step.now.method method }
-    requires askable { (method : Method) → IsMethod (meaning_of schema.now) step.now.method method → IsAskable S.seen schema.now lane.old.kinds.items method }
-    requires cap { progress.made ≤ cap }
-    ensures goes { IfOk result (λ p. RoundGoes S.seen schema.now step.now progress.rows p.rows progress.made p.made lane.old.kinds.items lane.new.kinds.items) }
+    requires askable { (method : Method) → IsMethod (meaning_of schema.now) step.now.method method
+        → OnEach lanes.old (λ kinds. IsAskable S.seen schema.now kinds method) }
+    requires going { NoneStopped lanes.old }
+    requires made { progress.made ≤ cap }
+    requires cap { cap ≤ 1_000_000 }
+    ensures goes { IfOk result (λ p. LanesGo S.seen schema.now step.now progress.rows p.rows progress.made p.made lanes.old lanes.new) }
     ensures within { IfOk result (λ p. p.made ≤ cap) }
-    ensures stops { IfErr result (λ fault. RoundStops S.seen schema.now step.now progress.rows (cap - progress.made) fault lane.old.kinds.items lane.new.kinds.items) }
-    ensures stopped { lane.new.stopped ≡ lane.old.stopped }
+    ensures stops { IfErr result (λ fault. LanesHalt S.seen schema.now step.now progress.rows (cap - progress.made) fault lanes.old lanes.new) }
+    ensures going { OnOk result (NoneStopped lanes.new) }
 {
-    let Some(method) = find_method(schema, &step.method) else {
-        return Err(RoundFault::NoMemory);
+    match find_method(schema, &step.method) {
+        Some(method) => { ask_step(rt, alloc, schema, lanes, step, method, progress, cap) }
+        None => Err(RoundFault::NoMemory),
+    }
+}
+
+// Asks the distinct requests of a step, and joins the answers with the partial rows.
+fn ask_step<R: Threads + Sync, S: Source + Send + Drop>(
+    rt: &R,
+    alloc: Global,
+    schema: &Schema,
+    lanes: &mut [Lane<S>],
+    step: &Step,
+    method: &Method,
+    progress: Progress,
+    cap: u32,
+) -> Result<Progress, RoundFault>
+    requires lanes { (0 < length lanes.old) × (length lanes.old ≤ 8) }
+    requires named { IsMethod (meaning_of schema.now) step.now.method method.now }
+    requires askable { OnEach lanes.old (λ kinds. IsAskable S.seen schema.now kinds method.now) }
+    requires going { NoneStopped lanes.old }
+    requires made { progress.made ≤ cap }
+    requires cap { cap ≤ 1_000_000 }
+    ensures goes { IfOk result (λ p. LanesGo S.seen schema.now step.now progress.rows p.rows progress.made p.made lanes.old lanes.new) }
+    ensures within { IfOk result (λ p. p.made ≤ cap) }
+    ensures stops { IfErr result (λ fault. LanesHalt S.seen schema.now step.now progress.rows (cap - progress.made) fault lanes.old lanes.new) }
+    ensures going { OnOk result (NoneStopped lanes.new) }
+{
+    let Progress { rows, made } = progress;
+    let places = step.places.as_slice();
+    let wanted = match wanted_rows(alloc, places, method.inputs.as_slice(), rows) {
+        Ok(wanted) => wanted,
+        Err(_) => return Err(RoundFault::NoMemory),
     };
-    let Some(line) = find_line(schema.sources.as_slice(), method.rel) else {
-        return Err(RoundFault::NoMemory);
-    };
-    let made = progress.made;
     let room = (cap - made) as usize;
-    match ask_step(
-        alloc,
-        lane,
-        &line.kind,
-        method,
-        step.places.as_slice(),
-        progress.rows,
-        room,
-    ) {
-        Ok(round) => {
-            let asked = round.requests.len() as u32;
-            Ok(Progress {
-                rows: round.rows,
-                made: made + asked,
-            })
-        }
+    match join_wanted(rt, alloc, schema, lanes, method, places, &wanted, room) {
+        Ok(rows) => Ok(Progress {
+            rows,
+            made: made + wanted.requests.len() as u32,
+        }),
         Err(fault) => Err(fault),
+    }
+}
+
+// Asks the wanted requests, each once by one of the lanes, and joins the answers with the partial rows that want them.
+fn join_wanted<R: Threads + Sync, S: Source + Send + Drop>(
+    rt: &R,
+    alloc: Global,
+    schema: &Schema,
+    lanes: &mut [Lane<S>],
+    method: &Method,
+    places: &[Place],
+    wanted: &Wanted,
+    room: usize,
+) -> Result<PackedRows, RoundFault>
+    requires lanes { (0 < length lanes.old) × (length lanes.old ≤ 8) }
+    requires going { NoneStopped lanes.old }
+    requires askable { OnEach lanes.old (λ kinds. IsAskable S.seen schema.now kinds method.now) }
+    requires wanted { IsWanted places.now method.now.inputs wanted.now.rows wanted.now.requests.items }
+    requires room { room ≤ 1_000_000 }
+    ensures fits { IfOk result (λ next. length wanted.now.requests.items ≤ room) }
+    ensures shared { IfOk result (λ next. RoundShared S.seen schema.now places.now method.now wanted.now.rows wanted.now.requests.items next lanes.old lanes.new) }
+    ensures refused { IfErr result (λ fault. RoundUnshared S.seen schema.now places.now method.now wanted.now.rows room fault lanes.old lanes.new) }
+    ensures going { OnOk result (NoneStopped lanes.new) }
+{
+    let requests = wanted.requests.as_slice();
+    let count = requests.len();
+    if count > room {
+        return Err(RoundFault::OverCalls { wanted: count });
+    }
+    match ask_wanted(rt, alloc, schema, lanes, method, requests) {
+        Ok(answers) => {
+            let inputs = method.inputs.as_slice();
+            match join(
+                alloc,
+                places,
+                inputs,
+                requests,
+                answers.into_vec(),
+                &wanted.rows,
+            ) {
+                Ok(next) => Ok(next),
+                Err(_) => Err(RoundFault::NoMemory),
+            }
+        }
+        Err(CallFault::Failed) => Err(RoundFault::Failed),
+        Err(CallFault::NoMemory) => Err(RoundFault::NoMemory),
     }
 }
 
@@ -84,78 +154,14 @@ pub struct Wanted {
     pub requests: Vec<Row>,
 }
 
-/// The input rows that a round asked for, and the partial rows after it.
-#[derive(Drop)]
-pub struct Round {
-    pub requests: Vec<Row>,
-    pub rows: PackedRows,
-}
-
-// Asks the requests of one step, each once and in ascending order, and joins the answers with the partial rows.
-fn ask_step<S: Source + Send + Drop>(
-    alloc: Global,
-    lane: &mut Lane<S>,
-    kind: &Text,
-    method: &Method,
-    places: &[Place],
-    rows: PackedRows,
-    room: usize,
-) -> Result<Round, RoundFault>
-    requires ready { AtKind lane.old.kinds.items kind.now (λ s. CanAskAll ((S.seen s).attached method.now.rel) method.now) }
-    ensures wanted { IfOk result (λ r. IsWanted places.now method.now.inputs rows r.requests.items) }
-    ensures fits { IfOk result (λ r. length r.requests.items ≤ room) }
-    ensures answers { IfOk result (λ r. StepsOn lane.old.kinds.items lane.new.kinds.items kind.now
-        (λ s t. RoundAnswers places.now method.now rows r.requests.items r.rows (S.seen s) (S.seen t))) }
-    ensures refused { IfErr result (λ fault. StepsOn lane.old.kinds.items lane.new.kinds.items kind.now
-        (λ s t. RoundRefused places.now method.now rows room fault (S.seen s) (S.seen t))) }
-    ensures stopped { lane.new.stopped ≡ lane.old.stopped }
-{
-    let inputs = method.inputs.as_slice();
-    let Wanted { rows, requests } = match wanted_rows(alloc, places, inputs, rows) {
-        Ok(wanted) => wanted,
-        Err(_) => return Err(RoundFault::NoMemory),
-    };
-    let wanted = requests.len();
-    if wanted > room {
-        return Err(RoundFault::OverCalls { wanted });
-    }
-    match ask_all(
-        alloc,
-        lane,
-        kind,
-        method.rel,
-        &method.inputs,
-        requests.as_slice(),
-    ) {
-        Ok(answers) => {
-            match join(
-                alloc,
-                places,
-                inputs,
-                requests.as_slice(),
-                answers.into_vec(),
-                &rows,
-            ) {
-                Ok(next) => Ok(Round {
-                    requests,
-                    rows: next,
-                }),
-                Err(_) => Err(RoundFault::NoMemory),
-            }
-        }
-        Err(CallFault::Failed) => Err(RoundFault::Failed),
-        Err(CallFault::NoMemory) => Err(RoundFault::NoMemory),
-    }
-}
-
-/// The distinct partial rows, and what they ask for.
-pub fn wanted_rows(
+// The distinct partial rows, and what they ask for.
+fn wanted_rows(
     alloc: Global,
     places: &[Place],
     inputs: &[u32],
     rows: PackedRows,
 ) -> Result<Wanted, AllocError>
-    ensures wanted { IfOk result (λ w. IsWanted places.now inputs.now rows w.requests.items) }
+    ensures wanted { IfOk result (λ w. IsWanted places.now inputs.now w.rows w.requests.items) }
     ensures same { IfOk result (λ w. (row : List (List ℕ)) → Contains w.rows row ↔ Contains rows row) }
 {
     let distinct = ascending_distinct(alloc, &rows)?;

@@ -1,17 +1,18 @@
-use Rattle.std.proofs.Common.{◌≡◌, Some, refl, ◌+◌, ◌∙◌, ap, sym, arith, ℕ}
+use Rattle.std.proofs.Common.{◌≡◌, Some, refl, ◌+◌, ap, sym, arith, ℕ}
 use Rattle.std.specs.Prelude.{Contains, slice_get}
 use Rattle.std.proofs.lemmas.Option.{slice_get_read}
 use Rattle.access_schema.proofs.Keeping.{well_formed}
 use Rattle.middleware.specs.Live.{is_live}
-use Rattle.middleware.proofs.Branching.{near_rows, reached_none, one_more, all_reached, steps_stop, askable_later}
+use Rattle.middleware.proofs.Branching.{near_rows}
+use Rattle.middleware.proofs.LaneBranching.{reached_none, one_more, all_reached, steps_halt, askable_steps, each_asked}
 use Rattle.middleware.proofs.branch.run_steps.Goals as goal
 
 pub loop-step-init : goal.loop-step-init
 loop-step-init g c = record {
-  reached = reached_none g.S.Source.seen c.args.schema.now (well_formed c.args.schema.now) (is_live c.args.steps.now c.args.outs.now) c.args.first.rows c.requires.empty c.args.first.made c.args.lane.now.kinds.items;
+  reached = reached_none g.S.Source.seen c.args.schema.now (well_formed c.args.schema.now) (is_live c.args.steps.now c.args.outs.now) c.args.first.rows c.requires.empty c.args.first.made c.args.lanes.now;
   number = refl;
-  within = c.requires.cap;
-  stopped = refl;
+  within = c.requires.made;
+  going = c.requires.going;
 }
 
 pub next_round-requires-clause-named : goal.next_round-requires-clause-named
@@ -20,28 +21,29 @@ next_round-requires-clause-named g c κs within =
     let ready = c.requires.ready c.loop-step.step-index c.step-item.result got in (ready.method, ready.named)
 
 pub next_round-requires-clause-askable : goal.next_round-requires-clause-askable
-next_round-requires-clause-askable g c κs within = λ method named.
-    let there : Contains c.args.steps.now c.step-item.result = (c.loop-step.step-index, omega arith, sym c.step-item.is) in
+next_round-requires-clause-askable g c κs within = λ method named lane there.
+    let among : Contains c.args.steps.now c.step-item.result = (c.loop-step.step-index, omega arith, sym c.step-item.is) in
     let r = c.loop-step.invariant.reached in
-    askable_later g.S.Source.seen c.args.schema.now r.list c.args.lane.now.kinds.items c.loop-step.lane.kinds.items r.asks method (c.requires.askable c.step-item.result method there named)
+    askable_steps g.S.Source.seen c.args.schema.now c.args.steps.now c.args.lanes.now c.loop-step.lanes
+    (each_asked g.S.Source.seen c.args.schema.now r.list c.args.lanes.now c.loop-step.lanes r.asks) c.requires.askable lane there c.step-item.result method among named
 
 pub loop-step-preserved : goal.loop-step-preserved
 loop-step-preserved g c = record {
   reached = one_more g.S.Source.seen c.args.schema.now (well_formed c.args.schema.now) c.args.steps.now c.requires.ready c.args.outs.now c.loop-step.step-index c.step-item.result (omega arith) c.step-item.is
-      c.loop-step.progress.rows c.live_rows.result c.in-Ok.progress.rows c.args.first.made c.loop-step.progress.made c.in-Ok.progress.made c.args.lane.now.kinds.items c.loop-step.lane.kinds.items c.next_round.new.lane.kinds.items
+      c.loop-step.progress.rows c.live_rows.result c.in-Ok.progress.rows c.args.first.made c.loop-step.progress.made c.in-Ok.progress.made c.args.lanes.now c.loop-step.lanes c.next_round.new.lanes
       c.loop-step.invariant.reached (near_rows c.args.steps.now c.after.result.now c.args.outs.now c.loop-step.number c.loop-step.step-index c.loop-step.progress.rows c.live_rows.result c.after.ensures c.loop-step.invariant.number c.live_rows.ensures) c.in-Ok.ensures.goes;
   number = ap (λ (n : ℕ). n + 1) c.loop-step.invariant.number;
   within = c.in-Ok.ensures.within;
-  stopped = c.next_round.ensures.stopped ∙ c.loop-step.invariant.stopped;
+  going = c.in-Ok.ensures.going;
 }
 
 pub returns-in-Err-clause-stops : goal.returns-in-Err-clause-stops
 returns-in-Err-clause-stops g c =
-    rw c.stop_at.ensures (steps_stop g.S.Source.seen c.args.schema.now (well_formed c.args.schema.now) c.args.steps.now c.requires.ready c.loop-step.step-index c.loop-step.number c.loop-step.invariant.number c.step-item.result (omega arith) c.step-item.is
-    c.args.outs.now c.loop-step.progress.rows c.live_rows.result c.args.first.made c.loop-step.progress.made c.args.cap c.loop-step.invariant.within c.in-Err.fault c.args.lane.now.kinds.items c.loop-step.lane.kinds.items c.next_round.new.lane.kinds.items
+    rw c.stop_at.ensures (steps_halt g.S.Source.seen c.args.schema.now (well_formed c.args.schema.now) c.args.steps.now c.requires.ready c.loop-step.step-index c.loop-step.number c.loop-step.invariant.number c.step-item.result (omega arith) c.step-item.is
+    c.args.outs.now c.loop-step.progress.rows c.live_rows.result c.args.first.made c.loop-step.progress.made c.args.cap c.loop-step.invariant.within c.in-Err.fault c.args.lanes.now c.loop-step.lanes c.next_round.new.lanes c.loop-step.invariant.going
     c.loop-step.invariant.reached (near_rows c.args.steps.now c.after.result.now c.args.outs.now c.loop-step.number c.loop-step.step-index c.loop-step.progress.rows c.live_rows.result c.after.ensures c.loop-step.invariant.number c.live_rows.ensures) c.in-Err.ensures.stops)
 
 pub returns-clause-reached : goal.returns-clause-reached
 returns-clause-reached g c =
-    all_reached g.S.Source.seen c.args.schema.now (well_formed c.args.schema.now) c.args.steps.now c.args.outs.now c.loop-step.step-index (omega arith) c.loop-step.progress.rows c.args.first.made c.loop-step.progress.made c.args.lane.now.kinds.items c.loop-step.lane.kinds.items
+    all_reached g.S.Source.seen c.args.schema.now (well_formed c.args.schema.now) c.args.steps.now c.args.outs.now c.loop-step.step-index (omega arith) c.loop-step.progress.rows c.args.first.made c.loop-step.progress.made c.args.lanes.now c.loop-step.lanes
     c.loop-step.invariant.reached

@@ -1,48 +1,28 @@
-use Rattle.std.proofs.Common.{arith}
-use Rattle.middleware.specs.Joining.{grown, input_row_of}
-use Rattle.middleware.proofs.Distinct.{joined_same}
-use Rattle.middleware.proofs.Laning.{wanted_there, lane_no_requests, lane_over, lane_can_ask, lane_failed, lane_memory, lane_answers}
+use Rattle.std.proofs.Common.{◌+◌, ◌-◌, arith}
+use Rattle.middleware.specs.declared.round.RoundFault.TheVariants as round
+use Rattle.middleware.proofs.LaneGoing.{no_requests, shared_same, unshared_same, lanes_go, lanes_halt}
 use Rattle.middleware.proofs.round.ask_step.Goals as goal
 
-pub returns-in-Err-clause-refused : goal.returns-in-Err-clause-refused
-returns-in-Err-clause-refused g c =
-    lane_no_requests c.args.places.now c.args.method.now c.args.rows c.args.room g.S.Source.seen c.args.kind.now c.args.lane.now.kinds.items c.requires.ready
+pub returns-in-Err-clause-stops : goal.returns-in-Err-clause-stops
+returns-in-Err-clause-stops g c =
+    lanes_halt g.S.Source.seen c.args.schema.now c.args.step.now c.args.method.now c.requires.named c.as_slice-places.result.now c.as_slice-places.ensures
+    c.args.progress.rows c.args.lanes.now c.args.lanes.now (c.args.cap - c.args.progress.made) round.NoMemory
+    (no_requests g.S.Source.seen c.args.schema.now c.as_slice-places.result.now c.args.method.now c.args.progress.rows (c.args.cap - c.args.progress.made) c.args.lanes.now)
 
-pub returns-then-wanted-room-clause-refused : goal.returns-then-wanted-room-clause-refused
-returns-then-wanted-room-clause-refused g c =
-    lane_over c.args.places.now c.args.method.now c.args.rows c.args.room g.S.Source.seen c.args.kind.now c.args.lane.now.kinds.items c.requires.ready
-    c.as_slice-inputs.result.now c.as_slice-inputs.ensures c.in-Ok.wanted.requests.items c.in-Ok.ensures.wanted c.len-wanted.result (omega arith) (omega arith)
+pub join_wanted-requires-clause-wanted : goal.join_wanted-requires-clause-wanted
+join_wanted-requires-clause-wanted g c κs within = rw c.as_slice.ensures at c.in-Ok.ensures.wanted
 
-pub ask_all-requires-clause-ready : goal.ask_all-requires-clause-ready
-ask_all-requires-clause-ready g c κs within = λ values among.
-    lane_can_ask c.args.places.now c.args.method.now c.args.rows c.args.room g.S.Source.seen c.args.kind.now c.args.lane.now.kinds.items c.requires.ready
-    c.as_slice-inputs.result.now c.as_slice-inputs.ensures c.in-Ok.wanted.requests.items c.as_slice.result.now c.as_slice.ensures.value c.in-Ok.ensures.wanted values among
+pub returns-in-Ok-join_wanted-clause-goes : goal.returns-in-Ok-join_wanted-clause-goes
+returns-in-Ok-join_wanted-clause-goes g c =
+    lanes_go g.S.Source.seen c.args.schema.now c.args.step.now c.args.method.now c.requires.named c.as_slice-places.result.now c.as_slice-places.ensures
+    c.args.progress.rows c.args.lanes.now c.join_wanted.new.lanes c.in-Ok.wanted.requests.items c.in-Ok-join_wanted.rows c.args.progress.made
+    (c.args.progress.made + c.len.result) (omega arith)
+    (shared_same g.S.Source.seen c.args.schema.now c.as_slice-places.result.now c.args.method.now c.in-Ok.wanted.rows c.args.progress.rows c.in-Ok.ensures.same
+    c.args.lanes.now c.join_wanted.new.lanes c.in-Ok.wanted.requests.items c.in-Ok-join_wanted.rows c.in-Ok-join_wanted.ensures.shared)
 
-pub join-requires-clause-asked : goal.join-requires-clause-asked
-join-requires-clause-asked g c = λ row among.
-    wanted_there c.args.places.now c.as_slice-inputs.result.now c.args.rows c.in-Ok.wanted.requests.items c.as_slice-in-Ok-ask_all.result.now row c.as_slice-in-Ok-ask_all.ensures.value c.in-Ok.ensures.wanted
-    ((c.in-Ok.ensures.same row).0 among)
-
-pub returns-in-Ok-join-clause-answers : goal.returns-in-Ok-join-clause-answers
-returns-in-Ok-join-clause-answers g c =
-    lane_answers c.args.places.now c.args.method.now c.args.rows c.args.room g.S.Source.seen c.args.kind.now c.args.lane.now.kinds.items c.ask_all.new.lane.kinds.items
-    c.as_slice-inputs.result.now c.as_slice-inputs.ensures c.in-Ok.wanted.requests.items c.as_slice.result.now c.as_slice.ensures.value c.in-Ok.ensures.wanted
-    c.in-Ok-ask_all.answers c.into_vec.result.items c.into_vec.ensures c.as_slice-in-Ok-ask_all.result.now c.in-Ok-join.next c.as_slice-in-Ok-ask_all.ensures.value
-    (λ answer is. joined_same c.args.rows c.in-Ok.wanted.rows c.in-Ok.ensures.same
-    (λ row. grown c.args.places.now (answer (input_row_of c.args.places.now c.as_slice-inputs.result.now row)) row) c.in-Ok-join.next (c.in-Ok-join.ensures answer is))
-    c.in-Ok-ask_all.ensures.steps
-
-pub returns-in-Ok-ask_all-clause-refused : goal.returns-in-Ok-ask_all-clause-refused
-returns-in-Ok-ask_all-clause-refused g c =
-    lane_memory c.args.places.now c.args.method.now c.args.rows c.args.room g.S.Source.seen c.args.kind.now c.args.lane.now.kinds.items c.ask_all.new.lane.kinds.items
-    c.as_slice-inputs.result.now c.as_slice-inputs.ensures c.in-Ok.wanted.requests.items c.as_slice.result.now c.as_slice.ensures.value c.in-Ok.ensures.wanted _ c.in-Ok-ask_all.ensures.steps
-
-pub returns-in-Err-Failed-clause-refused : goal.returns-in-Err-Failed-clause-refused
-returns-in-Err-Failed-clause-refused g c =
-    lane_failed c.args.places.now c.args.method.now c.args.rows c.args.room g.S.Source.seen c.args.kind.now c.args.lane.now.kinds.items c.ask_all.new.lane.kinds.items
-    c.as_slice-inputs.result.now c.as_slice-inputs.ensures c.in-Ok.wanted.requests.items c.as_slice.result.now c.as_slice.ensures.value c.in-Ok.ensures.wanted (omega arith) (rw c.in-Err-Failed.field-0-is at c.in-Err-Failed.ensures.steps)
-
-pub returns-clause-refused : goal.returns-clause-refused
-returns-clause-refused g c =
-    lane_memory c.args.places.now c.args.method.now c.args.rows c.args.room g.S.Source.seen c.args.kind.now c.args.lane.now.kinds.items c.ask_all.new.lane.kinds.items
-    c.as_slice-inputs.result.now c.as_slice-inputs.ensures c.in-Ok.wanted.requests.items c.as_slice.result.now c.as_slice.ensures.value c.in-Ok.ensures.wanted _ c.ask_all.ensures.steps
+pub returns-clause-stops : goal.returns-clause-stops
+returns-clause-stops g c =
+    lanes_halt g.S.Source.seen c.args.schema.now c.args.step.now c.args.method.now c.requires.named c.as_slice-places.result.now c.as_slice-places.ensures
+    c.args.progress.rows c.args.lanes.now c.join_wanted.new.lanes (c.args.cap - c.args.progress.made) c.in-Err-join_wanted.fault
+    (unshared_same g.S.Source.seen c.args.schema.now c.as_slice-places.result.now c.args.method.now c.in-Ok.wanted.rows c.args.progress.rows c.in-Ok.ensures.same
+    c.args.lanes.now c.join_wanted.new.lanes (c.args.cap - c.args.progress.made) c.in-Err-join_wanted.fault c.in-Err-join_wanted.ensures.refused)

@@ -1,7 +1,7 @@
-use Rattle.middleware.proofs.Distinct.{wanted_same}
+use Rattle.middleware.proofs.Distinct.{wanted_of}
 use Rattle.middleware.proofs.round.wanted_rows.Goals as goal
 
 pub returns-clause-wanted : goal.returns-clause-wanted
 returns-clause-wanted c =
-    rw c.in_ok-requests.ensures (wanted_same c.args.rows c.in_ok-distinct.distinct c.in_ok-distinct.ensures.same c.args.places.now c.args.inputs.now c.in_ok-list.list c.in_ok-asked.asked
+    rw c.in_ok-requests.ensures (wanted_of c.args.places.now c.args.inputs.now c.in_ok-distinct.distinct c.in_ok-list.list c.in_ok-asked.asked
     c.in_ok-list.ensures c.in_ok-asked.ensures.ascends c.in_ok-asked.ensures.same)
