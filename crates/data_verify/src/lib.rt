@@ -12,4 +12,4 @@ mod verifying;
 
 pub use broken::{Broken, Facts};
 pub use text::verification_text;
-pub use verifying::verify;
+pub use verifying::{verify, verify_taken};

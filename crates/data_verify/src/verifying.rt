@@ -8,7 +8,7 @@ use crate::broken::Broken;
 use crate::least::least_unmet;
 use access_schema::Schema;
 use homomorphism::Store;
-use lists::NoMemory;
+use lists::{Copies, NoMemory};
 use meaning::types::Instance;
 use std::alloc::Global;
 
@@ -22,7 +22,19 @@ pub fn verify(
     ensures met { IfOk result (λ found. IsNone found ↔ Meets instance.now (meaning_of schema.now)) }
     ensures broken { IfOk result (λ found. IfSome found (IsFirstBroken instance.now schema.now.rules)) }
 {
-    let store = Store::of_instance(alloc, instance)?;
+    verify_taken(alloc, schema, instance.copy(alloc)?)
+}
+
+/// The same of an instance that is used up, which takes half the memory.
+pub fn verify_taken(
+    alloc: Global,
+    schema: &Schema,
+    instance: Instance,
+) -> Result<Option<Broken>, NoMemory>
+    ensures met { IfOk result (λ found. IsNone found ↔ Meets instance (meaning_of schema.now)) }
+    ensures broken { IfOk result (λ found. IfSome found (IsFirstBroken instance schema.now.rules)) }
+{
+    let store = Store::for_rules(alloc, instance, schema.rules.as_slice())?;
     for (number, rule) in schema.rules.as_slice().iter().enumerate() {
         if let Some(rows) = least_unmet(alloc, rule, &store)? {
             return Ok(Some(Broken {

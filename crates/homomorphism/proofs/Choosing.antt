@@ -14,29 +14,33 @@ use Rattle.meaning.specs.Triggers.{ground}
 use Rattle.meaning.specs.Search.{AreDistinct}
 use Rattle.homomorphism.specs.declared.key.Key.{Key}
 use Rattle.homomorphism.specs.declared.key.Key.TheVariants.{Relation, Value}
+use Rattle.homomorphism.specs.declared.positions.Positions.{Positions}
 use Rattle.homomorphism.specs.declared.fact_index.FactIndex.{FactIndex}
 use Rattle.homomorphism.specs.Bindings.{Agrees}
 use Rattle.homomorphism.specs.Ways.{AreWays}
 use Rattle.homomorphism.specs.declared.key_lists.KeyLists.{KeyLists}
-use Rattle.homomorphism.specs.Listed.{value_keys, has_key, numbers_from, listed, IsIndexOf, AreCandidates}
+use Rattle.homomorphism.specs.Listed.{has_position, is_found_by, value_keys, has_key, numbers_from, listed, IsIndexOf, AreCandidates}
+use Rattle.homomorphism.proofs.Members.{in_filter, to_filter, distinct_filter}
 use Rattle.homomorphism.proofs.Indexing.{has_key_decides, of_values, numbers_below}
 
--- the list is that of some key, which the atom has under each assignment that agrees
-abbrev pub IsFound : KeyLists → Atom → List (Option Val) → List ℕ → Type 0
-IsFound numbers atom given best = (key : Key) × (best ≡ listed numbers key) × ((a : ℕ → Val) → Agrees given a → has_key key (ground a atom) ≡ true)
+-- the list is that of some key that facts are found by, which the atom has under each assignment that agrees
+abbrev pub IsFound : Positions → KeyLists → Atom → List (Option Val) → List ℕ → Type 0
+IsFound positions numbers atom given best = (key : Key) × (is_found_by positions key ≡ true) × (best ≡ listed numbers key) × ((a : ℕ → Val) → Agrees given a → has_key key (ground a atom) ≡ true)
 
-module _ (numbers : KeyLists) (atom : Atom) (given : List (Option Val)) where
-  pub found_relation : (best : List ℕ) → best ≡ listed numbers (Relation atom.rel) → IsFound numbers atom given best
+module _ (positions : Positions) (numbers : KeyLists) (atom : Atom) (given : List (Option Val)) where
+  pub found_relation : (best : List ℕ) → best ≡ listed numbers (Relation atom.rel) → IsFound positions numbers atom given best
   found_relation best e = (
     Relation atom.rel,
+    refl,
     e,
     λ a ag. (has_key_decides (Relation atom.rel) (ground a atom)).1 (contains_here (Relation atom.rel) (value_keys atom.rel 0 (map (value_of Const a) atom.terms))),
   )
 
-  pub found_value : (best : List ℕ) (position : ℕ) (term : Term) (val : Val) → position < length atom.terms → term ≡ slice_index_or atom.terms position term →
-      ((a : ℕ → Val) → Agrees given a → value_of Const a term ≡ val) → best ≡ listed numbers (Value atom.rel position val) → IsFound numbers atom given best
-  found_value best position term val l is known e = (
+  pub found_value : (best : List ℕ) (position : ℕ) (term : Term) (val : Val) → position < length atom.terms → term ≡ slice_index_or atom.terms position term → has_position positions atom.rel position ≡ true →
+      ((a : ℕ → Val) → Agrees given a → value_of Const a term ≡ val) → best ≡ listed numbers (Value atom.rel position val) → IsFound positions numbers atom given best
+  found_value best position term val l is has known e = (
     Value atom.rel position val,
+    has,
     e,
     λ a ag. (has_key_decides (Value atom.rel position val) (ground a atom)).1
         (contains_there (Relation atom.rel) (value_keys atom.rel 0 (map (value_of Const a) atom.terms)) (Value atom.rel position val)
@@ -46,8 +50,8 @@ module _ (numbers : KeyLists) (atom : Atom) (given : List (Option Val)) where
       got : (a : ℕ → Val) → Agrees given a → slice_get (map (value_of Const a) atom.terms) position ≡ Some val
       got a ag = map_got (value_of Const a) atom.terms position term (slice_get-get_or atom.terms position term l ∙ ap Some (sym is)) ∙ ap Some (known a ag)
 
-  pub found_candidates : (best : List ℕ) (index : FactIndex) → index.lists ≡ numbers → IsFound numbers atom given best → (facts : List Ground) → IsIndexOf facts index → AreCandidates facts atom given best
-  found_candidates best index same (key, e, has) facts r = (key, e ∙ ap (λ n. listed n key) (sym same) ∙ r.lists key, has)
+  pub found_candidates : (best : List ℕ) (index : FactIndex) → index.positions ≡ positions → index.lists ≡ numbers → IsFound positions numbers atom given best → (facts : List Ground) → IsIndexOf facts index → AreCandidates facts atom given best
+  found_candidates best index places same (key, found, e, has) facts r = (key, e ∙ ap (λ n. listed n key) (sym same) ∙ r.lists key (ap (λ p. is_found_by p key) places ∙ found), has)
 
 -- the facts with these numbers
 abbrev pub picked : List Ground → List ℕ → List Ground
@@ -85,33 +89,6 @@ picked_from key before (fact ∷ facts) all first e f = by (has_key key fact) (p
     by true rest =
         let head : slice_index_or all first (record { rel = 0; vals = [] }) ≡ fact = ap (λ xs. slice_index_or xs first (record { rel = 0; vals = [] })) e ∙ ap (λ n. slice_index_or (before ++ fact ∷ facts) n (record { rel = 0; vals = [] })) f ∙ here before facts fact (record { rel = 0; vals = [] }) in
         cc
-    by false rest = rest
-
-in_filter : {X : Type 0} (p : X → Bool) (xs : List X) (x : X) → Contains (filter p xs) x → Contains xs x
-in_filter p [] x c = c
-in_filter p (y ∷ xs) x c = by (p y) (in_filter p xs x) c
-  where
-    by : (t : Bool) → (Contains (filter p xs) x → Contains xs x) → Contains (cond t (y ∷ filter p xs) (filter p xs)) x → Contains (y ∷ xs) x
-    by true more c = ⊎_elim (λ e. subst (Contains (y ∷ xs)) e (contains_here y xs)) (λ h. contains_there y xs x (more h)) (contains_cases y (filter p xs) x c)
-    by false more c = contains_there y xs x (more c)
-
-to_filter : {X : Type 0} (p : X → Bool) (xs : List X) (x : X) → Contains xs x → p x ≡ true → Contains (filter p xs) x
-to_filter p [] x c e = c
-to_filter p (y ∷ xs) x c e = by (p y) refl (contains_cases y xs x c) (λ h. to_filter p xs x h e)
-  where
-    clash : false ≡ true → ⊥
-    clash e = cc
-
-    by : (t : Bool) → p y ≡ t → (y ≡ x) ⊎ Contains xs x → (Contains xs x → Contains (filter p xs) x) → Contains (cond t (y ∷ filter p xs) (filter p xs)) x
-    by true f either more = ⊎_elim (λ g. subst (Contains (y ∷ filter p xs)) g (contains_here y (filter p xs))) (λ h. contains_there y (filter p xs) x (more h)) either
-    by false f either more = ⊎_elim (λ g. absurd (clash (sym f ∙ ap p g ∙ e))) more either
-
-distinct_filter : {X : Type 0} (p : X → Bool) (xs : List X) → AreDistinct xs → AreDistinct (filter p xs)
-distinct_filter p [] once = tt
-distinct_filter p (x ∷ xs) (new, once) = by (p x) (distinct_filter p xs once)
-  where
-    by : (t : Bool) → AreDistinct (filter p xs) → AreDistinct (cond t (x ∷ filter p xs) (filter p xs))
-    by true rest = ((λ c. new (in_filter p xs x c)), rest)
     by false rest = rest
 
 module _ (facts : List Ground) (atom : Atom) (given : List (Option Val)) (numbers : List ℕ) (r : AreCandidates facts atom given numbers) where

@@ -1,5 +1,6 @@
 -- Membership and lists without doubles.
-use Rattle.std.proofs.Common.{◌≡◌, ℕ, zero, suc, List, [], ◌∷◌, ◌++◌, sym, subst, ⊎_elim, arith, Contains, take}
+use Rattle.std.proofs.Common.{◌≡◌, ◌⊎◌, ℕ, zero, suc, List, [], ◌∷◌, ◌++◌, Bool, true, false, cond, refl, sym, ap, ◌∙◌, subst, ⊎_elim, arith, Contains, take}
+use Rattle.std.specs.List.{filter}
 use Rattle.std.proofs.lemmas.List.Elements.{Contains-append_cases, Contains-append_left, Contains-push}
 use Rattle.lists.proofs.Members.{contains_here, contains_there, contains_cases}
 use Rattle.meaning.specs.Search.{AreDistinct}
@@ -35,3 +36,31 @@ distinct_parts (y ∷ xs) x (new, once) =
       ((λ c. new (Contains-append_left xs (x ∷ []) y c)), rest),
       λ c. ⊎_elim (λ e. new (subst (Contains (xs ++ x ∷ [])) (sym e) (Contains-push xs x))) last (contains_cases y xs x c),
     )
+
+-- the members that pass a test
+pub in_filter : {X : Type 0} (p : X → Bool) (xs : List X) (x : X) → Contains (filter p xs) x → Contains xs x
+in_filter p [] x c = c
+in_filter p (y ∷ xs) x c = by (p y) (in_filter p xs x) c
+  where
+    by : (t : Bool) → (Contains (filter p xs) x → Contains xs x) → Contains (cond t (y ∷ filter p xs) (filter p xs)) x → Contains (y ∷ xs) x
+    by true more c = ⊎_elim (λ e. subst (Contains (y ∷ xs)) e (contains_here y xs)) (λ h. contains_there y xs x (more h)) (contains_cases y (filter p xs) x c)
+    by false more c = contains_there y xs x (more c)
+
+pub to_filter : {X : Type 0} (p : X → Bool) (xs : List X) (x : X) → Contains xs x → p x ≡ true → Contains (filter p xs) x
+to_filter p [] x c e = c
+to_filter p (y ∷ xs) x c e = by (p y) refl (contains_cases y xs x c) (λ h. to_filter p xs x h e)
+  where
+    clash : false ≡ true → ⊥
+    clash e = cc
+
+    by : (t : Bool) → p y ≡ t → (y ≡ x) ⊎ Contains xs x → (Contains xs x → Contains (filter p xs) x) → Contains (cond t (y ∷ filter p xs) (filter p xs)) x
+    by true f either more = ⊎_elim (λ g. subst (Contains (y ∷ filter p xs)) g (contains_here y (filter p xs))) (λ h. contains_there y (filter p xs) x (more h)) either
+    by false f either more = ⊎_elim (λ g. absurd (clash (sym f ∙ ap p g ∙ e))) more either
+
+pub distinct_filter : {X : Type 0} (p : X → Bool) (xs : List X) → AreDistinct xs → AreDistinct (filter p xs)
+distinct_filter p [] once = tt
+distinct_filter p (x ∷ xs) (new, once) = by (p x) (distinct_filter p xs once)
+  where
+    by : (t : Bool) → AreDistinct (filter p xs) → AreDistinct (cond t (x ∷ filter p xs) (filter p xs))
+    by true rest = ((λ c. new (in_filter p xs x c)), rest)
+    by false rest = rest

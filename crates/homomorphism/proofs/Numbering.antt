@@ -1,6 +1,8 @@
--- Numbers of facts that have a key.
-use Rattle.std.proofs.Common.{◌≡◌, ℕ, zero, suc, ◌+◌, ◌<◌, List, [], ◌∷◌, ◌++◌, length, refl, sym, ap, ◌∙◌, arith, slice_index_or, take}
-use Rattle.std.proofs.lemmas.List.{take_more}
+-- The keys of a fact, value by value.
+use Rattle.std.proofs.Common.{◌≡◌, ℕ, zero, suc, ◌+◌, ◌<◌, List, [], ◌∷◌, ◌++◌, length, refl, sym, ap, ◌∙◌, arith, slice_index_or, take, Bool, true, false, cond}
+use Rattle.std.specs.List.{filter}
+use Rattle.std.proofs.lemmas.List.{take_more, append-nil}
+use Rattle.std.proofs.lemmas.List.Elements.{filter-append}
 use Rattle.meaning.specs.declared.types.Val.{Val}
 use Rattle.homomorphism.specs.declared.key.Key.{Key}
 use Rattle.homomorphism.specs.declared.key.Key.TheVariants.{Relation, Value}
@@ -21,3 +23,16 @@ keys_more rel p vals item val keys next l is copy before after =
     length_take zero xs l = refl
     length_take (suc n) [] l = absurd (omega arith)
     length_take (suc n) (x ∷ xs) l = let e = length_take n xs (omega arith) in omega arith
+
+-- the same of the keys that pass a test
+pub found_more : (test : Key → Bool) (rel p : ℕ) (vals : List Val) (item : Val) (keys next : List Key) → p < length vals → item ≡ slice_index_or vals p item →
+    keys ≡ filter test (Relation rel ∷ value_keys rel 0 (take p vals)) → next ≡ keys ++ filter test (Value rel p item ∷ []) → next ≡ filter test (Relation rel ∷ value_keys rel 0 (take (p + 1) vals))
+found_more test rel p vals item keys next l is before after =
+    after ∙ ap (λ ks. ks ++ filter test (Value rel p item ∷ [])) before ∙ sym (filter-append test (Relation rel ∷ value_keys rel 0 (take p vals)) (Value rel p item ∷ []))
+    ∙ ap (filter test) (keys_more rel p vals item item (Relation rel ∷ value_keys rel 0 (take p vals)) ((Relation rel ∷ value_keys rel 0 (take p vals)) ++ Value rel p item ∷ []) l is refl refl refl)
+
+pub one_found : (test : Key → Bool) (key : Key) (keys next : List Key) → test key ≡ true → next ≡ keys ++ key ∷ [] → next ≡ keys ++ filter test (key ∷ [])
+one_found test key keys next passes e = e ∙ ap (λ t. keys ++ cond t (key ∷ []) []) (sym passes)
+
+pub none_found : (test : Key → Bool) (key : Key) (keys : List Key) → test key ≡ false → keys ≡ keys ++ filter test (key ∷ [])
+none_found test key keys fails = sym (append-nil keys) ∙ ap (λ t. keys ++ cond t (key ∷ []) []) (sym fails)

@@ -18,13 +18,10 @@ use Rattle.meaning.specs.declared.types.Fact.{Fact}
 use Rattle.meaning.specs.declared.types.Val.TheVariants.{Const}
 use Rattle.meaning.specs.declared.types.Ground.{Ground}
 use Rattle.meaning.specs.Search.{AreDistinct}
-use Rattle.homomorphism.specs.Instances.{ground_of, ground_pair, AreFactsOf}
+use Rattle.homomorphism.specs.Instances.{ground_of, pair_of, ground_pair, AreFactsOf}
 
 abbrev pub Pair : Type 0
 Pair = ℕ × List (List ℕ)
-
-abbrev pub pair_of : Fact → Pair
-pair_of fact = (fact.rel, fact.row)
 
 abbrev pub pair_cmp : Pair → Pair → Ordering
 pair_cmp x y = ordering_then (nat_cmp x.0 y.0) (slice_cmp (slice_cmp nat_cmp) x.1 y.1)

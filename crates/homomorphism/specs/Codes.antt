@@ -24,6 +24,9 @@ vals_code code vals = fold (λ h val. mixed h (val_code val)) code vals
 unfoldable pub fact_code : Ground → ℕ
 fact_code fact = vals_code fact.rel fact.vals
 
+abbrev pub place_code : ℕ → ℕ → ℕ
+place_code rel position = mixed (mixed 1 rel) position
+
 unfoldable pub key_code : Key → ℕ
 key_code (Relation rel) = rel
-key_code (Value rel position val) = mixed (mixed (mixed 1 rel) position) (val_code val)
+key_code (Value rel position val) = mixed (place_code rel position) (val_code val)

@@ -13,6 +13,10 @@ ground_of fact = record { rel = fact.rel; vals = map Const fact.row }
 abbrev pub AreFactsOf : List Fact → List Ground → Type 0
 AreFactsOf instance facts = (fact : Ground) → Contains facts fact ↔ Contains (map ground_of instance) fact
 
+-- A fact as its relation with its row.
+abbrev pub pair_of : Fact → ℕ × Row
+pair_of fact = (fact.rel, fact.row)
+
 -- A relation with a row as a labelled fact.
 abbrev pub ground_pair : ℕ × Row → Ground
 ground_pair (rel, row) = record { rel = rel; vals = map Const row }

@@ -1,7 +1,8 @@
 -- The numbers of the facts that have a key, which is a relation, or a relation with a value at a position.
-use Rattle.std.specs.Prelude.{◌≡◌, ◌⊎◌, ℕ, ◌+◌, List, [], ◌∷◌, ◌++◌, Option, Some, None, Bool, true, false, ◌&&◌, nat_eq, slice_get, if◌then◌else◌, unwrap_or}
+use Rattle.std.specs.Prelude.{◌≡◌, ◌⊎◌, ℕ, ◌+◌, List, [], ◌∷◌, ◌++◌, Option, Some, None, Bool, true, false, ◌&&◌, ◌||◌, nat_eq, slice_get, if◌then◌else◌, unwrap_or}
 use Rattle.std.specs.declared.cmp.Ordering.{Ordering}
 use Rattle.std.specs.BTreeMap.{BTreeMap, get, is_at}
+use Rattle.std.specs.BTreeSet.{contains}
 use Rattle.std.specs.Ordering.{nat_cmp}
 use Rattle.meaning.specs.declared.types.Val.{Val}
 use Rattle.meaning.specs.declared.types.Ground.{Ground}
@@ -9,12 +10,13 @@ use Rattle.meaning.specs.declared.types.Atom.{Atom}
 use Rattle.meaning.specs.Added.{is_same_val}
 use Rattle.meaning.specs.Triggers.{ground}
 use Rattle.homomorphism.specs.Bindings.{Agrees}
-use Rattle.homomorphism.specs.Codes.{key_code}
+use Rattle.homomorphism.specs.Codes.{place_code, key_code}
 use Rattle.homomorphism.specs.Present.{IsPresence}
 use Rattle.homomorphism.specs.declared.key.Key.{Key}
 use Rattle.homomorphism.specs.declared.key.Key.TheVariants.{Relation, Value}
 use Rattle.homomorphism.specs.declared.key_lists.KeyList.{KeyList}
 use Rattle.homomorphism.specs.declared.key_lists.KeyLists.{KeyLists}
+use Rattle.homomorphism.specs.declared.positions.Positions.{Positions}
 use Rattle.homomorphism.specs.declared.fact_index.FactIndex.{FactIndex}
 use Rattle.homomorphism.specs.contracts.key.KeyOrd.TheImpl as key_ord
 
@@ -26,6 +28,15 @@ value_keys rel position (val ∷ vals) = Value rel position val ∷ value_keys r
 -- The keys of a fact are its relation and its value at each position.
 abbrev pub keys_of : Ground → List Key
 keys_of fact = Relation fact.rel ∷ value_keys fact.rel 0 fact.vals
+
+-- Whether facts are found by their values at the position of the relation.
+abbrev pub has_position : Positions → ℕ → ℕ → Bool
+has_position positions rel position = positions.all || contains nat_cmp positions.marked (place_code rel position)
+
+-- Whether facts are found by the key: by each relation, and by values at these positions.
+abbrev pub is_found_by : Positions → Key → Bool
+is_found_by positions (Relation rel) = true
+is_found_by positions (Value rel position val) = has_position positions rel position
 
 -- Whether the value is this one.
 abbrev pub is_val : Option Val → Val → Bool
@@ -59,10 +70,11 @@ coded_list coded key = own_list key (get nat_cmp coded (key_code key))
 unfoldable pub listed : KeyLists → Key → List ℕ
 listed lists key = unwrap_or (get key_cmp lists.others key) (coded_list lists.coded key)
 
--- An index of facts tells which facts there are, and has for each key exactly the numbers of the facts that have it.
+-- An index of facts tells which facts there are, and has for each key that facts are found by exactly the numbers of the
+-- facts that have it.
 pub record IsIndexOf (facts : List Ground) (index : FactIndex) : Type 0 where
   pub members : IsPresence facts index.present
-  pub lists : (key : Key) → listed index.lists key ≡ numbers_from 0 key facts
+  pub lists : (key : Key) → is_found_by index.positions key ≡ true → listed index.lists key ≡ numbers_from 0 key facts
 
 -- A list is as before, or, where a condition holds, ends in the number in addition.
 abbrev pub MayEndIn : Type 0 → ℕ → List ℕ → List ℕ → Type 0

@@ -1,6 +1,6 @@
 // Codes of keys and facts: numbers that tell nearly all of them apart.
 ghost use Rattle.std.specs.Prelude.{◌≡◌};
-ghost use Rattle.homomorphism.specs.Codes.{mixed, val_code, fact_code, key_code};
+ghost use Rattle.homomorphism.specs.Codes.{mixed, val_code, fact_code, place_code, key_code};
 
 use crate::key::Key;
 use lists::mix;
@@ -35,6 +35,13 @@ pub fn fact_code(fact: &Ground) -> u64
     code
 }
 
+/// A code of the position of the relation. Takes no memory.
+pub fn place_code(rel: u32, position: usize) -> u64
+    ensures { result ≡ place_code rel position }
+{
+    mixed(mixed(1, u64::from(rel)), position as u64)
+}
+
 /// A code of the key. Takes no memory.
 #[tactic(auto, unfolding(crate::specs::Codes::key_code))]
 pub fn key_code(key: &Key) -> u64
@@ -43,8 +50,7 @@ pub fn key_code(key: &Key) -> u64
     match key {
         Key::Relation(rel) => u64::from(*rel),
         Key::Value { rel, position, val } => {
-            let place = mixed(mixed(1, u64::from(*rel)), *position as u64);
-            mixed(place, val_code(val))
+            mixed(place_code(*rel, *position), val_code(val))
         }
     }
 }

@@ -64,7 +64,7 @@ fn all_occur(atoms: &[Atom], start: usize, end: usize) -> bool
 }
 
 /// Whether the variable is a term of one of the atoms.
-fn occurs(atoms: &[Atom], variable: usize) -> bool
+pub fn occurs(atoms: &[Atom], variable: usize) -> bool
     ensures { IsTrue result ↔ OccursIn atoms.now variable }
 {
     let mut left = atoms;

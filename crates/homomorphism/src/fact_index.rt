@@ -1,5 +1,5 @@
 // Which facts there are, and which of them have a key, found in the logarithm of the number of facts.
-ghost use Rattle.std.specs.Prelude.{◌≡◌, ◌↔◌, ◌≤◌, ℕ, IsTrue, [], ◌∷◌, ◌++◌, length, List, Contains, IfOk, IfSome, OnErr, OnOk};
+ghost use Rattle.std.specs.Prelude.{◌≡◌, ◌↔◌, ◌≤◌, ℕ, IsTrue, true, [], ◌∷◌, ◌++◌, length, List, Contains, IfOk, IfSome, OnErr, OnOk};
 ghost use Rattle.meaning.specs.declared.types.Ground.{Ground as TheGround};
 ghost use Rattle.meaning.specs.declared.types.Val.{Val as TheVal};
 ghost use Rattle.meaning.specs.declared.types.Val.TheVariants.{Const};
@@ -8,30 +8,34 @@ ghost use Rattle.meaning.specs.Triggers.{terms_bound};
 ghost use Rattle.meaning.specs.Search.{AreDistinct};
 ghost use Rattle.homomorphism.specs.declared.key.Key.{Key as TheKey};
 ghost use Rattle.homomorphism.specs.Bindings.{Agrees};
-ghost use Rattle.homomorphism.specs.Listed.{keys_of, listed, MayEndIn, IsIndexOf, AreCandidates};
+ghost use Rattle.homomorphism.specs.Listed.{has_position, keys_of, listed, MayEndIn, IsIndexOf, AreCandidates};
 
 use crate::key::{Key, fact_keys};
 use crate::key_lists::KeyLists;
+use crate::positions::Positions;
 use crate::presence::Presence;
 use lists::{Copies, NoMemory};
 use meaning::types::{Atom, Ground, Term, Val};
 use std::alloc::Global;
 
-/// Which facts there are, and for each key the numbers of the facts that have it, ascending.
+/// Which facts there are, and for each relation, and each value at one of the positions, the numbers of the facts that have
+/// it, ascending.
 ///
 /// No choice of values makes a look-up slow.
 #[derive(Drop)]
 pub struct FactIndex {
+    positions: Positions,
     present: Presence,
     lists: KeyLists,
 }
 
 impl FactIndex {
-    /// The index of no facts. Takes no memory.
-    pub fn new(alloc: Global) -> FactIndex
+    /// The index of no facts, to be found by their values at these positions. Takes no memory.
+    pub fn new(alloc: Global, positions: Positions) -> FactIndex
         ensures { IsIndexOf [] result }
     {
         FactIndex {
+            positions,
             present: Presence::new(alloc),
             lists: KeyLists::new(alloc),
         }
@@ -51,7 +55,7 @@ impl FactIndex {
         ensures added { OnOk result ((facts : List TheGround) → IsIndexOf facts self.old → number ≡ length facts → IsIndexOf (facts ++ fact ∷ []) self.new) }
         ensures refused { OnErr result ((facts : List TheGround) → IsIndexOf facts self.old → number ≡ length facts → IsIndexOf facts self.new) }
     {
-        let keys = fact_keys(alloc, &fact)?;
+        let keys = fact_keys(alloc, &fact, &self.positions)?;
         match self.lists.note_all(alloc, keys, number) {
             Ok(()) => {}
             Err(fault) => {
@@ -90,7 +94,7 @@ impl FactIndex {
         let rel = atom.rel;
         let mut best = self.lists.numbers(&Key::Relation(rel));
         for (position, term) in atom.terms.as_slice().iter().enumerate() {
-            if let Some(val) = known(alloc, term, given)? {
+            if let Some(val) = sought(alloc, &self.positions, rel, position, term, given)? {
                 let numbers = self.lists.numbers(&Key::Value { rel, position, val });
                 if numbers.len() < best.len() {
                     best = numbers;
@@ -99,6 +103,24 @@ impl FactIndex {
         }
         Ok(best)
     }
+}
+
+/// The term's value, where it is known and facts are found by it.
+fn sought(
+    alloc: Global,
+    positions: &Positions,
+    rel: u32,
+    position: usize,
+    term: &Term,
+    given: &[Option<Val>],
+) -> Result<Option<Val>, NoMemory>
+    requires { terms_bound (term.now ∷ []) ≤ length given.now }
+    ensures { IfOk result (λ sought. IfSome sought (λ val. (has_position positions.now rel position ≡ true) × ((a : ℕ → TheVal) → Agrees given.now a → value_of Const a term.now ≡ val))) }
+{
+    if !positions.has(rel, position) {
+        return Ok(None);
+    }
+    known(alloc, term, given)
 }
 
 /// The term's value, where it is a constant or a variable with a given value.

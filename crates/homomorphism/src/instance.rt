@@ -2,24 +2,32 @@
 ghost use Rattle.std.specs.Prelude.{◌≡◌, map, IfOk};
 ghost use Rattle.meaning.specs.declared.types.Val.TheVariants.{Const};
 ghost use Rattle.meaning.specs.Search.{AreDistinct};
-ghost use Rattle.homomorphism.specs.Instances.{AreFactsOf, ground_pair};
+ghost use Rattle.homomorphism.specs.Instances.{AreFactsOf, pair_of, ground_pair};
 
-use lists::{Copies, NoMemory, Row, Seq};
+use lists::{NoMemory, Row, Seq};
 use meaning::types::{Ground, Instance, Val, Vals};
 use std::alloc::Global;
 
 /// The facts of the instance, each once, with each text as a constant.
-pub fn distinct_grounds(alloc: Global, instance: &Instance) -> Result<Vec<Ground>, NoMemory>
-    ensures same { IfOk result (λ facts. AreFactsOf instance.now facts.items) }
+pub fn distinct_grounds(alloc: Global, instance: Instance) -> Result<Vec<Ground>, NoMemory>
+    ensures same { IfOk result (λ facts. AreFactsOf instance facts.items) }
     ensures once { IfOk result (λ facts. AreDistinct facts.items) }
 {
-    let mut rows = Vec::with_capacity(alloc, instance.len())?;
-    for fact in instance.as_slice() {
-        rows.push((fact.rel, fact.row.copy(alloc)?))?;
-    }
+    let mut rows = pairs(alloc, instance)?;
     rows.sort_unstable();
     rows.dedup();
     Ok(grounds(alloc, rows)?)
+}
+
+/// The relation and the row of each fact, in order.
+fn pairs(alloc: Global, instance: Instance) -> Result<Vec<(u32, Row)>, NoMemory>
+    ensures { IfOk result (λ rows. rows.items ≡ map pair_of instance) }
+{
+    let mut rows = Vec::with_capacity(alloc, instance.len())?;
+    for fact in instance.into_vec() {
+        rows.push((fact.rel, fact.row))?;
+    }
+    Ok(rows)
 }
 
 /// A labelled fact for each relation with a row, in order.

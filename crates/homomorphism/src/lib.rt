@@ -17,6 +17,7 @@ mod instance;
 mod key;
 mod key_lists;
 mod matching;
+mod positions;
 mod presence;
 mod rules;
 mod search;

@@ -8,8 +8,9 @@ ghost use Rattle.homomorphism.specs.Listed.{AreCandidates};
 
 use crate::fact_index::FactIndex;
 use crate::instance::distinct_grounds;
+use crate::positions::Positions;
 use lists::{Copies, NoMemory};
-use meaning::types::{Atom, Ground, Instance, Val};
+use meaning::types::{Atom, Ground, Instance, Rule, Val};
 use std::alloc::Global;
 use std::marker::Model;
 
@@ -38,9 +39,16 @@ impl Store {
     pub fn new(alloc: Global) -> Store
         ensures { result ≡ [] }
     {
+        Store::with_positions(alloc, Positions::all(alloc))
+    }
+
+    /// The store without facts, in which facts are found by their values at these positions. Takes no memory.
+    fn with_positions(alloc: Global, positions: Positions) -> Store
+        ensures { result ≡ [] }
+    {
         Store {
             facts: Vec::new(alloc),
-            index: FactIndex::new(alloc),
+            index: FactIndex::new(alloc, positions),
         }
     }
 
@@ -48,15 +56,33 @@ impl Store {
     pub fn of_instance(alloc: Global, instance: &Instance) -> Result<Store, NoMemory>
         ensures { IfOk result (λ store. AreFactsOf instance.now store) }
     {
-        let facts = distinct_grounds(alloc, instance)?;
-        Ok(Store::of_facts(alloc, facts)?)
+        let facts = distinct_grounds(alloc, instance.copy(alloc)?)?;
+        Ok(Store::of_facts(alloc, facts, Positions::all(alloc))?)
     }
 
-    /// A store of these facts.
-    fn of_facts(alloc: Global, facts: Vec<Ground>) -> Result<Store, NoMemory>
+    /// A store of exactly the facts of an instance, which is used up, each text as a constant. It is made for tests of these
+    /// rules: by other values than those that the rules look for, no fact is found quickly.
+    pub fn for_rules(
+        alloc: Global,
+        instance: Instance,
+        rules: &[Rule],
+    ) -> Result<Store, NoMemory>
+        ensures { IfOk result (λ store. AreFactsOf instance store) }
+    {
+        let facts = distinct_grounds(alloc, instance)?;
+        let positions = Positions::of_rules(alloc, rules)?;
+        Ok(Store::of_facts(alloc, facts, positions)?)
+    }
+
+    /// A store of these facts, in which they are found by their values at these positions.
+    fn of_facts(
+        alloc: Global,
+        facts: Vec<Ground>,
+        positions: Positions,
+    ) -> Result<Store, NoMemory>
         ensures { IfOk result (λ store. store ≡ with_facts [] facts.items) }
     {
-        let mut store = Store::new(alloc);
+        let mut store = Store::with_positions(alloc, positions);
         for fact in facts {
             store.insert(alloc, fact)?;
         }

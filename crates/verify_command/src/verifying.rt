@@ -9,7 +9,7 @@ use crate::ask::ask_all;
 use crate::relations::rule_relations;
 use access_schema::Schema;
 use command_io::Stop;
-use data_verify::{Broken, verify};
+use data_verify::{Broken, verify_taken};
 use middleware::{Refused, RunFault, attach_all, first_kindless, first_lineless};
 use source_trait::{AttachFault, Lane, Source};
 use std::alloc::Global;
@@ -75,7 +75,7 @@ fn broken_on<S: Source + Send + Drop>(
         Ok(facts) => facts,
         Err(stop) => return Err(stop),
     };
-    match verify(alloc, schema, &facts) {
+    match verify_taken(alloc, schema, facts) {
         Ok(found) => Ok(found),
         Err(_) => Err(Stop::Memory),
     }

@@ -41,15 +41,15 @@ returns-in-Err-ask_all g c = record {
   stays = KindsStay-trans g.S.Source.seen _ _ _ (order_stays g.S.Source.seen c.args.schema.now c.args.rels.now c.args.lane.now.kinds.items c.attach_all.new.lane.kinds.items c.in-Ok.ensures.attached) c.ask_all.ensures.stays;
 }
 
-pub returns-in-Ok-verify : goal.returns-in-Ok-verify
-returns-in-Ok-verify g c = record {
-  verifies = all_found g.S.Source.seen c.args.schema.now c.args.rels.now c.requires.relations c.args.lane.now.kinds.items c.attach_all.new.lane.kinds.items c.ask_all.new.lane.kinds.items c.in-Ok-ask_all.facts c.in-Ok-verify.found
-      c.in-Ok.ensures.attached c.in-Ok-ask_all.ensures.asked (record { met = c.in-Ok-verify.ensures.met; broken = c.in-Ok-verify.ensures.broken });
+pub returns-in-Ok-verify_taken : goal.returns-in-Ok-verify_taken
+returns-in-Ok-verify_taken g c = record {
+  verifies = all_found g.S.Source.seen c.args.schema.now c.args.rels.now c.requires.relations c.args.lane.now.kinds.items c.attach_all.new.lane.kinds.items c.ask_all.new.lane.kinds.items c.in-Ok-ask_all.facts c.in-Ok-verify_taken.found
+      c.in-Ok.ensures.attached c.in-Ok-ask_all.ensures.asked (record { met = c.in-Ok-verify_taken.ensures.met; broken = c.in-Ok-verify_taken.ensures.broken });
   stays = KindsStay-trans g.S.Source.seen _ _ _ (order_stays g.S.Source.seen c.args.schema.now c.args.rels.now c.args.lane.now.kinds.items c.attach_all.new.lane.kinds.items c.in-Ok.ensures.attached) c.ask_all.ensures.stays;
 }
 
-pub returns : goal.returns
-returns g c = record {
+pub returns-in-Err-verify_taken : goal.returns-in-Err-verify_taken
+returns-in-Err-verify_taken g c = record {
   verifies = no_memory_asking c.args.rels.now c.attach_all.new.lane.kinds.items c.requires.relations c.in-Ok.ensures.attached
       (asks_whole g.S.Source.seen c.args.schema.now c.args.rels.now c.in-Ok-ask_all.facts c.attach_all.new.lane.kinds.items c.ask_all.new.lane.kinds.items c.in-Ok-ask_all.ensures.asked);
   stays = KindsStay-trans g.S.Source.seen _ _ _ (order_stays g.S.Source.seen c.args.schema.now c.args.rels.now c.args.lane.now.kinds.items c.attach_all.new.lane.kinds.items c.in-Ok.ensures.attached) c.ask_all.ensures.stays;

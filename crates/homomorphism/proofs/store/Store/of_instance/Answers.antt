@@ -1,5 +1,9 @@
+use Rattle.std.proofs.Common.{List, subst}
+use Rattle.meaning.specs.declared.types.Fact.{Fact}
+use Rattle.homomorphism.specs.Instances.{AreFactsOf}
 use Rattle.homomorphism.proofs.Adding.{added_of}
 use Rattle.homomorphism.proofs.store.Store.of_instance.Goals as goal
 
 pub returns : goal.returns
-returns c = added_of c.args.instance.now c.in_ok-facts.facts.items c.in_ok-of_facts.field-0 c.in_ok-facts.ensures.same c.in_ok-of_facts.ensures
+returns c = subst (λ (instance : List Fact). AreFactsOf instance c.in_ok-of_facts.field-0) c.in_ok-copy.ensures
+    (added_of c.in_ok-copy.field-0 c.in_ok-facts.facts.items c.in_ok-of_facts.field-0 c.in_ok-facts.ensures.same c.in_ok-of_facts.ensures)

@@ -1,0 +1,85 @@
+// The positions at which facts are found by their values.
+ghost use Rattle.std.specs.Prelude.{◌≡◌};
+ghost use Rattle.homomorphism.specs.Listed.{has_position};
+
+use crate::code::place_code;
+use crate::conditions::occurs;
+use lists::NoMemory;
+use meaning::types::{Atom, Rule, Term};
+use std::alloc::Global;
+use std::collections::BTreeSet;
+
+/// Positions of relations: all, or those whose codes are marked.
+///
+/// No clause says which are marked: where a position is not, facts are found by another one, or by the relation alone.
+#[derive(Drop)]
+pub struct Positions {
+    all: bool,
+    marked: BTreeSet<u64>,
+}
+
+impl Positions {
+    /// All positions. Takes no memory.
+    pub fn all(alloc: Global) -> Positions {
+        Positions {
+            all: true,
+            marked: BTreeSet::new(alloc),
+        }
+    }
+
+    /// The positions at which a value can be known while the rules are tested: in a body after the atoms before, and in a
+    /// head after the body.
+    pub fn of_rules(alloc: Global, rules: &[Rule]) -> Result<Positions, NoMemory> {
+        let mut marked = BTreeSet::new(alloc);
+        for rule in rules {
+            let body = rule.body.as_slice();
+            mark_body(&mut marked, body)?;
+            mark_head(&mut marked, body, rule.head.as_slice())?;
+        }
+        Ok(Positions { all: false, marked })
+    }
+
+    /// Whether the position of the relation is one of these. Takes no memory.
+    pub fn has(&self, rel: u32, position: usize) -> bool
+        ensures { result ≡ has_position self.now rel position }
+    {
+        self.all || self.marked.contains(&place_code(rel, position))
+    }
+}
+
+/// Marks where an atom has a value once those before it are facts.
+fn mark_body(marked: &mut BTreeSet<u64>, body: &[Atom]) -> Result<(), NoMemory> {
+    for (number, atom) in body.iter().enumerate() {
+        mark_known(marked, &body[..number], atom)?;
+    }
+    Ok(())
+}
+
+/// Marks where an atom of the head has a value once the body and the other atoms are facts.
+fn mark_head(marked: &mut BTreeSet<u64>, body: &[Atom], head: &[Atom]) -> Result<(), NoMemory> {
+    for atom in head {
+        mark_known(marked, body, atom)?;
+        if head.len() > 1 {
+            mark_known(marked, head, atom)?;
+        }
+    }
+    Ok(())
+}
+
+/// Marks where the atom has a constant or a variable of the other atoms.
+fn mark_known(marked: &mut BTreeSet<u64>, others: &[Atom], atom: &Atom) -> Result<(), NoMemory> {
+    for (position, term) in atom.terms.as_slice().iter().enumerate() {
+        if is_known(others, term) {
+            marked.insert(place_code(atom.rel, position))?;
+        }
+    }
+    Ok(())
+}
+
+/// Whether the term is a constant or a variable of the atoms.
+fn is_known(atoms: &[Atom], term: &Term) -> bool {
+    match term {
+        Term::Var(variable) => occurs(atoms, *variable as usize),
+        Term::Const(_) => true,
+    }
+}
