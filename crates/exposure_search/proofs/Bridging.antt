@@ -1,5 +1,5 @@
 -- Exposures in order are walks of moves at the same cost, and the other way round.
-use Rattle.std.proofs.Common.{◌≡◌, ℕ, ◌+◌, ◌<◌, ◌≤◌, List, [], ◌∷◌, ◌++◌, length, Bool, true, false, Some, refl, sym, ap, ◌∙◌, subst, ⊎_elim, arith, append_assoc}
+use Rattle.std.proofs.Common.{◌≡◌, ℕ, ◌+◌, ◌<◌, ◌≤◌, List, [], ◌∷◌, ◌++◌, length, Bool, true, false, Some, refl, sym, ap, ◌∙◌, subst, inl, inr, ⊎_elim, arith, append_assoc}
 use Rattle.std.specs.Prelude.{Contains, slice_get, slice_set}
 use Rattle.std.proofs.lemmas.List.{append-nil, length-set}
 use Rattle.std.proofs.lemmas.Option.{slice_get_within}
@@ -12,12 +12,21 @@ use Rattle.meaning.specs.declared.types.SchemaParts.{SchemaParts}
 use Rattle.meaning.specs.Search.{AreDistinct}
 use Rattle.meaning.specs.Triggers.{ground}
 use Rattle.meaning.specs.Extract.{Exposure, exposed_facts, IsExposing, exposures_cost, HasGoalFrom, HasGoalAfter}
+use Rattle.accessible_copy.specs.Known.{known_values}
+use Rattle.accessible_copy.proofs.Listed.{known_to}
 use Rattle.least_search.specs.declared.space.Move.{Move}
-use Rattle.least_search.specs.Walks.{IsWalk, walk_cost, no_facts}
+use Rattle.least_search.specs.Walks.{CanGain, IsWalk, walk_cost, no_facts}
 use Rattle.least_search.specs.Costs.{IsLeastCost}
-use Rattle.exposure_search.specs.Tries.{picked, IsMarked, IsRelevantMove}
-use Rattle.exposure_search.specs.Spaces.{exposes_same}
+use Rattle.exposure_search.specs.declared.marks.Marks.{Marks}
+use Rattle.exposure_search.specs.Tries.{picked, IsMarked, IsRelevantMove, Adds}
+use Rattle.exposure_search.specs.Spaces.{exposes_same, known_same}
 use Rattle.exposure_search.specs.Sets.{AreSame, turned, got_contained, got_once, picked_at, picked_back, same_more, none_same, none_length, truth}
+use Rattle.exposure_search.proofs.Gaining.{AreGains}
+
+-- the moves by which a search goes
+abbrev pub CanGo : SchemaParts → List (List ℕ) → List Ground → Marks → List Bool → Move → Type 0
+CanGo schema constants base marks =
+    CanGain (IsRelevantMove schema constants base marks.relevant.items) (λ set move. Adds (known_values constants (picked base set)) base marks.needed.items move.fact)
 
 module _ (schema : SchemaParts) (constants : List (List ℕ)) (base : List Ground) where
   -- what is exposed are base facts
@@ -26,24 +35,28 @@ module _ (schema : SchemaParts) (constants : List (List ℕ)) (base : List Groun
   exposed_base (e ∷ exposures) exposed (first, rest) fact c =
       ⊎_elim (λ same. subst (λ g. Contains base g) same first.of_base) (λ h. exposed_base exposures (exposed ++ e.fact ∷ []) rest fact h) (contains_cases e.fact (exposed_facts exposures) fact c)
 
-  -- exposures of marked facts in order are a walk at the same cost
-  pub exposing_walk : (marks : List Bool) → AreDistinct base → (exposures : List Exposure) (exposed : List Ground) (set : List Bool) → ((e : Exposure) → Contains exposures e → Contains (picked base marks) e.fact) → length set ≡ length base → AreSame (picked base set) exposed → IsExposing schema constants base exposed exposures →
-      (moves : List Move) × (end : List Bool) × IsWalk (IsRelevantMove schema constants base marks) set moves end × (walk_cost moves ≡ exposures_cost exposures) × AreSame (picked base end) (exposed ++ exposed_facts exposures)
-  exposing_walk marks once [] exposed set matter size same is = ([], set, refl, refl, subst (λ gs. AreSame (picked base set) gs) (sym (append-nil exposed)) same)
-  exposing_walk marks once (e ∷ exposures) exposed set matter size same (first, rest) =
+  -- exposures of relevant facts in order that gain something are a walk of such moves at the same cost
+  pub exposing_walk : (marks : Marks) → AreDistinct base → (exposures : List Exposure) (exposed : List Ground) (set : List Bool) → ((e : Exposure) → Contains exposures e → Contains (picked base marks.relevant.items) e.fact) → AreGains constants (picked base marks.needed.items) exposed exposures → length set ≡ length base → AreSame (picked base set) exposed → IsExposing schema constants base exposed exposures →
+      (moves : List Move) × (end : List Bool) × IsWalk (CanGo schema constants base marks) set moves end × (walk_cost moves ≡ exposures_cost exposures) × AreSame (picked base end) (exposed ++ exposed_facts exposures)
+  exposing_walk marks once [] exposed set matter gains size same is = ([], set, refl, refl, subst (λ gs. AreSame (picked base set) gs) (sym (append-nil exposed)) same)
+  exposing_walk marks once (e ∷ exposures) exposed set matter (gain, gains) size same (first, rest) =
       let (k, at) = got_contained base e.fact first.of_base in
       let (number, named) = got_contained schema.methods e.method first.of_schema in
       let (mark, marked) = got_below set k (subst (λ n. k < n) (sym size) (slice_get_within base k e.fact at)) in
       let out : slice_get set k ≡ Some false = ⊎_elim (λ is. absurd (first.new (same.to e.fact (picked_at base set k e.fact at (marked ∙ ap (λ b. Some b) is))))) (λ is. marked ∙ ap (λ b. Some b) is) (truth mark) in
-      let (j, there, on) = picked_back base marks e.fact (matter e (contains_here e exposures)) in
-      let relevant : IsMarked marks k = subst (λ n. IsMarked marks n) (got_once base e.fact j k once there at) on in
-      let (moves, end, walk, cost, ends) = exposing_walk marks once exposures (exposed ++ e.fact ∷ []) (slice_set set k true) (λ other c. matter other (contains_there e exposures other c)) (length-set set k true ∙ size) (same_more base set exposed k e.fact same at out) rest in (
+      let relevant : IsMarked marks.relevant.items k = marked_at marks.relevant.items e.fact k at (matter e (contains_here e exposures)) in
+      let adds : Adds (known_values constants (picked base set)) base marks.needed.items k = ⊎_elim (λ c. inl (marked_at marks.needed.items e.fact k at c))
+      (λ (v, has, new). inr (e.fact, v, at, has, (λ c. new (known_same schema constants base (picked base set) exposed v same.to (known_to constants (picked base set) v c))))) gain in
+      let (moves, end, walk, cost, ends) = exposing_walk marks once exposures (exposed ++ e.fact ∷ []) (slice_set set k true) (λ other c. matter other (contains_there e exposures other c)) gains (length-set set k true ∙ size) (same_more base set exposed k e.fact same at out) rest in (
         record { fact = k; method = number; cost = e.method.cost } ∷ moves,
         end,
-        (((e, record { fact = at; only = λ i here. got_once base e.fact i k once here at; method = named; cost = refl; new = out; exposes = exposes_same schema constants base exposed (picked base set) e (turned (picked base set) exposed same) first }), relevant), walk),
+        ((((e, record { fact = at; only = λ i here. got_once base e.fact i k once here at; method = named; cost = refl; new = out; exposes = exposes_same schema constants base exposed (picked base set) e (turned (picked base set) exposed same) first }), relevant), adds), walk),
         ap (λ n. e.method.cost + n) cost,
         subst (λ gs. AreSame (picked base end) gs) (append_assoc exposed (e.fact ∷ []) (exposed_facts exposures)) ends,
       )
+    where
+      marked_at : (set : List Bool) (fact : Ground) (k : ℕ) → slice_get base k ≡ Some fact → Contains (picked base set) fact → IsMarked set k
+      marked_at set fact k at c = let (j, there, on) = picked_back base set fact c in subst (λ n. IsMarked set n) (got_once base fact j k once there at) on
 
 -- a goal belongs to the facts, whatever their order
 pub goal_same : (schema : SchemaParts) (queries : List Query) (head : List Val) (next : ℕ) (first second : List Ground) → AreSame first second → HasGoalFrom schema queries head next first → HasGoalFrom schema queries head next second
@@ -52,11 +65,11 @@ goal_same schema queries head next first second same has copy end run quiet =
     let (goal, among, (a, are, e)) = has copy other its (λ trigger rule active. quiet trigger rule (active_alike schema.rules other end trigger rule (record { to = alike.from; from = alike.to; next = sym alike.next }) active)) in
     (goal, among, (a, (λ atom c. alike.from (ground a atom) (are atom c)), e))
 
--- a cost that is least over walks is so over exposures of marked facts
-pub least_exposing : (schema : SchemaParts) (constants : List (List ℕ)) (base : List Ground) (marks : List Bool) (queries : List Query) (head : List Val) (next best : ℕ) → AreDistinct base →
-    IsLeastCost (length base) (IsRelevantMove schema constants base marks) (λ set. HasGoalFrom schema queries head next (picked base set)) best →
-    (exposures : List Exposure) → ((e : Exposure) → Contains exposures e → Contains (picked base marks) e.fact) → IsExposing schema constants base [] exposures → HasGoalAfter schema queries head next exposures → best ≤ exposures_cost exposures
-least_exposing schema constants base marks queries head next best once least exposures matter exposing goal =
-    let (moves, end, walk, cost, ends) = exposing_walk schema constants base marks once exposures [] (no_facts (length base)) matter (none_length (length base)) (none_same base) exposing in
+-- a cost that is least over walks is so over exposures of relevant facts that gain something
+pub least_exposing : (schema : SchemaParts) (constants : List (List ℕ)) (base : List Ground) (marks : Marks) (queries : List Query) (head : List Val) (next best : ℕ) → AreDistinct base →
+    IsLeastCost (length base) (CanGo schema constants base marks) (λ set. HasGoalFrom schema queries head next (picked base set)) best →
+    (exposures : List Exposure) → ((e : Exposure) → Contains exposures e → Contains (picked base marks.relevant.items) e.fact) → AreGains constants (picked base marks.needed.items) [] exposures → IsExposing schema constants base [] exposures → HasGoalAfter schema queries head next exposures → best ≤ exposures_cost exposures
+least_exposing schema constants base marks queries head next best once least exposures matter gains exposing goal =
+    let (moves, end, walk, cost, ends) = exposing_walk schema constants base marks once exposures [] (no_facts (length base)) matter gains (none_length (length base)) (none_same base) exposing in
     let low : best ≤ walk_cost moves = least moves end walk (goal_same schema queries head next (exposed_facts exposures) (picked base end) (record { to = ends.from; from = ends.to }) goal) in
     omega arith

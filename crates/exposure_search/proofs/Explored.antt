@@ -33,14 +33,16 @@ use Rattle.rule_pass.specs.States.{SomeActive}
 use Rattle.rule_pass.specs.Levels.{AreShort}
 use Rattle.accessible_copy.proofs.Listed.{proof_once}
 use Rattle.least_search.specs.declared.node.Node.{Node}
-use Rattle.least_search.specs.Walks.{IsNode, no_facts}
+use Rattle.least_search.specs.Walks.{CanGain, IsNode, no_facts}
 use Rattle.least_search.specs.Costs.{IsLeastCost, AreRunsWithin}
+use Rattle.exposure_search.specs.declared.marks.Marks.{Marks}
 use Rattle.exposure_search.specs.Tries.{picked, exposures_in}
 use Rattle.exposure_search.specs.Making.{bases_of, IsBaseProof, OnlyExposes}
-use Rattle.exposure_search.specs.Exploring.{Exploring, exploring_of, space_size, CanExpose, HasGoalAt, HasMatchAt, HasTry, IsRunBeyond, IsFounded}
+use Rattle.exposure_search.specs.Exploring.{Exploring, exploring_of, space_size, CanExpose, GainsAt, HasGoalAt, HasMatchAt, HasTry, IsRunBeyond, IsFounded}
 use Rattle.exposure_search.specs.Relevance.{IsWanted, AreRelevant}
 use Rattle.exposure_search.specs.Spaces.{open_walk}
 use Rattle.exposure_search.specs.Sets.{none_same, picked_back}
+use Rattle.exposure_search.proofs.Gaining.{thinned, needed_match}
 use Rattle.exposure_search.proofs.Bridging.{least_exposing, exposed_base}
 use Rattle.exposure_search.proofs.Trying.{try_run}
 use Rattle.exposure_search.proofs.Logs.{laid, lies}
@@ -58,21 +60,26 @@ node_exposes space node is has =
     let (a, are, e) = has.answer in
     (w.made, has.copy, end, has.goal, w.exposing, run, has.among, (a, (λ atom c. alike.to (ground a atom) (are atom c)), e), w.cost ∙ sym is.cost)
 
--- a cost that is least over walks is least over exposures: a run from these to a quiet state has a match, which rests on relevant facts
+-- a cost that is least over walks is least over exposures: a run from these to a quiet state has a match, which rests on relevant facts,
+-- and needs none that gains nothing
 pub least_found : (space : Exploring) (best : ℕ) → IsFounded space → AreShort space.schema.rules → RulesFit space.schema space.constants → ((query : Query) → Contains space.queries query → QueryHasConstants space.constants query) →
     AreNamed space.constants space.base.next space.base.facts → Fit space.schema space.base.facts → ((v : Val) → Contains space.head v → IsNamed space.constants space.base.next v) →
-    IsLeastCost (space_size space) (CanExpose space) (HasGoalAt space) best →
+    IsLeastCost (space_size space) (CanGain (CanExpose space) (GainsAt space)) (HasGoalAt space) best →
     (exposures : List Exposure) → IsExposing space.schema space.constants space.base.facts [] exposures → HasGoalAfter space.schema space.queries space.head space.base.next exposures → best ≤ exposures_cost exposures
 least_found space best founded short rules have named fit head_named least exposures exposing goal =
-    let (wanted, closed) = founded.relevant in
+    let relevant = founded.relevant in
     let (log, end, run, quiet) = quiet_is_reached space.schema.rules (length space.schema.rules) (record { facts = exposed_facts exposures; next = space.base.next }) rules.numbered short in
     let (query, among, answer) = goal log end run quiet in
-    let (kept, less, last, exposes, leads, matched, cheap, matter) = relevant_trim space.schema space.constants space.base.facts space.base.next space.queries space.head (IsWanted space.queries space.head wanted) (Contains (picked space.base.facts space.marks)) closed
+    let (kept, less, last, exposes, leads, matched, cheap, matter) = relevant_trim space.schema space.constants space.base.facts space.base.next space.queries space.head (IsWanted space.queries space.head relevant.wanted) (Contains (picked space.base.facts space.marks.relevant.items)) relevant.closed
     exposures log end query exposing run among answer in
-    let has : HasGoalAfter space.schema space.queries space.head space.base.next kept =
-    goal_everywhere space.schema space.constants space.queries (record { facts = exposed_facts kept; next = space.base.next }) space.head less last query rules have
-    (λ fact v there i. named fact v (exposed_base space.schema space.constants space.base.facts kept [] exposes fact there) i) (λ fact there. fit fact (exposed_base space.schema space.constants space.base.facts kept [] exposes fact there)) head_named leads among matched in
-    let low : best ≤ exposures_cost kept = least_exposing space.schema space.constants space.base.facts space.marks space.queries space.head space.base.next best founded.once least kept matter exposes has in
+    let thin = thinned space.schema space.constants space.base.facts (picked space.base.facts space.marks.needed.items) [] [] kept (λ f c. c) (λ v k. k) (λ f n c. c) exposes in
+    let (fewer, final, ends, answered) = needed_match space.schema space.constants space.base.facts space.base.next space.queries space.head (IsWanted space.queries space.head relevant.wanted) (Contains (picked space.base.facts space.marks.relevant.items)) relevant.closed
+    (exposed_facts kept) (exposed_facts thin.kept) less last query (λ f wants c. thin.holds f (relevant.needed f (exposed_base space.schema space.constants space.base.facts kept [] exposes f c) wants) c) leads among matched in
+    let has : HasGoalAfter space.schema space.queries space.head space.base.next thin.kept =
+    goal_everywhere space.schema space.constants space.queries (record { facts = exposed_facts thin.kept; next = space.base.next }) space.head fewer final query rules have
+    (λ fact v there i. named fact v (exposed_base space.schema space.constants space.base.facts thin.kept [] thin.exposing fact there) i) (λ fact there. fit fact (exposed_base space.schema space.constants space.base.facts thin.kept [] thin.exposing fact there)) head_named ends among answered in
+    let low : best ≤ exposures_cost thin.kept = least_exposing space.schema space.constants space.base.facts space.marks space.queries space.head space.base.next best founded.once least thin.kept (λ e c. matter e (thin.within e c)) thin.gains thin.exposing has in
+    let thinner : exposures_cost thin.kept ≤ exposures_cost kept = thin.cheap in
     omega arith
 
 -- what bounds runs bounds tries
@@ -111,7 +118,7 @@ begins_bare schema proof is =
     let its = laid schema proof is.run bases [] (is.log ∙ sym (append-nil (map Base bases))) in
     (lies schema proof (begins_only schema proof is)).exposed ∙ ap facts_of its.made_are
 
-pub founded : (schema : SchemaParts) (proof : Proving) (queries : List Query) (head : List Val) (budget : ℕ) (marks : List Bool) → OnlyExposes schema proof → AreRelevant schema proof.constants proof.end.base proof.end.next queries head marks → IsFounded (exploring_of schema proof queries head budget marks)
+pub founded : (schema : SchemaParts) (proof : Proving) (queries : List Query) (head : List Val) (budget : ℕ) (marks : Marks) → OnlyExposes schema proof → AreRelevant schema proof.constants proof.end.base proof.end.next queries head marks → IsFounded (exploring_of schema proof queries head budget marks)
 founded schema proof queries head budget marks is relevant = record {
   none_exposed = is.run.none_exposed;
   none_copied = is.run.none_copied;

@@ -22,7 +22,8 @@ use Rattle.accessible_copy.proofs.Listed.{take_got, known_to}
 use Rattle.exposure_search.specs.declared.relevance.Marking.{Marking}
 use Rattle.exposure_search.specs.Tries.{IsMarked}
 use Rattle.exposure_search.specs.Sets.{got_contained, picked_at, picked_back, set_kept, set_cases}
-use Rattle.exposure_search.specs.Relevance.{AreRelevant, IsImageOf, IsImageAmong, Keeps, BodiesMarked, AreFed, WantedMarked, IsOfKind, HoldsInput, IsAskedBy, Grows, IsFollowed, IsFollowing}
+use Rattle.exposure_search.specs.declared.marks.Marks.{Marks}
+use Rattle.exposure_search.specs.Relevance.{AreRelevant, MakersMarked, IsWanted, IsImageOf, IsImageAmong, Keeps, BodiesMarked, AreFed, WantedMarked, IsOfKind, HoldsInput, IsAskedBy, Grows, IsFollowed, IsFollowing}
 use Rattle.exposure_search.proofs.Imaging.{image_next, image_none}
 use Rattle.exposure_search.proofs.Wanting.{keeps_push, set_on}
 
@@ -122,12 +123,12 @@ module _ (schema : SchemaParts) (constants : List (List ℕ)) (facts : List Grou
   all_followed now none is number on = ⊎_elim (λ w. absurd (let c : Contains [] number = subst (λ ws. Contains ws number) none w in omega arith)) (λ f. f) (is.followed number on)
 
   -- closed marks: `begun` are those of wanted relations, and `seen` those of images too
-  pub marks_relevant : (next : ℕ) (queries : List Query) (head : List Val) (wanted begun seen marks : List Bool) → BodiesMarked schema.rules next (IsImageAmong queries head) wanted → AreFed schema.rules wanted →
-      length begun ≡ length facts → WantedMarked wanted facts begun → Keeps begun seen → ((number : ℕ) → IsOfKind facts (IsImageAmong queries head) number → number < length begun → IsMarked seen number) → Keeps seen marks →
-      ((number : ℕ) → IsMarked marks number → IsFollowed schema constants facts marks number) → AreRelevant schema constants facts next queries head marks
-  marks_relevant next queries head wanted begun seen marks served fed long begins sees images keeps closed = (
-    wanted,
-    record {
+  pub marks_relevant : (next : ℕ) (queries : List Query) (head : List Val) (wanted begun seen : List Bool) (marks : Marks) → BodiesMarked schema.rules next (IsImageAmong queries head) wanted → AreFed schema.rules wanted →
+      length begun ≡ length facts → WantedMarked wanted facts begun → Keeps begun seen → ((number : ℕ) → IsOfKind facts (IsImageAmong queries head) number → number < length begun → IsMarked seen number) → Keeps seen marks.relevant.items → marks.needed.items ≡ seen → MakersMarked schema.rules next (IsWanted queries head wanted) marks.makers.items →
+      ((number : ℕ) → IsMarked marks.relevant.items number → IsFollowed schema constants facts marks.relevant.items number) → AreRelevant schema constants facts next queries head marks
+  marks_relevant next queries head wanted begun seen marks served fed long begins sees images keeps same makers closed = record {
+    wanted = wanted;
+    closed = record {
       images = λ query atom fact c d i. inl (query, c, (atom, d, i));
       bodies = λ trigger rule made body is of_head of_body needs.
           let among = contains_got schema.rules trigger.rule rule is.numbered in
@@ -136,14 +137,22 @@ module _ (schema : SchemaParts) (constants : List (List ℕ)) (facts : List Grou
           (λ on. fed rule made body among of_head of_body on) needs);
       facts = λ fact c wants.
           let (k, at) = got_contained facts fact c in
-          let low : k < length facts = slice_get_within facts k fact at in
-          picked_at facts marks k fact at (keeps k (⊎_elim (λ image. images k (fact, at, image) (omega arith)) (λ on. sees k (begins k fact at on)) wants));
+          picked_at facts marks.relevant.items k fact at (keeps k (at_seen k fact at wants));
       inputs = λ fact other v among asks c has.
-          let (k, at, on) = picked_back facts marks fact among in
+          let (k, at, on) = picked_back facts marks.relevant.items fact among in
           let (place, there) = got_contained facts other c in
-          picked_at facts marks place other there (closed k on fact other place v at asks there has);
-    },
-  )
+          picked_at facts marks.relevant.items place other there (closed k on fact other place v at asks there has);
+    };
+    needed = λ fact c wants.
+        let (k, at) = got_contained facts fact c in
+        picked_at facts marks.needed.items k fact at (subst (λ ms. IsMarked ms k) (sym same) (at_seen k fact at wants));
+    makers = makers;
+  }
+    where
+      at_seen : (k : ℕ) (fact : Ground) → slice_get facts k ≡ Some fact → IsWanted queries head wanted fact → IsMarked seen k
+      at_seen k fact at wants =
+          let low : k < length facts = slice_get_within facts k fact at in
+          ⊎_elim (λ image. images k (fact, at, image) (omega arith)) (λ on. sees k (begins k fact at on)) wants
 
   -- what waits, and what was newly marked
   pub following_begun : (old new : Marking) → length old.marks.items ≡ length facts → ((number : ℕ) → IsMarked old.marks.items number → Contains old.waiting.items number) → Grows old new → IsFollowing schema constants facts new

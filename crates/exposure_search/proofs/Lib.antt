@@ -1,3 +1,4 @@
+pub mod Gaining
 pub mod Bridging
 pub mod Trying
 pub mod Wanting
@@ -7,6 +8,7 @@ pub mod Following
 pub mod Logs
 pub mod Steps
 pub mod Missing
+pub mod Still
 pub mod Serving
 pub mod Offering
 pub mod Settled

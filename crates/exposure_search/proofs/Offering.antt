@@ -15,7 +15,8 @@ use Rattle.accessible_copy.specs.Methods.{IsMethodIndex, methods_of}
 use Rattle.accessible_copy.specs.Proving.{Proving}
 use Rattle.accessible_copy.proofs.Listed.{inputs_to, inputs_from}
 use Rattle.least_search.specs.declared.space.Move.{Move}
-use Rattle.exposure_search.specs.Tries.{IsMarked}
+use Rattle.exposure_search.specs.declared.marks.Marks.{Marks}
+use Rattle.exposure_search.specs.Tries.{IsMarked, Adds}
 use Rattle.exposure_search.specs.Making.{IsActiveMove, IsServed}
 
 -- the move is by a method that can expose the fact, at a cost that is the limit
@@ -100,14 +101,14 @@ module _ (schema : SchemaParts) (proof : Proving) (fact : Ground) (place below :
       by None none some cheap less = absurd (let e : limit ≡ below = none refl in omega arith)
       by (Some move) none some cheap less = let e : move.cost ≡ limit = (some move refl).limit_is in (move, refl, omega arith)
 
--- the moves so far are active and of marked facts, and serve those of the facts so far
-pub record AreServed (schema : SchemaParts) (proof : Proving) (marks : List Bool) (below : ℕ) (moves : List Move) (count : ℕ) : Type 0 where
-  pub active : (move : Move) → Contains moves move → IsActiveMove schema proof move × IsMarked marks move.fact
-  pub served : (move : Move) → IsActiveMove schema proof move → IsMarked marks move.fact → move.cost < below → move.fact < count → IsServed moves move
+-- the moves so far are active and of relevant facts, and serve those of the facts so far that gain something
+pub record AreServed (schema : SchemaParts) (proof : Proving) (marks : Marks) (below : ℕ) (moves : List Move) (count : ℕ) : Type 0 where
+  pub active : (move : Move) → Contains moves move → IsActiveMove schema proof move × IsMarked marks.relevant.items move.fact
+  pub served : (move : Move) → IsActiveMove schema proof move → IsMarked marks.relevant.items move.fact → Adds (known_values proof.constants proof.end.exposed) proof.end.base marks.needed.items move.fact → move.cost < below → move.fact < count → IsServed moves move
 
-module _ (schema : SchemaParts) (proof : Proving) (marks : List Bool) (below : ℕ) where
+module _ (schema : SchemaParts) (proof : Proving) (marks : Marks) (below : ℕ) where
   pub served_none : AreServed schema proof marks below [] 0
-  served_none = record { active = λ move c. absurd (omega arith); served = λ move active on low less. absurd (omega arith) }
+  served_none = record { active = λ move c. absurd (omega arith); served = λ move active on gains low less. absurd (omega arith) }
 
   module _ (moves : List Move) (count : ℕ) (are : AreServed schema proof marks below moves count) (index : List (List ℕ)) (indexed : IsMethodIndex schema.methods index) (fact : Ground) (at : slice_get proof.end.base count ≡ Some fact) where
     -- an active move of this fact is by one of its relation's methods
@@ -116,28 +117,28 @@ module _ (schema : SchemaParts) (proof : Proving) (marks : List Bool) (below : �
         let facts : active.fact ≡ fact = some_injective active.fact fact (sym active.at ∙ ap (slice_get proof.end.base) same ∙ at) in
         (facts, subst (λ (r : ℕ). Contains (methods_of index r) move.method) (active.active.of_relation ∙ ap (λ (f : Ground). f.rel) facts) (indexed.all move.method active.of active.active.named))
 
-    pub served_more : (step : Move) → (step.fact ≡ count) × IsActiveMove schema proof step × IsMarked marks count →
-        ((number : ℕ) (method : Method) → Contains (methods_of index fact.rel) number → IsActiveExposure schema proof.constants proof.end number fact method → method.cost < below → step.cost ≤ method.cost) →
+    pub served_more : (step : Move) → (step.fact ≡ count) × IsActiveMove schema proof step × IsMarked marks.relevant.items count →
+        (Adds (known_values proof.constants proof.end.exposed) proof.end.base marks.needed.items count → (number : ℕ) (method : Method) → Contains (methods_of index fact.rel) number → IsActiveExposure schema proof.constants proof.end number fact method → method.cost < below → step.cost ≤ method.cost) →
         AreServed schema proof marks below (moves ++ step ∷ []) (count + 1)
     served_more step (here, active, on) least = record {
-      active = λ move c. ⊎_elim (λ old. are.active move old) (λ e. subst (λ (m : Move). IsActiveMove schema proof m × IsMarked marks m.fact) e (active, subst (λ n. IsMarked marks n) (sym here) on)) (Contains-push_cases moves step move c);
-      served = λ move its marked low less. ⊎_elim
+      active = λ move c. ⊎_elim (λ old. are.active move old) (λ e. subst (λ (m : Move). IsActiveMove schema proof m × IsMarked marks.relevant.items m.fact) e (active, subst (λ n. IsMarked marks.relevant.items n) (sym here) on)) (Contains-push_cases moves step move c);
+      served = λ move its marked gains low less. ⊎_elim
           (λ same. let (facts, among) = of_fact move its same in
           let cost : move.cost ≡ its.of.cost = its.cost in
-          let cheap : step.cost ≤ its.of.cost = least move.method its.of among (subst (λ f. IsActiveExposure schema proof.constants proof.end move.method f its.of) facts its.active) (omega arith) in
+          let cheap : step.cost ≤ its.of.cost = least (subst (Adds (known_values proof.constants proof.end.exposed) proof.end.base marks.needed.items) same gains) move.method its.of among (subst (λ f. IsActiveExposure schema proof.constants proof.end move.method f its.of) facts its.active) (omega arith) in
           (step, Contains-push moves step, here ∙ sym same, omega arith))
-          (λ other. let (better, c, same, cheap) = are.served move its marked low (omega arith) in (better, Contains-append_left moves (step ∷ []) better c, same, cheap)) (cases_eq move.fact count);
+          (λ other. let (better, c, same, cheap) = are.served move its marked gains low (omega arith) in (better, Contains-append_left moves (step ∷ []) better c, same, cheap)) (cases_eq move.fact count);
     }
 
-    pub served_less : (IsMarked marks count → (number : ℕ) (method : Method) → Contains (methods_of index fact.rel) number → IsActiveExposure schema proof.constants proof.end number fact method → method.cost < below → ⊥) →
+    pub served_less : (IsMarked marks.relevant.items count → Adds (known_values proof.constants proof.end.exposed) proof.end.base marks.needed.items count → (number : ℕ) (method : Method) → Contains (methods_of index fact.rel) number → IsActiveExposure schema proof.constants proof.end number fact method → method.cost < below → ⊥) →
         AreServed schema proof marks below moves (count + 1)
     served_less none = record {
       active = are.active;
-      served = λ move its marked low less. ⊎_elim
+      served = λ move its marked gains low less. ⊎_elim
           (λ same. let (facts, among) = of_fact move its same in
           let cost : move.cost ≡ its.of.cost = its.cost in
-          absurd (none (subst (λ n. IsMarked marks n) same marked) move.method its.of among (subst (λ f. IsActiveExposure schema proof.constants proof.end move.method f its.of) facts its.active) (omega arith)))
-          (λ other. are.served move its marked low (omega arith)) (cases_eq move.fact count);
+          absurd (none (subst (λ n. IsMarked marks.relevant.items n) same marked) (subst (Adds (known_values proof.constants proof.end.exposed) proof.end.base marks.needed.items) same gains) move.method its.of among (subst (λ f. IsActiveExposure schema proof.constants proof.end move.method f its.of) facts its.active) (omega arith)))
+          (λ other. are.served move its marked gains low (omega arith)) (cases_eq move.fact count);
     }
 
 pub when_some : {X : Type 0} (o : Option X) (P : X → Type 0) → ((x : X) → o ≡ Some x → P x) → IfSome o P

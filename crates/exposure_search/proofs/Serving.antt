@@ -1,19 +1,19 @@
 -- Moves that stand for active exposures are moves from a set.
-use Rattle.std.proofs.Common.{◌≡◌, ◌<◌, List, [], ◌∷◌, length, Bool, true, Some, sym, ap, ◌∙◌, subst, inl, inr, ⊎_elim}
+use Rattle.std.proofs.Common.{◌≡◌, ◌<◌, ℕ, List, [], ◌∷◌, length, Bool, true, Some, sym, ap, ◌∙◌, subst, inl, inr, ⊎_elim}
 use Rattle.std.specs.Prelude.{Contains}
 use Rattle.std.proofs.lemmas.List.{length-set}
 use Rattle.std.proofs.lemmas.Option.{slice_get_within}
 use Rattle.lists.proofs.Members.{contains_got, got_below}
 use Rattle.meaning.specs.declared.types.SchemaParts.{SchemaParts}
 use Rattle.meaning.specs.declared.types.Ground.{Ground}
-use Rattle.meaning.specs.declared.types.Val.{Val}
-use Rattle.meaning.specs.Runs.{IsKnownValue}
 use Rattle.accessible_copy.specs.Proving.{Proving, IsProofOf}
-use Rattle.accessible_copy.proofs.Listed.{proof_once}
+use Rattle.accessible_copy.specs.Known.{known_values}
+use Rattle.accessible_copy.proofs.Listed.{proof_once, known_to, known_from}
 use Rattle.least_search.specs.declared.space.Move.{Move}
 use Rattle.least_search.specs.Walks.{IsWalk, no_facts, with_fact}
-use Rattle.exposure_search.specs.Tries.{picked, IsOpen}
+use Rattle.exposure_search.specs.Tries.{picked, IsOpen, Adds}
 use Rattle.exposure_search.specs.Making.{IsActiveMove}
+use Rattle.exposure_search.specs.Spaces.{known_same}
 use Rattle.exposure_search.specs.Sets.{AreSame, got_once, picked_at, none_length, truth}
 
 module _ (schema : SchemaParts) (proof : Proving) (is : IsProofOf schema proof) where
@@ -21,8 +21,10 @@ module _ (schema : SchemaParts) (proof : Proving) (is : IsProofOf schema proof) 
   walk_length [] set end e = ap length e
   walk_length (move ∷ path) set end (open', walk) = walk_length path (with_fact set move) end walk ∙ length-set set move.fact true
 
-  known_along : (first second : List Ground) (v : Val) → ((f : Ground) → Contains first f → Contains second f) → IsKnownValue proof.constants first v → IsKnownValue proof.constants second v
-  known_along first second v within known = ⊎_elim (λ c. inl c) (λ (f, among, i). inr (f, within f among, i)) known
+  -- what gains something gains it too where no more facts are exposed
+  pub adds_same : (first second : List Ground) (needed : List Bool) (number : ℕ) → ((f : Ground) → Contains second f → Contains first f) → Adds (known_values proof.constants first) proof.end.base needed number → Adds (known_values proof.constants second) proof.end.base needed number
+  adds_same first second needed number within gains =
+      ⊎_elim (λ on. inl on) (λ (fact, v, at, has, new). inr (fact, v, at, has, (λ c. new (known_from proof.constants first v (known_same schema proof.constants proof.end.base second first v within (known_to proof.constants second v c)))))) gains
 
   -- moves from the set whose facts are exposed
   module _ (path : List Move) (set : List Bool) (walk : IsWalk (IsOpen schema proof.constants proof.end.base) (no_facts (length proof.end.base)) path set) (same : AreSame (picked proof.end.base set) proof.end.exposed) where
@@ -42,7 +44,7 @@ module _ (schema : SchemaParts) (proof : Proving) (is : IsProofOf schema proof) 
               new = λ c. active.active.new (same.to active.fact c);
               of_schema = contains_got schema.methods move.method active.of active.active.named;
               of_relation = active.active.of_relation;
-              inputs = λ p i. let (v, at, known) = active.active.inputs p i in (v, at, known_along proof.end.exposed (picked base set) v same.from known);
+              inputs = λ p i. let (v, at, known) = active.active.inputs p i in (v, at, known_same schema proof.constants proof.end.base proof.end.exposed (picked base set) v same.from known);
             };
           },
         )
@@ -57,7 +59,7 @@ module _ (schema : SchemaParts) (proof : Proving) (is : IsProofOf schema proof) 
         new = λ c. its.exposes.new (same.from e.fact c);
         named = its.method;
         of_relation = its.exposes.of_relation;
-        inputs = λ p i. let (v, at, known) = its.exposes.inputs p i in (v, at, known_along (picked proof.end.base set) proof.end.exposed v same.to known);
+        inputs = λ p i. let (v, at, known) = its.exposes.inputs p i in (v, at, known_same schema proof.constants proof.end.base (picked proof.end.base set) proof.end.exposed v same.to known);
       };
       cost = its.cost;
     }

@@ -5,6 +5,7 @@ use Rattle.std.specs.List.{AllZip}
 use Rattle.std.proofs.lemmas.List.{append-nil, length-map}
 use Rattle.lists.proofs.Members.{contains_got}
 use Rattle.meaning_laws.proofs.SameSets.{run_alike}
+use Rattle.meaning_laws.proofs.Quieting.{quiet_is_reached}
 use Rattle.meaning_laws.proofs.Carrying.{run_fires}
 use Rattle.meaning.specs.declared.types.SchemaParts.{SchemaParts}
 use Rattle.meaning.specs.declared.types.Query.{Query}
@@ -14,13 +15,14 @@ use Rattle.meaning.specs.Triggers.{State, IsQuiet, IsFiringRun, ground}
 use Rattle.meaning.specs.Runs.{Proof, base_state, copy_state, HasGoal, IsBaseRun, IsRun}
 use Rattle.meaning.specs.Extract.{exposed_facts, HasGoalFrom}
 use Rattle.homomorphism.specs.Bindings.{at}
+use Rattle.rule_pass.specs.Levels.{AreShort}
 use Rattle.rule_pass.specs.States.{SomeActive}
 use Rattle.accessible_copy.specs.declared.entry.Entry.{Entry}
 use Rattle.accessible_copy.proofs.Writing.{written_run}
 use Rattle.accessible_copy.specs.declared.goals.Match.{Match}
 use Rattle.accessible_copy.specs.declared.settling.Round.{Round}
 use Rattle.accessible_copy.specs.declared.settling.Round.TheVariants.{Quiet, Done, Spent}
-use Rattle.accessible_copy.specs.Known.{facts_of}
+use Rattle.accessible_copy.specs.Known.{facts_of, known_values}
 use Rattle.accessible_copy.specs.Written.{firing_of}
 use Rattle.accessible_copy.specs.Rounds.{exposure_of}
 use Rattle.accessible_copy.specs.Goals.{IsGoal}
@@ -31,15 +33,18 @@ use Rattle.least_search.specs.declared.space.End.{End}
 use Rattle.least_search.specs.declared.space.End.TheVariants as end
 use Rattle.least_search.specs.Walks.{IsWalk, no_facts}
 use Rattle.least_search.specs.Ends.{GoesOn}
-use Rattle.exposure_search.specs.Tries.{picked, IsOpen, IsMarked, IsTry, HasMatchFrom}
-use Rattle.exposure_search.specs.Making.{bases_of, GoesBeyond, OnlyExposes, SameBase, all_made, IsExposedBy, IsActiveMove, IsServed}
+use Rattle.exposure_search.specs.declared.marks.Marks.{Marks}
+use Rattle.exposure_search.specs.Tries.{picked, IsOpen, IsMarked, Adds, IsTry, HasMatchFrom}
+use Rattle.exposure_search.specs.Making.{bases_of, GoesBeyond, OnlyExposes, SameBase, all_made, IsExposedBy, IsActiveMove, IsServed, IsStill}
+use Rattle.exposure_search.specs.Relevance.{AreRelevant, IsWanted}
 use Rattle.exposure_search.specs.Exploring.{exploring_of, HasGoalAt, HasRunBeyond}
 use Rattle.exposure_search.specs.Visiting.{IsVisitEnd, AreMovesAt, IsReached}
 use Rattle.exposure_search.specs.Sets.{AreSame, none_same}
+use Rattle.exposure_search.proofs.Still.{run_rises, run_joined, needed_stay}
 use Rattle.exposure_search.proofs.Bridging.{goal_same}
 use Rattle.exposure_search.proofs.Logs.{lies, settled_run, settled_long, settled_on}
 use Rattle.exposure_search.proofs.Steps.{IsWalked, walked}
-use Rattle.exposure_search.proofs.Serving.{active_open, open_active}
+use Rattle.exposure_search.proofs.Serving.{active_open, open_active, adds_same}
 
 -- a match that was found
 pub found_goal : (queries : List Query) (proof : Proof) (head : List Val) (found : Option Match) → is_some found ≡ true → IfSome found (λ (m : Match). IsGoal queries proof.copy head m.select m.assignment.vals) → HasGoal queries proof head
@@ -59,7 +64,7 @@ some_always None p = tt
 some_always (Some x) p = p
 
 -- the same beginning gives the same space
-pub same_space : (schema : SchemaParts) (queries : List Query) (head : List Val) (budget : ℕ) (marks : List Bool) (old new : Proving) → SameBase old new → exploring_of schema new queries head budget marks ≡ exploring_of schema old queries head budget marks
+pub same_space : (schema : SchemaParts) (queries : List Query) (head : List Val) (budget : ℕ) (marks : Marks) (old new : Proving) → SameBase old new → exploring_of schema new queries head budget marks ≡ exploring_of schema old queries head budget marks
 same_space schema queries head budget marks old new same =
     let constants = same.constants in
     let start = same.start in
@@ -89,16 +94,16 @@ module _ (schema : SchemaParts) (proof : Proving) (path : List Move) (set : List
   set_exposed = subst (λ gs. AreSame (picked proof.end.base set) gs) (sym shown) path_walked.same
 
   -- the moves from the set
-  pub moves_here : (queries : List Query) (head : List Val) (budget : ℕ) (marks : List Bool) (ended : End) (below : ℕ) (moves : List Move) → ((move : Move) → Contains moves move → IsActiveMove schema proof move × IsMarked marks move.fact) →
-      (GoesOn ended → (move : Move) → IsActiveMove schema proof move → IsMarked marks move.fact → move.cost < below → IsServed moves move) → AreMovesAt (exploring_of schema proof queries head budget marks) set ended below moves
+  pub moves_here : (queries : List Query) (head : List Val) (budget : ℕ) (marks : Marks) (ended : End) (below : ℕ) (moves : List Move) → ((move : Move) → Contains moves move → IsActiveMove schema proof move × IsMarked marks.relevant.items move.fact) →
+      (GoesOn ended → (move : Move) → IsActiveMove schema proof move → IsMarked marks.relevant.items move.fact → Adds (known_values proof.constants proof.end.exposed) proof.end.base marks.needed.items move.fact → move.cost < below → IsServed moves move) → AreMovesAt (exploring_of schema proof queries head budget marks) set ended below moves
   moves_here queries head budget marks ended below moves active all = record {
     possible = λ move among. (active_open schema proof is.run path set walk set_exposed move (active move among).0, (active move among).1);
-    complete = λ goes move can low. all goes move (open_active schema proof is.run path set walk set_exposed move can.0) can.1 low;
+    complete = λ goes move can gains low. all goes move (open_active schema proof is.run path set walk set_exposed move can.0) can.1 (adds_same schema proof is.run (picked proof.end.base set) proof.end.exposed marks.needed.items move.fact set_exposed.from gains) low;
   }
 
 -- ---- the settled copy
 
-module _ (schema : SchemaParts) (queries : List Query) (head : List Val) (budget : ℕ) (marks : List Bool) (proof settled : Proving) (path : List Move) (set : List Bool)
+module _ (schema : SchemaParts) (queries : List Query) (head : List Val) (budget : ℕ) (marks : Marks) (proof settled : Proving) (path : List Move) (set : List Bool)
     (is : OnlyExposes schema proof) (its : IsProofOf schema settled) (settles : Settles schema true proof settled)
     (made : proof.exposed ≡ all_made proof.end.base path)
     (walk : IsWalk (IsOpen schema proof.constants proof.end.base) (no_facts (length proof.end.base)) path set) where
@@ -122,6 +127,21 @@ module _ (schema : SchemaParts) (queries : List Query) (head : List Val) (budget
   -- a settled copy without a match
   pub none_goal : IsQuiet schema.rules (copy_state settled.end) → (HasGoal queries settled.end head → ⊥) → HasGoalFrom schema queries head proof.end.next (picked proof.end.base set) → ⊥
   none_goal quiet none has = none (goal_same schema queries head proof.end.next (picked proof.end.base set) (exposed_facts trail.made) trail.same has settles.more (copy_state settled.end) copy_run quiet)
+
+  -- a copy without a match in which nothing is active, or no rule that can make what a match rests on can fire
+  pub none_still : AreShort schema.rules → AreRelevant schema proof.constants proof.end.base proof.end.next queries head marks → IsStill schema.rules marks.makers.items (copy_state settled.end) → (HasGoal queries settled.end head → ⊥) → HasGoalFrom schema queries head proof.end.next (picked proof.end.base set) → ⊥
+  none_still short relevant still none has = ⊎_elim (λ quiet. none_goal quiet none has)
+      (λ cannot.
+      let (log, last, run, quiet) = quiet_is_reached schema.rules (length schema.rules) (copy_state settled.end) its.numbered short in
+      let whole = run_joined schema.rules settles.more log (record { facts = exposed_facts trail.made; next = proof.end.next }) (copy_state settled.end) last copy_run run in
+      let low : proof.end.next ≤ settled.end.next = run_rises schema.rules settles.more (record { facts = exposed_facts trail.made; next = proof.end.next }) (copy_state settled.end) copy_run in
+      let (goal, among, (a, are, e)) = goal_same schema queries head proof.end.next (picked proof.end.base set) (exposed_facts trail.made) trail.same has (settles.more ++ log) last whole quiet in
+      none (goal, among, (
+        a,
+        (λ atom c. needed_stay schema.rules proof.end.next (IsWanted queries head relevant.wanted) relevant.closed.bodies marks.makers.items relevant.makers settled.end.copy cannot log (copy_state settled.end) last low (λ f wants there. there) run
+            (ground a atom) (inl (goal, among, (atom, c, record { assignment = a; heads = e; makes = refl }))) (are atom c)),
+        e,
+      ))) still
 
   -- what was tried
   tried : IsTry schema proof.constants (base_state proof.end) (length (bases_of (log_of proof))) (length (bases_of (log_of proof)) + length trail.made + length settles.more) (length path)
@@ -151,14 +171,14 @@ module _ (schema : SchemaParts) (queries : List Query) (head : List Val) (budget
       let (log, last, run, long) = settled_on schema proof settled is its settles some in
       record { log = log; end = last; run = run; beyond = omega arith }) far
 
-  pub visit_end : (ended : End) (fired : ℕ) → (ended ≡ end.Goal → HasGoal queries settled.end head) → (ended ≡ end.NoGoal → IsQuiet schema.rules (copy_state settled.end)) → (ended ≡ end.NoGoal → HasGoal queries settled.end head → ⊥) →
+  pub visit_end : AreShort schema.rules → AreRelevant schema proof.constants proof.end.base proof.end.next queries head marks → (ended : End) (fired : ℕ) → (ended ≡ end.Goal → HasGoal queries settled.end head) → (ended ≡ end.NoGoal → IsStill schema.rules marks.makers.items (copy_state settled.end)) → (ended ≡ end.NoGoal → HasGoal queries settled.end head → ⊥) →
       (ended ≡ end.FiringsSpent → GoesBeyond schema budget settled) → length proof.entries + fired ≡ length settled.entries →
       IsVisitEnd (exploring_of schema proof queries head budget marks) path set ended fired
-  visit_end ended fired goal quiet none long counted =
+  visit_end short relevant ended fired goal still none long counted =
       let added = settled_long schema proof settled settles in
       record {
         goal = λ e. goal_matches (goal e);
-        none = λ e. none_goal (quiet e) (none e);
+        none = λ e. none_still short relevant (still e) (none e);
         long = λ e. runs_beyond (long e);
         run = (length (bases_of (log_of proof)) + length trail.made + length settles.more, tried, omega arith);
       }

@@ -1,14 +1,16 @@
 -- Visits, said of the proof before them.
-use Rattle.std.proofs.Common.{◌≡◌, ◌⊎◌, inl, ℕ, ◌+◌, ◌<◌, ◌≤◌, List, length, take, true, ap, ◌∙◌, subst, arith, Bool}
+use Rattle.std.proofs.Common.{◌≡◌, ◌⊎◌, inl, ℕ, ◌+◌, ◌<◌, ◌≤◌, List, length, take, true, ap, ◌∙◌, subst, sym, arith, Bool}
 use Rattle.std.specs.Prelude.{Contains, IfOk, Result, Ok, Err}
 use Rattle.meaning.specs.declared.types.SchemaParts.{SchemaParts}
 use Rattle.meaning.specs.declared.types.Query.{Query}
 use Rattle.meaning.specs.declared.types.Val.{Val}
-use Rattle.meaning.specs.Triggers.{IsQuiet}
+use Rattle.meaning.specs.Triggers.{IsQuiet, State}
 use Rattle.meaning.specs.Runs.{copy_state, HasGoal}
+use Rattle.rule_pass.specs.Levels.{AreShort}
 use Rattle.rule_pass.specs.States.{SomeActive}
 use Rattle.accessible_copy.specs.declared.settling.Round.{Round}
 use Rattle.accessible_copy.specs.declared.settling.Round.TheVariants.{Quiet, Done, Spent}
+use Rattle.accessible_copy.specs.Known.{known_values}
 use Rattle.accessible_copy.specs.Proving.{Proving, IsProofOf}
 use Rattle.accessible_copy.specs.Settling.{Settles}
 use Rattle.least_search.specs.declared.space.Move.{Move}
@@ -17,19 +19,21 @@ use Rattle.least_search.specs.declared.space.End.{End}
 use Rattle.least_search.specs.declared.space.End.TheVariants as end
 use Rattle.least_search.specs.Walks.{IsWalk, no_facts}
 use Rattle.least_search.specs.Ends.{GoesOn}
-use Rattle.exposure_search.specs.Tries.{IsOpen, IsMarked}
-use Rattle.exposure_search.specs.Making.{OnlyExposes, SameBase, GoesBeyond, all_made, IsActiveMove, IsServed}
-use Rattle.exposure_search.specs.Exploring.{Exploring, exploring_of, CanExpose, HasGoalAt, HasTry, HasRunBeyond}
+use Rattle.exposure_search.specs.declared.marks.Marks.{Marks}
+use Rattle.exposure_search.specs.Tries.{IsOpen, IsMarked, Adds}
+use Rattle.exposure_search.specs.Making.{OnlyExposes, SameBase, GoesBeyond, all_made, IsActiveMove, IsServed, IsStill}
+use Rattle.exposure_search.specs.Relevance.{AreRelevant}
+use Rattle.exposure_search.specs.Exploring.{Exploring, exploring_of, CanExpose, GainsAt, HasGoalAt, HasTry, HasRunBeyond}
 use Rattle.exposure_search.specs.Visiting.{IsVisitEnd, AreMovesAt, IsReached}
 use Rattle.exposure_search.proofs.Logs.{goes_back, same_on, settled_long}
 use Rattle.exposure_search.proofs.Steps.{walk_same}
 use Rattle.exposure_search.proofs.Settled.{unsettled, runs_beyond, same_space, made_same, moves_here, visit_end, reached_here, none_reached}
 
-module _ (schema : SchemaParts) (queries : List Query) (head : List Val) (budget : ℕ) (marks : List Bool) (old gone : Proving) (path : List Move) (set : List Bool)
+module _ (schema : SchemaParts) (queries : List Query) (head : List Val) (budget : ℕ) (marks : Marks) (old gone : Proving) (path : List Move) (set : List Bool)
     (is : OnlyExposes schema gone) (same : SameBase old gone) (made : gone.exposed ≡ all_made old.end.base path)
     (walk : IsWalk (IsOpen schema old.constants old.end.base) (no_facts (length old.end.base)) path set) where
   -- the moves that were listed
-  pub moves_seen : (ended : End) (below : ℕ) (moves : List Move) → ((move : Move) → Contains moves move → IsActiveMove schema gone move × IsMarked marks move.fact) → (GoesOn ended → (move : Move) → IsActiveMove schema gone move → IsMarked marks move.fact → move.cost < below → IsServed moves move) →
+  pub moves_seen : (ended : End) (below : ℕ) (moves : List Move) → ((move : Move) → Contains moves move → IsActiveMove schema gone move × IsMarked marks.relevant.items move.fact) → (GoesOn ended → (move : Move) → IsActiveMove schema gone move → IsMarked marks.relevant.items move.fact → Adds (known_values gone.constants gone.end.exposed) gone.end.base marks.needed.items move.fact → move.cost < below → IsServed moves move) →
       AreMovesAt (exploring_of schema old queries head budget marks) set ended below moves
   moves_seen ended below moves active all =
       subst (λ s. AreMovesAt s set ended below moves) (same_space schema queries head budget marks old gone same)
@@ -43,12 +47,13 @@ module _ (schema : SchemaParts) (queries : List Query) (head : List Val) (budget
 
   module _ (settled : Proving) (its : IsProofOf schema settled) (settles : Settles schema true gone settled) where
     -- how it ended
-    pub end_seen : (ended : End) (fired : ℕ) → (ended ≡ end.Goal → HasGoal queries settled.end head) → (ended ≡ end.NoGoal → IsQuiet schema.rules (copy_state settled.end)) → (ended ≡ end.NoGoal → HasGoal queries settled.end head → ⊥) →
+    pub end_seen : AreShort schema.rules → AreRelevant schema old.constants old.end.base old.end.next queries head marks → (ended : End) (fired : ℕ) → (ended ≡ end.Goal → HasGoal queries settled.end head) → (ended ≡ end.NoGoal → IsStill schema.rules marks.makers.items (copy_state settled.end)) → (ended ≡ end.NoGoal → HasGoal queries settled.end head → ⊥) →
         (ended ≡ end.FiringsSpent → GoesBeyond schema budget settled) → length gone.entries + fired ≡ length settled.entries →
         IsVisitEnd (exploring_of schema old queries head budget marks) path set ended fired
-    end_seen ended fired goal quiet none long counted =
+    end_seen short relevant ended fired goal still none long counted =
+        let here : AreRelevant schema gone.constants gone.end.base gone.end.next queries head marks = subst (λ (s : State). AreRelevant schema gone.constants s.facts s.next queries head marks) (sym same.base) (subst (λ k. AreRelevant schema k old.end.base old.end.next queries head marks) (sym same.constants) relevant) in
         subst (λ s. IsVisitEnd s path set ended fired) (same_space schema queries head budget marks old gone same)
-        (visit_end schema queries head budget marks gone settled path set is its settles (made_same old gone path same made) (walk_same schema old gone path set same walk) ended fired goal quiet none long counted)
+        (visit_end schema queries head budget marks gone settled path set is its settles (made_same old gone path same made) (walk_same schema old gone path set same walk) short here ended fired goal still none long counted)
 
     -- the proof that was reached
     pub proof_reached : length settled.entries ≤ budget → IsReached (exploring_of schema old queries head budget marks) path settled
@@ -86,6 +91,6 @@ pub visit_possible : {E : Type 0} (space : Exploring) (set : List Bool) (below :
 visit_possible space set below (Ok visit) are = are.possible
 visit_possible space set below (Err e) are = tt
 
-pub visit_complete : {E : Type 0} (space : Exploring) (set : List Bool) (below : ℕ) (r : Result Visit E) → IfOk r (λ visit. AreMovesAt space set visit.end below visit.moves.items) → IfOk r (λ visit. GoesOn visit.end → (move : Move) → CanExpose space set move → move.cost < below → IsServed visit.moves.items move)
+pub visit_complete : {E : Type 0} (space : Exploring) (set : List Bool) (below : ℕ) (r : Result Visit E) → IfOk r (λ visit. AreMovesAt space set visit.end below visit.moves.items) → IfOk r (λ visit. GoesOn visit.end → (move : Move) → CanExpose space set move → GainsAt space set move → move.cost < below → IsServed visit.moves.items move)
 visit_complete space set below (Ok visit) are = are.complete
 visit_complete space set below (Err e) are = tt

@@ -10,9 +10,11 @@ use Rattle.meaning.specs.Search.{AreDistinct}
 use Rattle.meaning.specs.Triggers.{State, IsQuiet}
 use Rattle.meaning.specs.Runs.{Proof, base_state, IsBaseRun, IsRun}
 use Rattle.meaning.specs.Extract.{HasGoalFrom}
+use Rattle.accessible_copy.specs.Known.{known_values}
 use Rattle.accessible_copy.specs.Proving.{Proving, log_of}
 use Rattle.least_search.specs.declared.space.Move.{Move}
-use Rattle.exposure_search.specs.Tries.{picked, IsRelevantMove, IsTry, HasMatchFrom}
+use Rattle.exposure_search.specs.declared.marks.Marks.{Marks}
+use Rattle.exposure_search.specs.Tries.{picked, IsRelevantMove, Adds, IsTry, HasMatchFrom}
 use Rattle.exposure_search.specs.Making.{bases_of}
 use Rattle.exposure_search.specs.Relevance.{AreRelevant}
 
@@ -27,10 +29,10 @@ pub record Exploring : Type 0 where
   pub queries : List Query
   pub head : List Val
   pub budget : ℕ
-  pub marks : List Bool
+  pub marks : Marks
 
 -- The space of a proof.
-abbrev pub exploring_of : SchemaParts → Proving → List Query → List Val → ℕ → List Bool → Exploring
+abbrev pub exploring_of : SchemaParts → Proving → List Query → List Val → ℕ → Marks → Exploring
 exploring_of schema proof queries head budget marks = record {
   schema = schema;
   constants = proof.constants;
@@ -47,9 +49,14 @@ exploring_of schema proof queries head budget marks = record {
 abbrev pub space_size : Exploring → ℕ
 space_size space = length space.base.facts
 
--- The move is possible at the set, and its fact is marked.
+-- The move is possible at the set, and its fact is relevant.
 abbrev pub CanExpose : Exploring → List Bool → Move → Type 0
-CanExpose space set move = IsRelevantMove space.schema space.constants space.base.facts space.marks set move
+CanExpose space set move = IsRelevantMove space.schema space.constants space.base.facts space.marks.relevant.items set move
+
+-- The move gains something at the set: a match can rest on its fact, or the fact holds a value that is not known there.
+abbrev pub GainsAt : Exploring → List Bool → Move → Type 0
+GainsAt space set move =
+    Adds (known_values space.constants (picked space.base.facts set)) space.base.facts space.marks.needed.items move.fact
 
 -- Every run of firings from the facts of the set, after which nothing is active, has a match.
 abbrev pub HasGoalAt : Exploring → List Bool → Type 0

@@ -1,5 +1,5 @@
 -- Proofs whose logs are base firings and the exposures behind them.
-use Rattle.std.specs.Prelude.{◌≡◌, ◌⊎◌, ◌<◌, ◌≤◌, ◌^◌, ℕ, List, [], ◌∷◌, ◌++◌, Contains, length, map, slice_get, slice_index_or, Some}
+use Rattle.std.specs.Prelude.{◌≡◌, ◌⊎◌, ◌<◌, ◌≤◌, ◌^◌, ℕ, List, [], ◌∷◌, ◌++◌, Contains, Bool, length, map, slice_get, slice_index_or, Some}
 use Rattle.meaning.specs.declared.types.SchemaParts.{SchemaParts}
 use Rattle.meaning.specs.declared.types.Method.{Method}
 use Rattle.meaning.specs.declared.types.Ground.{Ground}
@@ -7,6 +7,10 @@ use Rattle.meaning.specs.declared.types.Trigger.{Trigger}
 use Rattle.meaning.specs.declared.types.Firing.{Firing}
 use Rattle.meaning.specs.declared.types.Firing.TheVariants.{Base, Copy, Expose}
 use Rattle.meaning.specs.declared.types.Query.{Query}
+use Rattle.meaning.specs.declared.types.Atom.{Atom}
+use Rattle.meaning.specs.declared.types.Rule.{Rule}
+use Rattle.meaning.specs.declared.types.Val.{Val}
+use Rattle.meaning.specs.Triggers.{State, IsQuiet}
 use Rattle.meaning.specs.Runs.{base_state, copy_state, IsBaseQuiet, IsActiveExposure}
 use Rattle.meaning.specs.Extract.{Exposure}
 use Rattle.rule_pass.specs.States.{SomeActive}
@@ -17,6 +21,9 @@ use Rattle.accessible_copy.specs.Goals.{IsCounted}
 use Rattle.accessible_copy.specs.Methods.{IsMethodIndex}
 use Rattle.accessible_copy.specs.Rounds.{exposure_of}
 use Rattle.least_search.specs.declared.space.Move.{Move}
+use Rattle.exposure_search.specs.declared.marks.Marks.{Marks}
+use Rattle.exposure_search.specs.Tries.{IsMarked}
+use Rattle.exposure_search.specs.Relevance.{AreRelevant}
 
 -- The triggers of the base firings of a log.
 abbrev pub bases_of : List Firing → List Trigger
@@ -38,10 +45,10 @@ pub record OnlyExposes (schema : SchemaParts) (proof : Proving) : Type 0 where
   pub log : log_of proof ≡ map Base (bases_of (log_of proof)) ++ map exposure_of proof.exposed
   pub quiet : IsBaseQuiet schema proof.end
 
--- The proof can be visited: these are its base facts and the methods of each relation, so many base firings made the facts, the variables of each query are counted,
--- and the budget is one that a pass may have.
+-- The proof can be visited: these are its base facts and the methods of each relation, so many base firings made the facts, the
+-- variables of each query are counted, the budget is one that a pass may have, and what a match can rest on is marked.
 pub record IsReady (schema : SchemaParts) (proof : Proving) (facts : List Ground) (methods : List (List ℕ)) (bases : ℕ) (queries : List Query)
-    (budget : ℕ) : Type 0 where
+    (head : List Val) (budget : ℕ) (marks : Marks) : Type 0 where
   pub exposes : OnlyExposes schema proof
   pub facts_are : facts ≡ proof.end.base
   pub methods_are : IsMethodIndex schema.methods methods
@@ -49,6 +56,7 @@ pub record IsReady (schema : SchemaParts) (proof : Proving) (facts : List Ground
   pub counted : (query : Query) → Contains queries query → IsCounted query
   pub few : length queries ≤ 2 ^ 32
   pub low : budget ≤ MOST_FIRINGS
+  pub relevant : AreRelevant schema proof.constants proof.end.base proof.end.next queries head marks
 
 -- Both proofs begin alike, and their base firings are the same.
 pub record SameBase (old new : Proving) : Type 0 where
@@ -95,3 +103,13 @@ IsServed moves move = (other : Move) × Contains moves other × (other.fact ≡ 
 -- No fact is one of the relation.
 abbrev pub IsMissing : List Ground → ℕ → Type 0
 IsMissing facts rel = (fact : Ground) → Contains facts fact → fact.rel ≡ rel → ⊥
+
+-- Each marked rule has a body atom of a relation without facts.
+abbrev pub CannotMake : List Rule → List Bool → List Ground → Type 0
+CannotMake rules makers facts =
+    (number : ℕ) (rule : Rule) → slice_get rules number ≡ Some rule → IsMarked makers number →
+    (atom : Atom) × Contains rule.body atom × IsMissing facts atom.rel
+
+-- Nothing is active, or no marked rule can fire.
+abbrev pub IsStill : List Rule → List Bool → State → Type 0
+IsStill rules makers state = IsQuiet rules state ⊎ CannotMake rules makers state.facts

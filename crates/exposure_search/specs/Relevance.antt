@@ -17,6 +17,7 @@ use Rattle.meaning_laws.specs.Trims.{Asks, IsImage, AreClosed}
 use Rattle.homomorphism.specs.Bindings.{Agrees}
 use Rattle.accessible_copy.specs.declared.holders.Holders.{Holders}
 use Rattle.accessible_copy.specs.OpenFacts.{held_by}
+use Rattle.exposure_search.specs.declared.marks.Marks.{Marks}
 use Rattle.exposure_search.specs.declared.relevance.Marking.{Marking}
 use Rattle.exposure_search.specs.Tries.{picked, IsMarked}
 
@@ -31,12 +32,6 @@ IsImageAmong queries head fact = (query : Query) × Contains queries query × Is
 -- The fact is one that a match makes of an atom, or its relation is marked.
 abbrev pub IsWanted : List Query → List Val → List Bool → Ground → Type 0
 IsWanted queries head wanted fact = IsImageAmong queries head fact ⊎ IsMarked wanted fact.rel
-
--- With marks of some relations the marked base facts are closed, so that matches rest on no others.
-abbrev pub AreRelevant : SchemaParts → List Value → List Ground → ℕ → List Query → List Val → List Bool → Type 0
-AreRelevant schema constants base next queries head marks =
-    (wanted : List Bool) × AreClosed schema constants base next queries head (IsWanted queries head wanted)
-    (Contains (picked base marks))
 
 -- An assignment that agrees with what is given makes one of the atoms the fact.
 pub record IsMade (given : List (Option Val)) (atoms : List Atom) (fact : Ground) : Type 0 where
@@ -59,6 +54,22 @@ pub record Makes (next : ℕ) (rule : Rule) (fact : Ground) : Type 0 where
   pub fresh : next ≤ trigger.fresh
   pub of_rule : Contains rule.head head
   pub makes : ground (assigned trigger) head ≡ fact
+
+-- Each rule that can make a fact of a kind is marked.
+abbrev pub MakersMarked : List Rule → ℕ → (Ground → Type 0) → List Bool → Type 0
+MakersMarked rules next Kind makers =
+    (number : ℕ) (rule : Rule) (fact : Ground) → slice_get rules number ≡ Some rule → Makes next rule fact → Kind fact → IsMarked makers number
+
+-- With marks of some relations the relevant base facts are closed, so that matches rest on no others; those on which a match can rest
+-- directly or by rules are marked as needed, and so are the rules that can make such a fact.
+pub record AreRelevant (schema : SchemaParts) (constants : List Value) (base : List Ground) (next : ℕ) (queries : List Query)
+    (head : List Val) (marks : Marks) : Type 0 where
+  pub wanted : List Bool
+  pub closed : AreClosed schema constants base next queries head (IsWanted queries head wanted)
+      (Contains (picked base marks.relevant.items))
+  pub needed : (fact : Ground) → Contains base fact → IsWanted queries head wanted fact →
+      Contains (picked base marks.needed.items) fact
+  pub makers : MakersMarked schema.rules next (IsWanted queries head wanted) marks.makers.items
 
 -- A term of a rule's head has at no trigger, with so many values and labels from `next` on, the value of the other term.
 abbrev pub NeverMeet : List (Option Val) → ℕ → ℕ → Term → Term → Type 0

@@ -14,7 +14,7 @@ use Rattle.exposure_search.specs.Sets.{AreSame, picked_back, picked_at, same_mor
 use Rattle.exposure_search.specs.Exploring.{Exploring, space_size, CanExpose, HasTry}
 
 module _ (schema : SchemaParts) (constants : List (List ℕ)) (base : List Ground) where
-  known_same : (first second : List Ground) (v : Val) → ((f : Ground) → Contains first f → Contains second f) → IsKnownValue constants first v → IsKnownValue constants second v
+  pub known_same : (first second : List Ground) (v : Val) → ((f : Ground) → Contains first f → Contains second f) → IsKnownValue constants first v → IsKnownValue constants second v
   known_same first second v within known = ⊎_elim (λ c. inl c) (λ (f, among, i). inr (f, within f among, i)) known
 
   pub exposes_same : (first second : List Ground) (e : Exposure) → AreSame first second → Exposes schema constants base first e → Exposes schema constants base second e
@@ -99,5 +99,5 @@ narrowed n CanMove HasRun marks is = record {
 -- An exposure adds a fact that is not exposed, and is possible in each larger set without its fact; and a walk is a run.
 pub explored_is_space : (space : Exploring) → IsSpace (space_size space) (CanExpose space) (HasTry space)
 explored_is_space space =
-    narrowed (length space.base.facts) (IsOpen space.schema space.constants space.base.facts) (HasTry space) space.marks
+    narrowed (length space.base.facts) (IsOpen space.schema space.constants space.base.facts) (HasTry space) space.marks.relevant.items
     (is_space space.schema space.constants space.base.facts space.base.next (length space.log))

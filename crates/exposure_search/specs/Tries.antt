@@ -1,5 +1,5 @@
 -- Exposures as moves between sets of base facts, each by its number.
-use Rattle.std.specs.Prelude.{◌≡◌, ℕ, ◌+◌, List, [], ◌∷◌, Contains, Bool, true, false, slice_get, length, Some}
+use Rattle.std.specs.Prelude.{◌≡◌, ◌⊎◌, ℕ, ◌+◌, List, [], ◌∷◌, Contains, Bool, true, false, slice_get, length, Some}
 use Rattle.meaning.specs.declared.types.SchemaParts.{SchemaParts}
 use Rattle.meaning.specs.declared.types.Ground.{Ground}
 use Rattle.meaning.specs.declared.types.Trigger.{Trigger}
@@ -43,6 +43,12 @@ IsMarked marks number = slice_get marks number ≡ Some true
 -- The move is possible at the set, and its fact is marked.
 abbrev pub IsRelevantMove : SchemaParts → List Value → List Ground → List Bool → List Bool → Move → Type 0
 IsRelevantMove schema constants base marks set move = IsOpen schema constants base set move × IsMarked marks move.fact
+
+-- The fact with that number is marked, or holds a value that is not among the known ones.
+abbrev pub Adds : List Val → List Ground → List Bool → ℕ → Type 0
+Adds known base needed number =
+    IsMarked needed number
+    ⊎ ((fact : Ground) × (v : Val) × (slice_get base number ≡ Some fact) × Contains fact.vals v × (Contains known v → ⊥))
 
 -- After so many base firings, exposures in order and copy firings behind them make these numbers of firings and exposures.
 pub record IsTry (schema : SchemaParts) (constants : List Value) (base : State) (fired firings exposures : ℕ) : Type 0 where

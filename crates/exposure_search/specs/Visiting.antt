@@ -14,7 +14,7 @@ use Rattle.least_search.specs.declared.space.End.TheVariants as end
 use Rattle.least_search.specs.Walks.{walk_cost}
 use Rattle.least_search.specs.Ends.{GoesOn}
 use Rattle.exposure_search.specs.Making.{IsServed, IsExposedBy}
-use Rattle.exposure_search.specs.Exploring.{Exploring, CanExpose, HasGoalAt, HasMatchAt, HasTry, HasRunBeyond}
+use Rattle.exposure_search.specs.Exploring.{Exploring, CanExpose, GainsAt, HasGoalAt, HasMatchAt, HasTry, HasRunBeyond}
 
 -- What the end of a visit says of the set, to which a path of that length leads, after so many copy firings.
 pub record IsVisitEnd (space : Exploring) (path : List Move) (set : List Bool) (ended : End) (fired : ℕ) : Type 0 where
@@ -23,10 +23,12 @@ pub record IsVisitEnd (space : Exploring) (path : List Move) (set : List Bool) (
   pub long : ended ≡ end.FiringsSpent → HasRunBeyond space
   pub run : (firings : ℕ) × HasTry space firings (length path) × (fired ≤ firings)
 
--- The moves are possible at the set, and where the search goes on, one serves for each that is and costs less than the limit.
+-- The moves are possible at the set, and where the search goes on, one serves for each that is, gains something there, and costs less
+-- than the limit.
 pub record AreMovesAt (space : Exploring) (set : List Bool) (ended : End) (below : ℕ) (moves : List Move) : Type 0 where
   pub possible : (move : Move) → Contains moves move → CanExpose space set move
-  pub complete : GoesOn ended → (move : Move) → CanExpose space set move → move.cost < below → IsServed moves move
+  pub complete : GoesOn ended → (move : Move) → CanExpose space set move → GainsAt space set move →
+      move.cost < below → IsServed moves move
 
 -- The proof has the base firings of the space, then the exposures of the path, at its cost, and then copy firings, and no more
 -- firings than the budget.

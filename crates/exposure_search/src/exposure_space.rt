@@ -6,7 +6,7 @@ ghost use Rattle.rule_pass.specs.declared.pass.TheConstants.{MOST_FIRINGS};
 ghost use Rattle.accessible_copy.specs.Goals.{IsCounted, IsGoal};
 ghost use Rattle.least_search.specs.Walks.{IsWalk, no_facts};
 ghost use Rattle.exposure_search.specs.Making.{IsBaseProof};
-ghost use Rattle.exposure_search.specs.Exploring.{exploring_of, space_size, CanExpose, HasGoalAt, HasMatchAt, HasTry, HasRunBeyond, IsFounded};
+ghost use Rattle.exposure_search.specs.Exploring.{exploring_of, space_size, CanExpose, GainsAt, HasGoalAt, HasMatchAt, HasTry, HasRunBeyond, IsFounded};
 ghost use Rattle.exposure_search.specs.Visiting.{IsReached};
 ghost use Rattle.exposure_search.specs.Spaces.{explored_is_space};
 
@@ -23,7 +23,8 @@ use std::marker::Model;
 /// The sets of base facts of a proof, with exposures of relevant facts as moves, and matches of queries in the settled copy as
 /// goals.
 ///
-/// A fact is relevant where a match can rest on it: directly, by rules, or as what makes an input of a relevant fact known.
+/// A fact is relevant where a match can rest on it: directly, by rules, or as what makes an input of a relevant fact known. Where a
+/// fact is relevant for the last of these alone, and holds no value that is not known yet, exposing it gains nothing.
 /// A visit leaves the exposures of its path made, so that the next visit makes only those that its path has beyond the common
 /// front. Contracts see the schema, the proof's beginning and what is looked for.
 #[derive(Drop)]
@@ -39,9 +40,9 @@ impl<'a> Model for ExposureSpace<'a> {
 
     ghost Value = { Exploring };
 
-    ghost view = { λ s. exploring_of (meaning_of s.aim.schema.now) s.proof s.aim.queries.now s.aim.head.now s.aim.budget s.aim.relevant.items };
+    ghost view = { λ s. exploring_of (meaning_of s.aim.schema.now) s.proof s.aim.queries.now s.aim.head.now s.aim.budget s.aim.marks };
 
-    ghost invariant = { λ s. IsReady (meaning_of s.aim.schema.now) s.proof s.aim.facts.items s.aim.methods s.aim.bases s.aim.queries.now s.aim.budget };
+    ghost invariant = { λ s. IsReady (meaning_of s.aim.schema.now) s.proof s.aim.facts.items s.aim.methods s.aim.bases s.aim.queries.now s.aim.head.now s.aim.budget s.aim.marks };
 }
 
 impl<'a> ExposureSpace<'a> {
@@ -64,7 +65,7 @@ impl<'a> ExposureSpace<'a> {
         let facts = base_facts(alloc, &proof)?;
         let bases = mark(&proof).firings;
         let methods = MethodIndex::of(alloc, schema)?;
-        let relevant = relevant_facts(
+        let marks = relevant_facts(
             alloc,
             &proof,
             schema,
@@ -82,7 +83,7 @@ impl<'a> ExposureSpace<'a> {
             facts,
             bases,
             methods,
-            relevant,
+            marks,
         };
         Ok(ExposureSpace { aim, proof })
     }
@@ -120,6 +121,8 @@ impl<'a> Space for ExposureSpace<'a> {
     ghost size = { space_size };
 
     ghost CanMove = { CanExpose };
+
+    ghost Gains = { GainsAt };
 
     ghost HasGoal = { HasGoalAt };
 

@@ -13,10 +13,10 @@ ghost use Rattle.meaning.specs.Fitting.{QueryHasConstants, Fit, RulesFit};
 ghost use Rattle.meaning.specs.Extract.{Exposure, exposed_facts, exposures_cost, IsExposing, HasGoalAfter};
 ghost use Rattle.rule_pass.specs.Levels.{AreShort};
 ghost use Rattle.least_search.specs.declared.node.Node.{Node};
-ghost use Rattle.least_search.specs.Walks.{IsNode};
+ghost use Rattle.least_search.specs.Walks.{CanGain, IsNode};
 ghost use Rattle.least_search.specs.Costs.{IsLeastCost, AreRunsWithin};
 ghost use Rattle.exposure_search.specs.Tries.{exposures_in};
-ghost use Rattle.exposure_search.specs.Exploring.{Exploring, space_size, CanExpose, HasGoalAt, HasMatchAt, HasTry, IsFounded};
+ghost use Rattle.exposure_search.specs.Exploring.{Exploring, space_size, CanExpose, GainsAt, HasGoalAt, HasMatchAt, HasTry, IsFounded};
 
 /// A match at the set of a node gives exposures in order at the node's cost, and copy firings after which there is a match.
 pub fn match_exposes()
@@ -28,15 +28,15 @@ pub fn match_exposes()
         × (exposures_cost made ≡ node.cost) }
 {}
 
-/// A cost that no walk to a goal is below is one that no exposures with a goal are below, though walks are of relevant facts alone:
-/// where rules are not recursive, and rules and queries have known constants, and the base facts are named and fit.
+/// A cost that no walk to a goal is below is one that no exposures with a goal are below, though walks are of relevant facts alone,
+/// each of which gains something: where rules are not recursive, and rules and queries have known constants, and the base facts are named and fit.
 pub fn least_by_walks()
     ensures { (space : Exploring) (best : ℕ) → IsFounded space → AreShort space.schema.rules →
         RulesFit space.schema space.constants →
         ((query : Query) → Contains space.queries query → QueryHasConstants space.constants query) →
         AreNamed space.constants space.base.next space.base.facts → Fit space.schema space.base.facts →
         ((v : Val) → Contains space.head v → IsNamed space.constants space.base.next v) →
-        IsLeastCost (space_size space) (CanExpose space) (HasGoalAt space) best →
+        IsLeastCost (space_size space) (CanGain (CanExpose space) (GainsAt space)) (HasGoalAt space) best →
         (exposures : List Exposure) → IsExposing space.schema space.constants space.base.facts [] exposures →
         HasGoalAfter space.schema space.queries space.head space.base.next exposures → best ≤ exposures_cost exposures }
 {}

@@ -1,6 +1,7 @@
 // The moves from a set.
-ghost use Rattle.std.specs.Prelude.{◌≡◌, ◌↔◌, ◌<◌, ◌≤◌, ℕ, IsTrue, Contains, IfOk, IfSome, IfNone, Some, slice_get};
+ghost use Rattle.std.specs.Prelude.{◌≡◌, ◌↔◌, ◌<◌, ◌≤◌, ℕ, IsTrue, Contains, IfOk, IfSome, IfNone, Some, slice_get, false};
 ghost use Rattle.meaning.specs.declared.types.Method.{Method as TheMethod};
+ghost use Rattle.meaning.specs.declared.types.Val.{Val as TheVal};
 ghost use Rattle.meaning.specs.Runs.{IsActiveExposure};
 ghost use Rattle.access_schema.specs.Meaning.{meaning_of};
 ghost use Rattle.accessible_copy.specs.Known.{known_values};
@@ -8,10 +9,10 @@ ghost use Rattle.accessible_copy.specs.Listing.{AreInputs, IsInput};
 ghost use Rattle.accessible_copy.specs.Methods.{methods_of, IsMethodIndex};
 ghost use Rattle.accessible_copy.specs.Proving.{IsProofOf};
 ghost use Rattle.least_search.specs.declared.space.Move.{Move as TheMove};
-ghost use Rattle.exposure_search.specs.Tries.{IsMarked};
+ghost use Rattle.exposure_search.specs.Tries.{IsMarked, Adds};
 ghost use Rattle.exposure_search.specs.Making.{IsActiveMove, IsServed};
 
-use crate::marks::is_marked;
+use crate::marks::{Marks, is_marked};
 use access_schema::Schema;
 use accessible_copy::{MethodIndex, Proof};
 use least_search::Move;
@@ -19,7 +20,8 @@ use lists::NoMemory;
 use meaning::types::{Ground, Val};
 use std::alloc::Global;
 
-/// For each marked base fact that can be exposed at less than `below` a move by a method of least cost. `facts` are the base facts.
+/// For each relevant base fact that can be exposed at less than `below`, and gains something, a move by a method of least cost.
+/// `facts` are the base facts.
 ///
 /// A fact whose relation has no method at less than `below` is passed over before anything is looked up.
 pub(crate) fn active_moves(
@@ -28,16 +30,18 @@ pub(crate) fn active_moves(
     schema: &Schema,
     methods: &MethodIndex,
     facts: &[Ground],
-    marks: &[bool],
+    marks: &Marks,
     below: u64,
 ) -> Result<Vec<Move>, NoMemory>
     requires run { IsProofOf (meaning_of schema.now) proof.now }
     requires facts { facts.now ≡ proof.now.end.base }
     requires methods { IsMethodIndex schema.now.methods methods.now }
     ensures active { IfOk result (λ moves. (move : TheMove) → Contains moves.items move →
-        IsActiveMove (meaning_of schema.now) proof.now move × IsMarked marks.now move.fact) }
+        IsActiveMove (meaning_of schema.now) proof.now move × IsMarked marks.now.relevant.items move.fact) }
     ensures all { IfOk result (λ moves. (move : TheMove) → IsActiveMove (meaning_of schema.now) proof.now move →
-        IsMarked marks.now move.fact → move.cost < below → IsServed moves.items move) }
+        IsMarked marks.now.relevant.items move.fact →
+        Adds (known_values proof.now.constants proof.now.end.exposed) proof.now.end.base marks.now.needed.items move.fact →
+        move.cost < below → IsServed moves.items move) }
 {
     let mut moves = Vec::new(alloc);
     for (place, fact) in facts.iter().enumerate() {
@@ -48,12 +52,12 @@ pub(crate) fn active_moves(
     Ok(moves)
 }
 
-/// The move that exposes the fact by a method of least cost, where it is marked and one can at less than `below`.
+/// The move that exposes the fact by a method of least cost, where it is relevant, one can at less than `below`, and it gains something.
 fn relevant_move(
     proof: &Proof,
     schema: &Schema,
     methods: &MethodIndex,
-    marks: &[bool],
+    marks: &Marks,
     place: usize,
     fact: &Ground,
     below: u64,
@@ -61,15 +65,45 @@ fn relevant_move(
     requires at { slice_get proof.now.end.base place ≡ Some fact.now }
     requires methods { IsMethodIndex schema.now.methods methods.now }
     ensures active { IfSome result (λ move. (move.fact ≡ place) × IsActiveMove (meaning_of schema.now) proof.now move
-        × IsMarked marks.now place) }
-    ensures least { IsMarked marks.now place → (number : ℕ) (method : TheMethod) → Contains (methods_of methods.now fact.now.rel) number →
+        × IsMarked marks.now.relevant.items place) }
+    ensures least { IsMarked marks.now.relevant.items place →
+        Adds (known_values proof.now.constants proof.now.end.exposed) proof.now.end.base marks.now.needed.items place →
+        (number : ℕ) (method : TheMethod) → Contains (methods_of methods.now fact.now.rel) number →
         IsActiveExposure (meaning_of schema.now) proof.now.constants proof.now.end number fact.now method → method.cost < below →
         (move : TheMove) × (result ≡ Some move) × (move.cost ≤ method.cost) }
 {
-    if !is_marked(marks, place) {
+    if !is_marked(marks.relevant.as_slice(), place) {
         return None;
     }
-    cheapest_move(proof, schema, methods.numbers(fact.rel), place, fact, below)
+    let step = cheapest_move(proof, schema, methods.numbers(fact.rel), place, fact, below)?;
+    if adds(proof, marks.needed.as_slice(), place, fact) {
+        Some(step)
+    } else {
+        None
+    }
+}
+
+/// Whether the fact is marked as needed or holds a value that is not known.
+fn adds(proof: &Proof, needed: &[bool], place: usize, fact: &Ground) -> bool
+    requires { slice_get proof.now.end.base place ≡ Some fact.now }
+    ensures { result ≡ false → Adds (known_values proof.now.constants proof.now.end.exposed) proof.now.end.base needed.now place → ⊥ }
+{
+    if is_marked(needed, place) {
+        return true;
+    }
+    has_unknown(proof, fact.vals.as_slice())
+}
+
+/// Whether one of the values is not known.
+fn has_unknown(proof: &Proof, vals: &[Val]) -> bool
+    ensures { result ≡ false → (v : TheVal) → Contains vals.now v → Contains (known_values proof.now.constants proof.now.end.exposed) v }
+{
+    for val in vals {
+        if !proof.knows(val) {
+            return true;
+        }
+    }
+    false
 }
 
 /// The move that exposes the fact by a method of least cost, where one can at less than `below`. These are the numbers of the

@@ -12,18 +12,19 @@ ghost use Rattle.exposure_search.specs.Tries.{IsMarked};
 ghost use Rattle.exposure_search.specs.Relevance.{AreRelevant, Keeps, IsImageOf, IsImageAmong, IsMade, WantedMarked, HoldsInput, IsAskedBy, Grows, IsOfKind, IsFollowed, IsFollowing};
 
 use crate::images::{fits_some, head_bindings};
-use crate::marks::is_marked;
-use crate::wanted::wanted_relations;
+use crate::marks::{Marks, is_marked};
+use crate::wanted::{making_rules, wanted_relations};
 use access_schema::Schema;
 use accessible_copy::{Holders, MethodIndex, Proof};
 use lists::NoMemory;
 use meaning::types::{Atom, Ground, Queries, Query, Val, Vals};
 use std::alloc::Global;
 
-/// A mark for each base fact on which a match of the queries can rest. `facts` are the base facts, none of which is exposed.
+/// Marks of the base facts and rules on which a match of the queries can rest. `facts` are the base facts, none of which is exposed.
 ///
-/// These are the facts that fit an atom of a query whose head has these values, the facts of wanted relations, and each fact that
-/// holds a value which is no known constant and which a marked fact has at an input of a method. Each marked fact is followed once.
+/// Needed are the facts that fit an atom of a query whose head has these values, and the facts of wanted relations. Relevant are
+/// these, and each fact that holds a value which is no known constant and which a relevant fact has at an input of a method. Each
+/// marked fact is followed once.
 pub(crate) fn relevant_facts(
     alloc: Global,
     proof: &Proof,
@@ -32,22 +33,32 @@ pub(crate) fn relevant_facts(
     head: &Vals,
     methods: &MethodIndex,
     facts: &[Ground],
-) -> Result<Vec<bool>, NoMemory>
+) -> Result<Marks, NoMemory>
     requires counted { (query : TheQuery) → Contains queries.now query → IsCounted query }
     requires facts { facts.now ≡ proof.now.end.base }
     requires none { proof.now.end.exposed ≡ [] }
     requires methods { IsMethodIndex schema.now.methods methods.now }
     ensures { IfOk result (λ marks. AreRelevant (meaning_of schema.now) proof.now.constants proof.now.end.base
-        proof.now.end.next queries.now head.now marks.items) }
+        proof.now.end.next queries.now head.now marks) }
 {
     let rules = schema.rules.as_slice();
-    let wanted = wanted_relations(alloc, rules, proof.next(), queries.as_slice(), head)?;
+    let asked = queries.as_slice();
+    let next = proof.next();
+    let wanted = wanted_relations(alloc, rules, next, asked, head)?;
+    let makers = making_rules(alloc, rules, next, asked, head, wanted.as_slice())?;
     let mut marking = wanted_facts(alloc, facts, wanted.as_slice())?;
-    marking.reach_images(alloc, queries.as_slice(), head, facts)?;
+    marking.reach_images(alloc, asked, head, facts)?;
+    let needed = Vec::from_slice(alloc, marking.marks.as_slice())?;
     let holders = proof.holders(alloc)?;
     marking.follow_all(proof, schema, methods, &holders)?;
-    let Marking { marks, .. } = marking;
-    Ok(marks)
+    let Marking {
+        marks: relevant, ..
+    } = marking;
+    Ok(Marks {
+        relevant,
+        needed,
+        makers,
+    })
 }
 
 /// A mark for each fact of a wanted relation. Each of these waits.

@@ -3,12 +3,13 @@ ghost use Rattle.std.specs.Prelude.{◌≡◌, ◌<◌, ◌≤◌, ◌⊎◌, Co
 ghost use Rattle.access_schema.specs.Meaning.{meaning_of};
 ghost use Rattle.accessible_copy.specs.Proving.{IsProofOf};
 ghost use Rattle.accessible_copy.specs.Goals.{IsGoal};
+ghost use Rattle.accessible_copy.specs.Known.{known_values};
 ghost use Rattle.accessible_copy.specs.Methods.{IsMethodIndex};
 ghost use Rattle.least_search.specs.declared.space.Move.{Move};
 ghost use Rattle.least_search.specs.declared.space.End.TheVariants as end;
 ghost use Rattle.least_search.specs.Walks.{IsWalk, no_facts};
 ghost use Rattle.least_search.specs.Ends.{GoesOn};
-ghost use Rattle.exposure_search.specs.Tries.{IsOpen, IsMarked};
+ghost use Rattle.exposure_search.specs.Tries.{IsOpen, IsMarked, Adds};
 ghost use Rattle.exposure_search.specs.Making.{OnlyExposes, SameBase, IsReady, IsActiveMove, IsServed};
 ghost use Rattle.exposure_search.specs.Exploring.{exploring_of, HasGoalAt, HasRunBeyond};
 ghost use Rattle.exposure_search.specs.Visiting.{IsVisitEnd, AreMovesAt, IsReached};
@@ -16,6 +17,7 @@ ghost use Rattle.exposure_search.specs.Visiting.{IsVisitEnd, AreMovesAt, IsReach
 use crate::going::go_along;
 use crate::listing::active_moves;
 use crate::looking::look;
+use crate::marks::Marks;
 use access_schema::Schema;
 use accessible_copy::{Match, MethodIndex, Proof, goal, mark, settle, undo};
 use least_search::{End, Move, Visit};
@@ -36,11 +38,11 @@ pub struct Aim<'a> {
     pub facts: Vec<Ground>,
     pub bases: u64,
     pub methods: MethodIndex,
-    pub relevant: Vec<bool>,
+    pub marks: Marks,
 }
 
 /// Goes along the path, settles the copy there with at most `room` firings, looks for a match, undoes the copy firings, and lists
-/// the moves of relevant facts from there that cost less than `below`.
+/// the moves of relevant facts from there that gain something and cost less than `below`.
 pub(crate) fn visit_set(
     aim: &Aim,
     proof: &mut Proof,
@@ -49,18 +51,18 @@ pub(crate) fn visit_set(
     room: u64,
     below: u64,
 ) -> Result<Visit, NoMemory>
-    requires ready { IsReady (meaning_of aim.now.schema.now) proof.old aim.now.facts.items aim.now.methods aim.now.bases aim.now.queries.now aim.now.budget }
+    requires ready { IsReady (meaning_of aim.now.schema.now) proof.old aim.now.facts.items aim.now.methods aim.now.bases aim.now.queries.now aim.now.head.now aim.now.budget aim.now.marks }
     requires walk { IsWalk (IsOpen (meaning_of aim.now.schema.now) proof.old.constants proof.old.end.base)
         (no_facts (length proof.old.end.base)) path.now set.now }
     ensures exposes { OnlyExposes (meaning_of aim.now.schema.now) proof.new }
     ensures same { SameBase proof.old proof.new }
     ensures ended { IfOk result (λ visit. IsVisitEnd
-        (exploring_of (meaning_of aim.now.schema.now) proof.old aim.now.queries.now aim.now.head.now aim.now.budget aim.now.relevant.items)
+        (exploring_of (meaning_of aim.now.schema.now) proof.old aim.now.queries.now aim.now.head.now aim.now.budget aim.now.marks)
         path.now set.now visit.end visit.fired) }
     ensures room { IfOk result (λ visit. visit.fired ≤ room) }
     ensures spent { IfOk result (λ visit. visit.end ≡ end.UnitsSpent → visit.fired ≡ room) }
     ensures moves { IfOk result (λ visit. AreMovesAt
-        (exploring_of (meaning_of aim.now.schema.now) proof.old aim.now.queries.now aim.now.head.now aim.now.budget aim.now.relevant.items)
+        (exploring_of (meaning_of aim.now.schema.now) proof.old aim.now.queries.now aim.now.head.now aim.now.budget aim.now.marks)
         set.now visit.end below visit.moves.items) }
 {
     go_along(
@@ -76,6 +78,7 @@ pub(crate) fn visit_set(
         aim.alloc,
         proof,
         aim.schema,
+        aim.marks.makers.as_slice(),
         aim.queries,
         aim.head,
         aim.budget,
@@ -87,15 +90,17 @@ pub(crate) fn visit_set(
     Ok(Visit { end, fired, moves })
 }
 
-/// The moves of relevant facts from a set that cost less than `below`, after a visit from which the search goes on.
+/// The moves of relevant facts from a set that gain something and cost less than `below`, after a visit from which the search goes on.
 fn moves_after(aim: &Aim, proof: &Proof, end: End, below: u64) -> Result<Vec<Move>, NoMemory>
     requires run { IsProofOf (meaning_of aim.now.schema.now) proof.now }
     requires facts { aim.now.facts.items ≡ proof.now.end.base }
     requires methods { IsMethodIndex aim.now.schema.now.methods aim.now.methods }
     ensures active { IfOk result (λ moves. (move : Move) → Contains moves.items move →
-        IsActiveMove (meaning_of aim.now.schema.now) proof.now move × IsMarked aim.now.relevant.items move.fact) }
+        IsActiveMove (meaning_of aim.now.schema.now) proof.now move × IsMarked aim.now.marks.relevant.items move.fact) }
     ensures all { IfOk result (λ moves. GoesOn end → (move : Move) → IsActiveMove (meaning_of aim.now.schema.now) proof.now move →
-        IsMarked aim.now.relevant.items move.fact → move.cost < below → IsServed moves.items move) }
+        IsMarked aim.now.marks.relevant.items move.fact →
+        Adds (known_values proof.now.constants proof.now.end.exposed) proof.now.end.base aim.now.marks.needed.items move.fact →
+        move.cost < below → IsServed moves.items move) }
 {
     match end {
         End::Goal | End::UnitsSpent => Ok(Vec::new(aim.alloc)),
@@ -106,7 +111,7 @@ fn moves_after(aim: &Aim, proof: &Proof, end: End, below: u64) -> Result<Vec<Mov
                 aim.schema,
                 &aim.methods,
                 aim.facts.as_slice(),
-                aim.relevant.as_slice(),
+                &aim.marks,
                 below,
             )
         }
@@ -120,17 +125,17 @@ pub(crate) fn reach_set(
     path: &[Move],
     set: &[bool],
 ) -> Result<Option<Match>, NoMemory>
-    requires ready { IsReady (meaning_of aim.now.schema.now) proof.old aim.now.facts.items aim.now.methods aim.now.bases aim.now.queries.now aim.now.budget }
+    requires ready { IsReady (meaning_of aim.now.schema.now) proof.old aim.now.facts.items aim.now.methods aim.now.bases aim.now.queries.now aim.now.head.now aim.now.budget aim.now.marks }
     requires walk { IsWalk (IsOpen (meaning_of aim.now.schema.now) proof.old.constants proof.old.end.base)
         (no_facts (length proof.old.end.base)) path.now set.now }
     ensures reached { IfOk result (λ found. IfSome found (λ m. IsReached
-        (exploring_of (meaning_of aim.now.schema.now) proof.old aim.now.queries.now aim.now.head.now aim.now.budget aim.now.relevant.items)
+        (exploring_of (meaning_of aim.now.schema.now) proof.old aim.now.queries.now aim.now.head.now aim.now.budget aim.now.marks)
         path.now proof.new)) }
     ensures found { IfOk result (λ found. IfSome found
         (λ m. IsGoal aim.now.queries.now proof.new.end.copy aim.now.head.now m.select m.assignment.vals)) }
     ensures none { IfOk result (λ found. IfNone found
-        (HasRunBeyond (exploring_of (meaning_of aim.now.schema.now) proof.old aim.now.queries.now aim.now.head.now aim.now.budget aim.now.relevant.items)
-        ⊎ (HasGoalAt (exploring_of (meaning_of aim.now.schema.now) proof.old aim.now.queries.now aim.now.head.now aim.now.budget aim.now.relevant.items)
+        (HasRunBeyond (exploring_of (meaning_of aim.now.schema.now) proof.old aim.now.queries.now aim.now.head.now aim.now.budget aim.now.marks)
+        ⊎ (HasGoalAt (exploring_of (meaning_of aim.now.schema.now) proof.old aim.now.queries.now aim.now.head.now aim.now.budget aim.now.marks)
         set.now → ⊥))) }
 {
     go_along(

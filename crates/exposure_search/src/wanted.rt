@@ -1,10 +1,11 @@
-// The relations on which a match can rest, beside the facts of its atoms.
+// The relations on which a match can rest, beside the facts of its atoms, and the rules that can make what it rests on.
 ghost use Rattle.std.specs.Prelude.{◌≡◌, ◌<◌, ℕ, Contains, IfOk, OnOk, Ok, length, true, false};
 ghost use Rattle.meaning.specs.declared.types.Atom.{Atom as TheAtom};
+ghost use Rattle.meaning.specs.declared.types.Ground.{Ground as TheGround};
 ghost use Rattle.meaning.specs.declared.types.Query.{Query as TheQuery};
 ghost use Rattle.accessible_copy.specs.Goals.{IsCounted};
 ghost use Rattle.exposure_search.specs.Tries.{IsMarked};
-ghost use Rattle.exposure_search.specs.Relevance.{Keeps, AllMarked, BodiesMarked, AreFed, IsMade, IsImageOf, IsImageAmong};
+ghost use Rattle.exposure_search.specs.Relevance.{Keeps, AllMarked, BodiesMarked, MakersMarked, AreFed, IsMade, IsImageOf, IsImageAmong, IsWanted, Makes};
 
 use crate::images::head_bindings;
 use crate::makers::serves_some;
@@ -85,6 +86,81 @@ fn mark_servers(
         }
     }
     Ok(())
+}
+
+/// A mark for each rule that can make a fact of a query's atom, under these head values and with labels from `next` on, or that has
+/// a wanted relation in its head.
+pub(crate) fn making_rules(
+    alloc: Global,
+    rules: &[Rule],
+    next: u32,
+    queries: &[Query],
+    head: &Vals,
+    wanted: &[bool],
+) -> Result<Vec<bool>, NoMemory>
+    requires { (query : TheQuery) → Contains queries.now query → IsCounted query }
+    ensures { IfOk result (λ makers. MakersMarked rules.now next (IsWanted queries.now head.now wanted.now) makers.items) }
+{
+    let mut makers = Vec::new(alloc);
+    for rule in rules {
+        let makes = makes_wanted(alloc, rule, next, queries, head, wanted)?;
+        makers.push(makes)?;
+    }
+    Ok(makers)
+}
+
+/// Whether the rule can make a fact of a query's atom, or has a wanted relation in its head.
+fn makes_wanted(
+    alloc: Global,
+    rule: &Rule,
+    next: u32,
+    queries: &[Query],
+    head: &Vals,
+    wanted: &[bool],
+) -> Result<bool, NoMemory>
+    requires { (query : TheQuery) → Contains queries.now query → IsCounted query }
+    ensures { result ≡ Ok false → (fact : TheGround) → Makes next rule.now fact → IsWanted queries.now head.now wanted.now fact → ⊥ }
+{
+    if has_marked(wanted, rule.head.as_slice()) {
+        return Ok(true);
+    }
+    makes_image(alloc, rule, next, queries, head)
+}
+
+/// Whether the rule can make a fact of a query's atom.
+fn makes_image(
+    alloc: Global,
+    rule: &Rule,
+    next: u32,
+    queries: &[Query],
+    head: &Vals,
+) -> Result<bool, NoMemory>
+    requires { (query : TheQuery) → Contains queries.now query → IsCounted query }
+    ensures { result ≡ Ok false → (fact : TheGround) → Makes next rule.now fact → IsImageAmong queries.now head.now fact → ⊥ }
+{
+    for query in queries {
+        if makes_image_of(alloc, rule, next, query, head)? {
+            return Ok(true);
+        }
+    }
+    Ok(false)
+}
+
+/// Whether the rule can make a fact of one of the query's atoms.
+fn makes_image_of(
+    alloc: Global,
+    rule: &Rule,
+    next: u32,
+    query: &Query,
+    head: &Vals,
+) -> Result<bool, NoMemory>
+    requires { IsCounted query.now }
+    ensures { result ≡ Ok false → (fact : TheGround) → Makes next rule.now fact → IsImageOf query.now head.now fact → ⊥ }
+{
+    match head_bindings(alloc, query, head)? {
+        Some(given) => Ok(serves_some(given.as_slice(), next, rule, query.atoms.as_slice())),
+        None => Ok(false),
+    }
 }
 
 /// Marks the relations of the bodies of all rules that have a marked relation in the head, until there are no more.

@@ -39,9 +39,9 @@ way_longer n CanMove way move is can =
       cost = ap (λ m. m + move.cost) is.cost ∙ sym (cost_push way.path move);
     }
 
-module _ (n : ℕ) (CanMove : List Bool → Move → Type 0) (HasGoal : List Bool → Type 0) (bound : ℕ) where
+module _ (n : ℕ) (CanMove CanGo : List Bool → Move → Type 0) (HasGoal : List Bool → Type 0) (bound : ℕ) where
   -- before the first look
-  pub first_searched : (looked waiting : List Way) → looked ≡ [] → Contains waiting (way_along n []) → ((x : Way) → Contains waiting x → way_along n [] ≡ x) → IsSearched n CanMove HasGoal bound false looked waiting
+  pub first_searched : (looked waiting : List Way) → looked ≡ [] → Contains waiting (way_along n []) → ((x : Way) → Contains waiting x → way_along n [] ≡ x) → IsSearched n CanMove CanGo HasGoal bound false looked waiting
   first_searched looked waiting none here only =
       let is : IsWay n CanMove (way_along n []) = record { walk = refl; cost = refl } in
       record {
@@ -54,7 +54,7 @@ module _ (n : ℕ) (CanMove : List Bool → Move → Type 0) (HasGoal : List Boo
       }
 
   -- nodes whose sets were looked at need not wait
-  pub fewer : (cut : Bool) (looked before after : List Way) → IsSearched n CanMove HasGoal bound cut looked before → ((x : Way) → Contains before x → Contains after x ⊎ Contains (sets_of looked) x.set) → ((x : Way) → Contains after x → Contains before x) → IsSearched n CanMove HasGoal bound cut looked after
+  pub fewer : (cut : Bool) (looked before after : List Way) → IsSearched n CanMove CanGo HasGoal bound cut looked before → ((x : Way) → Contains before x → Contains after x ⊎ Contains (sets_of looked) x.set) → ((x : Way) → Contains after x → Contains before x) → IsSearched n CanMove CanGo HasGoal bound cut looked after
   fewer cut looked before after is stay only =
       record {
         looked_are = is.looked_are;
@@ -74,7 +74,7 @@ module _ (n : ℕ) (CanMove : List Bool → Move → Type 0) (HasGoal : List Boo
           (other, inl among, its ∙ same, omega arith)) (stay node waits)) held
 
   -- the node that was taken stands for those that were passed over
-  pub taken : (cut : Bool) (looked before after : List Way) (node : Way) → IsSearched n CanMove HasGoal bound cut looked before → IsNext looked before after node → IsSearched n CanMove HasGoal bound cut looked (node ∷ after)
+  pub taken : (cut : Bool) (looked before after : List Way) (node : Way) → IsSearched n CanMove CanGo HasGoal bound cut looked before → IsNext looked before after node → IsSearched n CanMove CanGo HasGoal bound cut looked (node ∷ after)
   taken cut looked before after node is next =
       fewer cut looked before (node ∷ after) is
       (λ x c. ⊎_elim (λ e. inl (subst (λ y. Contains (node ∷ after) y) e (contains_here node after))) (λ r. ⊎_elim (λ still. inl (contains_there node after x still)) (λ done. inr done) r) (next.stay x c))
@@ -85,12 +85,12 @@ module _ (n : ℕ) (CanMove : List Bool → Move → Type 0) (HasGoal : List Boo
   taken_least t node after low least x c = ⊎_elim (λ e. subst (λ (y : Way). t ≤ y.cost) e low) (λ h. (let more : node.cost ≤ x.cost = least x h in omega arith)) (contains_cases node after x c)
 
   -- a look at the cheapest node, and its moves
-  pub looked_at : (cut later : Bool) (looked waiting after : List Way) (node : Way) → IsSearched n CanMove HasGoal bound cut looked (node ∷ waiting) → ((x : Way) → Contains waiting x → node.cost ≤ x.cost) →
+  pub looked_at : (cut later : Bool) (looked waiting after : List Way) (node : Way) → IsSearched n CanMove CanGo HasGoal bound cut looked (node ∷ waiting) → ((x : Way) → Contains waiting x → node.cost ≤ x.cost) →
       (later ≡ false → cut ≡ false) → (later ≡ false → HasGoal node.set → ⊥) →
       ((x : Way) → Contains waiting x → Contains after x) →
       ((x : Way) → Contains after x → Contains waiting x ⊎ (IsWay n CanMove x × (node.cost ≤ x.cost))) →
-      ((move : Move) → CanMove node.set move → node.cost + move.cost < bound → IsKnown (looked ++ node ∷ []) after (slice_set node.set move.fact true) (node.cost + move.cost)) →
-      IsSearched n CanMove HasGoal bound later (looked ++ node ∷ []) after
+      ((move : Move) → CanGo node.set move → node.cost + move.cost < bound → IsKnown (looked ++ node ∷ []) after (slice_set node.set move.fact true) (node.cost + move.cost)) →
+      IsSearched n CanMove CanGo HasGoal bound later (looked ++ node ∷ []) after
   looked_at cut later looked waiting after node is least whole none kept only reached =
       record {
         looked_are = λ x c. ⊎_elim (λ old. is.looked_are x old) (λ e. subst (λ y. IsWay n CanMove y) e (is.waiting_are node (contains_here node waiting))) (Contains-push_cases looked node x c);
@@ -110,9 +110,9 @@ module _ (n : ℕ) (CanMove : List Bool → Move → Type 0) (HasGoal : List Boo
           ⊎_elim (λ there. (x, inl (Contains-append_left looked (node ∷ []) x there), same, cheap))
           (λ waits. ⊎_elim (λ e. (x, inl (subst (λ y. Contains (looked ++ node ∷ []) y) e (Contains-push looked node)), same, cheap)) (λ still. (x, inr (kept x still), same, cheap)) (contains_cases node waiting x waits)) held
 
-      fresh : (x : Way) (move : Move) → node ≡ x → CanMove x.set move → x.cost + move.cost < bound → IsCovered (looked ++ node ∷ []) after (slice_set x.set move.fact true) (x.cost + move.cost)
+      fresh : (x : Way) (move : Move) → node ≡ x → CanGo x.set move → x.cost + move.cost < bound → IsCovered (looked ++ node ∷ []) after (slice_set x.set move.fact true) (x.cost + move.cost)
       fresh x move e =
-          subst (λ (z : Way). CanMove z.set move → z.cost + move.cost < bound → IsCovered (looked ++ node ∷ []) after (slice_set z.set move.fact true) (z.cost + move.cost)) e
+          subst (λ (z : Way). CanGo z.set move → z.cost + move.cost < bound → IsCovered (looked ++ node ∷ []) after (slice_set z.set move.fact true) (z.cost + move.cost)) e
           (λ can less. ⊎_elim (λ done. let (other, among, its) = contains_mapped (λ (y : Way). y.set) (looked ++ node ∷ []) (slice_set node.set move.fact true) done in
           let low : other.cost ≤ node.cost = ⊎_elim (λ old. is.order other node old (contains_here node waiting)) (λ same. subst (λ (y : Way). y.cost ≤ node.cost) same (omega arith)) (Contains-push_cases looked node other among) in
           (other, inl among, its, omega arith))

@@ -18,6 +18,10 @@ abbrev pub IsWalk : (List Bool → Move → Type 0) → List Bool → List Move 
 IsWalk CanMove set [] end = end ≡ set
 IsWalk CanMove set (move ∷ moves) end = CanMove set move × IsWalk CanMove (with_fact set move) moves end
 
+-- The move is possible at the set, and gains something there.
+abbrev pub CanGain : (List Bool → Move → Type 0) → (List Bool → Move → Type 0) → List Bool → Move → Type 0
+CanGain CanMove Gains set move = CanMove set move × Gains set move
+
 -- The cost of a walk is the sum of the costs of its moves.
 abbrev pub walk_cost : List Move → ℕ
 walk_cost [] = 0

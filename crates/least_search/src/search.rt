@@ -4,7 +4,7 @@ ghost use Rattle.std.specs.Result.{IfOk, OnOk};
 ghost use Rattle.std.specs.Option.{IfSome};
 ghost use Rattle.least_search.specs.declared.space.Move.{Move as TheMove};
 ghost use Rattle.least_search.specs.declared.search.Ended.TheVariants as ended;
-ghost use Rattle.least_search.specs.Walks.{IsNode};
+ghost use Rattle.least_search.specs.Walks.{CanGain, IsNode};
 ghost use Rattle.least_search.specs.Frontier.{way_of, looked_in, waiting_in, IsFrontier, IsTakenFrom, IsAdded, ArePushed};
 ghost use Rattle.least_search.specs.Packing.{packed};
 ghost use Rattle.least_search.specs.Costs.{IsLeastCost, IsEnough, best_cost};
@@ -45,7 +45,7 @@ pub fn cheapest<S: Space>(
 ) -> Result<Outcome, NoMemory>
     ensures back { OnOk result (space.new ≡ space.old) }
     ensures better { IfOk result (λ outcome. IfSome outcome.better (λ node. IsNode (S.size space.old) (S.CanMove space.old) node × S.HasMatch space.old node.set.items × (node.cost < bound))) }
-    ensures shown { IfOk result (λ outcome. outcome.ended ≡ ended.Shown → IsLeastCost (S.size space.old) (S.CanMove space.old) (S.HasGoal space.old) (best_cost bound outcome.better)) }
+    ensures shown { IfOk result (λ outcome. outcome.ended ≡ ended.Shown → IsLeastCost (S.size space.old) (CanGain (S.CanMove space.old) (S.Gains space.old)) (S.HasGoal space.old) (best_cost bound outcome.better)) }
     ensures search { IfOk result (λ outcome. (units : ℕ) → outcome.ended ≡ ended.SearchSpent units → (m n : ℕ) → IsEnough (S.HasRun space.old) search m n → ⊥) }
     ensures units { IfOk result (λ outcome. (units : ℕ) → outcome.ended ≡ ended.SearchSpent units → units ≡ search) }
     ensures firings { IfOk result (λ outcome. outcome.ended ≡ ended.FiringsSpent → S.HasLongRun space.old) }

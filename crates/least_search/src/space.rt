@@ -45,6 +45,9 @@ pub trait Space {
     /// the move is possible at the set
     ghost CanMove: { Self → List Bool → Move → Type 0 };
 
+    /// the move gains something at the set: the search goes by such moves alone, and what it shows is said of walks of these
+    ghost Gains: { Self → List Bool → Move → Type 0 };
+
     /// every settled run over the set has a match: what a rival shows, and a settled set without a match refutes
     ghost HasGoal: { Self → List Bool → Type 0 };
 
@@ -62,8 +65,8 @@ pub trait Space {
         ensures { result ≡ size self.now };
 
     /// Goes along the path to the set, settles it with at most `room` firings, looks for a match, and lists the moves from
-    /// the set that cost less than `below`; of the moves that add the same fact, one of least cost will do. The path leads from
-    /// the empty set to `set`.
+    /// the set that gain something and cost less than `below`; of the moves that add the same fact, one of least cost will do.
+    /// The path leads from the empty set to `set`.
     fn visit(
         &mut self,
         path: &[Move],
@@ -80,7 +83,8 @@ pub trait Space {
         ensures spent { IfOk result (λ visit. visit.end ≡ end.UnitsSpent → visit.fired ≡ room) }
         ensures run { IfOk result (λ visit. (firings : ℕ) × HasRun self.old firings (length path.now) × (visit.fired ≤ firings)) }
         ensures possible { IfOk result (λ visit. (move : Move) → Contains visit.moves.items move → CanMove self.old set.now move) }
-        ensures complete { IfOk result (λ visit. GoesOn visit.end → (move : Move) → CanMove self.old set.now move → move.cost < below →
+        ensures complete { IfOk result (λ visit. GoesOn visit.end → (move : Move) → CanMove self.old set.now move →
+            Gains self.old set.now move → move.cost < below →
             (other : Move) × Contains visit.moves.items other × (other.fact ≡ move.fact) × (other.cost ≤ move.cost)) };
 
     ghost is_space: { (space : Self) → IsSpace (size space) (CanMove space) (HasRun space) };

@@ -40,6 +40,8 @@ impl Space for Market {
 
     ghost CanMove = { λ market set move. CanBuy FIRST DEAR CHEAP set move };
 
+    ghost Gains = { λ market set move. Unit {0} };
+
     ghost HasGoal = { λ market set. slice_get set 1 ≡ Some true };
 
     ghost HasMatch = { λ market set. slice_get set 1 ≡ Some true };

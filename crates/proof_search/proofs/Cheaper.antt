@@ -31,9 +31,9 @@ use Rattle.access_cost.specs.declared.least.Least.TheVariants as known_cost
 use Rattle.least_search.specs.declared.space.Move.{Move}
 use Rattle.least_search.specs.declared.search.Ended.{Ended}
 use Rattle.least_search.specs.declared.search.Ended.TheVariants as ended
-use Rattle.least_search.specs.Walks.{IsNode, walk_cost}
+use Rattle.least_search.specs.Walks.{CanGain, IsNode, walk_cost}
 use Rattle.least_search.specs.Costs.{IsLeastCost, IsEnough as ServesRuns}
-use Rattle.exposure_search.specs.Exploring.{Exploring, space_size, CanExpose, HasGoalAt, HasMatchAt, HasTry, IsRunBeyond, HasRunBeyond}
+use Rattle.exposure_search.specs.Exploring.{Exploring, space_size, CanExpose, GainsAt, HasGoalAt, HasMatchAt, HasTry, IsRunBeyond, HasRunBeyond}
 use Rattle.exposure_search.proofs.Explored.{least_found, tries_within, match_goal}
 use Rattle.accessible_copy.specs.Proving.{Proving, IsProofOf}
 use Rattle.rule_pass.specs.declared.pass.TheConstants.{MOST_FIRINGS}
@@ -89,7 +89,7 @@ module _ (schema : SchemaParts) (queries : List Query) (query : Query) (firings 
         }
 
     -- what the search has shown is the least cost of a rival
-    pub least_for : IsWellFormed schema → AreShort schema.rules → (best : ℕ) → IsLeastCost (space_size space) (CanExpose space) (HasGoalAt space) best → (branch : Branch) → CostsAtMost schema branch best →
+    pub least_for : IsWellFormed schema → AreShort schema.rules → (best : ℕ) → IsLeastCost (space_size space) (CanGain (CanExpose space) (GainsAt space)) (HasGoalAt space) best → (branch : Branch) → CostsAtMost schema branch best →
         IsLeastFor schema space.constants queries query branch
     least_for well short best least branch (low, costs, cheap) rival cost other is_rival cost_is other_is =
         let (exposures, exposing, few, goal) = rival_exposes schema space.constants queries query space.base (frozen_head query) rival other well rules have base_is is_rival other_is in
@@ -127,7 +127,7 @@ module _ (schema : Schema) (queries : List Query) (query : Query) (firings searc
   said_here : AreSearchable (meaning_of schema) space.constants queries → Contains queries query → ((c : Value) → Contains schema.constants c → Contains space.constants c) →
       (branch : Branch) (best : ℕ) → CostsAtMost (meaning_of schema) branch best → (end : Ended) (least : Least) →
       (end ≡ ended.Shown → least ≡ known_cost.Shown) → ((units : ℕ) → end ≡ ended.SearchSpent units → least ≡ known_cost.SearchSpent search) → (end ≡ ended.FiringsSpent → least ≡ known_cost.FiringsSpent firings) →
-      (end ≡ ended.Shown → IsLeastCost (space_size space) (CanExpose space) (HasGoalAt space) best) →
+      (end ≡ ended.Shown → IsLeastCost (space_size space) (CanGain (CanExpose space) (GainsAt space)) (HasGoalAt space) best) →
       ((units : ℕ) → end ≡ ended.SearchSpent units → (m n : ℕ) → ServesRuns (HasTry space) search m n → ⊥) →
       (end ≡ ended.FiringsSpent → HasRunBeyond space) →
       IsSaidFor (meaning_of schema) space.constants queries firings search query branch least
@@ -144,7 +144,7 @@ module _ (schema : Schema) (queries : List Query) (query : Query) (firings searc
   pub said : (known : List Value) → space.constants ≡ known → AreSearchable (meaning_of schema) known queries → Contains queries query → ((c : Value) → Contains schema.constants c → Contains known c) →
       (branch : Branch) (best : ℕ) → CostsAtMost (meaning_of schema) branch best → (end : Ended) (least : Least) →
       (end ≡ ended.Shown → least ≡ known_cost.Shown) → ((units : ℕ) → end ≡ ended.SearchSpent units → least ≡ known_cost.SearchSpent search) → (end ≡ ended.FiringsSpent → least ≡ known_cost.FiringsSpent firings) →
-      (end ≡ ended.Shown → IsLeastCost (space_size space) (CanExpose space) (HasGoalAt space) best) →
+      (end ≡ ended.Shown → IsLeastCost (space_size space) (CanGain (CanExpose space) (GainsAt space)) (HasGoalAt space) best) →
       ((units : ℕ) → end ≡ ended.SearchSpent units → (m n : ℕ) → ServesRuns (HasTry space) search m n → ⊥) →
       (end ≡ ended.FiringsSpent → HasRunBeyond space) →
       IsSaidFor (meaning_of schema) known queries firings search query branch least

@@ -20,11 +20,11 @@ loop-place-preserved c =
     elim c.match-relevant_move.branch [
       | in-Some+in_ok-push w ↦
           rw (w.moves-is, w.in_ok-push.ensures.items) (served_more (meaning_of c.args.schema.now) c.args.proof.now c.args.marks.now c.args.below c.loop-place.moves.items c.loop-place.place c.loop-place.invariant c.args.methods.now c.requires.methods c.index-facts-place.result at w.in-Some.step w.in-Some.ensures.active
-          (λ number method among active low. let (move, is, cheap) = c.relevant_move.ensures.least w.in-Some.ensures.active.2 number method among active low in
+          (λ gains number method among active low. let (move, is, cheap) = c.relevant_move.ensures.least w.in-Some.ensures.active.2 gains number method among active low in
           let same : move ≡ w.in-Some.step = some_injective move w.in-Some.step (sym is ∙ w.in-Some.is) in subst (λ (m : Move). m.cost ≤ method.cost) same cheap))
       | in_default w ↦
           rw w.moves-is (served_less (meaning_of c.args.schema.now) c.args.proof.now c.args.marks.now c.args.below c.loop-place.moves.items c.loop-place.place c.loop-place.invariant c.args.methods.now c.requires.methods c.index-facts-place.result at
-          (λ on number method among active low. let (move, is, cheap) = c.relevant_move.ensures.least on number method among active low in
+          (λ on gains number method among active low. let (move, is, cheap) = c.relevant_move.ensures.least on gains number method among active low in
           let none : c.relevant_move.result ≡ None = w.in_default.is in absurd (cc)))
     ]
 
@@ -32,8 +32,8 @@ pub returns-clause-active : goal.returns-clause-active
 returns-clause-active c move among = c.loop-place.invariant.active move among
 
 pub returns-clause-all : goal.returns-clause-all
-returns-clause-all c move active on low =
-    c.loop-place.invariant.served move active on low
+returns-clause-all c move active on gains low =
+    c.loop-place.invariant.served move active on gains low
     (let within : move.fact < length c.args.proof.now.end.base = slice_get_within c.args.proof.now.end.base move.fact active.fact active.at in
     let count : length c.args.facts.now ≡ length c.args.proof.now.end.base = ap length c.requires.facts in
     let end : length c.args.facts.now ≤ c.loop-place.place = c.loop-place-test.false in omega arith)

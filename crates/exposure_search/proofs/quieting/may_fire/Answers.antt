@@ -1,21 +1,18 @@
-use Rattle.std.proofs.Common.{◌≡◌, true, List, ◌∙◌, subst, rules}
-use Rattle.std.specs.Prelude.{Contains}
-use Rattle.std.proofs.lemmas.List.{take_all}
-use Rattle.meaning.specs.declared.types.Atom.{Atom}
+use Rattle.std.proofs.Common.{◌≡◌, Some, List, ◌≤◌, length, subst}
+use Rattle.std.specs.Prelude.{slice_get}
 use Rattle.meaning.specs.declared.types.Rule.{Rule}
-use Rattle.meaning.specs.Runs.{copy_state}
-use Rattle.exposure_search.specs.Making.{IsMissing}
-use Rattle.exposure_search.proofs.Missing.{CannotFire, cannot_more, cannot_quiet}
+use Rattle.accessible_copy.proofs.Listed.{got_here}
+use Rattle.exposure_search.proofs.Missing.{cannot_more, cannot_all}
 use Rattle.exposure_search.proofs.quieting.may_fire.Goals as goal
 
-pub loop-rule-preserved : goal.loop-rule-preserved
-loop-rule-preserved c =
-    let lacks : c.lacks_some.result ≡ true = search rules in
-    let body : c.as_slice.result.now ≡ c.rule-item.result.body = c.as_slice.ensures in
-    cannot_more c.as_slice-rule-items.result.now c.args.proof.now.end.copy c.loop-rule.rule-index c.rule-item.result c.loop-rule-test.true c.rule-item.is c.loop-rule.invariant
-    (subst (λ (atoms : List Atom). (atom : Atom) × Contains atoms atom × IsMissing c.args.proof.now.end.copy atom.rel) body (c.lacks_some.ensures lacks))
+pub loop-number-preserved : goal.loop-number-preserved
+loop-number-preserved c =
+    let rule = c.index-rules-number.result in
+    let got : slice_get c.args.schema.now.rules c.loop-number.number ≡ Some rule = subst (λ (rs : List Rule). slice_get rs c.loop-number.number ≡ Some rule) c.as_slice-rules.ensures
+    (got_here c.as_slice-rules.result.now c.loop-number.number rule c.loop-number-test.true c.index-rules-number.is) in
+    cannot_more c.args.schema.now.rules c.args.makers.now c.args.proof.now.end.copy c.loop-number.number rule got c.loop-number.invariant (c.can_fire.ensures c.if-can_fire.false)
 
 pub returns : goal.returns
 returns c e =
-    cannot_quiet c.args.schema.now.rules (copy_state c.args.proof.now.end)
-    (subst (λ (rs : List Rule). CannotFire rs c.args.proof.now.end.copy) (take_all c.loop-rule.rule-index c.as_slice-rule-items.result.now c.loop-rule-test.false ∙ c.as_slice-rule-items.ensures) c.loop-rule.invariant)
+    cannot_all c.args.schema.now.rules c.args.makers.now c.args.proof.now.end.copy c.loop-number.number
+    (subst (λ (rs : List Rule). length rs ≤ c.loop-number.number) c.as_slice-rules.ensures c.loop-number-test.false) c.loop-number.invariant

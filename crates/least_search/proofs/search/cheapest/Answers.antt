@@ -6,6 +6,7 @@ use Rattle.meaning.specs.Search.{AreDistinct}
 use Rattle.least_search.specs.declared.space.Move.{Move}
 use Rattle.least_search.specs.declared.node.Node.{Node}
 use Rattle.least_search.specs.Ends.{GoesOn}
+use Rattle.least_search.specs.Walks.{CanGain}
 use Rattle.least_search.specs.Ways.{Way, IsWay, way_along}
 use Rattle.least_search.specs.Costs.{IsLeastCost, best_cost}
 use Rattle.least_search.specs.Frontier.{sets_of, way_of, looked_in, waiting_in, AreLooked, IsTaken, ArePushed}
@@ -24,7 +25,7 @@ loop-frontier-init g c =
       back = refl;
       sound = c.in_ok-frontier.ensures.sound;
       facts = c.in_ok-frontier.ensures.facts ∙ facts;
-      searched = first_searched (g.S.Space.size c.args.space.now) (g.S.Space.CanMove c.args.space.now) (g.S.Space.HasGoal c.args.space.now) c.args.bound (looked_in c.in_ok-frontier.frontier) (waiting_in c.in_ok-frontier.frontier) none
+      searched = first_searched (g.S.Space.size c.args.space.now) (g.S.Space.CanMove c.args.space.now) (CanGain (g.S.Space.CanMove c.args.space.now) (g.S.Space.Gains c.args.space.now)) (g.S.Space.HasGoal c.args.space.now) c.args.bound (looked_in c.in_ok-frontier.frontier) (waiting_in c.in_ok-frontier.frontier) none
           (subst (λ (n : ℕ). Contains (waiting_in c.in_ok-frontier.frontier) (way_along n [])) facts c.in_ok-frontier.ensures.here)
           (subst (λ (n : ℕ). (way : Way) → Contains (waiting_in c.in_ok-frontier.frontier) way → way_along n [] ≡ way) facts c.in_ok-frontier.ensures.only);
       long = λ e. absurd (cc);
@@ -37,19 +38,19 @@ pub returns-in_default-clause-shown : goal.returns-in_default-clause-shown
 returns-in_default-clause-shown g c shown =
     let done : AreLooked (looked_in c.loop-frontier.frontier) (waiting_in c.loop-frontier.frontier) = search rules in
     let none : c.none_better.result.better ≡ None = c.none_better.ensures.better in
-    subst (λ (b : Option Node). IsLeastCost (g.S.Space.size c.args.space.now) (g.S.Space.CanMove c.args.space.now) (g.S.Space.HasGoal c.args.space.now) (best_cost c.args.bound b)) (sym none)
-    (least (g.S.Space.size c.args.space.now) (g.S.Space.CanMove c.args.space.now) (g.S.Space.HasGoal c.args.space.now) c.args.bound c.loop-frontier.cut (looked_in c.loop-frontier.frontier) []
-    (fewer (g.S.Space.size c.args.space.now) (g.S.Space.CanMove c.args.space.now) (g.S.Space.HasGoal c.args.space.now) c.args.bound c.loop-frontier.cut (looked_in c.loop-frontier.frontier) (waiting_in c.loop-frontier.frontier) [] c.loop-frontier.invariant.searched (λ x there. inr (done x there)) (λ x there. absurd (contains_none [] x refl there)))
+    subst (λ (b : Option Node). IsLeastCost (g.S.Space.size c.args.space.now) (CanGain (g.S.Space.CanMove c.args.space.now) (g.S.Space.Gains c.args.space.now)) (g.S.Space.HasGoal c.args.space.now) (best_cost c.args.bound b)) (sym none)
+    (least (g.S.Space.size c.args.space.now) (g.S.Space.CanMove c.args.space.now) (CanGain (g.S.Space.CanMove c.args.space.now) (g.S.Space.Gains c.args.space.now)) (g.S.Space.HasGoal c.args.space.now) c.args.bound c.loop-frontier.cut (looked_in c.loop-frontier.frontier) []
+    (fewer (g.S.Space.size c.args.space.now) (g.S.Space.CanMove c.args.space.now) (CanGain (g.S.Space.CanMove c.args.space.now) (g.S.Space.Gains c.args.space.now)) (g.S.Space.HasGoal c.args.space.now) c.args.bound c.loop-frontier.cut (looked_in c.loop-frontier.frontier) (waiting_in c.loop-frontier.frontier) [] c.loop-frontier.invariant.searched (λ x there. inr (done x there)) (λ x there. absurd (contains_none [] x refl there)))
     (not_cut c.loop-frontier.cut c.none_better.result.ended c.none_better.ensures.ended shown) c.args.bound (omega arith) (λ x there. absurd (contains_none [] x refl there)))
 
 pub returns-then-cost-bound-clause-shown : goal.returns-then-cost-bound-clause-shown
 returns-then-cost-bound-clause-shown g c shown =
     let is : IsTaken c.loop-frontier.frontier c.take.new.self c.in-Some.taken = search rules in
     let none : c.none_better-then-cost-bound.result.better ≡ None = c.none_better-then-cost-bound.ensures.better in
-    subst (λ (b : Option Node). IsLeastCost (g.S.Space.size c.args.space.now) (g.S.Space.CanMove c.args.space.now) (g.S.Space.HasGoal c.args.space.now) (best_cost c.args.bound b)) (sym none)
-    (least (g.S.Space.size c.args.space.now) (g.S.Space.CanMove c.args.space.now) (g.S.Space.HasGoal c.args.space.now) c.args.bound c.loop-frontier.cut (looked_in c.loop-frontier.frontier) ((way_of c.in-Some.taken.node) ∷ (waiting_in c.take.new.self))
-    (taken (g.S.Space.size c.args.space.now) (g.S.Space.CanMove c.args.space.now) (g.S.Space.HasGoal c.args.space.now) c.args.bound c.loop-frontier.cut (looked_in c.loop-frontier.frontier) (waiting_in c.loop-frontier.frontier) (waiting_in c.take.new.self) (way_of c.in-Some.taken.node) c.loop-frontier.invariant.searched is.next)
-    (not_cut c.loop-frontier.cut c.none_better-then-cost-bound.result.ended c.none_better-then-cost-bound.ensures.ended shown) c.args.bound (omega arith) (taken_least (g.S.Space.size c.args.space.now) (g.S.Space.CanMove c.args.space.now) (g.S.Space.HasGoal c.args.space.now) c.args.bound c.args.bound (way_of c.in-Some.taken.node) (waiting_in c.take.new.self) c.if-cost-bound.true is.next.least))
+    subst (λ (b : Option Node). IsLeastCost (g.S.Space.size c.args.space.now) (CanGain (g.S.Space.CanMove c.args.space.now) (g.S.Space.Gains c.args.space.now)) (g.S.Space.HasGoal c.args.space.now) (best_cost c.args.bound b)) (sym none)
+    (least (g.S.Space.size c.args.space.now) (g.S.Space.CanMove c.args.space.now) (CanGain (g.S.Space.CanMove c.args.space.now) (g.S.Space.Gains c.args.space.now)) (g.S.Space.HasGoal c.args.space.now) c.args.bound c.loop-frontier.cut (looked_in c.loop-frontier.frontier) ((way_of c.in-Some.taken.node) ∷ (waiting_in c.take.new.self))
+    (taken (g.S.Space.size c.args.space.now) (g.S.Space.CanMove c.args.space.now) (CanGain (g.S.Space.CanMove c.args.space.now) (g.S.Space.Gains c.args.space.now)) (g.S.Space.HasGoal c.args.space.now) c.args.bound c.loop-frontier.cut (looked_in c.loop-frontier.frontier) (waiting_in c.loop-frontier.frontier) (waiting_in c.take.new.self) (way_of c.in-Some.taken.node) c.loop-frontier.invariant.searched is.next)
+    (not_cut c.loop-frontier.cut c.none_better-then-cost-bound.result.ended c.none_better-then-cost-bound.ensures.ended shown) c.args.bound (omega arith) (taken_least (g.S.Space.size c.args.space.now) (g.S.Space.CanMove c.args.space.now) (CanGain (g.S.Space.CanMove c.args.space.now) (g.S.Space.Gains c.args.space.now)) (g.S.Space.HasGoal c.args.space.now) c.args.bound c.args.bound (way_of c.in-Some.taken.node) (waiting_in c.take.new.self) c.if-cost-bound.true is.next.least))
 
 pub returns-then-units-search-clause-search : goal.returns-then-units-search-clause-search
 returns-then-units-search-clause-search g c units is m n enough =
@@ -59,9 +60,9 @@ pub returns-in-Goal-clause-shown : goal.returns-in-Goal-clause-shown
 returns-in-Goal-clause-shown g c shown =
     let is : IsTaken c.loop-frontier.frontier c.take.new.self c.in-Some.taken = search rules in
     let low : c.in-Some.taken.node.cost < c.args.bound = c.if-cost-bound.false in
-    least (g.S.Space.size c.args.space.now) (g.S.Space.CanMove c.args.space.now) (g.S.Space.HasGoal c.args.space.now) c.args.bound c.loop-frontier.cut (looked_in c.loop-frontier.frontier) ((way_of c.in-Some.taken.node) ∷ (waiting_in c.take.new.self))
-    (taken (g.S.Space.size c.args.space.now) (g.S.Space.CanMove c.args.space.now) (g.S.Space.HasGoal c.args.space.now) c.args.bound c.loop-frontier.cut (looked_in c.loop-frontier.frontier) (waiting_in c.loop-frontier.frontier) (waiting_in c.take.new.self) (way_of c.in-Some.taken.node) c.loop-frontier.invariant.searched is.next)
-    (not_cut c.loop-frontier.cut c.how_ended.result c.how_ended.ensures shown) c.in-Some.taken.node.cost (omega arith) (taken_least (g.S.Space.size c.args.space.now) (g.S.Space.CanMove c.args.space.now) (g.S.Space.HasGoal c.args.space.now) c.args.bound c.in-Some.taken.node.cost (way_of c.in-Some.taken.node) (waiting_in c.take.new.self) (omega arith) is.next.least)
+    least (g.S.Space.size c.args.space.now) (g.S.Space.CanMove c.args.space.now) (CanGain (g.S.Space.CanMove c.args.space.now) (g.S.Space.Gains c.args.space.now)) (g.S.Space.HasGoal c.args.space.now) c.args.bound c.loop-frontier.cut (looked_in c.loop-frontier.frontier) ((way_of c.in-Some.taken.node) ∷ (waiting_in c.take.new.self))
+    (taken (g.S.Space.size c.args.space.now) (g.S.Space.CanMove c.args.space.now) (CanGain (g.S.Space.CanMove c.args.space.now) (g.S.Space.Gains c.args.space.now)) (g.S.Space.HasGoal c.args.space.now) c.args.bound c.loop-frontier.cut (looked_in c.loop-frontier.frontier) (waiting_in c.loop-frontier.frontier) (waiting_in c.take.new.self) (way_of c.in-Some.taken.node) c.loop-frontier.invariant.searched is.next)
+    (not_cut c.loop-frontier.cut c.how_ended.result c.how_ended.ensures shown) c.in-Some.taken.node.cost (omega arith) (taken_least (g.S.Space.size c.args.space.now) (g.S.Space.CanMove c.args.space.now) (CanGain (g.S.Space.CanMove c.args.space.now) (g.S.Space.Gains c.args.space.now)) (g.S.Space.HasGoal c.args.space.now) c.args.bound c.in-Some.taken.node.cost (way_of c.in-Some.taken.node) (waiting_in c.take.new.self) (omega arith) is.next.least)
 
 pub returns-in-UnitsSpent-clause-search : goal.returns-in-UnitsSpent-clause-search
 returns-in-UnitsSpent-clause-search g c spent told m n enough =
@@ -103,7 +104,7 @@ loop-frontier-preserved g c =
       | in-FiringsSpent w ↦ let its : c.match-visit.cut ≡ true = w.cut-is in ((λ e. absurd (cc)), (λ e. absurd (cc)), (λ _. subst (λ s. g.S.Space.HasLongRun s) back (c.in_ok-visit.ensures.long w.in-FiringsSpent.is)), subst GoesOn (sym w.in-FiringsSpent.is) tt)
       | in-NoGoal w ↦ let its : c.match-visit.cut ≡ c.loop-frontier.cut = w.cut-is in ((λ e. sym its ∙ e), (λ _. subst (λ s. g.S.Space.HasGoal s c.in-Some.taken.node.set.items → ⊥) back (subst (λ t. g.S.Space.HasGoal c.loop-frontier.space t → ⊥) set (c.in_ok-visit.ensures.none w.in-NoGoal.is))), (λ e. c.loop-frontier.invariant.long (sym its ∙ e)), subst GoesOn (sym w.in-NoGoal.is) tt)
     ] in
-    let complete : (move : Move) → g.S.Space.CanMove c.args.space.now c.in-Some.taken.node.set.items move → move.cost < c.args.bound - c.in-Some.taken.node.cost → (other : Move) × Contains c.in_ok-visit.visit.moves.items other × (other.fact ≡ move.fact) × (other.cost ≤ move.cost) = (λ move can low. c.in_ok-visit.ensures.complete ends.3 move (subst (λ t. g.S.Space.CanMove c.loop-frontier.space t move) (sym set) (subst (λ s. g.S.Space.CanMove s c.in-Some.taken.node.set.items move) (sym back) can)) low) in
+    let complete : (move : Move) → CanGain (g.S.Space.CanMove c.args.space.now) (g.S.Space.Gains c.args.space.now) c.in-Some.taken.node.set.items move → move.cost < c.args.bound - c.in-Some.taken.node.cost → (other : Move) × Contains c.in_ok-visit.visit.moves.items other × (other.fact ≡ move.fact) × (other.cost ≤ move.cost) = (λ move can low. c.in_ok-visit.ensures.complete ends.3 move (subst (λ t. g.S.Space.CanMove c.loop-frontier.space t move) (sym set) (subst (λ s. g.S.Space.CanMove s c.in-Some.taken.node.set.items move) (sym back) can.0)) (subst (λ t. g.S.Space.Gains c.loop-frontier.space t move) (sym set) (subst (λ s. g.S.Space.Gains s c.in-Some.taken.node.set.items move) (sym back) can.1)) low) in
     let wait : ArePushed (way_of c.in-Some.taken.node) c.args.bound c.in_ok-visit.visit.moves.items (looked_in c.take.new.self) (waiting_in c.take.new.self) (waiting_in c.push_moves.new.frontier) = subst (λ (ms : List Move). ArePushed (way_of c.in-Some.taken.node) c.args.bound ms (looked_in c.take.new.self) (waiting_in c.take.new.self) (waiting_in c.push_moves.new.frontier)) moves c.in_ok-push_moves.ensures.pushed in
     let wait' : ArePushed (way_of c.in-Some.taken.node) c.args.bound c.in_ok-visit.visit.moves.items ((looked_in c.loop-frontier.frontier) ++ (way_of c.in-Some.taken.node) ∷ []) (waiting_in c.take.new.self) (waiting_in c.push_moves.new.frontier) = subst (λ (ws : List Way). ArePushed (way_of c.in-Some.taken.node) c.args.bound c.in_ok-visit.visit.moves.items ws (waiting_in c.take.new.self) (waiting_in c.push_moves.new.frontier)) is.looked wait in
     let way_is : IsWay (g.S.Space.size c.args.space.now) (g.S.Space.CanMove c.args.space.now) (way_of c.in-Some.taken.node) = c.loop-frontier.invariant.searched.waiting_are (way_of c.in-Some.taken.node) is.next.among in
@@ -111,11 +112,11 @@ loop-frontier-preserved g c =
       back = now;
       sound = c.in_ok-push_moves.ensures.sound;
       facts = c.in_ok-push_moves.ensures.facts ∙ is.facts ∙ c.loop-frontier.invariant.facts;
-      searched = subst (λ (ws : List Way). IsSearched (g.S.Space.size c.args.space.now) (g.S.Space.CanMove c.args.space.now) (g.S.Space.HasGoal c.args.space.now) c.args.bound c.match-visit.cut ws (waiting_in c.push_moves.new.frontier)) (sym pushed)
-          (looked_at (g.S.Space.size c.args.space.now) (g.S.Space.CanMove c.args.space.now) (g.S.Space.HasGoal c.args.space.now) c.args.bound c.loop-frontier.cut c.match-visit.cut (looked_in c.loop-frontier.frontier) (waiting_in c.take.new.self) (waiting_in c.push_moves.new.frontier) (way_of c.in-Some.taken.node)
-          (taken (g.S.Space.size c.args.space.now) (g.S.Space.CanMove c.args.space.now) (g.S.Space.HasGoal c.args.space.now) c.args.bound c.loop-frontier.cut (looked_in c.loop-frontier.frontier) (waiting_in c.loop-frontier.frontier) (waiting_in c.take.new.self) (way_of c.in-Some.taken.node) c.loop-frontier.invariant.searched is.next) is.next.least ends.0 ends.1 wait.kept
+      searched = subst (λ (ws : List Way). IsSearched (g.S.Space.size c.args.space.now) (g.S.Space.CanMove c.args.space.now) (CanGain (g.S.Space.CanMove c.args.space.now) (g.S.Space.Gains c.args.space.now)) (g.S.Space.HasGoal c.args.space.now) c.args.bound c.match-visit.cut ws (waiting_in c.push_moves.new.frontier)) (sym pushed)
+          (looked_at (g.S.Space.size c.args.space.now) (g.S.Space.CanMove c.args.space.now) (CanGain (g.S.Space.CanMove c.args.space.now) (g.S.Space.Gains c.args.space.now)) (g.S.Space.HasGoal c.args.space.now) c.args.bound c.loop-frontier.cut c.match-visit.cut (looked_in c.loop-frontier.frontier) (waiting_in c.take.new.self) (waiting_in c.push_moves.new.frontier) (way_of c.in-Some.taken.node)
+          (taken (g.S.Space.size c.args.space.now) (g.S.Space.CanMove c.args.space.now) (CanGain (g.S.Space.CanMove c.args.space.now) (g.S.Space.Gains c.args.space.now)) (g.S.Space.HasGoal c.args.space.now) c.args.bound c.loop-frontier.cut (looked_in c.loop-frontier.frontier) (waiting_in c.loop-frontier.frontier) (waiting_in c.take.new.self) (way_of c.in-Some.taken.node) c.loop-frontier.invariant.searched is.next) is.next.least ends.0 ends.1 wait.kept
           (pushed_only (g.S.Space.size c.args.space.now) (g.S.Space.CanMove c.args.space.now) (way_of c.in-Some.taken.node) c.args.bound c.in_ok-visit.visit.moves.items ((looked_in c.loop-frontier.frontier) ++ (way_of c.in-Some.taken.node) ∷ []) (waiting_in c.take.new.self) (waiting_in c.push_moves.new.frontier) wait' way_is possible)
-          (pushed_reached (g.S.Space.size c.args.space.now) (g.S.Space.CanMove c.args.space.now) (way_of c.in-Some.taken.node) c.args.bound c.in_ok-visit.visit.moves.items ((looked_in c.loop-frontier.frontier) ++ (way_of c.in-Some.taken.node) ∷ []) (waiting_in c.take.new.self) (waiting_in c.push_moves.new.frontier) wait' complete));
+          (pushed_reached (g.S.Space.size c.args.space.now) (CanGain (g.S.Space.CanMove c.args.space.now) (g.S.Space.Gains c.args.space.now)) (way_of c.in-Some.taken.node) c.args.bound c.in_ok-visit.visit.moves.items ((looked_in c.loop-frontier.frontier) ++ (way_of c.in-Some.taken.node) ∷ []) (waiting_in c.take.new.self) (waiting_in c.push_moves.new.frontier) wait' complete));
       long = ends.2;
       distinct = subst (λ (ws : List Way). AreDistinct (sets_of ws)) (sym pushed) (rw (sets_push (looked_in c.loop-frontier.frontier) (way_of c.in-Some.taken.node)) (distinct_push (sets_of (looked_in c.loop-frontier.frontier)) c.in-Some.taken.node.set.items c.loop-frontier.invariant.distinct is.next.new));
       counted = subst (λ (ws : List Way). IsCounted (g.S.Space.HasRun c.args.space.now) (length ws) (c.loop-frontier.units + 1 + c.in_ok-visit.visit.fired)) (sym pushed) (subst (λ k. IsCounted (g.S.Space.HasRun c.args.space.now) k (c.loop-frontier.units + 1 + c.in_ok-visit.visit.fired)) more (counted_more (g.S.Space.HasRun c.args.space.now) (length (looked_in c.loop-frontier.frontier)) c.loop-frontier.units c.in_ok-visit.visit.fired firings (length c.deref.result.now) c.loop-frontier.invariant.counted its few));

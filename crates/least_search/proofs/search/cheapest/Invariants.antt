@@ -1,5 +1,6 @@
 use Rattle.std.proofs.Common.{◌≡◌, ◌-◌, ◌≤◌, true, length}
 use Rattle.meaning.specs.Search.{AreDistinct}
+use Rattle.least_search.specs.Walks.{CanGain}
 use Rattle.least_search.specs.Frontier.{sets_of, looked_in, waiting_in, IsFrontier}
 use Rattle.least_search.proofs.Searched.{IsSearched, IsCounted}
 use Rattle.least_search.proofs.search.cheapest.Given as goal
@@ -9,7 +10,7 @@ invariant-loop-frontier g l = record {
   back : l.space ≡ l.fn.space;
   sound : IsFrontier l.frontier;
   facts : l.frontier.facts ≡ g.S.Space.size l.fn.space;
-  searched : IsSearched (g.S.Space.size l.fn.space) (g.S.Space.CanMove l.fn.space) (g.S.Space.HasGoal l.fn.space) l.bound l.cut (looked_in l.frontier) (waiting_in l.frontier);
+  searched : IsSearched (g.S.Space.size l.fn.space) (g.S.Space.CanMove l.fn.space) (CanGain (g.S.Space.CanMove l.fn.space) (g.S.Space.Gains l.fn.space)) (g.S.Space.HasGoal l.fn.space) l.bound l.cut (looked_in l.frontier) (waiting_in l.frontier);
   long : l.cut ≡ true → g.S.Space.HasLongRun l.fn.space;
   distinct : AreDistinct (sets_of (looked_in l.frontier));
   counted : IsCounted (g.S.Space.HasRun l.fn.space) (length (looked_in l.frontier)) l.units;

@@ -3,8 +3,9 @@ use Rattle.std.specs.Prelude.{Contains}
 use Rattle.access_schema.specs.Meaning.{meaning_of}
 use Rattle.access_cost.proofs.Summing.{lawful_named}
 use Rattle.least_search.specs.declared.node.Node.{Node}
+use Rattle.least_search.specs.Walks.{CanGain}
 use Rattle.least_search.specs.Costs.{IsLeastCost, best_cost}
-use Rattle.exposure_search.specs.Exploring.{Exploring, space_size, CanExpose, HasGoalAt}
+use Rattle.exposure_search.specs.Exploring.{Exploring, space_size, CanExpose, GainsAt, HasGoalAt}
 use Rattle.proof_search.specs.Searches.{AreSearchable}
 use Rattle.proof_search.specs.Branches.{IsQueryBranch}
 use Rattle.proof_search.specs.Choices.{CostsAtMost, IsSpaceOf}
@@ -32,7 +33,7 @@ returns-in_default c =
       branch = c.requires.first;
       said = said c.args.schema.now c.args.queries.now c.args.query.now c.args.firings c.args.search c.in_ok-space.space is c.args.known.now same c.requires.queries c.requires.among c.requires.known c.args.first c.cost-bound.result costs c.in_ok-better.field-0.ended c.least_of-least.result
           c.least_of-least.ensures.shown c.least_of-least.ensures.search c.least_of-least.ensures.firings
-          (λ its. subst (λ (b : Option Node). IsLeastCost (space_size c.in_ok-space.space) (CanExpose c.in_ok-space.space) (HasGoalAt c.in_ok-space.space) (best_cost c.cost-bound.result b)) found (c.in_ok-better.ensures.shown its))
+          (λ its. subst (λ (b : Option Node). IsLeastCost (space_size c.in_ok-space.space) (CanGain (CanExpose c.in_ok-space.space) (GainsAt c.in_ok-space.space)) (HasGoalAt c.in_ok-space.space) (best_cost c.cost-bound.result b)) found (c.in_ok-better.ensures.shown its))
           c.in_ok-better.ensures.search c.in_ok-better.ensures.firings;
     }
 
@@ -66,6 +67,6 @@ returns-in-Some-2 c =
       branch = subst (λ known. IsQueryBranch (meaning_of c.args.schema.now) known c.args.queries.now c.args.query.now c.in-Some-2.branch) constants its;
       said = said c.args.schema.now c.args.queries.now c.args.query.now c.args.firings c.args.search c.in_ok-space.space is c.args.known.now same c.requires.queries c.requires.among c.requires.known c.in-Some-2.branch c.in-Some.node.cost costs c.in_ok-better.field-0.ended c.least_of-least.result
           c.least_of-least.ensures.shown c.least_of-least.ensures.search c.least_of-least.ensures.firings
-          (λ its. subst (λ (b : Option Node). IsLeastCost (space_size c.in_ok-space.space) (CanExpose c.in_ok-space.space) (HasGoalAt c.in_ok-space.space) (best_cost c.cost-bound.result b)) found (c.in_ok-better.ensures.shown its))
+          (λ its. subst (λ (b : Option Node). IsLeastCost (space_size c.in_ok-space.space) (CanGain (CanExpose c.in_ok-space.space) (GainsAt c.in_ok-space.space)) (HasGoalAt c.in_ok-space.space) (best_cost c.cost-bound.result b)) found (c.in_ok-better.ensures.shown its))
           c.in_ok-better.ensures.search c.in_ok-better.ensures.firings;
     }

@@ -12,10 +12,11 @@ invariant_of-result c = record {
   counted = c.requires.counted;
   few = c.requires.few;
   low = c.requires.budget;
+  relevant = c.in_ok-marks.ensures;
 }
 
 pub returns-clause-founded : goal.returns-clause-founded
-returns-clause-founded c = founded (meaning_of c.args.schema.now) c.args.proof c.args.queries.now c.args.head.now c.args.budget c.in_ok-relevant.relevant.items (begins_only (meaning_of c.args.schema.now) c.args.proof c.requires.base) c.in_ok-relevant.ensures
+returns-clause-founded c = founded (meaning_of c.args.schema.now) c.args.proof c.args.queries.now c.args.head.now c.args.budget c.in_ok-marks.marks (begins_only (meaning_of c.args.schema.now) c.args.proof c.requires.base) c.in_ok-marks.ensures
 
 pub relevant_facts-requires-clause-none : goal.relevant_facts-requires-clause-none
 relevant_facts-requires-clause-none c = begins_bare (meaning_of c.args.schema.now) c.args.proof c.requires.base

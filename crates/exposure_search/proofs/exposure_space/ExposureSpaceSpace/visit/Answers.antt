@@ -7,7 +7,7 @@ use Rattle.least_search.specs.Walks.{IsWalk, no_facts}
 use Rattle.least_search.specs.Ends.{GoesOn}
 use Rattle.exposure_search.specs.Making.{IsServed}
 use Rattle.exposure_search.specs.Tries.{IsOpen}
-use Rattle.exposure_search.specs.Exploring.{Exploring, space_size, CanExpose, HasGoalAt, HasTry}
+use Rattle.exposure_search.specs.Exploring.{Exploring, space_size, CanExpose, GainsAt, HasGoalAt, HasTry}
 use Rattle.exposure_search.specs.Spaces.{open_walk}
 use Rattle.exposure_search.proofs.Visited.{visit_none, visit_run, visit_possible, visit_complete}
 use Rattle.exposure_search.proofs.exposure_space.ExposureSpaceSpace.visit.Goals as goal
@@ -34,5 +34,5 @@ returns-clause-possible c =
 
 pub returns-clause-complete : goal.returns-clause-complete
 returns-clause-complete c =
-    subst (λ s. IfOk c.visit_set.result (λ (visit : Visit). GoesOn visit.end → (move : Move) → CanExpose s c.args.set.now move → move.cost < c.args.below → IsServed visit.moves.items move)) c.self.view_is
+    subst (λ s. IfOk c.visit_set.result (λ (visit : Visit). GoesOn visit.end → (move : Move) → CanExpose s c.args.set.now move → GainsAt s c.args.set.now move → move.cost < c.args.below → IsServed visit.moves.items move)) c.self.view_is
     (visit_complete _ c.args.set.now c.args.below c.visit_set.result c.visit_set.ensures.moves)
