@@ -49,8 +49,6 @@ pub fn key_code(key: &Key) -> u64
 {
     match key {
         Key::Relation(rel) => u64::from(*rel),
-        Key::Value { rel, position, val } => {
-            mixed(place_code(*rel, *position), val_code(val))
-        }
+        Key::Value { rel, position, val } => { mixed(place_code(*rel, *position), val_code(val)) }
     }
 }

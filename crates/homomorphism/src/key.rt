@@ -17,11 +17,7 @@ pub enum Key {
 }
 
 /// The keys that the fact is found by: its relation, and its value at each of the positions.
-pub fn fact_keys(
-    alloc: Global,
-    fact: &Ground,
-    positions: &Positions,
-) -> Result<Vec<Key>, NoMemory>
+pub fn fact_keys(alloc: Global, fact: &Ground, positions: &Positions) -> Result<Vec<Key>, NoMemory>
     ensures { IfOk result (λ keys. keys.items ≡ filter (is_found_by positions.now) (keys_of fact.now)) }
 {
     let rel = fact.rel;

@@ -62,11 +62,7 @@ impl Store {
 
     /// A store of exactly the facts of an instance, which is used up, each text as a constant. It is made for tests of these
     /// rules: by other values than those that the rules look for, no fact is found quickly.
-    pub fn for_rules(
-        alloc: Global,
-        instance: Instance,
-        rules: &[Rule],
-    ) -> Result<Store, NoMemory>
+    pub fn for_rules(alloc: Global, instance: Instance, rules: &[Rule]) -> Result<Store, NoMemory>
         ensures { IfOk result (λ store. AreFactsOf instance store) }
     {
         let facts = distinct_grounds(alloc, instance)?;
@@ -75,11 +71,7 @@ impl Store {
     }
 
     /// A store of these facts, in which they are found by their values at these positions.
-    fn of_facts(
-        alloc: Global,
-        facts: Vec<Ground>,
-        positions: Positions,
-    ) -> Result<Store, NoMemory>
+    fn of_facts(alloc: Global, facts: Vec<Ground>, positions: Positions) -> Result<Store, NoMemory>
         ensures { IfOk result (λ store. store ≡ with_facts [] facts.items) }
     {
         let mut store = Store::with_positions(alloc, positions);
