@@ -15,7 +15,7 @@ use Rattle.meaning.specs.declared.types.Val.{Val}
 use Rattle.meaning.specs.Triggers.{State, ground, assigned, fired, IsFiringRun}
 use Rattle.exposure_search.specs.Tries.{IsMarked}
 use Rattle.exposure_search.specs.Making.{CannotMake}
-use Rattle.exposure_search.specs.Relevance.{Makes, MakersMarked, IsImageAmong, IsImageOf, IsWanted}
+use Rattle.exposure_search.specs.Relevance.{Makes, MakersMarked, IsImageAmong, IsImageOf}
 use Rattle.exposure_search.specs.Sets.{truth}
 use Rattle.exposure_search.proofs.Wanting.{keeps_push}
 use Rattle.exposure_search.proofs.Imaging.{image_next}
