@@ -53,7 +53,9 @@ fn main(rt: HostRuntime) -> ExitCode {
     }
     let mut files = RealFiles::new(System::new(rt));
     let words = words.as_slice();
-    let status = run_words(&rt, alloc, words, &mut files, &mut lanes, &mut out, &mut err);
+    let status = run_words(
+        &rt, alloc, words, &mut files, &mut lanes, &mut out, &mut err,
+    );
     // the rows are not freed one by one: the system takes them back with the process
     forget(lanes);
     exit(status)
