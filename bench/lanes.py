@@ -18,27 +18,26 @@ import time
 
 TOP = os.path.realpath(f"{os.path.dirname(os.path.realpath(__file__))}/..")
 LANES = (1, 2, 3, 4, 8)
+# The crates that the program names.
+NEEDS = ("middleware", "source_trait", "lane_pool", "access_schema", "row_text", "meaning", "lists")
 
 
 def scratch(folder):
-    """The crates below lane_cases, and the program in a crate beside them. Gives its folder."""
+    """The crates below the program, and it in a crate beside them. Gives its folder."""
     rows = [row.rstrip("\n") for row in open(f"{TOP}/crates.txt") if row.strip() and not row.startswith("#")]
     below = {row.split(":")[0].split()[0]: row.split(":")[1].split() for row in rows}
-    wanted, left = [], ["lane_cases"]
+    wanted, left = [], list(NEEDS)
     while left:
         name = left.pop()
         if name not in wanted:
             wanted.append(name)
-            left += [it for it in below.get(name, []) if it in below]
+            left += [it for it in below[name] if it in below]
     for name in wanted:
-        if name != "lane_cases":
-            shutil.copytree(f"{TOP}/crates/{name}", f"{folder}/crates/{name}", ignore=shutil.ignore_patterns("incremental"))
+        shutil.copytree(f"{TOP}/crates/{name}", f"{folder}/crates/{name}", ignore=shutil.ignore_patterns("incremental"))
     shutil.copy2(f"{TOP}/HANDLES", folder)
     with open(f"{folder}/crates.txt", "w") as out:
-        for row in rows:
-            name = row.split(":")[0].split()[0]
-            if name in wanted:
-                out.write(row.replace("lane_cases tests_may=Threads", "lane_speed") + "\n")
+        out.writelines(row + "\n" for row in rows if row.split(":")[0].split()[0] in wanted)
+        out.write(f"lane_speed: {' '.join(NEEDS)}\n")
     crate = f"{folder}/crates/lane_speed"
     os.makedirs(f"{crate}/src")
     shutil.copy2(f"{TOP}/bench/lane_speed.main", f"{crate}/src/main.rt")

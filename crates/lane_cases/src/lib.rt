@@ -1,4 +1,4 @@
-//! Tests of lanes: items shared by workers, and rounds of requests shared by lanes of sources in memory.
+//! Tests of lanes: items shared by workers, rounds of requests shared by lanes of sources in memory, and a run with two workers.
 //!
 //! There is nothing here but tests: a crate with tests is proved twice, so these stand in a crate above.
 #![tactic(auto)]
@@ -7,3 +7,5 @@
 mod of_pool;
 #[cfg(test)]
 mod of_rounds;
+#[cfg(test)]
+mod of_runs;

@@ -2,19 +2,16 @@
 ghost use Rattle.std.specs.Prelude.{◌≡◌, ◌∷◌, [], length, IfOk, IsSomeAnd};
 ghost use Rattle.source_trait.specs.Lanes.{AtKind};
 
-use lists::{Places, Row, Rows, Seq, Text, Texts};
-use meaning::types::{Request, Requests};
+use lists::{Row, Rows, Seq, Text};
+use meaning::types::Request;
 use middleware::{AskFault, ask_round};
 use row_text::PackedRows;
-use source_trait::{
-    Ask, AttachFault, CallFault, Kind, Lane, MemorySource, Source, Table, attach_on, locators_differ,
-};
+use source_trait::{Ask, Kind, Lane, MemorySource, Source, Table, attach_on, locators_differ};
 use std::alloc::{AllocError, Global};
-use std::sync::atomic::{AtomicU64, Ordering};
 use std::test::Fail;
 use std::thread::Threads;
 
-fn row(alloc: Global, words: &[&str]) -> Result<Row, AllocError>
+pub(crate) fn row(alloc: Global, words: &[&str]) -> Result<Row, AllocError>
     ensures { IfOk result (λ row. length row ≡ length words.now) }
 {
     let mut row = Seq::new(alloc);
@@ -195,72 +192,5 @@ fn one_request_begins_one_lane(rt: HostRuntime) -> Result<(), Fail> {
     assert_eq!(rt; answers.len(), 1);
     let refused = round(&rt, rt.alloc(), &["b"], &[&[1], &[]])?;
     assert_eq!(rt; refused.err(), Some(AskFault::CallFailed { request: 0 }));
-    Ok(())
-}
-
-// A source in memory whose calls wait for those of another lane: each raises a shared count, looks at it until it is at least 2, and
-// where it was so raises a second one.
-#[derive(Drop)]
-struct Meeting<'a> {
-    own: MemorySource,
-    called: &'a AtomicU64,
-    met: &'a AtomicU64,
-}
-
-impl<'a> Meeting<'a> {
-    fn meets(&self) {
-        self.called.fetch_add(1, Ordering::SeqCst);
-        for _ in 0..200_000_000u64 {
-            if self.called.load(Ordering::SeqCst) >= 2 {
-                self.met.fetch_add(1, Ordering::SeqCst);
-                return;
-            }
-        }
-    }
-}
-
-impl<'a> Source for Meeting<'a> {
-    ghost seen = { λ m. ⟦<MemorySource as Source>⟧.seen m.own };
-
-    fn attach(
-        &mut self,
-        alloc: Global,
-        rel: u32,
-        columns: &Texts,
-        locator: &Text,
-    ) -> Result<(), AttachFault> {
-        self.own.attach(alloc, rel, columns, locator)
-    }
-
-    fn call(
-        &mut self,
-        alloc: Global,
-        rel: u32,
-        positions: &Places,
-        values: &Row,
-    ) -> Result<PackedRows, CallFault> {
-        self.meets();
-        self.own.call(alloc, rel, positions, values)
-    }
-
-    fn told(&self) -> Option<&Requests> {
-        self.own.told()
-    }
-}
-
-// Two requests on two lanes, each of which waits until the other one is asked too. On one lane the first would wait in vain.
-#[test]
-fn two_lanes_ask_at_once(rt: HostRuntime) -> Result<(), Fail> {
-    let alloc = rt.alloc();
-    let (called, met) = (AtomicU64::new(0), AtomicU64::new(0));
-    let kind = Text::from_str(alloc, "meeting")?;
-    let mut sources = Vec::new(alloc);
-    sources.push(Meeting { own: source(alloc, &[])?, called: &called, met: &met })?;
-    sources.push(Meeting { own: source(alloc, &[])?, called: &called, met: &met })?;
-    let Ok(answers) = round_of(&rt, alloc, &kind, &["a", "b"], sources)? else {
-        return Err(Fail::from("the round is refused"));
-    };
-    assert_eq!(rt; answers.len(), 2);
-    assert_eq!(rt; met.load(Ordering::SeqCst), 2);
     Ok(())
 }
