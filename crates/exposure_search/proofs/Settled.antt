@@ -136,12 +136,16 @@ module _ (schema : SchemaParts) (queries : List Query) (head : List Val) (budget
       let whole = run_joined schema.rules settles.more log (record { facts = exposed_facts trail.made; next = proof.end.next }) (copy_state settled.end) last copy_run run in
       let low : proof.end.next ≤ settled.end.next = run_rises schema.rules settles.more (record { facts = exposed_facts trail.made; next = proof.end.next }) (copy_state settled.end) copy_run in
       let (goal, among, (a, are, e)) = goal_same schema queries head proof.end.next (picked proof.end.base set) (exposed_facts trail.made) trail.same has (settles.more ++ log) last whole quiet in
-      none (goal, among, (
-        a,
-        (λ atom c. needed_stay schema.rules proof.end.next (IsWanted queries head relevant.wanted) relevant.closed.bodies marks.makers.items relevant.makers settled.end.copy cannot log (copy_state settled.end) last low (λ f wants there. there) run
-            (ground a atom) (inl (goal, among, (atom, c, record { assignment = a; heads = e; makes = refl }))) (are atom c)),
-        e,
-      ))) still
+      none (
+        goal,
+        among,
+        (
+          a,
+          (λ atom c. needed_stay schema.rules proof.end.next (IsWanted queries head relevant.wanted) relevant.closed.bodies marks.makers.items relevant.makers settled.end.copy cannot log (copy_state settled.end) last low (λ f wants there. there) run
+              (ground a atom) (inl (goal, among, (atom, c, record { assignment = a; heads = e; makes = refl }))) (are atom c)),
+          e,
+        ),
+      )) still
 
   -- what was tried
   tried : IsTry schema proof.constants (base_state proof.end) (length (bases_of (log_of proof))) (length (bases_of (log_of proof)) + length trail.made + length settles.more) (length path)

@@ -51,7 +51,13 @@ pub(crate) fn look(
     if before > u64::from(budget) {
         return Ok((End::FiringsSpent, 0));
     }
-    let ended = settle_copy(alloc, proof, schema, makers, most_firings(before, room, budget))?;
+    let ended = settle_copy(
+        alloc,
+        proof,
+        schema,
+        makers,
+        most_firings(before, room, budget),
+    )?;
     let after = mark(proof).firings;
     let found = goal(alloc, proof, queries, head)?;
     let end = end_of(&ended, found.is_some(), after >= u64::from(budget));

@@ -52,7 +52,8 @@ pub(crate) fn relevant_facts(
     let holders = proof.holders(alloc)?;
     marking.follow_all(proof, schema, methods, &holders)?;
     let Marking {
-        marks: relevant, ..
+        marks: relevant,
+        ..
     } = marking;
     Ok(Marks {
         relevant,

@@ -25,7 +25,7 @@ module _ {S : Type 0} (seen : S → Seen) (kind : List ℕ) where
       → AtKind new kind (λ s. HasTwo ((seen s).attached rel))
   now_attached old new rel columns locator x two steps there =
       StepsOn-after old new (λ s t. AttachGives (seen s) (seen t) rel columns locator (Ok x)) kind (λ s. Unit {0})
-          (λ s. HasTwo ((seen s).attached rel)) after steps (some_source 0 kind old there)
+      (λ s. HasTwo ((seen s).attached rel)) after steps (some_source 0 kind old there)
     where
       after : (s t : S) → Unit {0} → AttachGives (seen s) (seen t) rel columns locator (Ok x) → HasTwo ((seen t).attached rel)
       after s t p gives = subst HasTwo (sym gives.attached) two
@@ -35,7 +35,7 @@ module _ {S : Type 0} (seen : S → Seen) (kind : List ℕ) where
   may_ask lane ask ready same is =
       subst (λ (k : List ℕ). AtKind lane.kinds.items k (λ s. CanAsk ((seen s).attached ask.request.rel) ask.request.positions ask.request.values)) (sym same)
       (AtKind-map kind lane.kinds.items (λ s. HasTwo ((seen s).attached 7))
-          (λ s. CanAsk ((seen s).attached ask.request.rel) ask.request.positions ask.request.values) each ready)
+      (λ s. CanAsk ((seen s).attached ask.request.rel) ask.request.positions ask.request.values) each ready)
     where
       each : (s : S) → HasTwo ((seen s).attached 7) → CanAsk ((seen s).attached ask.request.rel) ask.request.positions ask.request.values
       each s has =

@@ -140,7 +140,11 @@ fn table(alloc: Global, lines: &[&[&str]]) -> Result<Rows, AllocError> {
 }
 
 // Whether lanes whose calls fail as listed answer five requests in their order.
-fn five_in_order<R: Threads + Sync>(rt: &R, alloc: Global, failing: &[&[u64]]) -> Result<bool, Fail> {
+fn five_in_order<R: Threads + Sync>(
+    rt: &R,
+    alloc: Global,
+    failing: &[&[u64]],
+) -> Result<bool, Fail> {
     let answers = answered(rt, alloc, &["c", "a", "x", "b", "a"], failing)?;
     let mut want = Vec::new(alloc);
     want.push(table(alloc, &[&["c", "4"]])?)?;

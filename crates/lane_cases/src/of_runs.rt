@@ -5,8 +5,8 @@ use meaning::types::Requests;
 use pdq_core::{Status, run_words};
 use row_text::PackedRows;
 use source_trait::{
-    AttachFault, CallFault, Files, Kind, Lane, MemoryFiles, MemorySink, MemorySource, NamedFile, Sink,
-    Source, Table, locators_differ, names_differ,
+    AttachFault, CallFault, Files, Kind, Lane, MemoryFiles, MemorySink, MemorySource, NamedFile,
+    Sink, Source, Table, locators_differ, names_differ,
 };
 use std::alloc::{AllocError, Global};
 use std::sync::atomic::{AtomicU64, Ordering};
@@ -174,7 +174,15 @@ fn answers<R: Threads + Sync, S: Source + Send + Drop>(
     let mut files = texts(alloc)?;
     let mut out = MemorySink::new(alloc, 1000, Seq::new(alloc));
     let mut err = MemorySink::new(alloc, 1000, Seq::new(alloc));
-    let done = ran(rt, alloc, words.as_slice(), &mut files, lanes, &mut out, &mut err);
+    let done = ran(
+        rt,
+        alloc,
+        words.as_slice(),
+        &mut files,
+        lanes,
+        &mut out,
+        &mut err,
+    );
     Ok(done && out.bytes() == ROWS.as_bytes() && err.bytes() == PLAN.as_bytes())
 }
 
@@ -184,8 +192,22 @@ fn two_workers_ask_at_once(rt: HostRuntime) -> Result<(), Fail> {
     let alloc = rt.alloc();
     let (called, met) = (AtomicU64::new(0), AtomicU64::new(0));
     let mut lanes = Vec::new(alloc);
-    lanes.push(lane(alloc, Meeting { own: office(alloc)?, called: &called, met: &met })?)?;
-    lanes.push(lane(alloc, Meeting { own: office(alloc)?, called: &called, met: &met })?)?;
+    lanes.push(lane(
+        alloc,
+        Meeting {
+            own: office(alloc)?,
+            called: &called,
+            met: &met,
+        },
+    )?)?;
+    lanes.push(lane(
+        alloc,
+        Meeting {
+            own: office(alloc)?,
+            called: &called,
+            met: &met,
+        },
+    )?)?;
     assert!(rt; answers(&rt, alloc, &mut lanes)?);
     assert_eq!(rt; met.load(Ordering::SeqCst), 2);
     assert_eq!(rt; called.load(Ordering::SeqCst), 2);

@@ -6,8 +6,8 @@ ghost use Rattle.accessible_copy.specs.Proving.{IsProofOf, IsOrdered};
 
 use super::queries::query;
 use super::schemas::words;
-use accessible_copy::{Mark, Proof, Round, expose, exposures, mark, round, settle, undo};
 use access_schema::Schema;
+use accessible_copy::{Mark, Proof, Round, expose, exposures, mark, round, settle, undo};
 use homomorphism::variables_width;
 use lists::{NoMemory, Texts};
 use meaning::types::{Firing, Query};

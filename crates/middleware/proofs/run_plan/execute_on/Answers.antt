@@ -60,8 +60,10 @@ pub returns-in-Err : goal.returns-in-Err
 returns-in-Err g c =
     let places = subst (λ (l : List SourceLine). (rel : ℕ) → Contains c.args.rels.now rel → LanesHavePlace c.args.lanes.now l rel) c.as_slice.ensures c.in_default.ensures in
     let some = some_first c.args.rels.now (λ e. let n : 0 < length c.args.rels.now = c.requires.some in omega (arith, n, e)) in
-    rw c.attach_fault.ensures (record { executes = promised g.S.Source.seen c.args.schema.now c.args.plan.now c.args.cap c.args.lanes.now c.attach_lanes.new.lanes
-    (Err (refused_as c.in-Err.refused.rel c.in-Err.refused.fault))
-    (run_refused g.S.Source.seen c.args.schema.now c.args.plan.now c.args.rels.now c.requires.ascends c.requires.exactly c.requires.lines c.args.lanes.now places
-    c.args.cap c.requires.lanes.0 c.in-Err.refused.rel c.in-Err.refused.fault c.attach_lanes.new.lanes c.attach_lanes.auto.lanes c.in-Err.ensures.breaks)
-    tt tt (λ none. absurd (none some.0 ((c.requires.exactly some.0).0 some.1))) (λ rel a. tt) })
+    rw c.attach_fault.ensures (record {
+      executes = promised g.S.Source.seen c.args.schema.now c.args.plan.now c.args.cap c.args.lanes.now c.attach_lanes.new.lanes
+          (Err (refused_as c.in-Err.refused.rel c.in-Err.refused.fault))
+          (run_refused g.S.Source.seen c.args.schema.now c.args.plan.now c.args.rels.now c.requires.ascends c.requires.exactly c.requires.lines c.args.lanes.now places
+          c.args.cap c.requires.lanes.0 c.in-Err.refused.rel c.in-Err.refused.fault c.attach_lanes.new.lanes c.attach_lanes.auto.lanes c.in-Err.ensures.breaks)
+          tt tt (λ none. absurd (none some.0 ((c.requires.exactly some.0).0 some.1))) (λ rel a. tt);
+    })
