@@ -46,4 +46,4 @@ module _ {S : Type 0} (seen : S → Seen) (kind : List ℕ) where
   pub all_may_ask : (lanes : List (Lane S)) (asks : List Ask) → All (λ lane. AtKind lane.kinds.items kind (λ s. HasTwo ((seen s).attached 7))) lanes
       → All (λ ask. (ask.kind ≡ kind) × (ask.request.rel ≡ 7) × (ask.request.positions ≡ 0 ∷ []) × (length ask.request.values ≡ 1)) asks
       → AllReady (MayAsk seen) asks lanes
-  all_may_ask lanes asks ready are = λ k d less j e short. let is = are j e short in may_ask (get_or lanes k d) (get_or asks j e) (ready k d less) is.0 is.1
+  all_may_ask lanes asks ready are = λ k d less j e short. let is = are j e short in may_ask (get_or lanes k d) (get_or asks j e) (ready k d less) is.0 (is.1, is.2, is.3)
