@@ -190,7 +190,8 @@ fn answers<R: Threads + Sync, S: Source + Send + Drop>(
 #[test]
 fn two_workers_ask_at_once(rt: HostRuntime) -> Result<(), Fail> {
     let alloc = rt.alloc();
-    let (called, met) = (AtomicU64::new(0), AtomicU64::new(0));
+    let called = AtomicU64::new(0);
+    let met = AtomicU64::new(0);
     let mut lanes = Vec::new(alloc);
     lanes.push(lane(
         alloc,
