@@ -1,5 +1,4 @@
 // A run of the program's top call on two lanes, whose look-ups wait for one another.
-use crate::of_rounds::row;
 use lists::{Bytes, Places, Row, Seq, Text, Texts};
 use meaning::types::Requests;
 use pdq_core::{Status, run_words};
@@ -91,6 +90,14 @@ impl<'a> Source for Meeting<'a> {
     fn told(&self) -> Option<&Requests> {
         self.own.told()
     }
+}
+
+fn row(alloc: Global, words: &[&str]) -> Result<Row, AllocError> {
+    let mut row = Seq::new(alloc);
+    for word in words {
+        row.push(Text::from_str(alloc, word)?)?;
+    }
+    Ok(row)
 }
 
 // Two profiles of the name smith, and a directory of three people.
@@ -186,30 +193,27 @@ fn answers<R: Threads + Sync, S: Source + Send + Drop>(
     Ok(done && out.bytes() == ROWS.as_bytes() && err.bytes() == PLAN.as_bytes())
 }
 
+// Whether a run with two workers writes the plan and the rows, on two lanes whose look-ups raise these counts.
+fn answers_by_two<R: Threads + Sync>(
+    rt: &R,
+    alloc: Global,
+    called: &AtomicU64,
+    met: &AtomicU64,
+) -> Result<bool, Fail> {
+    let mut lanes = Vec::new(alloc);
+    for _ in 0..2 {
+        let own = office(alloc)?;
+        lanes.push(lane(alloc, Meeting { own, called, met })?)?;
+    }
+    answers(rt, alloc, &mut lanes)
+}
+
 // Each of the two look-ups waits until the other one is asked too: on one lane the first would wait in vain.
 #[test]
 fn two_workers_ask_at_once(rt: HostRuntime) -> Result<(), Fail> {
-    let alloc = rt.alloc();
     let called = AtomicU64::new(0);
     let met = AtomicU64::new(0);
-    let mut lanes = Vec::new(alloc);
-    lanes.push(lane(
-        alloc,
-        Meeting {
-            own: office(alloc)?,
-            called: &called,
-            met: &met,
-        },
-    )?)?;
-    lanes.push(lane(
-        alloc,
-        Meeting {
-            own: office(alloc)?,
-            called: &called,
-            met: &met,
-        },
-    )?)?;
-    assert!(rt; answers(&rt, alloc, &mut lanes)?);
+    assert!(rt; answers_by_two(&rt, rt.alloc(), &called, &met)?);
     assert_eq!(rt; met.load(Ordering::SeqCst), 2);
     assert_eq!(rt; called.load(Ordering::SeqCst), 2);
     Ok(())
