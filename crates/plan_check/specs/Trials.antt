@@ -75,14 +75,14 @@ AnswersSome forms facts row = (form : Option Query) × Contains forms form × An
 
 -- ---- the chase
 
--- The chase of a query has its log as a base run from the frozen query. Where it ended nothing is active, and where it was stopped the log
--- has just so many firings, and a further one is active.
+-- A chase has its log as a base run from the state in which it began. Where it ended nothing is active, and where it was stopped the log has
+-- just so many firings, and a further one is active.
 abbrev pub StoppedAs : SchemaParts → ℕ → State → List Trigger → Stopped → Type 0
 StoppedAs schema firings end log Ended = IsQuiet schema.rules end
 StoppedAs schema firings end log Stops = (length log ≡ firings) × SomeActive schema.rules end
 
-pub record IsChase (schema : SchemaParts) (query : Query) (firings : ℕ) (chase : Chase) : Type 0 where
-  pub run : IsBaseRun schema.rules (opening_state query) chase.log chase.state
+pub record IsChase (schema : SchemaParts) (start : State) (firings : ℕ) (chase : Chase) : Type 0 where
+  pub run : IsBaseRun schema.rules start chase.log chase.state
   pub stopped : StoppedAs schema firings chase.state chase.log chase.stopped
 
 -- The instance and the row are those of the facts and the head, with the texts of the labels.

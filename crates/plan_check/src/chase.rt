@@ -2,6 +2,7 @@
 ghost use Rattle.std.specs.Prelude.{◌≡◌, ◌≤◌, IfOk, map};
 ghost use Rattle.meaning.specs.Homomorphisms.{image, renamed};
 ghost use Rattle.meaning.specs.Triggers.{bound};
+ghost use Rattle.meaning.specs.Runs.{opening_state};
 ghost use Rattle.access_schema.specs.Meaning.{meaning_of};
 ghost use Rattle.rule_pass.specs.declared.pass.TheConstants.{MOST_FIRINGS, HIGHEST_FIRST_LABEL};
 ghost use Rattle.plan_check.specs.Trials.{IsChase, IsNamedEnd};
@@ -24,21 +25,28 @@ pub struct Chase {
     pub stopped: Stopped,
 }
 
-/// Fires the rules on the frozen atoms of the query, with a budget.
-pub fn chase_query(
+/// The frozen query: the state in which its chase begins.
+pub fn frozen_query(alloc: Global, query: &Query) -> Result<State, NoMemory>
+    requires counted { bound query.now.atoms ≤ query.now.variables }
+    ensures { IfOk result (λ state. state ≡ opening_state query.now) }
+{
+    let facts = Seq::from_vec(frozen_facts(alloc, query.atoms.as_slice())?);
+    Ok(State::start(alloc, &facts, query.variables)?)
+}
+
+/// Fires the rules from the state on, with a budget.
+pub fn chase_from(
     alloc: Global,
     schema: &Schema,
-    query: &Query,
+    start: State,
     firings: u32,
 ) -> Result<Chase, NoMemory>
-    requires counted { bound query.now.atoms ≤ query.now.variables }
-    requires few { query.now.variables ≤ HIGHEST_FIRST_LABEL }
+    requires few { start.next ≤ HIGHEST_FIRST_LABEL }
     requires firings { firings ≤ MOST_FIRINGS }
-    ensures { IfOk result (IsChase (meaning_of schema.now) query.now firings) }
+    ensures { IfOk result (IsChase (meaning_of schema.now) start firings) }
 {
     schema_rules_are_orderly();
-    let facts = Seq::from_vec(frozen_facts(alloc, query.atoms.as_slice())?);
-    let mut state = State::start(alloc, &facts, query.variables)?;
+    let mut state = start;
     let mut log = Triggers::new(alloc);
     let stopped = run_rules(alloc, &mut state, &schema.rules, firings, &mut log)?;
     Ok(Chase {

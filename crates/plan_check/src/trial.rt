@@ -1,13 +1,14 @@
 // One query against others, and a list of queries one after the other.
-ghost use Rattle.std.specs.Prelude.{◌≡◌, ◌≤◌, ◌^◌, ℕ, List, IfOk, Contains, length};
+ghost use Rattle.std.specs.Prelude.{◌≡◌, ◌≤◌, ◌^◌, ℕ, List, IfOk, Contains, length, true, false};
 ghost use Rattle.access_schema.specs.Meaning.{meaning_of};
 ghost use Rattle.rule_pass.specs.declared.pass.TheConstants.{MOST_FIRINGS};
-ghost use Rattle.meaning.specs.Runs.{frozen_head};
-ghost use Rattle.plan_check.specs.Trials.{IsTriable, AreTriable, FormIsTriable, IsChase, IsOutcome, FormOutcome, AreTried, or_spent, and_outcome};
+ghost use Rattle.meaning.specs.Runs.{frozen_head, opening_state};
+ghost use Rattle.plan_check.specs.Trials.{IsTriable, AreTriable, FormIsTriable, AreCounted, SomeHas, IsChase, IsOutcome, FormOutcome, AreTried, or_spent, and_outcome};
 
-use crate::chase::{Chase, chase_query, named_end};
+use crate::chase::{Chase, chase_from, frozen_query, named_end};
 use crate::rows::some_has;
 use access_schema::Schema;
+use homomorphism::Store;
 use lists::{NoMemory, Row, Texts};
 use meaning::types::{Instance, Query, Triggers};
 use plan_extract::frozen_values;
@@ -101,6 +102,7 @@ fn try_form(
     }
 }
 
+// Where one of the others has the frozen head before any firing, it has it at the end of the chase too, so there is no need of a chase.
 fn try_query(
     alloc: Global,
     schema: &Schema,
@@ -115,8 +117,58 @@ fn try_query(
     requires firings { firings ≤ MOST_FIRINGS }
     ensures { IfOk result (IsOutcome (meaning_of schema.now) others.now firings query.now) }
 {
-    let chased = chase_query(alloc, schema, query, firings)?;
+    let start = frozen_query(alloc, query)?;
+    let found = has_head_soon(alloc, query, others, start.store())?;
+    if found {
+        return Ok(Outcome::Contained);
+    }
+    let chased = chase_from(alloc, schema, start, firings)?;
     shown_by(alloc, schema, query, others, known, firings, chased)
+}
+
+// Whether one of the others has the frozen head of the query on the facts. It is looked for only where the others have no more atoms than the
+// query, whose chase then takes longer than the search.
+fn has_head_soon(
+    alloc: Global,
+    query: &Query,
+    others: &[Option<Query>],
+    store: &Store,
+) -> Result<bool, NoMemory>
+    requires { AreCounted others.now }
+    ensures { IfOk result (λ has. has ≡ true → SomeHas store.now others.now (frozen_head query.now)) }
+{
+    if have_more_atoms(others, query.atoms.len()) {
+        return Ok(false);
+    }
+    has_head(alloc, query, others, store)
+}
+
+fn have_more_atoms(forms: &[Option<Query>], count: usize) -> bool {
+    let mut left = count;
+    for form in forms {
+        if let Some(query) = form {
+            match left.checked_sub(query.atoms.len()) {
+                Some(rest) => left = rest,
+                None => return true,
+            }
+        }
+    }
+    false
+}
+
+// Whether one of the others has the frozen head of the query on the facts.
+fn has_head(
+    alloc: Global,
+    query: &Query,
+    others: &[Option<Query>],
+    store: &Store,
+) -> Result<bool, NoMemory>
+    requires { AreCounted others.now }
+    ensures yes { IfOk result (λ has. has ≡ true → SomeHas store.now others.now (frozen_head query.now)) }
+    ensures no { IfOk result (λ has. has ≡ false → SomeHas store.now others.now (frozen_head query.now) → ⊥) }
+{
+    let head = frozen_values(alloc, query.head.as_slice())?;
+    some_has(alloc, others, store, head.as_slice())
 }
 
 // What the end of a chase of the query shows.
@@ -132,7 +184,7 @@ fn shown_by(
     requires query { IsTriable (meaning_of schema.now) known.now query.now }
     requires others { AreTriable (meaning_of schema.now) known.now others.now }
     requires known { (c : List ℕ) → Contains schema.now.constants c → Contains known.now c }
-    requires chase { IsChase (meaning_of schema.now) query.now firings chased }
+    requires chase { IsChase (meaning_of schema.now) (opening_state query.now) firings chased }
     ensures { IfOk result (IsOutcome (meaning_of schema.now) others.now firings query.now) }
 {
     let Chase {
@@ -140,13 +192,13 @@ fn shown_by(
         log,
         stopped,
     } = chased;
-    let head = frozen_values(alloc, query.head.as_slice())?;
-    let found = some_has(alloc, others, state.store(), head.as_slice())?;
+    let found = has_head(alloc, query, others, state.store())?;
     if found {
         return Ok(Outcome::Contained);
     }
     match stopped {
         Stopped::Ended => {
+            let head = frozen_values(alloc, query.head.as_slice())?;
             let (instance, row) = named_end(alloc, state.store(), head.as_slice(), known)?;
             Ok(Outcome::Separated(instance, row))
         }

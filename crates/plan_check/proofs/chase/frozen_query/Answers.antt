@@ -3,7 +3,7 @@ use Rattle.meaning.specs.declared.types.Val.TheVariants.{Label}
 use Rattle.meaning.specs.declared.types.Ground.{Ground}
 use Rattle.meaning.specs.Triggers.{ground, LabelsBelow}
 use Rattle.accessible_copy.proofs.Opening.{frozen_below}
-use Rattle.plan_check.proofs.chase.chase_query.Goals as goal
+use Rattle.plan_check.proofs.chase.frozen_query.Goals as goal
 
 pub start-requires : goal.start-requires
 start-requires c =
