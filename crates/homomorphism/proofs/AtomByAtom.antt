@@ -105,18 +105,15 @@ collected_all facts atom rest given ways found r z = record {
 }
 
 -- one turn of the loop over the ways
-pub turn_collect : (facts : List Ground) (rest : List Atom) (given : List (Option Val)) (ways : List (List (Option Val))) (i : ℕ) (way : List (Option Val)) (found more : List Assignment) →
-    i < length ways → way ≡ slice_index_or ways i way → AreApart ways → length way ≡ length given →
-    Collected facts rest given (take i ways) found → AreMatches facts rest way more → Collected facts rest given (take (i + 1) ways) (found ++ more)
-turn_collect facts rest given ways i way found more l is apart width z m = subst (λ done. Collected facts rest given done (found ++ more)) (sym turn) (record {
-  each = λ one c. ⊎_elim (λ h. let (w, among, n) = z.each one h in (w, Contains-append_left (take i ways) (way ∷ []) w among, n)) (λ h. (way, Contains-push (take i ways) way, m.each one h)) (Contains-append_cases found more one c);
+pub turn_collect : (facts : List Ground) (rest : List Atom) (given : List (Option Val)) (ways done : List (List (Option Val))) (way : List (Option Val)) (found more : List Assignment) →
+    done ≡ take (length done) ways → length done < length ways → way ≡ slice_index_or ways (length done) way → AreApart ways → length way ≡ length given →
+    Collected facts rest given done found → AreMatches facts rest way more → Collected facts rest given (done ++ way ∷ []) (found ++ more)
+turn_collect facts rest given ways done way found more front l is apart width z m = record {
+  each = λ one c. ⊎_elim (λ h. let (w, among, n) = z.each one h in (w, Contains-append_left done (way ∷ []) w among, n)) (λ h. (way, Contains-push done way, m.each one h)) (Contains-append_cases found more one c);
   all = λ w a c ag are. ⊎_elim (λ h. Contains-append_left found more (record { vals = values_of (length given) a }) (z.all w a h ag are))
-      (λ e. Contains-append_right found more (record { vals = values_of (length given) a }) (subst (λ n. Contains more (record { vals = values_of n a })) width (m.all a (subst (λ v. Agrees v a) (sym e) ag) are))) (Contains-push_cases (take i ways) way w c);
-  once = distinct_append found more z.once m.once (λ one c d. let (w, among, n) = z.each one c in apart_take ways i way apart l is w among (at one.vals) n.agrees (m.each one d).agrees);
-})
-  where
-    turn : take (i + 1) ways ≡ take i ways ++ way ∷ []
-    turn = take_more ways i way l ∙ ap (λ w. take i ways ++ w ∷ []) (sym is)
+      (λ e. Contains-append_right found more (record { vals = values_of (length given) a }) (subst (λ n. Contains more (record { vals = values_of n a })) width (m.all a (subst (λ v. Agrees v a) (sym e) ag) are))) (Contains-push_cases done way w c);
+  once = distinct_append found more z.once m.once (λ one c d. let (w, among, n) = z.each one c in apart_take ways (length done) way apart l is w (subst (λ ws. Contains ws w) front among) (at one.vals) n.agrees (m.each one d).agrees);
+}
 
 -- a slice of atoms taken apart by a pattern
 module _ (facts : List Ground) (atoms : List Atom) (atom : Atom) (given : List (Option Val)) (ways : List (List (Option Val))) (l : 1 ≤ length atoms) (is : atom ≡ slice_index_or atoms 0 atom) (r : AreWays facts atom given ways) where

@@ -24,7 +24,7 @@ pub fn first_match(
     ensures none { IfOk result (λ found. IfNone found (NoMatch store.now atoms.now fixed.now)) }
 {
     if let Some(found) = search(alloc, atoms.as_slice(), store, fixed.copy(alloc)?)? {
-        return Ok(Some(assignment(alloc, found.as_slice())?));
+        return Ok(Some(assignment(alloc, found)?));
     }
     Ok(None)
 }
@@ -40,5 +40,6 @@ pub fn all_matches(
     requires covered { AreCovered atoms.now fixed.now }
     ensures { IfOk result (λ found. AreMatches store.now atoms.now fixed.now found) }
 {
-    Ok(Seq::from_vec(every(alloc, atoms.as_slice(), store, fixed)?))
+    let given = fixed.copy(alloc)?;
+    Ok(Seq::from_vec(every(alloc, atoms.as_slice(), store, given)?))
 }

@@ -59,14 +59,14 @@ fn ways(
     Ok(ways)
 }
 
-/// The values; a variable without one gets any.
-pub fn assignment(alloc: Global, given: &[Option<Val>]) -> Result<Assignment, NoMemory>
-    ensures { IfOk result (λ made. made.vals ≡ map value_or_none given.now) }
+/// The values, which are taken over; a variable without one gets any.
+pub fn assignment(alloc: Global, given: Bindings) -> Result<Assignment, NoMemory>
+    ensures { IfOk result (λ made. made.vals ≡ map value_or_none given) }
 {
-    let mut values = Vec::new(alloc);
-    for value in given {
+    let mut values = Vec::with_capacity(alloc, given.len())?;
+    for value in given.into_vec() {
         match value {
-            Some(value) => values.push(value.copy(alloc)?)?,
+            Some(value) => values.push(value)?,
             None => values.push(Val::Label(0))?,
         }
     }
@@ -80,19 +80,18 @@ pub fn every(
     alloc: Global,
     atoms: &[Atom],
     store: &Store,
-    given: &Bindings,
+    given: Bindings,
 ) -> Result<Vec<Assignment>, NoMemory>
-    requires fits { bound atoms.now ≤ length given.now }
-    requires covered { AreCovered atoms.now given.now }
-    ensures { IfOk result (λ found. AreMatches store.now atoms.now given.now found.items) }
+    requires fits { bound atoms.now ≤ length given }
+    requires covered { AreCovered atoms.now given }
+    ensures { IfOk result (λ found. AreMatches store.now atoms.now given found.items) }
 {
     let mut found = Vec::new(alloc);
     let [atom, rest @ ..] = atoms else {
-        found.push(assignment(alloc, given.as_slice())?)?;
+        found.push(assignment(alloc, given)?)?;
         return Ok(found);
     };
-    let ways = ways(alloc, atom, store, given)?;
-    for way in &ways {
+    for way in ways(alloc, atom, store, &given)? {
         let mut more = every(alloc, rest, store, way)?;
         found.append(&mut more)?;
     }

@@ -1,6 +1,8 @@
-use Rattle.std.proofs.Common.{arith, subst, length, ◌≡◌, [], take, drop, ◌-◌, Contains}
+use Rattle.std.proofs.Common.{arith, refl, sym, ◌∙◌, rules, subst, length, ◌≡◌, [], take, drop, ◌-◌, Contains}
 use Rattle.std.proofs.lemmas.Grind.{common_steps}
-use Rattle.std.proofs.lemmas.List.{take_all}
+use Rattle.std.proofs.lemmas.List.{map-id}
+use Rattle.std.proofs.lemmas.Iterator.Consumers.{YieldsList-so_far, YieldsList-turn, YieldsList-end}
+use Rattle.std.proofs.lemmas.Iterator.Adapters.{YieldsList-from_vec}
 use Rattle.homomorphism.proofs.AtomByAtom.{matches_none, matches_at, turn_collect, fits_at, covered_at, is_among, Collected}
 use Rattle.homomorphism.proofs.Binding.{none_left}
 use Rattle.homomorphism.specs.Ways.{AreWays}
@@ -10,28 +12,38 @@ use Rattle.homomorphism.proofs.matching.+every.Goals as goal
 pub returns-in_default : goal.returns-in_default
 returns-in_default t c =
     let none : c.args.atoms.now ≡ [] = none_left c.args.atoms.now c.in_default.len_below in
-    let covered : AreCovered [] c.args.given.now = subst (λ z. AreCovered z c.args.given.now) none c.requires.covered in
+    let covered : AreCovered [] c.args.given = subst (λ z. AreCovered z c.args.given) none c.requires.covered in
     rw c.in_ok-push.ensures.items (rw c.new-found.ensures.items (rw none
-    (matches_none c.args.store.now c.args.given.now c.in_ok-assignment.field-0 covered (rw c.as_slice.ensures at c.in_ok-assignment.ensures))))
+    (matches_none c.args.store.now c.args.given c.in_ok-assignment.field-0 covered c.in_ok-assignment.ensures)))
 
 pub every-requires : goal.every-requires
 every-requires t c =
-    let w : AreWays c.args.store.now c.atom-item.result c.args.given.now c.deref-way-items.result.now = rw c.deref-way-items.ensures.value c.in_ok-ways.ensures in
-    let among : Contains c.deref-way-items.result.now c.way-item.result = is_among c.deref-way-items.result.now c.loop-way.way-index c.way-item.result c.loop-way-test.true c.way-item.is in (
+    let ways = c.in_ok-way-items.way-items.items in
+    let turn = YieldsList-turn (YieldsList-from_vec {s = c.into_iter-way-iterator.result} ways (search rules) (search rules))
+    c.loop-way.yielded c.loop-way.way-iterator c.loop-way.yielded_by c.next.result c.next.new.self c.in-Some.way c.in-Some.is c.next.ensures.steps in
+    let w : AreWays c.args.store.now c.atom-item.result c.args.given ways = c.in_ok-way-items.ensures in
+    let among : Contains ways c.in-Some.way = is_among ways (length c.loop-way.yielded) c.in-Some.way turn.0 turn.1 in (
       grind (arith, common_steps),
       (
-        fits_at c.args.store.now c.args.atoms.now c.atom-item.result c.args.given.now c.deref-way-items.result.now c.in-len1-up.len_at_least c.atom-item.is w c.way-item.result among c.requires.fits,
-        covered_at c.args.store.now c.args.atoms.now c.atom-item.result c.args.given.now c.deref-way-items.result.now c.in-len1-up.len_at_least c.atom-item.is w c.way-item.result among c.requires.covered,
+        fits_at c.args.store.now c.args.atoms.now c.atom-item.result c.args.given ways c.in-len1-up.len_at_least c.atom-item.is w c.in-Some.way among c.requires.fits,
+        covered_at c.args.store.now c.args.atoms.now c.atom-item.result c.args.given ways c.in-len1-up.len_at_least c.atom-item.is w c.in-Some.way among c.requires.covered,
       ),
     )
 
 pub loop-way-preserved : goal.loop-way-preserved
 loop-way-preserved t c =
-    let w : AreWays c.args.store.now c.atom-item.result c.args.given.now c.deref-way-items.result.now = rw c.deref-way-items.ensures.value c.in_ok-ways.ensures in
-    rw c.in_ok-append.ensures.items (turn_collect _ _ _ _ _ c.way-item.result _ _ c.loop-way-test.true c.way-item.is w.apart (w.width c.way-item.result (is_among c.deref-way-items.result.now c.loop-way.way-index c.way-item.result c.loop-way-test.true c.way-item.is)) c.loop-way.invariant c.in_ok-more.ensures)
+    let ways = c.in_ok-way-items.way-items.items in
+    let road = YieldsList-from_vec {s = c.into_iter-way-iterator.result} ways (search rules) (search rules) in
+    let turn = YieldsList-turn road c.loop-way.yielded c.loop-way.way-iterator c.loop-way.yielded_by c.next.result c.next.new.self c.in-Some.way c.in-Some.is c.next.ensures.steps in
+    let front = sym (map-id c.loop-way.yielded) ∙ YieldsList-so_far road c.loop-way.yielded c.loop-way.way-iterator c.loop-way.yielded_by in
+    let w : AreWays c.args.store.now c.atom-item.result c.args.given ways = c.in_ok-way-items.ensures in
+    rw c.in_ok-append.ensures.items (turn_collect _ _ _ ways c.loop-way.yielded c.in-Some.way _ _ front turn.0 turn.1 w.apart (w.width c.in-Some.way (is_among ways (length c.loop-way.yielded) c.in-Some.way turn.0 turn.1)) c.loop-way.invariant c.in_ok-more.ensures)
 
 pub returns : goal.returns
 returns t c =
-    let w : AreWays c.args.store.now c.atom-item.result c.args.given.now c.deref-way-items.result.now = rw c.deref-way-items.ensures.value c.in_ok-ways.ensures in
-    matches_at c.args.store.now c.args.atoms.now c.atom-item.result c.args.given.now c.deref-way-items.result.now c.in-len1-up.len_at_least c.atom-item.is w c.loop-way.found.items
-    (subst (λ z. Collected c.args.store.now (take (length c.args.atoms.now - 1) (drop 1 c.args.atoms.now)) c.args.given.now z c.loop-way.found.items) (take_all c.loop-way.way-index c.deref-way-items.result.now c.loop-way-test.false) c.loop-way.invariant)
+    let ways = c.in_ok-way-items.way-items.items in
+    let road = YieldsList-from_vec {s = c.into_iter-way-iterator.result} ways (search rules) (search rules) in
+    let end = YieldsList-end road c.loop-way.yielded c.loop-way.way-iterator c.loop-way.yielded_by c.next.result c.next.new.self c.in-None.is c.next.ensures.steps in
+    let w : AreWays c.args.store.now c.atom-item.result c.args.given ways = c.in_ok-way-items.ensures in
+    matches_at c.args.store.now c.args.atoms.now c.atom-item.result c.args.given ways c.in-len1-up.len_at_least c.atom-item.is w c.loop-way.found.items
+    (subst (λ z. Collected c.args.store.now (take (length c.args.atoms.now - 1) (drop 1 c.args.atoms.now)) c.args.given z c.loop-way.found.items) (sym (map-id c.loop-way.yielded) ∙ end.0) c.loop-way.invariant)

@@ -1,4 +1,4 @@
-use Rattle.std.proofs.Common.{length, take}
+use Rattle.std.proofs.Common.{length}
 use Rattle.homomorphism.proofs.AtomByAtom.{Collected}
 use Rattle.homomorphism.proofs.matching.+every.Given as goal
 
@@ -6,4 +6,4 @@ abbrev pub decreases-every : goal.decreases-every
 decreases-every l = length l.atoms.now
 
 abbrev pub invariant-loop-way : goal.invariant-loop-way
-invariant-loop-way l = Collected l.store l.rest l.given (take l.way-index l.way-items) l.found.items
+invariant-loop-way l = Collected l.store l.rest l.fn.given l.yielded l.found.items
