@@ -27,16 +27,6 @@ adding_more first news now next i fact copy l is same so e =
 pub front : (first news now : List Ground) → now ≡ with_facts first news → take (length first) now ≡ first
 front first news now e = ap (take (length first)) e ∙ added_front first news
 
--- facts added to no facts
-pub adding_push : (first done : List Ground) (fact : Ground) (now next : List Ground) → now ≡ with_facts first done → next ≡ with_fact now fact → next ≡ with_facts first (done ++ fact ∷ [])
-adding_push first done fact now next so e = e ∙ ap (λ facts. with_fact facts fact) so ∙ sym (fold-append with_fact first done (fact ∷ []))
-
-pub added_of : (instance : List Fact) (facts now : List Ground) → AreFactsOf instance facts → now ≡ with_facts [] facts → AreFactsOf instance now
-added_of instance facts now are e fact = (
-  (λ c. ⊎_elim (λ none. absurd (contains_none fact none)) (λ h. (are fact).0 h) (added_cases [] facts fact (subst (λ fs. Contains fs fact) e c))),
-  (λ c. subst (λ fs. Contains fs fact) (sym e) (added_right [] facts fact ((are fact).1 c))),
-)
-
 -- the last fact taken out
 pub dropped : (facts rest : List Ground) (fact : Ground) (number : ℕ) (was now : FactIndex) → facts ≡ rest ++ fact ∷ [] → number ≡ length rest → AreDistinct facts × IsIndexOf facts was →
     ((before : List Ground) → IsIndexOf (before ++ fact ∷ []) was → number ≡ length before → (Contains before fact → ⊥) → IsIndexOf before now) → AreDistinct rest × IsIndexOf rest now

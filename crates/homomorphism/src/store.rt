@@ -70,13 +70,14 @@ impl Store {
         Ok(Store::of_facts(alloc, facts, positions)?)
     }
 
-    /// A store of these facts, in which they are found by their values at these positions.
+    /// A store of these facts, of which none stands twice, in which they are found by their values at these positions.
     fn of_facts(alloc: Global, facts: Vec<Ground>, positions: Positions) -> Result<Store, NoMemory>
-        ensures { IfOk result (λ store. store ≡ with_facts [] facts.items) }
+        requires { AreDistinct facts.items }
+        ensures { IfOk result (λ store. store ≡ facts.items) }
     {
         let mut store = Store::with_positions(alloc, positions);
         for fact in facts {
-            store.insert(alloc, fact)?;
+            store.push(alloc, fact)?;
         }
         Ok(store)
     }
@@ -111,7 +112,7 @@ impl Store {
 
     /// Adds the fact as the last one where it is not there yet, and says whether it did. Where memory is refused,
     /// nothing changes.
-    #[tactic(auto, using(crate::proofs::Members::distinct_push, crate::proofs::Adding::stays, crate::proofs::Adding::pushed))]
+    #[tactic(auto, using(crate::proofs::Adding::stays, crate::proofs::Adding::pushed))]
     pub fn insert(&mut self, alloc: Global, fact: Ground) -> Result<bool, NoMemory>
         ensures there { IfOk result (λ added. (added ≡ false) ↔ Contains self.old fact) }
         ensures kept { OnOk result (self.new ≡ with_fact self.old fact) }
@@ -120,10 +121,21 @@ impl Store {
         if self.contains(&fact) {
             return Ok(false);
         }
+        self.push(alloc, fact)?;
+        Ok(true)
+    }
+
+    /// Adds a fact that is not there as the last one. Where memory is refused, nothing changes.
+    #[tactic(auto, using(crate::proofs::Members::distinct_push))]
+    fn push(&mut self, alloc: Global, fact: Ground) -> Result<(), NoMemory>
+        requires { Contains self.old fact → ⊥ }
+        ensures pushed { OnOk result (self.new ≡ self.old ++ fact ∷ []) }
+        ensures refused { OnErr result (self.new ≡ self.old) }
+    {
         let number = self.facts.len();
         let fact = self.index.add(alloc, fact, number)?;
         match self.facts.push(fact) {
-            Ok(()) => Ok(true),
+            Ok(()) => Ok(()),
             Err(refused) => {
                 self.index.remove(refused.value, number);
                 Err(NoMemory)

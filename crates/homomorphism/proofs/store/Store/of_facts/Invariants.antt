@@ -1,6 +1,5 @@
-use Rattle.std.proofs.Common.{◌≡◌, []}
-use Rattle.meaning.specs.Added.{with_facts}
+use Rattle.std.proofs.Common.{◌≡◌}
 use Rattle.homomorphism.proofs.store.Store.of_facts.Given as goal
 
 abbrev pub invariant-loop-fact : goal.invariant-loop-fact
-invariant-loop-fact l = l.store ≡ with_facts [] l.yielded
+invariant-loop-fact l = l.store ≡ l.yielded

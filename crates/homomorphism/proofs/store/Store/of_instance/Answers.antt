@@ -1,9 +1,8 @@
-use Rattle.std.proofs.Common.{List, subst}
+use Rattle.std.proofs.Common.{List, sym, subst}
 use Rattle.meaning.specs.declared.types.Fact.{Fact}
 use Rattle.homomorphism.specs.Instances.{AreFactsOf}
-use Rattle.homomorphism.proofs.Adding.{added_of}
 use Rattle.homomorphism.proofs.store.Store.of_instance.Goals as goal
 
 pub returns : goal.returns
 returns c = subst (λ (instance : List Fact). AreFactsOf instance c.in_ok-of_facts.field-0) c.in_ok-copy.ensures
-    (added_of c.in_ok-copy.field-0 c.in_ok-facts.facts.items c.in_ok-of_facts.field-0 c.in_ok-facts.ensures.same c.in_ok-of_facts.ensures)
+    (subst (AreFactsOf c.in_ok-copy.field-0) (sym c.in_ok-of_facts.ensures) c.in_ok-facts.ensures.same)
