@@ -1,9 +1,9 @@
 // Values under which atoms are facts, where any such values serve.
-ghost use Rattle.std.specs.Prelude.{◌≡◌, ◌<◌, ◌≤◌, ℕ, Contains, Some, None, length, slice_get, true, IfOk, IfSome, IfNone};
+ghost use Rattle.std.specs.Prelude.{◌≡◌, ◌<◌, ◌≤◌, ◌∷◌, [], ℕ, Contains, Some, None, length, slice_get, true, IfOk, IfSome, IfNone};
 ghost use Rattle.meaning.specs.declared.types.Term.TheVariants.{Var};
 ghost use Rattle.meaning.specs.Triggers.{bound};
 ghost use Rattle.homomorphism.specs.Matches.{NoMatch};
-ghost use Rattle.homomorphism.specs.Widening.{Widens, AreUntouched, taken};
+ghost use Rattle.homomorphism.specs.Widening.{AreRuns, AreUntouched, Widens, taken};
 
 use crate::arrange::{arranged, numbers};
 use crate::assignment::Bindings;
@@ -27,8 +27,8 @@ pub fn search(
     ensures some { IfOk result (λ found. IfSome found (λ found. Widens store.now atoms.now given found)) }
     ensures none { IfOk result (λ found. IfNone found (NoMatch store.now atoms.now given)) }
 {
-    if atoms.len() < 2 {
-        return search_whole(alloc, atoms, store, given);
+    if atoms.len() == 1 {
+        return search_run(alloc, atoms, &[0], store, given);
     }
     let runs = arranged(alloc, atoms, given.as_slice())?;
     let mut now = given.copy(alloc)?.into_vec();
@@ -55,8 +55,24 @@ fn search_whole(
     ensures none { IfOk result (λ found. IfNone found (NoMatch store.now atoms.now given)) }
 {
     let run = numbers(alloc, atoms.len())?;
+    search_run(alloc, atoms, run.as_slice(), store, given)
+}
+
+/// The same in this run, which has the numbers of all atoms.
+fn search_run(
+    alloc: Global,
+    atoms: &[Atom],
+    run: &[usize],
+    store: &Store,
+    given: Bindings,
+) -> Result<Option<Bindings>, NoMemory>
+    requires fits { bound atoms.now ≤ length given }
+    requires all { AreRuns (length atoms.now) (run.now ∷ []) }
+    ensures some { IfOk result (λ found. IfSome found (λ found. Widens store.now atoms.now given found)) }
+    ensures none { IfOk result (λ found. IfNone found (NoMatch store.now atoms.now given)) }
+{
     let mut now = given.into_vec();
-    if extend(alloc, atoms, run.as_slice(), store, &mut now)? {
+    if extend(alloc, atoms, run, store, &mut now)? {
         return Ok(Some(Seq::from_vec(now)));
     }
     Ok(None)

@@ -1,10 +1,13 @@
-use Rattle.std.proofs.Common.{◌∙◌, ◌≤◌, refl, sym, subst, length, Contains, IfOk, IfSome, IfNone}
+use Rattle.std.proofs.Common.{◌∙◌, ◌∷◌, [], ◌≤◌, refl, sym, subst, length, Contains, IfOk, IfSome, IfNone}
 use Rattle.meaning.specs.Triggers.{bound}
 use Rattle.homomorphism.specs.Matches.{NoMatch}
 use Rattle.homomorphism.specs.Widening.{AreRuns, AreUntouched, Widens, taken}
 use Rattle.homomorphism.proofs.AtomByAtom.{is_among}
-use Rattle.homomorphism.proofs.Runs.{none_before, none_of_taken, searched_none, searched_more, searched_all}
+use Rattle.homomorphism.proofs.Runs.{one_run, counted_none, counted_more, none_before, none_of_taken, searched_none, searched_more, searched_all}
 use Rattle.homomorphism.proofs.search.search.Goals as goal
+
+pub search_run-requires-clause-all : goal.search_run-requires-clause-all
+search_run-requires-clause-all c = subst (λ n. AreRuns n ((0 ∷ []) ∷ [])) (sym c.if-atoms-eq1.true) (one_run 1 (0 ∷ []) (counted_more 0 [] counted_none))
 
 pub loop-run-init : goal.loop-run-init
 loop-run-init c =
@@ -19,17 +22,17 @@ are_untouched-requires c =
     let among : Contains c.deref-run-items.result.now c.run-item.result = is_among c.deref-run-items.result.now c.loop-run.run-index c.run-item.result c.loop-run-test.true c.run-item.is in
     λ n h. runs.within c.run-item.result n among (subst (λ z. Contains z n) c.as_slice-in-loop-run.ensures h)
 
-pub search_whole-requires-then-not-are_untouched : goal.search_whole-requires-then-not-are_untouched
-search_whole-requires-then-not-are_untouched c =
+pub search_whole-requires : goal.search_whole-requires
+search_whole-requires c =
     subst (λ g. bound c.args.atoms.now ≤ length g) (sym c.loop-run.invariant.same) c.requires
 
 pub returns-then-not-are_untouched-clause-some : goal.returns-then-not-are_untouched-clause-some
 returns-then-not-are_untouched-clause-some c =
-    subst (λ g. IfOk c.search_whole-then-not-are_untouched.result (λ found. IfSome found (λ f. Widens c.args.store.now c.args.atoms.now g f))) c.loop-run.invariant.same c.search_whole-then-not-are_untouched.ensures.some
+    subst (λ g. IfOk c.search_whole.result (λ found. IfSome found (λ f. Widens c.args.store.now c.args.atoms.now g f))) c.loop-run.invariant.same c.search_whole.ensures.some
 
 pub returns-then-not-are_untouched-clause-none : goal.returns-then-not-are_untouched-clause-none
 returns-then-not-are_untouched-clause-none c =
-    subst (λ g. IfOk c.search_whole-then-not-are_untouched.result (λ found. IfNone found (NoMatch c.args.store.now c.args.atoms.now g))) c.loop-run.invariant.same c.search_whole-then-not-are_untouched.ensures.none
+    subst (λ g. IfOk c.search_whole.result (λ found. IfNone found (NoMatch c.args.store.now c.args.atoms.now g))) c.loop-run.invariant.same c.search_whole.ensures.none
 
 pub extend-requires-clause-fits : goal.extend-requires-clause-fits
 extend-requires-clause-fits c =
