@@ -115,6 +115,10 @@ turn_collect facts rest given ways done way found more front l is apart width z 
   once = distinct_append found more z.once m.once (λ one c d. let (w, among, n) = z.each one c in apart_take ways (length done) way apart l is w (subst (λ ws. Contains ws w) front among) (at one.vals) n.agrees (m.each one d).agrees);
 }
 
+-- matches of the ways so far, behind what was there
+abbrev pub Gathered : List Ground → List Atom → List (Option Val) → List (List (Option Val)) → List Assignment → List Assignment → Type 0
+Gathered facts rest given done before now = (matches : List Assignment) × (now ≡ before ++ matches) × Collected facts rest given done matches
+
 -- a slice of atoms taken apart by a pattern
 module _ (facts : List Ground) (atoms : List Atom) (atom : Atom) (given : List (Option Val)) (ways : List (List (Option Val))) (l : 1 ≤ length atoms) (is : atom ≡ slice_index_or atoms 0 atom) (r : AreWays facts atom given ways) where
   abbrev rest : List Atom

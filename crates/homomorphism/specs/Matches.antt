@@ -1,5 +1,5 @@
 -- The assignments that make atoms facts and agree with given values (Chandra and Merlin 1977, homomorphisms).
-use Rattle.std.specs.Prelude.{◌≡◌, ◌⊎◌, ℕ, ◌<◌, List, Contains, length, Option}
+use Rattle.std.specs.Prelude.{◌≡◌, ◌⊎◌, ◌++◌, ℕ, ◌<◌, List, Contains, length, Option}
 use Rattle.meaning.specs.declared.types.Atom.{Atom}
 use Rattle.meaning.specs.declared.types.Val.{Val}
 use Rattle.meaning.specs.declared.types.Val.TheVariants.{Const}
@@ -29,3 +29,8 @@ pub record AreMatches (facts : List Ground) (atoms : List Atom) (given : List (O
   pub all : (a : ℕ → Val) → Agrees given a → AreFacts Const (GroundsOf facts) a atoms →
       Contains matches (record { vals = values_of (length given) a })
   pub once : AreDistinct matches
+
+-- All matches were added behind what was there.
+abbrev pub AddsMatches : List Ground → List Atom → List (Option Val) → List Assignment → List Assignment → Type 0
+AddsMatches facts atoms given before after =
+    (matches : List Assignment) × (after ≡ before ++ matches) × AreMatches facts atoms given matches

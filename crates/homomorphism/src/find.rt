@@ -41,5 +41,7 @@ pub fn all_matches(
     ensures { IfOk result (λ found. AreMatches store.now atoms.now fixed.now found) }
 {
     let given = fixed.copy(alloc)?;
-    Ok(Seq::from_vec(every(alloc, atoms.as_slice(), store, given)?))
+    let mut found = Vec::new(alloc);
+    every(alloc, atoms.as_slice(), store, given, &mut found)?;
+    Ok(Seq::from_vec(found))
 }

@@ -1,8 +1,8 @@
 // The assignments that make atoms facts.
-ghost use Rattle.std.specs.Prelude.{◌≡◌, ◌≤◌, ◌⊎◌, [], ◌∷◌, length, map, IfOk};
+ghost use Rattle.std.specs.Prelude.{◌≡◌, ◌≤◌, ◌⊎◌, [], ◌∷◌, length, map, IfOk, OnOk};
 ghost use Rattle.meaning.specs.Triggers.{terms_bound, bound};
 ghost use Rattle.homomorphism.specs.Narrowing.{value_or_none};
-ghost use Rattle.homomorphism.specs.Matches.{AreMatches, AreCovered};
+ghost use Rattle.homomorphism.specs.Matches.{AddsMatches, AreCovered};
 ghost use Rattle.homomorphism.specs.Ways.{IsWayIf, AreWays};
 
 use crate::assignment::{Assignment, Bindings};
@@ -75,25 +75,24 @@ pub fn assignment(alloc: Global, given: Bindings) -> Result<Assignment, NoMemory
     })
 }
 
-/// All matches.
+/// Adds all matches.
 pub fn every(
     alloc: Global,
     atoms: &[Atom],
     store: &Store,
     given: Bindings,
-) -> Result<Vec<Assignment>, NoMemory>
+    found: &mut Vec<Assignment>,
+) -> Result<(), NoMemory>
     requires fits { bound atoms.now ≤ length given }
     requires covered { AreCovered atoms.now given }
-    ensures { IfOk result (λ found. AreMatches store.now atoms.now given found.items) }
+    ensures { OnOk result (AddsMatches store.now atoms.now given found.old.items found.new.items) }
 {
-    let mut found = Vec::new(alloc);
     let [atom, rest @ ..] = atoms else {
         found.push(assignment(alloc, given)?)?;
-        return Ok(found);
+        return Ok(());
     };
     for way in ways(alloc, atom, store, &given)? {
-        let mut more = every(alloc, rest, store, way)?;
-        found.append(&mut more)?;
+        every(alloc, rest, store, way, found)?;
     }
-    Ok(found)
+    Ok(())
 }

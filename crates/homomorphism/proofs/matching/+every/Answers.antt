@@ -1,4 +1,4 @@
-use Rattle.std.proofs.Common.{arith, refl, sym, ◌∙◌, rules, subst, length, ◌≡◌, [], take, drop, ◌-◌, Contains}
+use Rattle.std.proofs.Common.{arith, ap, append_assoc, refl, sym, ◌∙◌, ◌∷◌, ◌++◌, rules, subst, length, ◌≡◌, [], take, drop, ◌-◌, Contains}
 use Rattle.std.proofs.lemmas.Grind.{common_steps}
 use Rattle.std.proofs.lemmas.List.{map-id}
 use Rattle.std.proofs.lemmas.Iterator.Consumers.{YieldsList-so_far, YieldsList-turn, YieldsList-end}
@@ -13,8 +13,7 @@ pub returns-in_default : goal.returns-in_default
 returns-in_default t c =
     let none : c.args.atoms.now ≡ [] = none_left c.args.atoms.now c.in_default.len_below in
     let covered : AreCovered [] c.args.given = subst (λ z. AreCovered z c.args.given) none c.requires.covered in
-    rw c.in_ok-push.ensures.items (rw c.new-found.ensures.items (rw none
-    (matches_none c.args.store.now c.args.given c.in_ok-assignment.field-0 covered c.in_ok-assignment.ensures)))
+    (c.in_ok-assignment.field-0 ∷ [], c.in_ok-push.ensures.items, rw none (matches_none c.args.store.now c.args.given c.in_ok-assignment.field-0 covered c.in_ok-assignment.ensures))
 
 pub every-requires : goal.every-requires
 every-requires t c =
@@ -37,7 +36,9 @@ loop-way-preserved t c =
     let turn = YieldsList-turn road c.loop-way.yielded c.loop-way.way-iterator c.loop-way.yielded_by c.next.result c.next.new.self c.in-Some.way c.in-Some.is c.next.ensures.steps in
     let front = sym (map-id c.loop-way.yielded) ∙ YieldsList-so_far road c.loop-way.yielded c.loop-way.way-iterator c.loop-way.yielded_by in
     let w : AreWays c.args.store.now c.atom-item.result c.args.given ways = c.in_ok-way-items.ensures in
-    rw c.in_ok-append.ensures.items (turn_collect _ _ _ ways c.loop-way.yielded c.in-Some.way _ _ front turn.0 turn.1 w.apart (w.width c.in-Some.way (is_among ways (length c.loop-way.yielded) c.in-Some.way turn.0 turn.1)) c.loop-way.invariant c.in_ok-more.ensures)
+    let (found, is, so) = c.loop-way.invariant in
+    let (more, added, are) = c.in_ok-every.ensures in
+    (found ++ more, added ∙ ap (λ all. all ++ more) is ∙ append_assoc _ found more, turn_collect _ _ _ ways c.loop-way.yielded c.in-Some.way found more front turn.0 turn.1 w.apart (w.width c.in-Some.way (is_among ways (length c.loop-way.yielded) c.in-Some.way turn.0 turn.1)) so are)
 
 pub returns : goal.returns
 returns t c =
@@ -45,5 +46,9 @@ returns t c =
     let road = YieldsList-from_vec {s = c.into_iter-way-iterator.result} ways (search rules) (search rules) in
     let end = YieldsList-end road c.loop-way.yielded c.loop-way.way-iterator c.loop-way.yielded_by c.next.result c.next.new.self c.in-None.is c.next.ensures.steps in
     let w : AreWays c.args.store.now c.atom-item.result c.args.given ways = c.in_ok-way-items.ensures in
-    matches_at c.args.store.now c.args.atoms.now c.atom-item.result c.args.given ways c.in-len1-up.len_at_least c.atom-item.is w c.loop-way.found.items
-    (subst (λ z. Collected c.args.store.now (take (length c.args.atoms.now - 1) (drop 1 c.args.atoms.now)) c.args.given z c.loop-way.found.items) (sym (map-id c.loop-way.yielded) ∙ end.0) c.loop-way.invariant)
+    let (found, is, so) = c.loop-way.invariant in (
+      found,
+      is,
+      matches_at c.args.store.now c.args.atoms.now c.atom-item.result c.args.given ways c.in-len1-up.len_at_least c.atom-item.is w found
+          (subst (λ z. Collected c.args.store.now (take (length c.args.atoms.now - 1) (drop 1 c.args.atoms.now)) c.args.given z found) (sym (map-id c.loop-way.yielded) ∙ end.0) so),
+    )
