@@ -12,5 +12,6 @@ pub mod Still
 pub mod Serving
 pub mod Offering
 pub mod Settled
+pub mod Early
 pub mod Visited
 pub mod Explored

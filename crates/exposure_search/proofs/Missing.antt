@@ -1,7 +1,7 @@
 -- Rules with a relation in the body that has no fact.
-use Rattle.std.proofs.Common.{◌≡◌, ⊎_elim, ℕ, ◌+◌, ◌<◌, ◌≤◌, List, Bool, Some, length, take, sym, ap, ◌∙◌, subst, arith}
+use Rattle.std.proofs.Common.{◌≡◌, ⊎_elim, ℕ, ◌+◌, ◌<◌, ◌≤◌, List, [], ◌∷◌, ◌++◌, Bool, Some, length, take, sym, ap, ◌∙◌, subst, arith}
 use Rattle.std.specs.Prelude.{Contains, slice_get}
-use Rattle.std.proofs.lemmas.List.{take_all}
+use Rattle.std.proofs.lemmas.List.{map-append}
 use Rattle.std.proofs.lemmas.List.Elements.{Contains-push_cases}
 use Rattle.std.proofs.lemmas.Bool.{cases_eq}
 use Rattle.std.proofs.lemmas.Option.{slice_get_within}
@@ -9,9 +9,14 @@ use Rattle.lists.proofs.Members.{some_injective}
 use Rattle.meaning.specs.declared.types.Atom.{Atom}
 use Rattle.meaning.specs.declared.types.Rule.{Rule}
 use Rattle.meaning.specs.declared.types.Ground.{Ground}
+use Rattle.meaning.specs.declared.types.Query.{Query}
+use Rattle.meaning.specs.declared.types.Val.{Val}
+use Rattle.accessible_copy.specs.declared.entry.Exposed.{Exposed}
+use Rattle.accessible_copy.specs.Known.{facts_of}
 use Rattle.accessible_copy.proofs.Listed.{take_got}
+use Rattle.least_search.specs.declared.space.Move.{Move}
 use Rattle.exposure_search.specs.Tries.{IsMarked}
-use Rattle.exposure_search.specs.Making.{IsMissing, CannotMake}
+use Rattle.exposure_search.specs.Making.{IsMissing, IsHeld, CannotMake, fact_at, made_by, all_made, facts_along}
 
 -- each marked one of the first rules has a body atom of a relation without facts
 abbrev pub CannotTo : List Rule → List Bool → List Ground → ℕ → Type 0
@@ -26,10 +31,22 @@ cannot_more rules makers facts count rule got before here number other low at on
 pub cannot_all : (rules : List Rule) (makers : List Bool) (facts : List Ground) (count : ℕ) → length rules ≤ count → CannotTo rules makers facts count → CannotMake rules makers facts
 cannot_all rules makers facts count all cannot number rule at on = cannot number rule (let low : number < length rules = slice_get_within rules number rule at in omega arith) at on
 
-pub missing_more : (facts : List Ground) (rel n : ℕ) (fact : Ground) → slice_get facts n ≡ Some fact → (fact.rel ≡ rel → ⊥) → IsMissing (take n facts) rel → IsMissing (take (n + 1) facts) rel
-missing_more facts rel n fact at other before wanted c =
-    ⊎_elim (λ old. before wanted old) (λ e same. other (subst (λ (f : Ground). f.rel ≡ rel) (sym e) same)) (Contains-push_cases (take n facts) fact wanted (subst (λ fs. Contains fs wanted) (take_got facts n fact at) c))
+-- one more fact of a path
+pub along_more : (base : List Ground) (path : List Move) (n : ℕ) (step : Move) → slice_get path n ≡ Some step → facts_along base (take (n + 1) path) ≡ facts_along base (take n path) ++ fact_at base step.fact ∷ []
+along_more base path n step at =
+    ap (facts_along base) (take_got path n step at) ∙ ap facts_of (map-append (made_by base) (take n path) (step ∷ [])) ∙ map-append (λ (one : Exposed). one.fact) (all_made base (take n path)) (made_by base step ∷ [])
 
--- past the end there is no fact more
-pub missing_none : (facts : List Ground) (rel n : ℕ) → length facts ≤ n → IsMissing (take n facts) rel → IsMissing (take (n + 1) facts) rel
-missing_none facts rel n past before = subst (λ fs. IsMissing fs rel) (take_all n facts past ∙ sym (take_all (n + 1) facts (omega arith))) before
+module _ (base : List Ground) (path : List Move) (n : ℕ) (step : Move) (at : slice_get path n ≡ Some step) where
+  pub missing_more : (rel : ℕ) → ((fact_at base step.fact).rel ≡ rel → ⊥) → IsMissing (facts_along base (take n path)) rel → IsMissing (facts_along base (take (n + 1) path)) rel
+  missing_more rel other before wanted c =
+      ⊎_elim (λ old. before wanted old) (λ e same. other (subst (λ (f : Ground). f.rel ≡ rel) (sym e) same))
+      (Contains-push_cases (facts_along base (take n path)) (fact_at base step.fact) wanted (subst (λ fs. Contains fs wanted) (along_more base path n step at) c))
+
+  pub held_more : (value : Val) → (Contains (fact_at base step.fact).vals value → ⊥) → (IsHeld (facts_along base (take n path)) value → ⊥) → IsHeld (facts_along base (take (n + 1) path)) value → ⊥
+  held_more value here before (fact, among, has) =
+      ⊎_elim (λ old. before (fact, old, has)) (λ e. here (subst (λ (f : Ground). Contains f.vals value) (sym e) has))
+      (Contains-push_cases (facts_along base (take n path)) (fact_at base step.fact) fact (subst (λ fs. Contains fs fact) (along_more base path n step at) among))
+
+-- each of the first queries has an atom of a relation without facts
+abbrev pub UnmatchedTo : List Query → List Ground → ℕ → Type 0
+UnmatchedTo queries facts count = (query : Query) → Contains (take count queries) query → (atom : Atom) × Contains query.atoms atom × IsMissing facts atom.rel

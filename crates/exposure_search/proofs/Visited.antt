@@ -1,7 +1,8 @@
 -- Visits, said of the proof before them.
-use Rattle.std.proofs.Common.{◌≡◌, ◌⊎◌, inl, ℕ, ◌+◌, ◌<◌, ◌≤◌, List, length, take, true, ap, ◌∙◌, subst, sym, arith, Bool}
+use Rattle.std.proofs.Common.{◌≡◌, ◌⊎◌, inl, inr, ⊎_elim, ℕ, ◌+◌, ◌<◌, ◌≤◌, List, length, take, true, false, ap, ◌∙◌, subst, sym, arith, Bool}
 use Rattle.std.specs.Prelude.{Contains, IfOk, Result, Ok, Err}
 use Rattle.meaning.specs.declared.types.SchemaParts.{SchemaParts}
+use Rattle.meaning.specs.declared.types.Ground.{Ground}
 use Rattle.meaning.specs.declared.types.Query.{Query}
 use Rattle.meaning.specs.declared.types.Val.{Val}
 use Rattle.meaning.specs.Triggers.{IsQuiet, State}
@@ -10,7 +11,7 @@ use Rattle.rule_pass.specs.Levels.{AreShort}
 use Rattle.rule_pass.specs.States.{SomeActive}
 use Rattle.accessible_copy.specs.declared.settling.Round.{Round}
 use Rattle.accessible_copy.specs.declared.settling.Round.TheVariants.{Quiet, Done, Spent}
-use Rattle.accessible_copy.specs.Known.{known_values}
+use Rattle.accessible_copy.specs.Known.{known_values, facts_of}
 use Rattle.accessible_copy.specs.Proving.{Proving, IsProofOf}
 use Rattle.accessible_copy.specs.Settling.{Settles}
 use Rattle.least_search.specs.declared.space.Move.{Move}
@@ -21,11 +22,11 @@ use Rattle.least_search.specs.Walks.{IsWalk, no_facts}
 use Rattle.least_search.specs.Ends.{GoesOn}
 use Rattle.exposure_search.specs.declared.marks.Marks.{Marks}
 use Rattle.exposure_search.specs.Tries.{IsOpen, IsMarked, Adds}
-use Rattle.exposure_search.specs.Making.{OnlyExposes, SameBase, GoesBeyond, all_made, IsActiveMove, IsServed, IsStill}
+use Rattle.exposure_search.specs.Making.{OnlyExposes, SameBase, GoesBeyond, all_made, facts_along, IsActiveMove, IsServed, IsStill, CannotMake}
 use Rattle.exposure_search.specs.Relevance.{AreRelevant}
 use Rattle.exposure_search.specs.Exploring.{Exploring, exploring_of, CanExpose, GainsAt, HasGoalAt, HasTry, HasRunBeyond}
 use Rattle.exposure_search.specs.Visiting.{IsVisitEnd, AreMovesAt, IsReached}
-use Rattle.exposure_search.proofs.Logs.{goes_back, same_on, settled_long}
+use Rattle.exposure_search.proofs.Logs.{lies, goes_back, same_on, settled_long}
 use Rattle.exposure_search.proofs.Steps.{walk_same}
 use Rattle.exposure_search.proofs.Settled.{unsettled, runs_beyond, same_space, made_same, moves_here, visit_end, reached_here, none_reached}
 
@@ -46,6 +47,14 @@ module _ (schema : SchemaParts) (queries : List Query) (head : List Val) (budget
       (runs_beyond schema queries head budget marks gone gone path set is is.run (unsettled schema gone) (made_same old gone path same made) (walk_same schema old gone path set same walk) (inl more))
 
   module _ (settled : Proving) (its : IsProofOf schema settled) (settles : Settles schema true gone settled) where
+    -- where nothing was tried, the copy has the facts of the path
+    pub still_seen : (facts : List Ground) → facts ≡ old.end.base → (fires : Bool) → (fires ≡ false → CannotMake schema.rules marks.makers.items (facts_along facts path)) → IsQuiet schema.rules (copy_state settled.end) ⊎ ((fires ≡ false) × (settled ≡ gone)) →
+        IsStill schema.rules marks.makers.items (copy_state settled.end)
+    still_seen facts facts_are fires cannot seen = ⊎_elim (λ quiet. inl quiet)
+        (λ (off, unchanged).
+        let copy : settled.end.copy ≡ facts_along facts path = ap (λ (p : Proving). p.end.copy) unchanged ∙ (lies schema gone is).copy ∙ ap facts_of made ∙ ap (λ base. facts_along base path) (sym facts_are) in
+        inr (subst (λ gs. CannotMake schema.rules marks.makers.items gs) (sym copy) (cannot off))) seen
+
     -- how it ended
     pub end_seen : AreShort schema.rules → AreRelevant schema old.constants old.end.base old.end.next queries head marks → (ended : End) (fired : ℕ) → (ended ≡ end.Goal → HasGoal queries settled.end head) → (ended ≡ end.NoGoal → IsStill schema.rules marks.makers.items (copy_state settled.end)) → (ended ≡ end.NoGoal → HasGoal queries settled.end head → ⊥) →
         (ended ≡ end.FiringsSpent → GoesBeyond schema budget settled) → length gone.entries + fired ≡ length settled.entries →

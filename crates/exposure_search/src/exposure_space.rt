@@ -10,6 +10,7 @@ ghost use Rattle.exposure_search.specs.Exploring.{exploring_of, space_size, CanE
 ghost use Rattle.exposure_search.specs.Visiting.{IsReached};
 ghost use Rattle.exposure_search.specs.Spaces.{explored_is_space};
 
+use crate::ahead::moves_of;
 use crate::relevance::relevant_facts;
 use crate::visiting::{Aim, reach_set, visit_set};
 use access_schema::Schema;
@@ -35,14 +36,15 @@ pub struct ExposureSpace<'a> {
 
 impl<'a> Model for ExposureSpace<'a> {
     ghost use Rattle.access_schema.specs.Meaning.{meaning_of};
-    ghost use Rattle.exposure_search.specs.Making.{IsReady};
+    ghost use Rattle.exposure_search.specs.Making.{IsReady, HasEachMove};
     ghost use Rattle.exposure_search.specs.Exploring.{Exploring, exploring_of};
 
     ghost Value = { Exploring };
 
     ghost view = { λ s. exploring_of (meaning_of s.aim.schema.now) s.proof s.aim.queries.now s.aim.head.now s.aim.budget s.aim.marks };
 
-    ghost invariant = { λ s. IsReady (meaning_of s.aim.schema.now) s.proof s.aim.facts.items s.aim.methods s.aim.bases s.aim.queries.now s.aim.head.now s.aim.budget s.aim.marks };
+    ghost invariant = { λ s. IsReady (meaning_of s.aim.schema.now) s.proof s.aim.facts.items s.aim.methods s.aim.bases s.aim.queries.now s.aim.head.now s.aim.budget s.aim.marks
+        × HasEachMove s.aim.schema.now.methods s.aim.facts.items s.aim.marks.relevant.items s.aim.moves.items };
 }
 
 impl<'a> ExposureSpace<'a> {
@@ -74,6 +76,13 @@ impl<'a> ExposureSpace<'a> {
             &methods,
             facts.as_slice(),
         )?;
+        let moves = moves_of(
+            alloc,
+            schema,
+            &methods,
+            facts.as_slice(),
+            marks.relevant.as_slice(),
+        )?;
         let aim = Aim {
             alloc,
             schema,
@@ -84,6 +93,7 @@ impl<'a> ExposureSpace<'a> {
             bases,
             methods,
             marks,
+            moves,
         };
         Ok(ExposureSpace { aim, proof })
     }

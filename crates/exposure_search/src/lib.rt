@@ -4,6 +4,7 @@
 //! it found. Begin at `specs/Tries.antt` and `specs/Exploring.antt`.
 #![tactic(auto)]
 
+mod ahead;
 mod exposure_space;
 mod founding;
 mod going;

@@ -1,6 +1,7 @@
 // Settling the copy and looking for a match in it.
-ghost use Rattle.std.specs.Prelude.{◌≡◌, ◌≤◌, ◌<◌, ◌+◌, ◌^◌, Contains, IsTrue, IfOk, Ok, length, true, false};
+ghost use Rattle.std.specs.Prelude.{◌≡◌, ◌≤◌, ◌<◌, ◌+◌, ◌^◌, ◌⊎◌, Contains, IsTrue, IfOk, Ok, length, true, false};
 ghost use Rattle.meaning.specs.declared.types.Query.{Query};
+ghost use Rattle.meaning.specs.Triggers.{IsQuiet};
 ghost use Rattle.meaning.specs.Runs.{HasGoal, copy_state};
 ghost use Rattle.access_schema.specs.Meaning.{meaning_of};
 ghost use Rattle.rule_pass.specs.declared.pass.TheConstants.{MOST_FIRINGS};
@@ -9,7 +10,7 @@ ghost use Rattle.accessible_copy.specs.Proving.{IsProofOf};
 ghost use Rattle.accessible_copy.specs.Settling.{Settles};
 ghost use Rattle.accessible_copy.specs.Goals.{IsCounted};
 ghost use Rattle.least_search.specs.declared.space.End.TheVariants as end;
-ghost use Rattle.exposure_search.specs.Making.{OnlyExposes, GoesBeyond, IsStill};
+ghost use Rattle.exposure_search.specs.Making.{OnlyExposes, GoesBeyond};
 
 use crate::quieting::settle_copy;
 use access_schema::Schema;
@@ -20,13 +21,13 @@ use meaning::types::{Queries, Vals};
 use std::alloc::Global;
 
 /// Makes copy firings, at most `room` and while the log has fewer than `budget`, until none is active, and looks for a match. Where no
-/// rule that `makers` marks can fire, none is made.
+/// rule that counts `fires`, none is made.
 /// How it ended, and how many firings were made. Where the log has more than `budget` firings, nothing is done.
 pub(crate) fn look(
     alloc: Global,
     proof: &mut Proof,
     schema: &Schema,
-    makers: &[bool],
+    fires: bool,
     queries: &Queries,
     head: &Vals,
     budget: u32,
@@ -39,7 +40,8 @@ pub(crate) fn look(
     ensures run { IsProofOf (meaning_of schema.now) proof.new }
     ensures settles { Settles (meaning_of schema.now) true proof.old proof.new }
     ensures goal { IfOk result (λ seen. seen.0 ≡ end.Goal → HasGoal queries.now proof.new.end head.now) }
-    ensures still { IfOk result (λ seen. seen.0 ≡ end.NoGoal → IsStill schema.now.rules makers.now (copy_state proof.new.end)) }
+    ensures still { IfOk result (λ seen. seen.0 ≡ end.NoGoal →
+        IsQuiet schema.now.rules (copy_state proof.new.end) ⊎ ((fires ≡ false) × (proof.new ≡ proof.old))) }
     ensures none { IfOk result (λ seen. seen.0 ≡ end.NoGoal → HasGoal queries.now proof.new.end head.now → ⊥) }
     ensures long { IfOk result (λ seen. seen.0 ≡ end.FiringsSpent → GoesBeyond (meaning_of schema.now) budget proof.new) }
     ensures few { IfOk result (λ seen. seen.0 ≡ end.Goal → length proof.new.entries ≤ budget) }
@@ -55,7 +57,7 @@ pub(crate) fn look(
         alloc,
         proof,
         schema,
-        makers,
+        fires,
         most_firings(before, room, budget),
     )?;
     let after = mark(proof).firings;

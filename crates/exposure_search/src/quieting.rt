@@ -1,7 +1,8 @@
-// Settling the copy, where a rule on which a match can rest may fire.
-ghost use Rattle.std.specs.Prelude.{◌≡◌, ◌≤◌, max, length, Contains, Ok, true, false};
+// What the relations of facts leave possible, and settling the copy where a rule on which a match can rest may fire.
+ghost use Rattle.std.specs.Prelude.{◌≡◌, ◌≤◌, ◌⊎◌, max, length, Contains, Ok, true, false};
 ghost use Rattle.meaning.specs.declared.types.Atom.{Atom as TheAtom};
 ghost use Rattle.meaning.specs.Runs.{copy_state};
+ghost use Rattle.meaning.specs.Triggers.{IsQuiet};
 ghost use Rattle.access_schema.specs.Meaning.{meaning_of};
 ghost use Rattle.rule_pass.specs.States.{SomeActive};
 ghost use Rattle.rule_pass.specs.declared.pass.TheConstants.{MOST_FIRINGS};
@@ -9,22 +10,22 @@ ghost use Rattle.accessible_copy.specs.declared.settling.Round.TheVariants.{Quie
 ghost use Rattle.accessible_copy.specs.Proving.{IsProofOf};
 ghost use Rattle.accessible_copy.specs.Settling.{Settles};
 ghost use Rattle.exposure_search.specs.Tries.{IsMarked};
-ghost use Rattle.exposure_search.specs.Making.{OnlyExposes, IsMissing, CannotMake, IsStill};
+ghost use Rattle.exposure_search.specs.Making.{OnlyExposes, IsMissing, CannotMake, CannotMatch, fact_at, facts_along};
 
 use crate::marks::is_marked;
 use access_schema::Schema;
 use accessible_copy::{Proof, Round, settle};
+use least_search::Move;
 use lists::NoMemory;
-use meaning::types::{Atom, Rule};
+use meaning::types::{Atom, Ground, Query, Rule};
 use std::alloc::Global;
 
-/// Makes copy firings, while the log has fewer than `budget`. Where no marked rule's body has a copy fact for each atom, nothing is
-/// tried.
+/// Makes copy firings, while the log has fewer than `budget`. Where no rule that counts `fires`, nothing is tried.
 pub(crate) fn settle_copy(
     alloc: Global,
     proof: &mut Proof,
     schema: &Schema,
-    makers: &[bool],
+    fires: bool,
     budget: u32,
 ) -> Result<Round, NoMemory>
     requires exposes { OnlyExposes (meaning_of schema.now) proof.old }
@@ -32,65 +33,84 @@ pub(crate) fn settle_copy(
     ensures run { IsProofOf (meaning_of schema.now) proof.new }
     ensures more { Settles (meaning_of schema.now) true proof.old proof.new }
     ensures budget { length proof.new.entries ≤ max (length proof.old.entries) budget }
-    ensures still { result ≡ Ok Quiet → IsStill schema.now.rules makers.now (copy_state proof.new.end) }
+    ensures still { result ≡ Ok Quiet → IsQuiet schema.now.rules (copy_state proof.new.end) ⊎ ((fires ≡ false) × (proof.new ≡ proof.old)) }
     ensures spent { result ≡ Ok Spent → (budget ≤ length proof.new.entries) × SomeActive schema.now.rules (copy_state proof.new.end) }
     ensures going { result ≡ Ok Done → ⊥ }
 {
-    if !may_fire(proof, schema, makers) {
+    if !fires {
         return Ok(Round::Quiet);
     }
     settle(alloc, proof, schema, true, budget)
 }
 
-/// Whether the copy has a fact of each relation of some marked rule's body.
-fn may_fire(proof: &Proof, schema: &Schema, makers: &[bool]) -> bool
-    ensures { result ≡ false → CannotMake schema.now.rules makers.now proof.now.end.copy }
+/// Whether the facts of the path have one of each relation of some marked rule's body. `facts` are the base facts.
+pub(crate) fn may_fire(rules: &[Rule], makers: &[bool], facts: &[Ground], path: &[Move]) -> bool
+    ensures { result ≡ false → CannotMake rules.now makers.now (facts_along facts.now path.now) }
 {
-    let rules = schema.rules.as_slice();
     for (number, rule) in rules.iter().enumerate() {
-        if can_fire(proof, makers, number, rule) {
+        if can_fire(makers, number, rule, facts, path) {
             return true;
         }
     }
     false
 }
 
-/// Whether the rule is marked, and the copy has a fact of each relation of its body.
-fn can_fire(proof: &Proof, makers: &[bool], number: usize, rule: &Rule) -> bool
+/// Whether the rule is marked, and the facts of the path have one of each relation of its body.
+fn can_fire(makers: &[bool], number: usize, rule: &Rule, facts: &[Ground], path: &[Move]) -> bool
     ensures { result ≡ false → IsMarked makers.now number →
-        (atom : TheAtom) × Contains rule.now.body atom × IsMissing proof.now.end.copy atom.rel }
+        (atom : TheAtom) × Contains rule.now.body atom × IsMissing (facts_along facts.now path.now) atom.rel }
 {
     if !is_marked(makers, number) {
         return false;
     }
-    if lacks_some(proof, rule.body.as_slice()) {
+    if lacks_some(rule.body.as_slice(), facts, path) {
         return false;
     }
     true
 }
 
-/// Whether the copy has no fact of the relation of one of the atoms.
-fn lacks_some(proof: &Proof, atoms: &[Atom]) -> bool
-    ensures { result ≡ true → (atom : TheAtom) × Contains atoms.now atom × IsMissing proof.now.end.copy atom.rel }
+/// Whether the facts of the path have one of each relation of some query's atoms. `facts` are the base facts.
+pub(crate) fn may_match(queries: &[Query], facts: &[Ground], path: &[Move]) -> bool
+    ensures { result ≡ false → CannotMatch queries.now (facts_along facts.now path.now) }
 {
-    for atom in atoms {
-        if lacks(proof, atom.rel) {
+    for query in queries {
+        if !lacks_some(query.atoms.as_slice(), facts, path) {
             return true;
         }
     }
     false
 }
 
-/// Whether the copy has no fact of the relation.
-fn lacks(proof: &Proof, rel: u32) -> bool
-    ensures { result ≡ true → IsMissing proof.now.end.copy rel }
+/// Whether the path has no fact of the relation of one of the atoms.
+fn lacks_some(atoms: &[Atom], facts: &[Ground], path: &[Move]) -> bool
+    ensures { result ≡ true → (atom : TheAtom) × Contains atoms.now atom × IsMissing (facts_along facts.now path.now) atom.rel }
 {
-    for number in 0..proof.sizes().copy {
-        if let Some(fact) = proof.copy(number) {
-            if fact.rel == rel {
-                return false;
-            }
+    for atom in atoms {
+        if lacks(atom.rel, facts, path) {
+            return true;
+        }
+    }
+    false
+}
+
+/// Whether the path has no fact of the relation.
+fn lacks(rel: u32, facts: &[Ground], path: &[Move]) -> bool
+    ensures { result ≡ true → IsMissing (facts_along facts.now path.now) rel }
+{
+    for step in path {
+        if may_have(rel, facts, step.fact) {
+            return false;
         }
     }
     true
+}
+
+/// Whether the fact with this number is one of the relation, or there is none.
+fn may_have(rel: u32, facts: &[Ground], number: usize) -> bool
+    ensures { result ≡ false → (fact_at facts.now number).rel ≡ rel → ⊥ }
+{
+    match facts.get(number) {
+        Some(fact) => fact.rel == rel,
+        None => true,
+    }
 }

@@ -1,5 +1,5 @@
 // A visit of a set: what it is looked for, and how.
-ghost use Rattle.std.specs.Prelude.{◌≡◌, ◌<◌, ◌≤◌, ◌⊎◌, Contains, IfOk, IfSome, IfNone, length};
+ghost use Rattle.std.specs.Prelude.{◌≡◌, ◌<◌, ◌≤◌, ◌⊎◌, Contains, IfOk, IfSome, IfNone, length, true, false};
 ghost use Rattle.access_schema.specs.Meaning.{meaning_of};
 ghost use Rattle.accessible_copy.specs.Proving.{IsProofOf};
 ghost use Rattle.accessible_copy.specs.Goals.{IsGoal};
@@ -10,14 +10,16 @@ ghost use Rattle.least_search.specs.declared.space.End.TheVariants as end;
 ghost use Rattle.least_search.specs.Walks.{IsWalk, no_facts};
 ghost use Rattle.least_search.specs.Ends.{GoesOn};
 ghost use Rattle.exposure_search.specs.Tries.{IsOpen, IsMarked, Adds};
-ghost use Rattle.exposure_search.specs.Making.{OnlyExposes, SameBase, IsReady, IsActiveMove, IsServed};
+ghost use Rattle.exposure_search.specs.Making.{OnlyExposes, SameBase, IsReady, IsActiveMove, IsServed, CannotMake, CannotMatch, HasEachMove, facts_along};
 ghost use Rattle.exposure_search.specs.Exploring.{exploring_of, HasGoalAt, HasRunBeyond};
 ghost use Rattle.exposure_search.specs.Visiting.{IsVisitEnd, AreMovesAt, IsReached};
 
+use crate::ahead::may_move;
 use crate::going::go_along;
 use crate::listing::active_moves;
 use crate::looking::look;
 use crate::marks::Marks;
+use crate::quieting::{may_fire, may_match};
 use access_schema::Schema;
 use accessible_copy::{Match, MethodIndex, Proof, goal, mark, settle, undo};
 use least_search::{End, Move, Visit};
@@ -26,8 +28,8 @@ use meaning::types::{Ground, Queries, Vals};
 use std::alloc::Global;
 
 /// What is looked for: a match of one of the queries with this head, in runs of at most `budget` firings over the schema. The base
-/// facts of these runs, how many base firings made them, the index of the schema's methods, and marks of the base facts on which a
-/// match can rest.
+/// facts of these runs, how many base firings made them, the index of the schema's methods, marks of the base facts on which a match
+/// can rest, and the moves that expose these.
 #[derive(Drop)]
 pub struct Aim<'a> {
     pub alloc: Global,
@@ -39,10 +41,14 @@ pub struct Aim<'a> {
     pub bases: u64,
     pub methods: MethodIndex,
     pub marks: Marks,
+    pub moves: Vec<Move>,
 }
 
 /// Goes along the path, settles the copy there with at most `room` firings, looks for a match, undoes the copy firings, and lists
 /// the moves of relevant facts from there that gain something and cost less than `below`.
+///
+/// Where the relations of the path's facts show that there is no match, the copy is not settled; and where there can be no moves
+/// either, nothing is exposed.
 pub(crate) fn visit_set(
     aim: &Aim,
     proof: &mut Proof,
@@ -54,6 +60,98 @@ pub(crate) fn visit_set(
     requires ready { IsReady (meaning_of aim.now.schema.now) proof.old aim.now.facts.items aim.now.methods aim.now.bases aim.now.queries.now aim.now.head.now aim.now.budget aim.now.marks }
     requires walk { IsWalk (IsOpen (meaning_of aim.now.schema.now) proof.old.constants proof.old.end.base)
         (no_facts (length proof.old.end.base)) path.now set.now }
+    requires moves { HasEachMove aim.now.schema.now.methods aim.now.facts.items aim.now.marks.relevant.items aim.now.moves.items }
+    ensures exposes { OnlyExposes (meaning_of aim.now.schema.now) proof.new }
+    ensures same { SameBase proof.old proof.new }
+    ensures ended { IfOk result (λ visit. IsVisitEnd
+        (exploring_of (meaning_of aim.now.schema.now) proof.old aim.now.queries.now aim.now.head.now aim.now.budget aim.now.marks)
+        path.now set.now visit.end visit.fired) }
+    ensures room { IfOk result (λ visit. visit.fired ≤ room) }
+    ensures spent { IfOk result (λ visit. visit.end ≡ end.UnitsSpent → visit.fired ≡ room) }
+    ensures moves { IfOk result (λ visit. AreMovesAt
+        (exploring_of (meaning_of aim.now.schema.now) proof.old aim.now.queries.now aim.now.head.now aim.now.budget aim.now.marks)
+        set.now visit.end below visit.moves.items) }
+{
+    let fires = may_fire(
+        aim.schema.rules.as_slice(),
+        aim.marks.makers.as_slice(),
+        aim.facts.as_slice(),
+        path,
+    );
+    if fires || needs_look(aim, path) {
+        return visit_copy(aim, proof, path, set, fires, room, below);
+    }
+    visit_bare(aim, proof, path, set, below)
+}
+
+/// Whether the copy has to be looked at: the path takes more firings than a run may have, or its facts have one of each relation of
+/// some query's atoms.
+fn needs_look(aim: &Aim, path: &[Move]) -> bool
+    ensures { result ≡ false → CannotMatch aim.now.queries.now (facts_along aim.now.facts.items path.now) }
+{
+    let left = u64::from(aim.budget).saturating_sub(aim.bases);
+    if path.len() as u64 > left {
+        return true;
+    }
+    may_match(aim.queries.as_slice(), aim.facts.as_slice(), path)
+}
+
+/// Lists the moves from a set without a match, at whose facts no rule that counts can fire. Where there can be none, nothing is exposed.
+fn visit_bare(
+    aim: &Aim,
+    proof: &mut Proof,
+    path: &[Move],
+    set: &[bool],
+    below: u64,
+) -> Result<Visit, NoMemory>
+    requires ready { IsReady (meaning_of aim.now.schema.now) proof.old aim.now.facts.items aim.now.methods aim.now.bases aim.now.queries.now aim.now.head.now aim.now.budget aim.now.marks }
+    requires walk { IsWalk (IsOpen (meaning_of aim.now.schema.now) proof.old.constants proof.old.end.base)
+        (no_facts (length proof.old.end.base)) path.now set.now }
+    requires moves { HasEachMove aim.now.schema.now.methods aim.now.facts.items aim.now.marks.relevant.items aim.now.moves.items }
+    requires still { CannotMake aim.now.schema.now.rules aim.now.marks.makers.items (facts_along aim.now.facts.items path.now) }
+    requires none { CannotMatch aim.now.queries.now (facts_along aim.now.facts.items path.now) }
+    ensures exposes { OnlyExposes (meaning_of aim.now.schema.now) proof.new }
+    ensures same { SameBase proof.old proof.new }
+    ensures ended { IfOk result (λ visit. IsVisitEnd
+        (exploring_of (meaning_of aim.now.schema.now) proof.old aim.now.queries.now aim.now.head.now aim.now.budget aim.now.marks)
+        path.now set.now visit.end visit.fired) }
+    ensures none { IfOk result (λ visit. (visit.end ≡ end.NoGoal) × (visit.fired ≡ 0)) }
+    ensures moves { IfOk result (λ visit. AreMovesAt
+        (exploring_of (meaning_of aim.now.schema.now) proof.old aim.now.queries.now aim.now.head.now aim.now.budget aim.now.marks)
+        set.now visit.end below visit.moves.items) }
+{
+    let facts = aim.facts.as_slice();
+    if !may_move(aim.schema, facts, aim.moves.as_slice(), path, set, below) {
+        return Ok(Visit {
+            end: End::NoGoal,
+            fired: 0,
+            moves: Vec::new(aim.alloc),
+        });
+    }
+    go_along(aim.alloc, proof, aim.schema, facts, aim.bases, path)?;
+    let moves = moves_after(aim, proof, End::NoGoal, below)?;
+    Ok(Visit {
+        end: End::NoGoal,
+        fired: 0,
+        moves,
+    })
+}
+
+/// Goes along the path, settles the copy there where a rule that counts `fires`, looks for a match, undoes the copy firings, and lists the
+/// moves.
+fn visit_copy(
+    aim: &Aim,
+    proof: &mut Proof,
+    path: &[Move],
+    set: &[bool],
+    fires: bool,
+    room: u64,
+    below: u64,
+) -> Result<Visit, NoMemory>
+    requires ready { IsReady (meaning_of aim.now.schema.now) proof.old aim.now.facts.items aim.now.methods aim.now.bases aim.now.queries.now aim.now.head.now aim.now.budget aim.now.marks }
+    requires walk { IsWalk (IsOpen (meaning_of aim.now.schema.now) proof.old.constants proof.old.end.base)
+        (no_facts (length proof.old.end.base)) path.now set.now }
+    requires still { fires ≡ false → CannotMake aim.now.schema.now.rules aim.now.marks.makers.items (facts_along aim.now.facts.items path.now) }
     ensures exposes { OnlyExposes (meaning_of aim.now.schema.now) proof.new }
     ensures same { SameBase proof.old proof.new }
     ensures ended { IfOk result (λ visit. IsVisitEnd
@@ -78,7 +176,7 @@ pub(crate) fn visit_set(
         aim.alloc,
         proof,
         aim.schema,
-        aim.marks.makers.as_slice(),
+        fires,
         aim.queries,
         aim.head,
         aim.budget,

@@ -1,6 +1,7 @@
 use Rattle.std.proofs.Common.{take}
-use Rattle.exposure_search.specs.Making.{IsMissing}
+use Rattle.exposure_search.specs.Making.{IsMissing, facts_along}
 use Rattle.exposure_search.proofs.quieting.lacks.Given as goal
 
-abbrev pub invariant-loop-number : goal.invariant-loop-number
-invariant-loop-number l = IsMissing (take l.number l.proof.end.copy) l.rel
+-- none of the first facts is one of the relation
+abbrev pub invariant-loop-step : goal.invariant-loop-step
+invariant-loop-step l = IsMissing (facts_along l.facts (take l.step-index l.path)) l.rel

@@ -1,57 +1,17 @@
-use Rattle.std.proofs.Common.{sym, ap, ◌∙◌, subst}
-use Rattle.meaning.specs.Triggers.{State}
-use Rattle.meaning.specs.Runs.{copy_state}
-use Rattle.rule_pass.proofs.Bounds.{orderly}
-use Rattle.rule_pass.proofs.Chains.{are_short}
-use Rattle.access_schema.specs.Meaning.{meaning_of}
-use Rattle.exposure_search.specs.Making.{IsStill}
-use Rattle.exposure_search.proofs.Visited.{gone_back, end_seen, moves_seen}
+use Rattle.std.proofs.Common.{List, Bool, subst}
+use Rattle.meaning.specs.declared.types.Ground.{Ground}
+use Rattle.meaning.specs.declared.types.Rule.{Rule}
+use Rattle.exposure_search.specs.Making.{CannotMake, facts_along}
 use Rattle.exposure_search.proofs.visiting.visit_set.Goals as goal
 
-pub returns-in_err-end-clause-exposes : goal.returns-in_err-end-clause-exposes
-returns-in_err-end-clause-exposes c =
-    (gone_back (meaning_of c.args.aim.now.schema.now) c.args.aim.now.queries.now c.args.aim.now.head.now c.args.aim.now.budget c.args.aim.now.marks c.args.proof.now c.go_along.new.proof c.args.path.now c.args.set.now c.in_ok-go_along.ensures.exposes c.in_ok-go_along.ensures.same c.in_ok-go_along.ensures.made c.requires.walk
-    c.look-seen.new.proof c.look-seen.ensures.run c.look-seen.ensures.settles c.undo.new.proof c.mark-made.result.firings (c.undo.ensures.run (meaning_of c.args.aim.now.schema.now) c.look-seen.ensures.run) c.undo.ensures.constants c.undo.ensures.start c.mark-made.ensures c.undo.ensures.log).0
+pub visit_copy-requires-clause-still : goal.visit_copy-requires-clause-still
+visit_copy-requires-clause-still c off =
+    subst (λ (facts : List Ground). CannotMake c.args.aim.now.schema.now.rules c.args.aim.now.marks.makers.items (facts_along facts c.args.path.now)) c.as_slice-3.ensures.value
+    (subst (λ (makers : List Bool). CannotMake c.args.aim.now.schema.now.rules makers (facts_along c.as_slice-3.result.now c.args.path.now)) c.as_slice-2.ensures.value
+    (subst (λ (rules : List Rule). CannotMake rules c.as_slice-2.result.now (facts_along c.as_slice-3.result.now c.args.path.now)) c.as_slice.ensures (c.may_fire-fires.ensures off)))
 
-pub returns-in_err-end-clause-same : goal.returns-in_err-end-clause-same
-returns-in_err-end-clause-same c =
-    (gone_back (meaning_of c.args.aim.now.schema.now) c.args.aim.now.queries.now c.args.aim.now.head.now c.args.aim.now.budget c.args.aim.now.marks c.args.proof.now c.go_along.new.proof c.args.path.now c.args.set.now c.in_ok-go_along.ensures.exposes c.in_ok-go_along.ensures.same c.in_ok-go_along.ensures.made c.requires.walk
-    c.look-seen.new.proof c.look-seen.ensures.run c.look-seen.ensures.settles c.undo.new.proof c.mark-made.result.firings (c.undo.ensures.run (meaning_of c.args.aim.now.schema.now) c.look-seen.ensures.run) c.undo.ensures.constants c.undo.ensures.start c.mark-made.ensures c.undo.ensures.log).1
-
-pub returns-in_err-moves-clause-exposes : goal.returns-in_err-moves-clause-exposes
-returns-in_err-moves-clause-exposes c =
-    (gone_back (meaning_of c.args.aim.now.schema.now) c.args.aim.now.queries.now c.args.aim.now.head.now c.args.aim.now.budget c.args.aim.now.marks c.args.proof.now c.go_along.new.proof c.args.path.now c.args.set.now c.in_ok-go_along.ensures.exposes c.in_ok-go_along.ensures.same c.in_ok-go_along.ensures.made c.requires.walk
-    c.look-seen.new.proof c.look-seen.ensures.run c.look-seen.ensures.settles c.undo.new.proof c.mark-made.result.firings (c.undo.ensures.run (meaning_of c.args.aim.now.schema.now) c.look-seen.ensures.run) c.undo.ensures.constants c.undo.ensures.start c.mark-made.ensures c.undo.ensures.log).0
-
-pub returns-in_err-moves-clause-same : goal.returns-in_err-moves-clause-same
-returns-in_err-moves-clause-same c =
-    (gone_back (meaning_of c.args.aim.now.schema.now) c.args.aim.now.queries.now c.args.aim.now.head.now c.args.aim.now.budget c.args.aim.now.marks c.args.proof.now c.go_along.new.proof c.args.path.now c.args.set.now c.in_ok-go_along.ensures.exposes c.in_ok-go_along.ensures.same c.in_ok-go_along.ensures.made c.requires.walk
-    c.look-seen.new.proof c.look-seen.ensures.run c.look-seen.ensures.settles c.undo.new.proof c.mark-made.result.firings (c.undo.ensures.run (meaning_of c.args.aim.now.schema.now) c.look-seen.ensures.run) c.undo.ensures.constants c.undo.ensures.start c.mark-made.ensures c.undo.ensures.log).1
-
-pub returns-clause-exposes : goal.returns-clause-exposes
-returns-clause-exposes c =
-    (gone_back (meaning_of c.args.aim.now.schema.now) c.args.aim.now.queries.now c.args.aim.now.head.now c.args.aim.now.budget c.args.aim.now.marks c.args.proof.now c.go_along.new.proof c.args.path.now c.args.set.now c.in_ok-go_along.ensures.exposes c.in_ok-go_along.ensures.same c.in_ok-go_along.ensures.made c.requires.walk
-    c.look-seen.new.proof c.look-seen.ensures.run c.look-seen.ensures.settles c.undo.new.proof c.mark-made.result.firings (c.undo.ensures.run (meaning_of c.args.aim.now.schema.now) c.look-seen.ensures.run) c.undo.ensures.constants c.undo.ensures.start c.mark-made.ensures c.undo.ensures.log).0
-
-pub returns-clause-same : goal.returns-clause-same
-returns-clause-same c =
-    (gone_back (meaning_of c.args.aim.now.schema.now) c.args.aim.now.queries.now c.args.aim.now.head.now c.args.aim.now.budget c.args.aim.now.marks c.args.proof.now c.go_along.new.proof c.args.path.now c.args.set.now c.in_ok-go_along.ensures.exposes c.in_ok-go_along.ensures.same c.in_ok-go_along.ensures.made c.requires.walk
-    c.look-seen.new.proof c.look-seen.ensures.run c.look-seen.ensures.settles c.undo.new.proof c.mark-made.result.firings (c.undo.ensures.run (meaning_of c.args.aim.now.schema.now) c.look-seen.ensures.run) c.undo.ensures.constants c.undo.ensures.start c.mark-made.ensures c.undo.ensures.log).1
-
-pub moves_after-requires-clause-facts : goal.moves_after-requires-clause-facts
-moves_after-requires-clause-facts c =
-    let same = (gone_back (meaning_of c.args.aim.now.schema.now) c.args.aim.now.queries.now c.args.aim.now.head.now c.args.aim.now.budget c.args.aim.now.marks c.args.proof.now c.go_along.new.proof c.args.path.now c.args.set.now c.in_ok-go_along.ensures.exposes c.in_ok-go_along.ensures.same c.in_ok-go_along.ensures.made c.requires.walk
-    c.look-seen.new.proof c.look-seen.ensures.run c.look-seen.ensures.settles c.undo.new.proof c.mark-made.result.firings (c.undo.ensures.run (meaning_of c.args.aim.now.schema.now) c.look-seen.ensures.run) c.undo.ensures.constants c.undo.ensures.start c.mark-made.ensures c.undo.ensures.log).1 in
-    c.requires.ready.facts_are ∙ sym (ap (λ (s : State). s.facts) same.base)
-
-pub returns-clause-ended : goal.returns-clause-ended
-returns-clause-ended c =
-    end_seen (meaning_of c.args.aim.now.schema.now) c.args.aim.now.queries.now c.args.aim.now.head.now c.args.aim.now.budget c.args.aim.now.marks c.args.proof.now c.go_along.new.proof c.args.path.now c.args.set.now c.in_ok-go_along.ensures.exposes c.in_ok-go_along.ensures.same c.in_ok-go_along.ensures.made c.requires.walk
-    c.look-seen.new.proof c.look-seen.ensures.run c.look-seen.ensures.settles (are_short c.args.aim.now.schema.now.rules (orderly c.args.aim.now.schema.now).non_recursive) c.requires.ready.relevant c.in_ok-end.end c.in_ok-end.fired c.in_ok-end.ensures.goal
-    (λ e. subst (λ makers. IsStill c.args.aim.now.schema.now.rules makers (copy_state c.look-seen.new.proof.end)) c.as_slice-2.ensures.value (c.in_ok-end.ensures.still e)) c.in_ok-end.ensures.none c.in_ok-end.ensures.long c.in_ok-end.ensures.fired
-
-pub returns-clause-moves : goal.returns-clause-moves
-returns-clause-moves c =
-    let back = gone_back (meaning_of c.args.aim.now.schema.now) c.args.aim.now.queries.now c.args.aim.now.head.now c.args.aim.now.budget c.args.aim.now.marks c.args.proof.now c.go_along.new.proof c.args.path.now c.args.set.now c.in_ok-go_along.ensures.exposes c.in_ok-go_along.ensures.same c.in_ok-go_along.ensures.made c.requires.walk
-    c.look-seen.new.proof c.look-seen.ensures.run c.look-seen.ensures.settles c.undo.new.proof c.mark-made.result.firings (c.undo.ensures.run (meaning_of c.args.aim.now.schema.now) c.look-seen.ensures.run) c.undo.ensures.constants c.undo.ensures.start c.mark-made.ensures c.undo.ensures.log in
-    moves_seen (meaning_of c.args.aim.now.schema.now) c.args.aim.now.queries.now c.args.aim.now.head.now c.args.aim.now.budget c.args.aim.now.marks c.args.proof.now c.undo.new.proof c.args.path.now c.args.set.now back.0 back.1 back.2 c.requires.walk c.in_ok-end.end c.args.below c.in_ok-moves.moves.items c.in_ok-moves.ensures.active c.in_ok-moves.ensures.all
+pub visit_bare-requires-clause-still : goal.visit_bare-requires-clause-still
+visit_bare-requires-clause-still c =
+    subst (λ (facts : List Ground). CannotMake c.args.aim.now.schema.now.rules c.args.aim.now.marks.makers.items (facts_along facts c.args.path.now)) c.as_slice-3.ensures.value
+    (subst (λ (makers : List Bool). CannotMake c.args.aim.now.schema.now.rules makers (facts_along c.as_slice-3.result.now c.args.path.now)) c.as_slice-2.ensures.value
+    (subst (λ (rules : List Rule). CannotMake rules c.as_slice-2.result.now (facts_along c.as_slice-3.result.now c.args.path.now)) c.as_slice.ensures (c.may_fire-fires.ensures c.if-fires.false)))

@@ -1,0 +1,17 @@
+use Rattle.std.proofs.Common.{List, subst}
+use Rattle.std.specs.Prelude.{slice_index_or}
+use Rattle.std.proofs.lemmas.List.{take_all}
+use Rattle.least_search.specs.declared.space.Move.{Move}
+use Rattle.exposure_search.specs.Making.{IsHeld, facts_along}
+use Rattle.exposure_search.proofs.Steps.{got_index}
+use Rattle.exposure_search.proofs.Missing.{held_more}
+use Rattle.exposure_search.proofs.ahead.is_held.Goals as goal
+
+pub loop-step-preserved : goal.loop-step-preserved
+loop-step-preserved c =
+    let step = slice_index_or c.args.path.now c.loop-step.step-index (record { fact = 0; method = 0; cost = 0 }) in
+    held_more c.args.facts.now c.args.path.now c.loop-step.step-index step (got_index c.args.path.now c.loop-step.step-index (record { fact = 0; method = 0; cost = 0 }) c.loop-step-test.true) c.args.val.now (c.holds.ensures c.if-holds.false) c.loop-step.invariant
+
+pub returns : goal.returns
+returns c e =
+    subst (λ (path : List Move). IsHeld (facts_along c.args.facts.now path) c.args.val.now → ⊥) (take_all c.loop-step.step-index c.args.path.now c.loop-step-test.false) c.loop-step.invariant
