@@ -1,6 +1,6 @@
 -- The cheapest method that exposes a fact, and one move for each fact.
-use Rattle.std.proofs.Common.{◌≡◌, ℕ, ◌+◌, ◌<◌, ◌≤◌, List, [], ◌∷◌, ◌++◌, Some, None, Option, false, refl, sym, ap, ◌∙◌, subst, ⊎_elim, arith}
-use Rattle.std.specs.Prelude.{Contains, slice_get, is_some, IfSome}
+use Rattle.std.proofs.Common.{◌≡◌, ℕ, ◌+◌, ◌<◌, ◌≤◌, List, [], ◌∷◌, ◌++◌, Some, None, Option, refl, sym, ap, ◌∙◌, subst, ⊎_elim, arith}
+use Rattle.std.specs.Prelude.{Contains, slice_get, IfSome}
 use Rattle.std.proofs.lemmas.Bool.{cases_lt, cases_eq}
 use Rattle.std.proofs.lemmas.List.Elements.{Contains-append_left, Contains-push, Contains-push_cases}
 use Rattle.lists.proofs.Members.{contains_got, some_injective}
@@ -144,7 +144,3 @@ module _ (schema : SchemaParts) (proof : Proving) (marks : Marks) (below : ℕ) 
 pub when_some : {X : Type 0} (o : Option X) (P : X → Type 0) → ((x : X) → o ≡ Some x → P x) → IfSome o P
 when_some None P each = tt
 when_some (Some x) P each = each x refl
-
-pub when_none : {X : Type 0} (o : Option X) (P : X → Type 0) → is_some o ≡ false → IfSome o P
-when_none None P e = tt
-when_none (Some x) P e = absurd (cc)

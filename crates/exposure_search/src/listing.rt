@@ -1,5 +1,5 @@
 // The moves from a set.
-ghost use Rattle.std.specs.Prelude.{◌≡◌, ◌↔◌, ◌<◌, ◌≤◌, ℕ, IsTrue, Contains, IfOk, IfSome, IfNone, Some, slice_get, false};
+ghost use Rattle.std.specs.Prelude.{◌≡◌, ◌↔◌, ◌<◌, ◌≤◌, ℕ, IsTrue, Contains, IfOk, IfSome, IfNone, Some, slice_get, true, false};
 ghost use Rattle.meaning.specs.declared.types.Method.{Method as TheMethod};
 ghost use Rattle.meaning.specs.declared.types.Val.{Val as TheVal};
 ghost use Rattle.meaning.specs.Runs.{IsActiveExposure};
@@ -76,27 +76,34 @@ fn relevant_move(
         return None;
     }
     let step = cheapest_move(proof, schema, methods.numbers(fact.rel), place, fact, below)?;
-    if adds(proof, marks.needed.as_slice(), place, fact) {
+    if gains(proof, marks.needed.as_slice(), place, fact) {
         Some(step)
     } else {
         None
     }
 }
 
-/// Whether the fact is marked as needed or holds a value that is not known.
-fn adds(proof: &Proof, needed: &[bool], place: usize, fact: &Ground) -> bool
+/// Whether the fact is not exposed, and is marked as needed or holds a value that is not known. A fact with such a value is not exposed,
+/// so only a needed one is looked up.
+fn gains(proof: &Proof, needed: &[bool], place: usize, fact: &Ground) -> bool
     requires { slice_get proof.now.end.base place ≡ Some fact.now }
-    ensures { result ≡ false → Adds (known_values proof.now.constants proof.now.end.exposed) proof.now.end.base needed.now place → ⊥ }
+    ensures yes { result ≡ true → Contains proof.now.end.exposed fact.now → ⊥ }
+    ensures no { result ≡ false → (Contains proof.now.end.exposed fact.now → ⊥) →
+        Adds (known_values proof.now.constants proof.now.end.exposed) proof.now.end.base needed.now place → ⊥ }
 {
-    if is_marked(needed, place) {
-        return true;
+    if !is_marked(needed, place) {
+        return has_unknown(proof, fact.vals.as_slice());
     }
-    has_unknown(proof, fact.vals.as_slice())
+    if proof.has_exposed(fact) {
+        return false;
+    }
+    true
 }
 
 /// Whether one of the values is not known.
 fn has_unknown(proof: &Proof, vals: &[Val]) -> bool
-    ensures { result ≡ false → (v : TheVal) → Contains vals.now v → Contains (known_values proof.now.constants proof.now.end.exposed) v }
+    ensures yes { result ≡ true → (v : TheVal) × Contains vals.now v × (Contains (known_values proof.now.constants proof.now.end.exposed) v → ⊥) }
+    ensures no { result ≡ false → (v : TheVal) → Contains vals.now v → Contains (known_values proof.now.constants proof.now.end.exposed) v }
 {
     for val in vals {
         if !proof.knows(val) {
@@ -106,8 +113,8 @@ fn has_unknown(proof: &Proof, vals: &[Val]) -> bool
     false
 }
 
-/// The move that exposes the fact by a method of least cost, where one can at less than `below`. These are the numbers of the
-/// methods of the fact's relation.
+/// The move that exposes the fact by a method of least cost, where one can at less than `below` if the fact is not exposed. These are
+/// the numbers of the methods of the fact's relation.
 fn cheapest_move(
     proof: &Proof,
     schema: &Schema,
@@ -119,7 +126,8 @@ fn cheapest_move(
     requires at { slice_get proof.now.end.base place ≡ Some fact.now }
     requires named { (number : ℕ) → Contains numbers.now number →
         (method : TheMethod) × (slice_get schema.now.methods number ≡ Some method) × (method.rel ≡ fact.now.rel) }
-    ensures active { IfSome result (λ move. (move.fact ≡ place) × IsActiveMove (meaning_of schema.now) proof.now move) }
+    ensures active { (Contains proof.now.end.exposed fact.now → ⊥) →
+        IfSome result (λ move. (move.fact ≡ place) × IsActiveMove (meaning_of schema.now) proof.now move) }
     ensures least { (number : ℕ) (method : TheMethod) → Contains numbers.now number →
         IsActiveExposure (meaning_of schema.now) proof.now.constants proof.now.end number fact.now method → method.cost < below →
         (move : TheMove) × (result ≡ Some move) × (move.cost ≤ method.cost) }
@@ -135,9 +143,6 @@ fn cheapest_move(
             });
             limit = u64::from(cost);
         }
-    }
-    if best.is_some() && proof.has_exposed(fact) {
-        return None;
     }
     best
 }

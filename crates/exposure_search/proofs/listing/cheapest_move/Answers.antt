@@ -1,15 +1,14 @@
-use Rattle.std.proofs.Common.{◌≡◌, ◌<◌, ◌+◌, ◌++◌, ◌∷◌, [], Some, false, take, sym, ap, ◌∙◌, subst, rules}
-use Rattle.std.specs.Prelude.{Contains, slice_index, is_some}
+use Rattle.std.proofs.Common.{◌≡◌, ◌<◌, ◌+◌, ◌++◌, ◌∷◌, [], Some, take, sym, ap, ◌∙◌, subst}
+use Rattle.std.specs.Prelude.{Contains, slice_index}
 use Rattle.std.proofs.lemmas.List.{take_more, take_all}
 use Rattle.lists.proofs.Members.{some_injective}
 use Rattle.meaning.specs.declared.types.Method.{Method}
 use Rattle.access_schema.specs.Meaning.{meaning_of}
-use Rattle.homomorphism.proofs.Covering.{denied}
 use Rattle.accessible_copy.specs.Known.{known_values}
 use Rattle.accessible_copy.proofs.Listed.{at_index}
-use Rattle.exposure_search.proofs.Offering.{offered_more, offered_less, best_active, best_least, when_some, when_none}
+use Rattle.exposure_search.proofs.Offering.{offered_more, offered_less, best_active, best_least, when_some}
 use Rattle.exposure_search.proofs.listing.cheapest_move.Goals as goal
-use Rattle.exposure_search.proofs.listing.cheapest_move.Goals.{in-Some, in_default, else-is_some-via-then-is_some+else-has_exposed, else-is_some-via-else-is_some}
+use Rattle.exposure_search.proofs.listing.cheapest_move.Goals.{in-Some, in_default}
 
 pub loop-number-preserved : goal.loop-number-preserved
 loop-number-preserved c =
@@ -27,13 +26,8 @@ loop-number-preserved c =
     ]
 
 pub returns-clause-active : goal.returns-clause-active
-returns-clause-active c =
-    elim c.else-is_some.branch [
-      | else-is_some-via-then-is_some+else-has_exposed w ↦
-          when_some c.loop-number.best _ (best_active (meaning_of c.args.schema.now) c.args.proof.now c.args.fact.now c.args.place c.args.below c.requires.at (take c.loop-number.number-index c.args.numbers.now) c.loop-number.best c.loop-number.limit c.loop-number.invariant
-          (λ h. denied _ w.has_exposed.ensures w.if-has_exposed.false h))
-      | else-is_some-via-else-is_some w ↦ when_none c.loop-number.best _ (let e : is_some c.loop-number.best ≡ false = search rules in e)
-    ]
+returns-clause-active c new =
+    when_some c.loop-number.best _ (best_active (meaning_of c.args.schema.now) c.args.proof.now c.args.fact.now c.args.place c.args.below c.requires.at (take c.loop-number.number-index c.args.numbers.now) c.loop-number.best c.loop-number.limit c.loop-number.invariant new)
 
 pub returns-clause-least : goal.returns-clause-least
 returns-clause-least c number method among active low =
