@@ -22,7 +22,8 @@ use Rattle.least_search.specs.declared.space.End.TheVariants as end
 use Rattle.least_search.specs.Walks.{IsWalk, no_facts}
 use Rattle.exposure_search.specs.declared.marks.Marks.{Marks}
 use Rattle.exposure_search.specs.Tries.{picked, IsOpen, IsMarked}
-use Rattle.exposure_search.specs.Making.{bases_of, facts_along, CannotMake, CannotMatch, HasEachMove, MayBeKnown, MayBeMade}
+use Rattle.exposure_search.specs.Making.{bases_of, CannotMake}
+use Rattle.exposure_search.specs.Ahead.{facts_along, CannotMatch, HasEachMove, MayBeKnown, MayBeMade}
 use Rattle.exposure_search.specs.Relevance.{AreRelevant, IsWanted}
 use Rattle.exposure_search.specs.Exploring.{exploring_of, CanExpose}
 use Rattle.exposure_search.specs.Visiting.{IsVisitEnd, AreMovesAt}

@@ -16,7 +16,8 @@ use Rattle.accessible_copy.specs.Known.{facts_of}
 use Rattle.accessible_copy.proofs.Listed.{take_got}
 use Rattle.least_search.specs.declared.space.Move.{Move}
 use Rattle.exposure_search.specs.Tries.{IsMarked}
-use Rattle.exposure_search.specs.Making.{IsMissing, IsHeld, CannotMake, fact_at, made_by, all_made, facts_along}
+use Rattle.exposure_search.specs.Making.{IsMissing, CannotMake, fact_at, made_by, all_made}
+use Rattle.exposure_search.specs.Ahead.{IsHeld, facts_along}
 
 -- each marked one of the first rules has a body atom of a relation without facts
 abbrev pub CannotTo : List Rule → List Bool → List Ground → ℕ → Type 0

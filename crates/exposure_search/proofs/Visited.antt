@@ -22,7 +22,8 @@ use Rattle.least_search.specs.Walks.{IsWalk, no_facts}
 use Rattle.least_search.specs.Ends.{GoesOn}
 use Rattle.exposure_search.specs.declared.marks.Marks.{Marks}
 use Rattle.exposure_search.specs.Tries.{IsOpen, IsMarked, Adds}
-use Rattle.exposure_search.specs.Making.{OnlyExposes, SameBase, GoesBeyond, all_made, facts_along, IsActiveMove, IsServed, IsStill, CannotMake}
+use Rattle.exposure_search.specs.Making.{OnlyExposes, SameBase, GoesBeyond, all_made, IsActiveMove, IsServed, IsStill, CannotMake}
+use Rattle.exposure_search.specs.Ahead.{facts_along}
 use Rattle.exposure_search.specs.Relevance.{AreRelevant}
 use Rattle.exposure_search.specs.Exploring.{Exploring, exploring_of, CanExpose, GainsAt, HasGoalAt, HasTry, HasRunBeyond}
 use Rattle.exposure_search.specs.Visiting.{IsVisitEnd, AreMovesAt, IsReached}

@@ -1,6 +1,7 @@
 pub mod Tries
 pub mod Sets
 pub mod Making
+pub mod Ahead
 pub mod Relevance
 pub mod Exploring
 pub mod Visiting

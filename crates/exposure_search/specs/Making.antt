@@ -1,5 +1,5 @@
 -- Proofs whose logs are base firings and the exposures behind them.
-use Rattle.std.specs.Prelude.{◌≡◌, ◌⊎◌, ◌<◌, ◌≤◌, ◌^◌, ℕ, List, [], ◌∷◌, ◌++◌, Contains, Bool, false, length, map, slice_get, slice_index_or, Some}
+use Rattle.std.specs.Prelude.{◌≡◌, ◌⊎◌, ◌<◌, ◌≤◌, ◌^◌, ℕ, List, [], ◌∷◌, ◌++◌, Contains, Bool, length, map, slice_get, slice_index_or, Some}
 use Rattle.meaning.specs.declared.types.SchemaParts.{SchemaParts}
 use Rattle.meaning.specs.declared.types.Method.{Method}
 use Rattle.meaning.specs.declared.types.Ground.{Ground}
@@ -10,15 +10,12 @@ use Rattle.meaning.specs.declared.types.Query.{Query}
 use Rattle.meaning.specs.declared.types.Atom.{Atom}
 use Rattle.meaning.specs.declared.types.Rule.{Rule}
 use Rattle.meaning.specs.declared.types.Val.{Val}
-use Rattle.meaning.specs.declared.types.Val.TheVariants.{Const}
-use Rattle.meaning.specs.Values.{Value}
 use Rattle.meaning.specs.Triggers.{State, IsQuiet}
 use Rattle.meaning.specs.Runs.{base_state, copy_state, IsBaseQuiet, IsActiveExposure}
 use Rattle.meaning.specs.Extract.{Exposure}
 use Rattle.rule_pass.specs.States.{SomeActive}
 use Rattle.rule_pass.specs.declared.pass.TheConstants.{MOST_FIRINGS}
 use Rattle.accessible_copy.specs.declared.entry.Exposed.{Exposed}
-use Rattle.accessible_copy.specs.Known.{facts_of}
 use Rattle.accessible_copy.specs.Proving.{Proving, IsProofOf, log_of}
 use Rattle.accessible_copy.specs.Goals.{IsCounted}
 use Rattle.accessible_copy.specs.Methods.{IsMethodIndex}
@@ -86,10 +83,6 @@ made_by base move = record { method = move.method; fact = fact_at base move.fact
 abbrev pub all_made : List Ground → List Move → List Exposed
 all_made base moves = map (made_by base) moves
 
--- The facts that moves expose, in order.
-abbrev pub facts_along : List Ground → List Move → List Ground
-facts_along base moves = facts_of (all_made base moves)
-
 -- The exposed fact and the method's number are those of the exposure.
 abbrev pub IsExposedBy : SchemaParts → Exposed → Exposure → Type 0
 IsExposedBy schema exposed exposure =
@@ -120,38 +113,3 @@ CannotMake rules makers facts =
 -- Nothing is active, or no marked rule can fire.
 abbrev pub IsStill : List Rule → List Bool → State → Type 0
 IsStill rules makers state = IsQuiet rules state ⊎ CannotMake rules makers state.facts
-
--- Each query has an atom of a relation without facts.
-abbrev pub CannotMatch : List Query → List Ground → Type 0
-CannotMatch queries facts =
-    (query : Query) → Contains queries query → (atom : Atom) × Contains query.atoms atom × IsMissing facts atom.rel
-
--- The moves have each that exposes a marked fact by a method of its relation, at the method's cost.
-abbrev pub HasEachMove : List Method → List Ground → List Bool → List Move → Type 0
-HasEachMove methods base marks moves =
-    (number of : ℕ) (fact : Ground) (method : Method) → slice_get base number ≡ Some fact → IsMarked marks number →
-    slice_get methods of ≡ Some method → method.rel ≡ fact.rel →
-    Contains moves (record { fact = number; method = of; cost = method.cost })
-
--- One of the facts holds the value.
-abbrev pub IsHeld : List Ground → Val → Type 0
-IsHeld facts value = (fact : Ground) × Contains facts fact × Contains fact.vals value
-
--- The value is a constant, or one of the facts holds it.
-abbrev pub MayBeKnown : List Ground → Val → Type 0
-MayBeKnown facts value = ((c : Value) × (value ≡ Const c)) ⊎ IsHeld facts value
-
--- There is a value at each of the places, and it is a constant or one of the facts holds it.
-abbrev pub MayBeInputs : List Ground → List ℕ → List Val → Type 0
-MayBeInputs facts places vals =
-    (place : ℕ) → Contains places place → (value : Val) × (slice_get vals place ≡ Some value) × MayBeKnown facts value
-
--- The move costs less than a bound, the set lacks its fact, and what the fact has at the method's inputs may be known by the facts.
-pub record MayBeMade (methods : List Method) (base facts : List Ground) (set : List Bool) (below : ℕ) (move : Move) : Type 0 where
-  pub fact : Ground
-  pub method : Method
-  pub low : move.cost < below
-  pub lacks : slice_get set move.fact ≡ Some false
-  pub at : slice_get base move.fact ≡ Some fact
-  pub named : slice_get methods move.method ≡ Some method
-  pub inputs : MayBeInputs facts method.inputs fact.vals

@@ -4,7 +4,8 @@ ghost use Rattle.meaning.specs.declared.types.Method.{Method as TheMethod};
 ghost use Rattle.meaning.specs.declared.types.Val.{Val as TheVal};
 ghost use Rattle.accessible_copy.specs.Methods.{IsMethodIndex};
 ghost use Rattle.least_search.specs.declared.space.Move.{Move as TheMove};
-ghost use Rattle.exposure_search.specs.Making.{HasEachMove, IsHeld, MayBeKnown, MayBeInputs, MayBeMade, fact_at, facts_along};
+ghost use Rattle.exposure_search.specs.Making.{fact_at};
+ghost use Rattle.exposure_search.specs.Ahead.{HasEachMove, IsHeld, MayBeKnown, MayBeInputs, MayBeMade, facts_along};
 
 use crate::marks::is_marked;
 use access_schema::Schema;

@@ -36,7 +36,8 @@ pub struct ExposureSpace<'a> {
 
 impl<'a> Model for ExposureSpace<'a> {
     ghost use Rattle.access_schema.specs.Meaning.{meaning_of};
-    ghost use Rattle.exposure_search.specs.Making.{IsReady, HasEachMove};
+    ghost use Rattle.exposure_search.specs.Making.{IsReady};
+    ghost use Rattle.exposure_search.specs.Ahead.{HasEachMove};
     ghost use Rattle.exposure_search.specs.Exploring.{Exploring, exploring_of};
 
     ghost Value = { Exploring };

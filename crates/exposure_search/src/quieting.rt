@@ -10,7 +10,8 @@ ghost use Rattle.accessible_copy.specs.declared.settling.Round.TheVariants.{Quie
 ghost use Rattle.accessible_copy.specs.Proving.{IsProofOf};
 ghost use Rattle.accessible_copy.specs.Settling.{Settles};
 ghost use Rattle.exposure_search.specs.Tries.{IsMarked};
-ghost use Rattle.exposure_search.specs.Making.{OnlyExposes, IsMissing, CannotMake, CannotMatch, fact_at, facts_along};
+ghost use Rattle.exposure_search.specs.Making.{OnlyExposes, IsMissing, CannotMake, fact_at};
+ghost use Rattle.exposure_search.specs.Ahead.{CannotMatch, facts_along};
 
 use crate::marks::is_marked;
 use access_schema::Schema;

@@ -10,7 +10,8 @@ ghost use Rattle.least_search.specs.declared.space.End.TheVariants as end;
 ghost use Rattle.least_search.specs.Walks.{IsWalk, no_facts};
 ghost use Rattle.least_search.specs.Ends.{GoesOn};
 ghost use Rattle.exposure_search.specs.Tries.{IsOpen, IsMarked, Adds};
-ghost use Rattle.exposure_search.specs.Making.{OnlyExposes, SameBase, IsReady, IsActiveMove, IsServed, CannotMake, CannotMatch, HasEachMove, facts_along};
+ghost use Rattle.exposure_search.specs.Making.{OnlyExposes, SameBase, IsReady, IsActiveMove, IsServed, CannotMake};
+ghost use Rattle.exposure_search.specs.Ahead.{CannotMatch, HasEachMove, facts_along};
 ghost use Rattle.exposure_search.specs.Exploring.{exploring_of, HasGoalAt, HasRunBeyond};
 ghost use Rattle.exposure_search.specs.Visiting.{IsVisitEnd, AreMovesAt, IsReached};
 

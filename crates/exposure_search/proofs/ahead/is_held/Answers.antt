@@ -2,7 +2,7 @@ use Rattle.std.proofs.Common.{List, subst}
 use Rattle.std.specs.Prelude.{slice_index_or}
 use Rattle.std.proofs.lemmas.List.{take_all}
 use Rattle.least_search.specs.declared.space.Move.{Move}
-use Rattle.exposure_search.specs.Making.{IsHeld, facts_along}
+use Rattle.exposure_search.specs.Ahead.{IsHeld, facts_along}
 use Rattle.exposure_search.proofs.Steps.{got_index}
 use Rattle.exposure_search.proofs.Missing.{held_more}
 use Rattle.exposure_search.proofs.ahead.is_held.Goals as goal

@@ -1,5 +1,5 @@
 use Rattle.std.proofs.Common.{take}
-use Rattle.exposure_search.specs.Making.{IsHeld, facts_along}
+use Rattle.exposure_search.specs.Ahead.{IsHeld, facts_along}
 use Rattle.exposure_search.proofs.ahead.is_held.Given as goal
 
 -- none of the first facts holds the value

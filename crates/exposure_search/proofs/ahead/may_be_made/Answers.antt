@@ -6,7 +6,7 @@ use Rattle.meaning.specs.declared.types.Ground.{Ground}
 use Rattle.meaning.specs.declared.types.Method.{Method}
 use Rattle.meaning.specs.declared.types.Val.{Val}
 use Rattle.accessible_copy.proofs.Listed.{got_here}
-use Rattle.exposure_search.specs.Making.{MayBeInputs, facts_along}
+use Rattle.exposure_search.specs.Ahead.{MayBeInputs, facts_along}
 use Rattle.exposure_search.proofs.ahead.may_be_made.Goals as goal
 
 pub returns-in-Some-get : goal.returns-in-Some-get

@@ -2,7 +2,7 @@ use Rattle.std.proofs.Common.{List, subst}
 use Rattle.std.specs.Prelude.{Contains, slice_index_or}
 use Rattle.std.proofs.lemmas.List.{take_all}
 use Rattle.least_search.specs.declared.space.Move.{Move}
-use Rattle.exposure_search.specs.Making.{MayBeMade, facts_along}
+use Rattle.exposure_search.specs.Ahead.{MayBeMade, facts_along}
 use Rattle.exposure_search.proofs.Steps.{got_index}
 use Rattle.exposure_search.proofs.Wanting.{front_each}
 use Rattle.exposure_search.proofs.ahead.may_move.Goals as goal

@@ -1,7 +1,7 @@
 use Rattle.std.proofs.Common.{take}
 use Rattle.std.specs.Prelude.{Contains}
 use Rattle.least_search.specs.declared.space.Move.{Move}
-use Rattle.exposure_search.specs.Making.{MayBeMade, facts_along}
+use Rattle.exposure_search.specs.Ahead.{MayBeMade, facts_along}
 use Rattle.exposure_search.proofs.ahead.may_move.Given as goal
 
 -- none of the first moves may be made

@@ -2,7 +2,8 @@ use Rattle.std.proofs.Common.{List, subst}
 use Rattle.std.specs.Prelude.{Contains}
 use Rattle.meaning.specs.declared.types.Atom.{Atom}
 use Rattle.homomorphism.proofs.Covering.{denied}
-use Rattle.exposure_search.specs.Making.{IsMissing, facts_along}
+use Rattle.exposure_search.specs.Making.{IsMissing}
+use Rattle.exposure_search.specs.Ahead.{facts_along}
 use Rattle.exposure_search.proofs.quieting.can_fire.Goals as goal
 
 pub returns-then-not-is_marked : goal.returns-then-not-is_marked

@@ -1,5 +1,6 @@
 use Rattle.std.proofs.Common.{take}
-use Rattle.exposure_search.specs.Making.{IsMissing, facts_along}
+use Rattle.exposure_search.specs.Making.{IsMissing}
+use Rattle.exposure_search.specs.Ahead.{facts_along}
 use Rattle.exposure_search.proofs.quieting.lacks.Given as goal
 
 -- none of the first facts is one of the relation

@@ -1,5 +1,5 @@
 use Rattle.accessible_copy.proofs.Listed.{got_here}
-use Rattle.exposure_search.specs.Making.{facts_along}
+use Rattle.exposure_search.specs.Ahead.{facts_along}
 use Rattle.exposure_search.proofs.Missing.{cannot_more, cannot_all}
 use Rattle.exposure_search.proofs.quieting.may_fire.Goals as goal
 

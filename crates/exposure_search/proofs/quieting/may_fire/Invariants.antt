@@ -1,4 +1,4 @@
-use Rattle.exposure_search.specs.Making.{facts_along}
+use Rattle.exposure_search.specs.Ahead.{facts_along}
 use Rattle.exposure_search.proofs.Missing.{CannotTo}
 use Rattle.exposure_search.proofs.quieting.may_fire.Given as goal
 

@@ -4,7 +4,8 @@ use Rattle.std.proofs.lemmas.List.{take_all}
 use Rattle.meaning.specs.declared.types.Atom.{Atom}
 use Rattle.meaning.specs.declared.types.Query.{Query}
 use Rattle.accessible_copy.proofs.Listed.{got_here}
-use Rattle.exposure_search.specs.Making.{IsMissing, CannotMatch, facts_along}
+use Rattle.exposure_search.specs.Making.{IsMissing}
+use Rattle.exposure_search.specs.Ahead.{CannotMatch, facts_along}
 use Rattle.exposure_search.proofs.Wanting.{front_each}
 use Rattle.exposure_search.proofs.quieting.may_match.Goals as goal
 

@@ -1,7 +1,7 @@
 use Rattle.std.proofs.Common.{List, subst}
 use Rattle.meaning.specs.declared.types.Ground.{Ground}
 use Rattle.meaning.specs.declared.types.Query.{Query}
-use Rattle.exposure_search.specs.Making.{CannotMatch, facts_along}
+use Rattle.exposure_search.specs.Ahead.{CannotMatch, facts_along}
 use Rattle.exposure_search.proofs.visiting.needs_look.Goals as goal
 
 pub returns : goal.returns

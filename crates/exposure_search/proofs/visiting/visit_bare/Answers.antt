@@ -6,7 +6,8 @@ use Rattle.rule_pass.proofs.Chains.{are_short}
 use Rattle.access_schema.specs.Meaning.{meaning_of}
 use Rattle.least_search.specs.declared.space.Move.{Move}
 use Rattle.least_search.specs.declared.space.End.TheVariants as end
-use Rattle.exposure_search.specs.Making.{CannotMake, CannotMatch, HasEachMove, MayBeMade, facts_along}
+use Rattle.exposure_search.specs.Making.{CannotMake}
+use Rattle.exposure_search.specs.Ahead.{CannotMatch, HasEachMove, MayBeMade, facts_along}
 use Rattle.exposure_search.proofs.Early.{bare_end, bare_moves}
 use Rattle.exposure_search.proofs.Visited.{moves_seen}
 use Rattle.exposure_search.proofs.visiting.visit_bare.Goals as goal

@@ -1,7 +1,8 @@
 use Rattle.std.proofs.Common.{List, Bool, subst}
 use Rattle.meaning.specs.declared.types.Ground.{Ground}
 use Rattle.meaning.specs.declared.types.Rule.{Rule}
-use Rattle.exposure_search.specs.Making.{CannotMake, facts_along}
+use Rattle.exposure_search.specs.Making.{CannotMake}
+use Rattle.exposure_search.specs.Ahead.{facts_along}
 use Rattle.exposure_search.proofs.visiting.visit_set.Goals as goal
 
 pub visit_copy-requires-clause-still : goal.visit_copy-requires-clause-still

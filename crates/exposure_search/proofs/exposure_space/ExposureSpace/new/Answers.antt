@@ -1,7 +1,7 @@
 use Rattle.std.proofs.Common.{List, Bool, ◌∙◌, subst}
 use Rattle.meaning.specs.declared.types.Ground.{Ground}
 use Rattle.access_schema.specs.Meaning.{meaning_of}
-use Rattle.exposure_search.specs.Making.{HasEachMove}
+use Rattle.exposure_search.specs.Ahead.{HasEachMove}
 use Rattle.exposure_search.proofs.Explored.{begins_only, begins_bare, begins_long, founded}
 use Rattle.exposure_search.proofs.exposure_space.ExposureSpace.new.Goals as goal
 
