@@ -21,7 +21,7 @@ use meaning::types::{Queries, Vals};
 use std::alloc::Global;
 
 /// Makes copy firings, at most `room` and while the log has fewer than `budget`, until none is active, and looks for a match. Where no
-/// rule that counts `fires`, none is made.
+/// rule on which a match can rest `fires`, none is made.
 /// How it ended, and how many firings were made. Where the log has more than `budget` firings, nothing is done.
 pub(crate) fn look(
     alloc: Global,

@@ -21,7 +21,7 @@ use lists::NoMemory;
 use meaning::types::{Atom, Ground, Query, Rule};
 use std::alloc::Global;
 
-/// Makes copy firings, while the log has fewer than `budget`. Where no rule that counts `fires`, nothing is tried.
+/// Makes copy firings, while the log has fewer than `budget`. Where no rule on which a match can rest `fires`, nothing is tried.
 pub(crate) fn settle_copy(
     alloc: Global,
     proof: &mut Proof,

@@ -97,7 +97,7 @@ fn needs_look(aim: &Aim, path: &[Move]) -> bool
     may_match(aim.queries.as_slice(), aim.facts.as_slice(), path)
 }
 
-/// Lists the moves from a set without a match, at whose facts no rule that counts can fire. Where there can be none, nothing is exposed.
+/// Lists the moves from a set that has no match, as the relations of its path's facts show. Where there can be none, nothing is exposed.
 fn visit_bare(
     aim: &Aim,
     proof: &mut Proof,
@@ -138,8 +138,8 @@ fn visit_bare(
     })
 }
 
-/// Goes along the path, settles the copy there where a rule that counts `fires`, looks for a match, undoes the copy firings, and lists the
-/// moves.
+/// Goes along the path, settles the copy there where a rule on which a match can rest `fires`, looks for a match, undoes the copy firings,
+/// and lists the moves.
 fn visit_copy(
     aim: &Aim,
     proof: &mut Proof,
