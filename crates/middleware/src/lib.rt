@@ -6,6 +6,7 @@
 #![tactic(auto)]
 
 mod accesses;
+mod ascending;
 mod ask;
 mod asking;
 mod attach;

@@ -8,11 +8,13 @@ use std::alloc::{AllocError, Global};
 
 /// The partial rows with the empty text at each column that no place of the steps and of the output names.
 ///
-/// Where there is no memory for that, they stay as they are.
+/// Where there is no memory for that, or the columns before the first of these tell the rows apart, they stay as they are.
 pub fn live_rows(alloc: Global, steps: &[Step], outs: &[Out], rows: PackedRows) -> PackedRows
     ensures { AreAlike (is_live steps.now outs.now) rows result }
 {
-    if rows.len() < 2 || all_live(steps, outs, width_of(&rows)) {
+    let width = width_of(&rows);
+    let live = live_front(steps, outs, width);
+    if rows.len() < 2 || live == width || fronts_ascend(&rows, live) {
         return rows;
     }
     match without_dead(alloc, steps, outs, &rows) {
@@ -39,14 +41,37 @@ fn width_of(rows: &PackedRows) -> usize {
     if rows.len() == 0 { 0 } else { rows.at(0).len() }
 }
 
-// Whether each of the first columns is live.
-fn all_live(steps: &[Step], outs: &[Out], width: usize) -> bool {
+// How many of the first columns come before one that is not live.
+fn live_front(steps: &[Step], outs: &[Out], width: usize) -> usize {
     for column in 0..width {
         if !is_live_column(steps, outs, column) {
+            return column;
+        }
+    }
+    width
+}
+
+// Whether the first columns of each row are below those of the next one, so that no other column tells them apart.
+fn fronts_ascend(rows: &PackedRows, columns: usize) -> bool {
+    for number in 1..rows.len() {
+        if !is_front_below(&rows.at(number - 1), &rows.at(number), columns) {
             return false;
         }
     }
     true
+}
+
+// Whether the row's first columns are below those of the other one.
+fn is_front_below(row: &LentRow<'_>, other: &LentRow<'_>, columns: usize) -> bool {
+    for column in 0..columns {
+        let (Some(value), Some(above)) = (row.value(column), other.value(column)) else {
+            return false;
+        };
+        if value != above {
+            return value < above;
+        }
+    }
+    false
 }
 
 // Which of the first columns are live.

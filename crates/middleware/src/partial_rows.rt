@@ -1,15 +1,16 @@
 // A round's answers joined with the partial rows.
-ghost use Rattle.std.specs.Prelude.{◌≡◌, ◌++◌, List, ℕ, Contains, IfOk, IfSome, IsNone, OnOk, Some, None, if◌then◌else◌, map, flat_map, option_copied, slice_get};
+ghost use Rattle.std.specs.Prelude.{◌≡◌, ◌++◌, List, ℕ, Contains, IfOk, IfSome, IsNone, IsTrue, OnOk, Some, None, if◌then◌else◌, map, flat_map, option_copied, slice_get};
 ghost use Rattle.std.specs.List.Sorted.{IsStrictlySortedBy};
 ghost use Rattle.source_trait.specs.Asking.{RowList};
 ghost use Rattle.row_text.specs.RowText.{row_cmp};
 ghost use Rattle.middleware.specs.Joining.{joined, grown, is_at, input_row_of, input_value_or, text_or};
 
+use crate::ascending::distinct_rows;
 use crate::parts::{known_places, parts_by_key};
 use crate::whole_answer::{grows_to_answer, only_answer};
 use lists::{Row, Text};
 use meaning::types::Place;
-use row_text::{LentRow, PackedRows, ascending_distinct};
+use row_text::{LentRow, PackedRows};
 use std::alloc::{AllocError, Global};
 use std::cmp::Ordering;
 
@@ -72,7 +73,7 @@ fn keys_of(
     ensures there { IfOk result (λ keys. (row : List (List ℕ)) → Contains rows.now row → Contains keys.items (input_row_of places.now positions.now row)) }
 {
     let list = input_rows(alloc, places, positions, rows)?;
-    let distinct = ascending_distinct(alloc, &list)?;
+    let distinct = distinct_rows(alloc, list)?;
     let keys = distinct.rows(alloc)?;
     Ok(keys)
 }
@@ -94,9 +95,18 @@ fn join_each(
     let mut values = Vec::new(alloc);
     let mut texts = Vec::new(alloc);
     let mut next = PackedRows::new(alloc);
+    let mut near = 0;
     for number in 0..rows.len() {
         let row = rows.at(number);
-        match answer_to(places, inputs, requests, answers, &row, &mut values)? {
+        match answer_to(
+            places,
+            inputs,
+            requests,
+            answers,
+            &row,
+            &mut near,
+            &mut values,
+        )? {
             Some(answer) => {
                 next = join_answer(places, answer, &row, &mut values, &mut texts, next)?;
             }
@@ -106,14 +116,15 @@ fn join_each(
     Ok(next)
 }
 
-// The answer to the request of the partial row. An only answer is not searched for. `values` is room for texts: what stood in
-// it may be dropped.
+// The answer to the request of the partial row. An only answer is not searched for. `near` is where to look first, which may be
+// any number, and becomes the place of the request. `values` is room for texts: what stood in it may be dropped.
 fn answer_to<'a>(
     places: &'a [Place],
     inputs: &[u32],
     requests: &[Row],
     answers: &'a [PackedRows],
     row: &LentRow<'a>,
+    near: &mut usize,
     values: &mut Vec<&'a str>,
 ) -> Result<Option<&'a PackedRows>, AllocError>
     requires ascends { IsStrictlySortedBy row_cmp requests.now }
@@ -125,7 +136,7 @@ fn answer_to<'a>(
         return Ok(Some(only));
     }
     input_texts(places, inputs, row, values)?;
-    Ok(answer_for(requests, answers, values.as_slice()))
+    Ok(answer_for(requests, answers, values.as_slice(), near))
 }
 
 /// The input row of each partial row.
@@ -183,17 +194,22 @@ pub fn text_at<'a>(row: &LentRow<'a>, column: u32) -> &'a str
     }
 }
 
-// The answer to the request with these values, found by its place among the ascending requests.
+// The answer to the request with these values, found by its place among the ascending requests. `near` is where to look first, and
+// becomes this place.
 fn answer_for<'a>(
     requests: &[Row],
     answers: &'a [PackedRows],
     values: &[&str],
+    near: &mut usize,
 ) -> Option<&'a PackedRows>
     requires ascends { IsStrictlySortedBy row_cmp requests.now }
     ensures { (answer : List (List ℕ) → RowList) → answers.now ≡ map answer requests.now → Contains requests.now (map (λ s. s.now) values.now) → option_copied result ≡ Some (answer (map (λ s. s.now) values.now)) }
 {
-    match place_of(requests, values) {
-        Some(number) => answer_at(answers, number),
+    match place_near(requests, values, *near) {
+        Some(number) => {
+            *near = number;
+            answer_at(answers, number)
+        }
         None => None,
     }
 }
@@ -202,6 +218,33 @@ fn answer_at(answers: &[PackedRows], number: usize) -> Option<&PackedRows>
     ensures { option_copied result ≡ slice_get answers.now number }
 {
     answers.get(number)
+}
+
+// The place among ascending rows of the one with these values, if it is there. The place `near` and the next one are looked at before
+// the others: requests mostly rise with the partial rows, one by one.
+fn place_near(rows: &[Row], values: &[&str], near: usize) -> Option<usize>
+    requires ascends { IsStrictlySortedBy row_cmp rows.now }
+    ensures there { IfSome result (λ number. slice_get rows.now number ≡ Some (map (λ s. s.now) values.now)) }
+    ensures absent { IsNone result → Contains rows.now (map (λ s. s.now) values.now) → ⊥ }
+{
+    if is_at_place(rows, near, values) {
+        return Some(near);
+    }
+    let next = near.saturating_add(1);
+    if is_at_place(rows, next, values) {
+        return Some(next);
+    }
+    place_of(rows, values)
+}
+
+// Whether the row at a place has these values.
+fn is_at_place(rows: &[Row], place: usize, values: &[&str]) -> bool
+    ensures { IsTrue result → slice_get rows.now place ≡ Some (map (λ s. s.now) values.now) }
+{
+    match rows.get(place) {
+        Some(row) => compare(row.as_slice(), values).is_eq(),
+        None => false,
+    }
 }
 
 /// The place among ascending rows of the one with these values, if it is there.

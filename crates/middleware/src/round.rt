@@ -9,13 +9,14 @@ ghost use Rattle.middleware.specs.LaneBranches.{OnEach, LanesGo, LanesHalt};
 ghost use Rattle.middleware.specs.LaneAsking.{RoundShared, RoundUnshared};
 ghost use Rattle.middleware.specs.LaneRounds.{NoneStopped};
 
+use crate::ascending::distinct_rows;
 use crate::asking::ask_wanted;
 use crate::lookup::find_method;
 use crate::partial_rows::{input_rows, join};
 use access_schema::{Method, Schema};
 use lists::Row;
 use meaning::types::{Place, Step};
-use row_text::{PackedRows, ascending_distinct};
+use row_text::PackedRows;
 use source_trait::{CallFault, Lane, Source};
 use std::alloc::{AllocError, Global};
 use std::thread::Threads;
@@ -164,9 +165,9 @@ fn wanted_rows(
     ensures wanted { IfOk result (λ w. IsWanted places.now inputs.now w.rows w.requests.items) }
     ensures same { IfOk result (λ w. (row : List (List ℕ)) → Contains w.rows row ↔ Contains rows row) }
 {
-    let distinct = ascending_distinct(alloc, &rows)?;
+    let distinct = distinct_rows(alloc, rows)?;
     let list = input_rows(alloc, places, inputs, &distinct)?;
-    let asked = ascending_distinct(alloc, &list)?;
+    let asked = distinct_rows(alloc, list)?;
     let requests = asked.rows(alloc)?;
     Ok(Wanted {
         rows: distinct,
