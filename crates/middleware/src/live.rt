@@ -12,9 +12,7 @@ use std::alloc::{AllocError, Global};
 pub fn live_rows(alloc: Global, steps: &[Step], outs: &[Out], rows: PackedRows) -> PackedRows
     ensures { AreAlike (is_live steps.now outs.now) rows result }
 {
-    let width = width_of(&rows);
-    let live = live_front(steps, outs, width);
-    if rows.len() < 2 || live == width || fronts_ascend(&rows, live) {
+    if rows.len() < 2 || stay_apart(steps, outs, &rows) {
         return rows;
     }
     match without_dead(alloc, steps, outs, &rows) {
@@ -39,6 +37,13 @@ fn without_dead(
 // How many values the first row has.
 fn width_of(rows: &PackedRows) -> usize {
     if rows.len() == 0 { 0 } else { rows.at(0).len() }
+}
+
+// Whether no two rows could become one: each column is live, or those before the first that is not tell the rows apart.
+fn stay_apart(steps: &[Step], outs: &[Out], rows: &PackedRows) -> bool {
+    let width = width_of(rows);
+    let live = live_front(steps, outs, width);
+    live == width || fronts_ascend(rows, live)
 }
 
 // How many of the first columns come before one that is not live.
