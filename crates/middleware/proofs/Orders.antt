@@ -1,46 +1,55 @@
--- Rows in order: the place that a binary search finds.
-use Rattle.std.proofs.Common.{◌≡◌, ◌<◌, ◌+◌, ℕ, suc, List, length, get_or, Some, false, inl, inr, sym, ◌∙◌, ap, arith}
-use Rattle.std.specs.Prelude.{Contains, slice_get, Err}
-use Rattle.std.specs.List.{HoldsAt}
-use Rattle.std.specs.List.Sorted.{IsStrictlySortedBy, IsSortedBy, IsBinarySearchResult}
-use Rattle.std.specs.Ordering.{is_lt, ordering_reverse}
+-- Rows in order: the place that a bisection finds.
+use Rattle.std.proofs.Common.{◌≡◌, ◌<◌, ◌≤◌, ◌+◌, ℕ, List, [], length, get_or, map, Some, Bor, inl, inr, sym, ◌∙◌, ap, arith}
+use Rattle.std.specs.Prelude.{Contains, slice_get}
+use Rattle.std.specs.List.Sorted.{IsStrictlySortedBy}
+use Rattle.std.specs.Ordering.{ordering_reverse}
 use Rattle.std.specs.declared.cmp.Ordering.{Ordering}
 use Rattle.std.specs.declared.cmp.Ordering.TheVariants.{Less, Equal, Greater}
 use Rattle.std.proofs.lemmas.Cmp.{tied_itself}
-use Rattle.std.proofs.lemmas.List.Sorted.{searchable_from_sorted}
+use Rattle.std.proofs.lemmas.List.{get_or_default}
+use Rattle.std.proofs.lemmas.Map.Keys.{Less-from_sorted}
 use Rattle.std.proofs.lemmas.Option.{slice_get-get_or}
 use Rattle.std.proofs.lemmas.Bool.{cases_lt}
-use Rattle.lists.proofs.Orders.{adjacent, rows_equal, rows_total}
+use Rattle.lists.proofs.Members.{map_got}
+use Rattle.lists.proofs.Orders.{rows_equal, rows_total}
 use Rattle.row_text.specs.RowText.{row_cmp}
 
-not_below : (o p : Ordering) → o ≡ Less → p ≡ ordering_reverse o → is_lt p ≡ false
-not_below o p e f = cc
+-- the text at a place of lent texts
+pub text_got : (texts : List (Bor (List ℕ))) (k : ℕ) (text : Bor (List ℕ)) → k < length texts → text ≡ get_or texts k text → slice_get (map (λ s. s.now) texts) k ≡ Some text.now
+text_got texts k text less at = map_got (λ s. s.now) texts k text (slice_get-get_or texts k text less ∙ ap (λ v. Some v) (sym at))
 
-sorted : (xs : List (List (List ℕ))) → IsStrictlySortedBy row_cmp xs → IsSortedBy (λ a b. is_lt (row_cmp a b)) xs
-sorted xs s k d low high =
-    let next : k + 1 ≡ suc k = omega arith in
-    let a = slice_get-get_or xs k d (omega arith) in
-    let b = slice_get-get_or xs (suc k) d (omega arith) in
-    rw next (not_below _ _ (adjacent row_cmp xs k _ _ s a b) (rows_total.antisymm (get_or xs (suc k) d) (get_or xs k d)))
+turned : (x y : List (List ℕ)) (o : Ordering) → row_cmp x y ≡ o → row_cmp y x ≡ ordering_reverse o
+turned x y o e = rows_total.antisymm y x ∙ ap ordering_reverse e
 
--- a row that stands in the list is found
-pub found_there : (xs : List (List (List ℕ))) (x : List (List ℕ)) (i : ℕ) → IsStrictlySortedBy row_cmp xs → IsBinarySearchResult (λ y. row_cmp y x) xs (Err i) → Contains xs x → ⊥
-found_there xs x i s search (k, less, e) =
-    let point = search (searchable_from_sorted rows_total (λ (y : List (List ℕ)). y) xs x (sorted xs s)) in
-    let tied : row_cmp x x ≡ Equal = tied_itself rows_total x in
-    elim (cases_lt k i) [
-      | inl below ↦ let h = point.0 k x (omega arith) below in let g : row_cmp x x ≡ Less = rw e at h in absurd (apart (sym g ∙ tied))
-      | inr above ↦ let h = point.1 k x above less in let g : row_cmp x x ≡ Greater = rw e at h in absurd (above_apart (sym g ∙ tied))
-    ]
-  where
-    apart : Less ≡ Equal → ⊥
-    apart h = cc
+module _ (rows : List (List (List ℕ))) (row : List (List ℕ)) where
+  -- where the row at a place is below another one, so are those before it
+  pub below_up_to : (m : ℕ) → IsStrictlySortedBy row_cmp rows → m < length rows → row_cmp (get_or rows m []) row ≡ Less
+      → (k : ℕ) → k < m + 1 → row_cmp (get_or rows k []) row ≡ Less
+  below_up_to m ascends within e k low = elim (cases_lt k m) [
+    | inl before ↦ rows_total.trans (get_or rows k []) (get_or rows m []) row (Less-from_sorted row_cmp rows k m [] ascends before within) e
+    | inr behind ↦ let same : k ≡ m = omega arith in rw same e
+  ]
 
-    above_apart : Greater ≡ Equal → ⊥
-    above_apart h = cc
+  -- where the row at a place is above another one, so are those behind it
+  pub above_from : (m : ℕ) → IsStrictlySortedBy row_cmp rows → row_cmp (get_or rows m []) row ≡ Greater
+      → (k : ℕ) → m ≤ k → k < length rows → row_cmp (get_or rows k []) row ≡ Greater
+  above_from m ascends e k high within = elim (cases_lt m k) [
+    | inl behind ↦ turned row (get_or rows k []) Less
+        (rows_total.trans row (get_or rows m []) (get_or rows k []) (turned (get_or rows m []) row Greater e) (Less-from_sorted row_cmp rows m k [] ascends behind within))
+    | inr before ↦ let same : k ≡ m = omega arith in rw same e
+  ]
 
--- the row at the place that is found
-pub found_here : (xs : List (List (List ℕ))) (x : List (List ℕ)) (n : ℕ) → n < length xs → HoldsAt (λ y. row_cmp y x ≡ Equal) xs n → slice_get xs n ≡ Some x
-found_here xs x n less holds =
-    let same : get_or xs n x ≡ x = rows_equal _ _ (holds x) in
-    slice_get-get_or xs n x less ∙ ap (λ v. Some v) same
+  -- the row at a place where the rows tie
+  pub found_here : (m : ℕ) → m < length rows → row_cmp (get_or rows m []) row ≡ Equal → slice_get rows m ≡ Some row
+  found_here m within e = slice_get-get_or rows m [] within ∙ ap (λ v. Some v) (rows_equal (get_or rows m []) row e)
+
+  -- where each row is below or above another one, that one is none of them
+  pub not_among : (low high : ℕ) → high ≤ low → ((k : ℕ) → k < low → row_cmp (get_or rows k []) row ≡ Less)
+      → ((k : ℕ) → high ≤ k → k < length rows → row_cmp (get_or rows k []) row ≡ Greater) → Contains rows row → ⊥
+  not_among low high met below above (k, within, e) =
+      let same : get_or rows k [] ≡ row = get_or_default rows k [] row within ∙ e in
+      let tied : row_cmp row row ≡ Equal = tied_itself rows_total row in
+      elim (cases_lt k low) [
+        | inl before ↦ let h : row_cmp row row ≡ Less = rw same at (below k before) in absurd (cc)
+        | inr behind ↦ let h : row_cmp row row ≡ Greater = rw same at (above k (omega arith) within) in absurd (cc)
+      ]

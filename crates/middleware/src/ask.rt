@@ -1,11 +1,11 @@
 // The requests of one round, asked of one source of a lane.
 ghost use Rattle.std.specs.Prelude.{◌≡◌, List, ℕ, Contains};
-ghost use Rattle.source_trait.specs.Asking.{CanAsk};
+ghost use Rattle.source_trait.specs.Asking.{CallGives, CanAsk};
 ghost use Rattle.source_trait.specs.Lanes.{AtKind, StepsOn};
 ghost use Rattle.middleware.specs.Rounds.{AnswersAll};
 
-use lists::{Places, Row, Seq, Text};
-use row_text::PackedRows;
+use lists::{Places, Seq, Text};
+use row_text::{LentRow, PackedRows};
 use source_trait::{CallFault, Lane, Source, call_on};
 use std::alloc::Global;
 
@@ -19,7 +19,7 @@ pub fn ask_all<S: Source + Send + Drop>(
     kind: &Text,
     rel: u32,
     positions: &Places,
-    requests: &[Row],
+    requests: &PackedRows,
 ) -> Result<Answers, CallFault>
     requires there { AtKind lane.old.kinds.items kind.now (λ s. Unit {0}) }
     requires ready { (values : List (List ℕ)) → Contains requests.now values → AtKind lane.old.kinds.items kind.now (λ s. CanAsk ((S.seen s).attached rel) positions.now values) }
@@ -27,8 +27,8 @@ pub fn ask_all<S: Source + Send + Drop>(
     ensures stopped { lane.new.stopped ≡ lane.old.stopped }
 {
     let mut answers = Vec::new(alloc);
-    for values in requests {
-        let answer = match call_on(alloc, lane, kind, rel, positions, values) {
+    for number in 0..requests.len() {
+        let answer = match ask_row(alloc, lane, kind, rel, positions, &requests.at(number)) {
             Ok(answer) => answer,
             Err(fault) => return Err(fault),
         };
@@ -38,4 +38,23 @@ pub fn ask_all<S: Source + Send + Drop>(
         }
     }
     Ok(Seq::from_vec(answers))
+}
+
+// The answer to the request of these values, of which a copy is made for the call.
+fn ask_row<S: Source + Send + Drop>(
+    alloc: Global,
+    lane: &mut Lane<S>,
+    kind: &Text,
+    rel: u32,
+    positions: &Places,
+    values: &LentRow<'_>,
+) -> Result<PackedRows, CallFault>
+    requires ready { AtKind lane.old.kinds.items kind.now (λ s. CanAsk ((S.seen s).attached rel) positions.now values.now) }
+    ensures steps { StepsOn lane.old.kinds.items lane.new.kinds.items kind.now (λ s t. CallGives (S.seen s) (S.seen t) rel positions.now values.now result) }
+    ensures stopped { lane.new.stopped ≡ lane.old.stopped }
+{
+    match values.copy(alloc) {
+        Ok(values) => call_on(alloc, lane, kind, rel, positions, &values),
+        Err(_) => Err(CallFault::NoMemory),
+    }
 }

@@ -9,21 +9,22 @@ use crate::ask::{Answers, ask_all};
 use crate::lane_round::{AskFault, ask_round};
 use crate::lookup::find_line;
 use access_schema::{Method, Schema};
-use lists::{Copies, NoMemory, Row, Text};
+use lists::{Copies, NoMemory, Text};
 use meaning::types::Request;
+use row_text::{LentRow, PackedRows};
 use source_trait::{Ask, CallFault, Lane, Source};
 use std::alloc::Global;
 use std::thread::Threads;
 
-/// Asks the requests of a method, each once by one of the lanes. For one lane, and for one request, nothing is copied and no thread is
-/// made.
+/// Asks the requests of a method, each once by one of the lanes. For one lane, and for one request, each is copied as it is
+/// asked, and no thread is made.
 pub fn ask_wanted<R: Threads + Sync, S: Source + Send + Drop>(
     rt: &R,
     alloc: Global,
     schema: &Schema,
     lanes: &mut [Lane<S>],
     method: &Method,
-    requests: &[Row],
+    requests: &PackedRows,
 ) -> Result<Answers, CallFault>
     requires lanes { (0 < length lanes.old) × (length lanes.old ≤ 8) }
     requires going { NoneStopped lanes.old }
@@ -45,7 +46,7 @@ fn ask_first<S: Source + Send + Drop>(
     schema: &Schema,
     lanes: &mut [Lane<S>],
     method: &Method,
-    requests: &[Row],
+    requests: &PackedRows,
 ) -> Result<Answers, CallFault>
     requires lanes { 0 < length lanes.old }
     requires going { NoneStopped lanes.old }
@@ -76,7 +77,7 @@ fn ask_shared<R: Threads + Sync, S: Source + Send + Drop>(
     schema: &Schema,
     lanes: &mut [Lane<S>],
     method: &Method,
-    requests: &[Row],
+    requests: &PackedRows,
 ) -> Result<Answers, CallFault>
     requires lanes { (0 < length lanes.old) × (length lanes.old ≤ 8) }
     requires askable { OnEach lanes.old (λ kinds. IsAskable S.seen schema.now kinds method.now) }
@@ -103,18 +104,23 @@ fn asks_of(
     alloc: Global,
     kind: &Text,
     method: &Method,
-    requests: &[Row],
+    requests: &PackedRows,
 ) -> Result<Vec<Ask>, NoMemory>
     ensures { IfOk result (λ asks. asks.items ≡ map (ask_of kind.now method.now) requests.now) }
 {
     let mut asks = Vec::with_capacity(alloc, requests.len())?;
-    for values in requests {
-        asks.push(one_ask(alloc, kind, method, values)?)?;
+    for number in 0..requests.len() {
+        asks.push(one_ask(alloc, kind, method, &requests.at(number))?)?;
     }
     Ok(asks)
 }
 
-fn one_ask(alloc: Global, kind: &Text, method: &Method, values: &Row) -> Result<Ask, NoMemory>
+fn one_ask(
+    alloc: Global,
+    kind: &Text,
+    method: &Method,
+    values: &LentRow<'_>,
+) -> Result<Ask, NoMemory>
     ensures { IfOk result (λ ask. ask ≡ ask_of kind.now method.now values.now) }
 {
     let request = Request {

@@ -8,7 +8,6 @@ ghost use Rattle.middleware.specs.Joining.{joined, grown, is_at, input_row_of, i
 use crate::ascending::distinct_rows;
 use crate::parts::{known_places, parts_by_key};
 use crate::whole_answer::{grows_to_answer, only_answer};
-use lists::{Row, Text};
 use meaning::types::Place;
 use row_text::{LentRow, PackedRows};
 use std::alloc::{AllocError, Global};
@@ -22,7 +21,7 @@ pub fn join(
     alloc: Global,
     places: &[Place],
     inputs: &[u32],
-    requests: &[Row],
+    requests: &PackedRows,
     answers: Vec<PackedRows>,
     rows: &PackedRows,
 ) -> Result<PackedRows, AllocError>
@@ -55,10 +54,9 @@ fn join_only(
 {
     let known = known_places(alloc, places, rows)?;
     let positions = known.as_slice();
-    let list = keys_of(alloc, places, positions, rows)?;
-    let keys = list.as_slice();
-    let parts = parts_by_key(alloc, positions, keys, answer)?;
-    let next = join_each(alloc, places, positions, keys, parts.as_slice(), rows)?;
+    let keys = keys_of(alloc, places, positions, rows)?;
+    let parts = parts_by_key(alloc, positions, &keys, answer)?;
+    let next = join_each(alloc, places, positions, &keys, parts.as_slice(), rows)?;
     Ok(next)
 }
 
@@ -68,13 +66,12 @@ fn keys_of(
     places: &[Place],
     positions: &[u32],
     rows: &PackedRows,
-) -> Result<Vec<Row>, AllocError>
-    ensures ascends { IfOk result (λ keys. IsStrictlySortedBy row_cmp keys.items) }
-    ensures there { IfOk result (λ keys. (row : List (List ℕ)) → Contains rows.now row → Contains keys.items (input_row_of places.now positions.now row)) }
+) -> Result<PackedRows, AllocError>
+    ensures ascends { IfOk result (λ keys. IsStrictlySortedBy row_cmp keys) }
+    ensures there { IfOk result (λ keys. (row : List (List ℕ)) → Contains rows.now row → Contains keys (input_row_of places.now positions.now row)) }
 {
     let list = input_rows(alloc, places, positions, rows)?;
-    let distinct = distinct_rows(alloc, list)?;
-    let keys = distinct.rows(alloc)?;
+    let keys = distinct_rows(alloc, list)?;
     Ok(keys)
 }
 
@@ -83,7 +80,7 @@ fn join_each(
     alloc: Global,
     places: &[Place],
     inputs: &[u32],
-    requests: &[Row],
+    requests: &PackedRows,
     answers: &[PackedRows],
     rows: &PackedRows,
 ) -> Result<PackedRows, AllocError>
@@ -121,7 +118,7 @@ fn join_each(
 fn answer_to<'a>(
     places: &'a [Place],
     inputs: &[u32],
-    requests: &[Row],
+    requests: &PackedRows,
     answers: &'a [PackedRows],
     row: &LentRow<'a>,
     near: &mut usize,
@@ -197,7 +194,7 @@ pub fn text_at<'a>(row: &LentRow<'a>, column: u32) -> &'a str
 // The answer to the request with these values, found by its place among the ascending requests. `near` is where to look first, and
 // becomes this place.
 fn answer_for<'a>(
-    requests: &[Row],
+    requests: &PackedRows,
     answers: &'a [PackedRows],
     values: &[&str],
     near: &mut usize,
@@ -222,7 +219,7 @@ fn answer_at(answers: &[PackedRows], number: usize) -> Option<&PackedRows>
 
 // The place among ascending rows of the one with these values, if it is there. The place `near` and the next one are looked at before
 // the others: requests mostly rise with the partial rows, one by one.
-fn place_near(rows: &[Row], values: &[&str], near: usize) -> Option<usize>
+fn place_near(rows: &PackedRows, values: &[&str], near: usize) -> Option<usize>
     requires ascends { IsStrictlySortedBy row_cmp rows.now }
     ensures there { IfSome result (λ number. slice_get rows.now number ≡ Some (map (λ s. s.now) values.now)) }
     ensures absent { IsNone result → Contains rows.now (map (λ s. s.now) values.now) → ⊥ }
@@ -238,52 +235,45 @@ fn place_near(rows: &[Row], values: &[&str], near: usize) -> Option<usize>
 }
 
 // Whether the row at a place has these values.
-fn is_at_place(rows: &[Row], place: usize, values: &[&str]) -> bool
+fn is_at_place(rows: &PackedRows, place: usize, values: &[&str]) -> bool
     ensures { IsTrue result → slice_get rows.now place ≡ Some (map (λ s. s.now) values.now) }
 {
-    match rows.get(place) {
-        Some(row) => compare(row.as_slice(), values).is_eq(),
-        None => false,
-    }
+    place < rows.len() && rows.at(place).is(values)
 }
 
 /// The place among ascending rows of the one with these values, if it is there.
-pub fn place_of(rows: &[Row], values: &[&str]) -> Option<usize>
+pub fn place_of(rows: &PackedRows, values: &[&str]) -> Option<usize>
     requires ascends { IsStrictlySortedBy row_cmp rows.now }
     ensures there { IfSome result (λ number. slice_get rows.now number ≡ Some (map (λ s. s.now) values.now)) }
     ensures absent { IsNone result → Contains rows.now (map (λ s. s.now) values.now) → ⊥ }
 {
-    let found = rows.binary_search_by(
-        |row: &Row| -> Ordering
-            ensures { result ≡ row_cmp row.now (map (λ s. s.now) values.entry.now) }
-        { compare(row.as_slice(), values) },
-    );
-    match found {
-        Ok(number) => Some(number),
-        Err(_) => None,
+    let mut low = 0;
+    let mut high = rows.len();
+    while low < high {
+        let middle = low + (high - low) / 2;
+        match compare(&rows.at(middle), values) {
+            Ordering::Less => low = middle + 1,
+            Ordering::Equal => return Some(middle),
+            Ordering::Greater => high = middle,
+        }
     }
+    None
 }
 
 // Compares a row with the row of these texts, column by column.
-fn compare(row: &[Text], texts: &[&str]) -> Ordering
+fn compare(row: &LentRow<'_>, texts: &[&str]) -> Ordering
     ensures { result ≡ row_cmp row.now (map (λ s. s.now) texts.now) }
 {
-    let mut left = texts;
-    for value in row {
-        let [text, rest @ ..] = left else {
-            return Ordering::Greater;
-        };
-        match value.as_str().cmp(*text) {
+    let count = row.len();
+    let mut column = 0;
+    while let (Some(value), Some(text)) = (row.value(column), texts.get(column)) {
+        match value.cmp(*text) {
             Ordering::Equal => {}
             unequal => return unequal,
         }
-        left = rest;
+        column += 1;
     }
-    if left.is_empty() {
-        Ordering::Equal
-    } else {
-        Ordering::Less
-    }
+    count.cmp(&texts.len())
 }
 
 // Adds the rows to which the partial row grows by the rows of an answer. `values` and `texts` are room for texts: what stood

@@ -7,7 +7,6 @@ ghost use Rattle.middleware.specs.Parts.{key_of, part_of};
 
 use crate::partial_rows::{place_of, text_at};
 use crate::whole_answer::have_arity;
-use lists::Row;
 use meaning::types::Place;
 use row_text::{LentRow, PackedRows};
 use std::alloc::{AllocError, Global};
@@ -62,7 +61,7 @@ fn is_known(places: &[Place], position: u32, columns: usize) -> bool
 pub fn parts_by_key(
     alloc: Global,
     positions: &[u32],
-    keys: &[Row],
+    keys: &PackedRows,
     answer: &PackedRows,
 ) -> Result<Vec<PackedRows>, AllocError>
     requires ascends { IsStrictlySortedBy row_cmp keys.now }
@@ -85,11 +84,11 @@ pub fn parts_by_key(
 }
 
 // No rows for each of the keys.
-fn no_parts(alloc: Global, keys: &[Row]) -> Result<Vec<PackedRows>, AllocError>
+fn no_parts(alloc: Global, keys: &PackedRows) -> Result<Vec<PackedRows>, AllocError>
     ensures { IfOk result (λ parts. parts.items ≡ map (λ key. []) keys.now) }
 {
     let mut parts = Vec::with_capacity(alloc, keys.len())?;
-    for _key in keys {
+    for _number in 0..keys.len() {
         parts.push(PackedRows::new(alloc))?;
     }
     Ok(parts)

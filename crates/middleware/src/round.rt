@@ -14,7 +14,6 @@ use crate::asking::ask_wanted;
 use crate::lookup::find_method;
 use crate::partial_rows::{input_rows, join};
 use access_schema::{Method, Schema};
-use lists::Row;
 use meaning::types::{Place, Step};
 use row_text::PackedRows;
 use source_trait::{CallFault, Lane, Source};
@@ -116,14 +115,14 @@ fn join_wanted<R: Threads + Sync, S: Source + Send + Drop>(
     requires lanes { (0 < length lanes.old) × (length lanes.old ≤ 8) }
     requires going { NoneStopped lanes.old }
     requires askable { OnEach lanes.old (λ kinds. IsAskable S.seen schema.now kinds method.now) }
-    requires wanted { IsWanted places.now method.now.inputs wanted.now.rows wanted.now.requests.items }
+    requires wanted { IsWanted places.now method.now.inputs wanted.now.rows wanted.now.requests }
     requires room { room ≤ 1_000_000 }
-    ensures fits { IfOk result (λ next. length wanted.now.requests.items ≤ room) }
-    ensures shared { IfOk result (λ next. RoundShared S.seen schema.now places.now method.now wanted.now.rows wanted.now.requests.items next lanes.old lanes.new) }
+    ensures fits { IfOk result (λ next. length wanted.now.requests ≤ room) }
+    ensures shared { IfOk result (λ next. RoundShared S.seen schema.now places.now method.now wanted.now.rows wanted.now.requests next lanes.old lanes.new) }
     ensures refused { IfErr result (λ fault. RoundUnshared S.seen schema.now places.now method.now wanted.now.rows room fault lanes.old lanes.new) }
     ensures going { OnOk result (NoneStopped lanes.new) }
 {
-    let requests = wanted.requests.as_slice();
+    let requests = &wanted.requests;
     let count = requests.len();
     if count > room {
         return Err(RoundFault::OverCalls { wanted: count });
@@ -152,7 +151,7 @@ fn join_wanted<R: Threads + Sync, S: Source + Send + Drop>(
 #[derive(Drop)]
 pub struct Wanted {
     pub rows: PackedRows,
-    pub requests: Vec<Row>,
+    pub requests: PackedRows,
 }
 
 // The distinct partial rows, and what they ask for.
@@ -162,13 +161,12 @@ fn wanted_rows(
     inputs: &[u32],
     rows: PackedRows,
 ) -> Result<Wanted, AllocError>
-    ensures wanted { IfOk result (λ w. IsWanted places.now inputs.now w.rows w.requests.items) }
+    ensures wanted { IfOk result (λ w. IsWanted places.now inputs.now w.rows w.requests) }
     ensures same { IfOk result (λ w. (row : List (List ℕ)) → Contains w.rows row ↔ Contains rows row) }
 {
     let distinct = distinct_rows(alloc, rows)?;
     let list = input_rows(alloc, places, inputs, &distinct)?;
-    let asked = distinct_rows(alloc, list)?;
-    let requests = asked.rows(alloc)?;
+    let requests = distinct_rows(alloc, list)?;
     Ok(Wanted {
         rows: distinct,
         requests,

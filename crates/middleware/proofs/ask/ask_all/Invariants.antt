@@ -4,8 +4,8 @@ use Rattle.source_trait.specs.Lanes.{StepsOn}
 use Rattle.middleware.specs.Rounds.{AnswersAll}
 use Rattle.middleware.proofs.ask.ask_all.Given as goal
 
-abbrev pub invariant-loop-values : goal.invariant-loop-values
-invariant-loop-values g l = record {
-  steps : StepsOn l.fn.lane.kinds.items l.lane.kinds.items l.kind (λ s t. AnswersAll l.rel l.positions (take l.values-index l.requests) (Ok l.answers.items) (g.S.Source.seen s) (g.S.Source.seen t));
+abbrev pub invariant-loop-number : goal.invariant-loop-number
+invariant-loop-number g l = record {
+  steps : StepsOn l.fn.lane.kinds.items l.lane.kinds.items l.kind (λ s t. AnswersAll l.rel l.positions (take l.number l.requests) (Ok l.answers.items) (g.S.Source.seen s) (g.S.Source.seen t));
   stopped : l.lane.stopped ≡ l.fn.lane.stopped;
 }

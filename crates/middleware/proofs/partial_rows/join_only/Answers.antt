@@ -1,16 +1,12 @@
 use Rattle.std.proofs.Common.{◌∙◌, List, ℕ, length, sym, subst}
 use Rattle.std.specs.Prelude.{Contains, slice_get}
-use Rattle.source_trait.specs.Asking.{RowList}
-use Rattle.middleware.specs.Joining.{input_row_of}
 use Rattle.middleware.specs.Branches.{IsInput}
 use Rattle.middleware.specs.Parts.{part_of}
 use Rattle.middleware.proofs.Parting.{grown_parts}
 use Rattle.middleware.proofs.partial_rows.join_only.Goals as goal
 
 pub join_each-requires-clause-asked : goal.join_each-requires-clause-asked
-join_each-requires-clause-asked c = λ row among.
-    let key = input_row_of c.args.places.now c.as_slice-positions.result.now row in
-    subst (λ (l : RowList). Contains l key) (sym c.as_slice-keys.ensures.value) (c.in_ok-list.ensures.there row among)
+join_each-requires-clause-asked c = λ row among. c.in_ok-keys.ensures.there row among
 
 pub returns : goal.returns
 returns c =

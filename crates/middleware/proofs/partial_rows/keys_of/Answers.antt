@@ -8,5 +8,4 @@ use Rattle.middleware.proofs.partial_rows.keys_of.Goals as goal
 pub returns-clause-there : goal.returns-clause-there
 returns-clause-there c = λ row among.
     let f = input_row_of c.args.places.now c.args.positions.now in
-    let listed = subst (λ (l : RowList). Contains l (f row)) (sym c.in_ok-list.ensures) (contains_map f c.args.rows.now row among) in
-    subst (λ (l : RowList). Contains l (f row)) (sym c.in_ok-keys.ensures) ((c.in_ok-distinct.ensures.same (f row)).1 listed)
+    (c.in_ok-keys.ensures.same (f row)).1 (subst (λ (l : RowList). Contains l (f row)) (sym c.in_ok-list.ensures) (contains_map f c.args.rows.now row among))

@@ -15,10 +15,10 @@ join_wanted-requires-clause-wanted g c κs within = rw c.as_slice.ensures at c.i
 pub returns-in-Ok-join_wanted-clause-goes : goal.returns-in-Ok-join_wanted-clause-goes
 returns-in-Ok-join_wanted-clause-goes g c =
     lanes_go g.S.Source.seen c.args.schema.now c.args.step.now c.args.method.now c.requires.named c.as_slice-places.result.now c.as_slice-places.ensures
-    c.args.progress.rows c.args.lanes.now c.join_wanted.new.lanes c.in-Ok.wanted.requests.items c.in-Ok-join_wanted.rows c.args.progress.made
+    c.args.progress.rows c.args.lanes.now c.join_wanted.new.lanes c.in-Ok.wanted.requests c.in-Ok-join_wanted.rows c.args.progress.made
     (c.args.progress.made + c.len.result) (omega arith)
     (shared_same g.S.Source.seen c.args.schema.now c.as_slice-places.result.now c.args.method.now c.in-Ok.wanted.rows c.args.progress.rows c.in-Ok.ensures.same
-    c.args.lanes.now c.join_wanted.new.lanes c.in-Ok.wanted.requests.items c.in-Ok-join_wanted.rows c.in-Ok-join_wanted.ensures.shared)
+    c.args.lanes.now c.join_wanted.new.lanes c.in-Ok.wanted.requests c.in-Ok-join_wanted.rows c.in-Ok-join_wanted.ensures.shared)
 
 pub returns-clause-stops : goal.returns-clause-stops
 returns-clause-stops g c =

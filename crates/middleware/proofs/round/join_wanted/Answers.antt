@@ -1,6 +1,5 @@
-use Rattle.std.proofs.Common.{◌≤◌, List, ℕ, length, refl, ap, subst, sym, arith}
+use Rattle.std.proofs.Common.{List, ℕ, refl, subst, sym, arith}
 use Rattle.std.specs.Prelude.{Contains}
-use Rattle.source_trait.specs.Asking.{RowList}
 use Rattle.middleware.specs.Joining.{input_row_of}
 use Rattle.middleware.specs.declared.round.RoundFault.TheVariants as round
 use Rattle.middleware.proofs.Laning.{wanted_there, wanted_length}
@@ -10,44 +9,44 @@ use Rattle.middleware.proofs.round.join_wanted.Goals as goal
 
 pub returns-then-count-room-clause-refused : goal.returns-then-count-room-clause-refused
 returns-then-count-room-clause-refused g c =
-    too_many g.S.Source.seen c.args.schema.now c.args.places.now c.args.method.now c.args.wanted.now.rows c.args.wanted.now.requests.items c.requires.wanted
-    c.args.room (length c.as_slice-requests.result.now) (ap (λ (l : RowList). length l) c.as_slice-requests.ensures.value) (omega arith) c.args.lanes.now
+    too_many g.S.Source.seen c.args.schema.now c.args.places.now c.args.method.now c.args.wanted.now.rows c.args.wanted.now.requests c.requires.wanted
+    c.args.room c.len-count.result c.len-count.ensures (omega arith) c.args.lanes.now
 
 pub ask_wanted-requires-clause-values : goal.ask_wanted-requires-clause-values
 ask_wanted-requires-clause-values g c κs within = λ values among.
-    wanted_length c.args.places.now c.args.method.now.inputs c.args.wanted.now.rows c.args.wanted.now.requests.items values c.requires.wanted
-    (subst (λ (l : RowList). Contains l values) c.as_slice-requests.ensures.value among)
+    wanted_length c.args.places.now c.args.method.now.inputs c.args.wanted.now.rows c.args.wanted.now.requests values c.requires.wanted
+    among
 
 pub join-requires-clause-asked : goal.join-requires-clause-asked
 join-requires-clause-asked g c = λ row among.
-    subst (λ (i : List ℕ). Contains c.as_slice-requests.result.now (input_row_of c.args.places.now i row)) (sym c.as_slice-inputs.ensures)
-    (wanted_there c.args.places.now c.args.method.now.inputs c.args.wanted.now.rows c.args.wanted.now.requests.items c.as_slice-requests.result.now row
-    c.as_slice-requests.ensures.value c.requires.wanted among)
+    subst (λ (i : List ℕ). Contains c.args.wanted.now.requests (input_row_of c.args.places.now i row)) (sym c.as_slice-inputs.ensures)
+    (wanted_there c.args.places.now c.args.method.now.inputs c.args.wanted.now.rows c.args.wanted.now.requests c.args.wanted.now.requests row
+    refl c.requires.wanted among)
 
 pub returns-in-Ok-join-clause-shared : goal.returns-in-Ok-join-clause-shared
 returns-in-Ok-join-clause-shared g c =
-    was_shared g.S.Source.seen c.args.schema.now c.args.places.now c.args.method.now c.args.wanted.now.rows c.args.wanted.now.requests.items c.requires.wanted
-    c.as_slice-requests.result.now c.as_slice-requests.ensures.value c.args.lanes.now c.ask_wanted.new.lanes
+    was_shared g.S.Source.seen c.args.schema.now c.args.places.now c.args.method.now c.args.wanted.now.rows c.args.wanted.now.requests c.requires.wanted
+    c.args.wanted.now.requests refl c.args.lanes.now c.ask_wanted.new.lanes
     c.as_slice-inputs.result.now c.as_slice-inputs.ensures c.in-Ok.answers c.into_vec.result.items c.into_vec.ensures c.in-Ok-join.next
     (λ answer is. c.in-Ok-join.ensures answer is) c.in-Ok.ensures.asks c.in-Ok.ensures.answers
 
 pub returns-in-Err-clause-refused : goal.returns-in-Err-clause-refused
 returns-in-Err-clause-refused g c =
-    was_refused g.S.Source.seen c.args.schema.now c.args.places.now c.args.method.now c.args.wanted.now.rows c.args.wanted.now.requests.items c.requires.wanted
-    c.as_slice-requests.result.now c.as_slice-requests.ensures.value c.args.lanes.now c.ask_wanted.new.lanes c.args.room round.NoMemory
+    was_refused g.S.Source.seen c.args.schema.now c.args.places.now c.args.method.now c.args.wanted.now.rows c.args.wanted.now.requests c.requires.wanted
+    c.args.wanted.now.requests refl c.args.lanes.now c.ask_wanted.new.lanes c.args.room round.NoMemory
     (each_some g.S.Source.seen c.args.schema.now _ c.args.lanes.now c.ask_wanted.new.lanes c.in-Ok.ensures.asks) tt
 
 pub returns-in-Err-Failed-clause-refused : goal.returns-in-Err-Failed-clause-refused
 returns-in-Err-Failed-clause-refused g c =
     let some = rw c.in-Err-Failed.field-0-is at c.in-Err-Failed.ensures.some in
     let failed = rw c.in-Err-Failed.field-0-is at c.in-Err-Failed.ensures.failed in
-    was_refused g.S.Source.seen c.args.schema.now c.args.places.now c.args.method.now c.args.wanted.now.rows c.args.wanted.now.requests.items c.requires.wanted
-    c.as_slice-requests.result.now c.as_slice-requests.ensures.value c.args.lanes.now c.ask_wanted.new.lanes c.args.room round.Failed
+    was_refused g.S.Source.seen c.args.schema.now c.args.places.now c.args.method.now c.args.wanted.now.rows c.args.wanted.now.requests c.requires.wanted
+    c.args.wanted.now.requests refl c.args.lanes.now c.ask_wanted.new.lanes c.args.room round.Failed
     c.in-Err-Failed.ensures.refused
-    (subst (λ (l : RowList). 1 ≤ length l) c.as_slice-requests.ensures.value (some refl), omega arith, failed refl)
+    (some refl, omega arith, failed refl)
 
 pub returns-in-Err-NoMemory-clause-refused : goal.returns-in-Err-NoMemory-clause-refused
 returns-in-Err-NoMemory-clause-refused g c =
-    was_refused g.S.Source.seen c.args.schema.now c.args.places.now c.args.method.now c.args.wanted.now.rows c.args.wanted.now.requests.items c.requires.wanted
-    c.as_slice-requests.result.now c.as_slice-requests.ensures.value c.args.lanes.now c.ask_wanted.new.lanes c.args.room round.NoMemory
+    was_refused g.S.Source.seen c.args.schema.now c.args.places.now c.args.method.now c.args.wanted.now.rows c.args.wanted.now.requests c.requires.wanted
+    c.args.wanted.now.requests refl c.args.lanes.now c.ask_wanted.new.lanes c.args.room round.NoMemory
     c.in-Err-NoMemory.ensures.refused tt

@@ -3,5 +3,5 @@ use Rattle.middleware.proofs.round.wanted_rows.Goals as goal
 
 pub returns-clause-wanted : goal.returns-clause-wanted
 returns-clause-wanted c =
-    rw c.in_ok-requests.ensures (wanted_of c.args.places.now c.args.inputs.now c.in_ok-distinct.distinct c.in_ok-list.list c.in_ok-asked.asked
-    c.in_ok-list.ensures c.in_ok-asked.ensures.ascends c.in_ok-asked.ensures.same)
+    wanted_of c.args.places.now c.args.inputs.now c.in_ok-distinct.distinct c.in_ok-list.list c.in_ok-requests.requests
+    c.in_ok-list.ensures c.in_ok-requests.ensures.ascends c.in_ok-requests.ensures.same
