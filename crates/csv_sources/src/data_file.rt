@@ -1,5 +1,6 @@
 // The rows of a data file.
-ghost use Rattle.std.specs.Prelude.{◌≡◌, ◌≤◌, ◌<◌, ◌+◌, ◌^◌, length, map, slice_index_or, IfOk, IfErr, OnOk, [], None, Some};
+ghost use Rattle.std.specs.Prelude.{◌≡◌, ◌≤◌, ◌<◌, ◌+◌, ◌^◌, length, map, slice_index_or, IfOk, IfErr, IfSome, OnOk, [], ◌∷◌, List, ℕ, Ok, None, Some};
+ghost use Rattle.csv.specs.Reading.{default_config, records, strip_bom};
 ghost use Rattle.csv.specs.Records.{fields_of};
 ghost use Rattle.source_trait.specs.Asking.{HaveArity};
 ghost use Rattle.csv_sources.specs.Records.{IsReading, records_left};
@@ -7,7 +8,7 @@ ghost use Rattle.csv_sources.specs.DataFile.{after_marks, file_offer, first_faul
 
 use crate::folder::FILE_LIMIT;
 use crate::header::{header_fault, places_of};
-use crate::records::{next_record, open};
+use crate::records::{next_record, next_text, open};
 use csv::{ByteRecord, Reader, StringRecord};
 use lists::{NoMemory, Texts};
 use row_text::PackedRows;
@@ -15,6 +16,8 @@ use source_trait::AttachFault;
 use std::alloc::Global;
 
 /// What the bytes of a file offer to a relation with these columns: its rows, or what is wrong with the bytes.
+///
+/// The rows are read as text at once. Where that fails, they are read again one by one, for the first fault.
 pub(crate) fn read_offer(
     alloc: Global,
     bytes: &[u8],
@@ -25,7 +28,8 @@ pub(crate) fn read_offer(
     ensures offer { IfOk result (λ offer. offer ≡ file_offer bytes.now columns.now) }
     ensures fit { IfOk result (λ offer. IfOk offer (HaveArity (length columns.now))) }
 {
-    let mut reader = open(alloc, behind_marks(bytes));
+    let text = behind_marks(bytes);
+    let mut reader = open(alloc, text);
     let mut header = ByteRecord::new(alloc);
     if !next_record(&mut reader, &mut header)? {
         return Ok(Err(AttachFault::BadHeader { column: 0 }));
@@ -34,7 +38,10 @@ pub(crate) fn read_offer(
         Some(fault) => Ok(Err(fault)),
         None => {
             let places = places_of(alloc, &header, columns.as_slice())?;
-            rows_at(alloc, &mut reader, header.len(), places.as_slice())
+            match text_rows(alloc, &mut reader, header.len(), places.as_slice()) {
+                Some(rows) => Ok(Ok(rows)),
+                None => offer_of_rows(alloc, text, header.len(), places.as_slice()),
+            }
         }
     }
 }
@@ -51,6 +58,53 @@ fn behind_marks(bytes: &[u8]) -> &[u8]
         left = rest;
     }
     left
+}
+
+// The fields at the places of every record that is left, in order, where each record is a row of this width and of text. There is no
+// answer where one is not, or for want of memory.
+fn text_rows(
+    alloc: Global,
+    reader: &mut Reader<&[u8]>,
+    width: usize,
+    places: &[usize],
+) -> Option<PackedRows>
+    requires { IsReading reader.old }
+    ensures offer { IfSome result (λ rows. Ok rows ≡ unless (first_fault width 1 (records_left reader.old)) (map (λ row. map (λ p. slice_index_or row p []) places.now) (records_left reader.old))) }
+    ensures fit { IfSome result (HaveArity (length places.now)) }
+{
+    let mut record = StringRecord::new(alloc);
+    let mut rows = PackedRows::new(alloc);
+    while next_text(reader, &mut record)? {
+        if record.len() != width {
+            return None;
+        }
+        rows = match rows.with_fields(&record, places) {
+            Ok(more) => more,
+            Err(_) => return None,
+        };
+    }
+    Some(rows)
+}
+
+// The fields at the places of every record of the text but the first, in order, or what is wrong with the first that is no row of this
+// width and of text.
+fn offer_of_rows(
+    alloc: Global,
+    text: &[u8],
+    width: usize,
+    places: &[usize],
+) -> Result<Result<PackedRows, AttachFault>, NoMemory>
+    requires few { length (records default_config (strip_bom text.now)) < 2 ^ 32 }
+    ensures offer { (header : List (List ℕ)) (rows : List (List (List ℕ))) → records default_config (strip_bom text.now) ≡ header ∷ rows
+        → IfOk result (λ offer. offer ≡ unless (first_fault width 1 rows) (map (λ row. map (λ p. slice_index_or row p []) places.now) rows)) }
+    ensures fit { IfOk result (λ offer. IfOk offer (HaveArity (length places.now))) }
+{
+    let mut reader = open(alloc, text);
+    let mut header = ByteRecord::new(alloc);
+    if !next_record(&mut reader, &mut header)? {
+        return Err(NoMemory);
+    }
+    rows_at(alloc, &mut reader, width, places)
 }
 
 // The fields at the places of every record that is left, in order, where each record is a row of this width and of text.

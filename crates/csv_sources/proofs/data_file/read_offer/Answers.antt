@@ -1,4 +1,5 @@
 use Rattle.std.proofs.Common.{◌≡◌, ◌<◌, ◌≤◌, ◌∷◌, Some, None, [], ◌∙◌, sym, ap, arith, length, false, true, map, rules, List, ℕ, Result, get_or}
+use Rattle.std.specs.Prelude.{Ok}
 use Rattle.std.proofs.lemmas.Result.{IfOk-weaker}
 use Rattle.source_trait.specs.Asking.{RowList}
 use Rattle.source_trait.specs.declared.source.AttachFault.{AttachFault}
@@ -13,39 +14,51 @@ use Rattle.csv_sources.proofs.data_file.read_offer.Goals as goal
 all_of : (left : List (List (List ℕ))) (behind bytes : List ℕ) → left ≡ records default_config (strip_bom behind) → behind ≡ after_marks bytes → left ≡ records default_config (after_marks bytes)
 all_of left behind bytes e is = e ∙ ap (λ (l : List ℕ). records default_config (strip_bom l)) is ∙ ap (records default_config) (no_mark_left bytes)
 
-few_behind : (header : List (List ℕ)) (rows : List (List (List ℕ))) (bytes : List ℕ) → records default_config (after_marks bytes) ≡ header ∷ rows → length bytes ≤ 8388608 → length rows < 4294967296
-few_behind header rows bytes e short = omega (arith, few_records (after_marks bytes), marks_shorten bytes, ap (λ (l : List (List (List ℕ))). length l) e)
+-- a file of at most the most bytes has few records
+few_of : (all : List (List (List ℕ))) (bytes : List ℕ) → all ≡ records default_config (after_marks bytes) → length bytes ≤ 8388608 → length all < 4294967296
+few_of all bytes e short = omega (arith, few_records (after_marks bytes), marks_shorten bytes, ap (λ (l : List (List (List ℕ))). length l) e)
 
 pub returns-then-not-branch-clause-offer : goal.returns-then-not-branch-clause-offer
 returns-then-not-branch-clause-offer c =
-    let all : records_left c.open-reader.result ≡ records default_config (after_marks c.args.bytes.now) = all_of (records_left c.open-reader.result) c.behind_marks.result.now c.args.bytes.now c.open-reader.ensures.records c.behind_marks.ensures in
+    let all : records_left c.open-reader.result ≡ records default_config (after_marks c.args.bytes.now) = all_of (records_left c.open-reader.result) c.behind_marks-text.result.now c.args.bytes.now c.open-reader.ensures.records c.behind_marks-text.ensures in
     let none : c.in_ok-next_record.field-0 ≡ false = search rules in
     offer_none c.args.columns.now (records default_config (after_marks c.args.bytes.now)) (sym all ∙ c.in_ok-next_record.ensures.end none)
 
 pub returns-in-Some-clause-offer : goal.returns-in-Some-clause-offer
 returns-in-Some-clause-offer c =
-    let all : records_left c.open-reader.result ≡ records default_config (after_marks c.args.bytes.now) = all_of (records_left c.open-reader.result) c.behind_marks.result.now c.args.bytes.now c.open-reader.ensures.records c.behind_marks.ensures in
+    let all : records_left c.open-reader.result ≡ records default_config (after_marks c.args.bytes.now) = all_of (records_left c.open-reader.result) c.behind_marks-text.result.now c.args.bytes.now c.open-reader.ensures.records c.behind_marks-text.ensures in
     let found : c.in_ok-next_record.field-0 ≡ true = search rules in
     let first : records default_config (after_marks c.args.bytes.now) ≡ fields_of c.next_record.new.row ∷ records_left c.next_record.new.reader = sym all ∙ c.in_ok-next_record.ensures.taken found in
     let bad : Some c.in-Some.fault ≡ header_fault (fields_of c.next_record.new.row) c.args.columns.now = search rules in
     offer_bad c.args.columns.now (fields_of c.next_record.new.row) (records_left c.next_record.new.reader) (records default_config (after_marks c.args.bytes.now)) c.in-Some.fault first bad
 
-pub rows_at-requires-clause-few : goal.rows_at-requires-clause-few
-rows_at-requires-clause-few c =
-    let all : records_left c.open-reader.result ≡ records default_config (after_marks c.args.bytes.now) = all_of (records_left c.open-reader.result) c.behind_marks.result.now c.args.bytes.now c.open-reader.ensures.records c.behind_marks.ensures in
-    let found : c.in_ok-next_record.field-0 ≡ true = search rules in
-    let first : records default_config (after_marks c.args.bytes.now) ≡ fields_of c.next_record.new.row ∷ records_left c.next_record.new.reader = sym all ∙ c.in_ok-next_record.ensures.taken found in
-    few_behind (fields_of c.next_record.new.row) (records_left c.next_record.new.reader) c.args.bytes.now first c.requires.small
+pub offer_of_rows-requires : goal.offer_of_rows-requires
+offer_of_rows-requires c =
+    let all : records_left c.open-reader.result ≡ records default_config (after_marks c.args.bytes.now) = all_of (records_left c.open-reader.result) c.behind_marks-text.result.now c.args.bytes.now c.open-reader.ensures.records c.behind_marks-text.ensures in
+    record { few = few_of (records default_config (strip_bom c.behind_marks-text.result.now)) c.args.bytes.now (sym c.open-reader.ensures.records ∙ all) c.requires.small }
 
-pub returns-clause-offer : goal.returns-clause-offer
-returns-clause-offer c =
-    let all : records_left c.open-reader.result ≡ records default_config (after_marks c.args.bytes.now) = all_of (records_left c.open-reader.result) c.behind_marks.result.now c.args.bytes.now c.open-reader.ensures.records c.behind_marks.ensures in
+pub returns-in-Some-text_rows-clause-offer : goal.returns-in-Some-text_rows-clause-offer
+returns-in-Some-text_rows-clause-offer c =
+    let all : records_left c.open-reader.result ≡ records default_config (after_marks c.args.bytes.now) = all_of (records_left c.open-reader.result) c.behind_marks-text.result.now c.args.bytes.now c.open-reader.ensures.records c.behind_marks-text.ensures in
     let found : c.in_ok-next_record.field-0 ≡ true = search rules in
     let first : records default_config (after_marks c.args.bytes.now) ≡ fields_of c.next_record.new.row ∷ records_left c.next_record.new.reader = sym all ∙ c.in_ok-next_record.ensures.taken found in
     let good : None ≡ header_fault (fields_of c.next_record.new.row) c.args.columns.now = search rules in
     let at : c.in_ok-places-in-None.places.items ≡ map (place_in (fields_of c.next_record.new.row)) c.args.columns.now = search rules in
     let width : c.len.result ≡ length (fields_of c.next_record.new.row) = search rules in
     let places : c.as_slice-in-None-2.result.now ≡ c.in_ok-places-in-None.places.items = c.as_slice-in-None-2.ensures.value in
-    let take : (offer : Result RowList AttachFault) → offer ≡ unless (first_fault c.len.result 1 (records_left c.next_record.new.reader)) (map (λ row. map (λ p. get_or row p []) c.as_slice-in-None-2.result.now) (records_left c.next_record.new.reader)) → offer ≡ offer_of c.args.columns.now (records default_config (after_marks c.args.bytes.now)) =
+    offer_rows c.args.columns.now (fields_of c.next_record.new.row) (records_left c.next_record.new.reader) (records default_config (after_marks c.args.bytes.now)) c.in_ok-places-in-None.places.items (Ok c.in-Some-text_rows.rows) first good at
+    (rw (← width, ← places) c.in-Some-text_rows.ensures.offer)
+
+pub returns-clause-offer : goal.returns-clause-offer
+returns-clause-offer c =
+    let all : records_left c.open-reader.result ≡ records default_config (after_marks c.args.bytes.now) = all_of (records_left c.open-reader.result) c.behind_marks-text.result.now c.args.bytes.now c.open-reader.ensures.records c.behind_marks-text.ensures in
+    let found : c.in_ok-next_record.field-0 ≡ true = search rules in
+    let first : records default_config (after_marks c.args.bytes.now) ≡ fields_of c.next_record.new.row ∷ records_left c.next_record.new.reader = sym all ∙ c.in_ok-next_record.ensures.taken found in
+    let again : records default_config (strip_bom c.behind_marks-text.result.now) ≡ fields_of c.next_record.new.row ∷ records_left c.next_record.new.reader = sym c.open-reader.ensures.records ∙ c.in_ok-next_record.ensures.taken found in
+    let good : None ≡ header_fault (fields_of c.next_record.new.row) c.args.columns.now = search rules in
+    let at : c.in_ok-places-in-None.places.items ≡ map (place_in (fields_of c.next_record.new.row)) c.args.columns.now = search rules in
+    let width : c.len-in-None-text_rows.result ≡ length (fields_of c.next_record.new.row) = search rules in
+    let places : c.as_slice-in-None-text_rows.result.now ≡ c.in_ok-places-in-None.places.items = c.as_slice-in-None-text_rows.ensures.value in
+    let take : (offer : Result RowList AttachFault) → offer ≡ unless (first_fault c.len-in-None-text_rows.result 1 (records_left c.next_record.new.reader)) (map (λ row. map (λ p. get_or row p []) c.as_slice-in-None-text_rows.result.now) (records_left c.next_record.new.reader)) → offer ≡ offer_of c.args.columns.now (records default_config (after_marks c.args.bytes.now)) =
     λ offer is. offer_rows c.args.columns.now (fields_of c.next_record.new.row) (records_left c.next_record.new.reader) (records default_config (after_marks c.args.bytes.now)) c.in_ok-places-in-None.places.items offer first good at (rw (← width, ← places) is) in
-    IfOk-weaker c.rows_at.result _ _ take c.rows_at.ensures.offer
+    IfOk-weaker c.offer_of_rows.result _ _ take (c.offer_of_rows.ensures.offer (fields_of c.next_record.new.row) (records_left c.next_record.new.reader) again)
