@@ -17,7 +17,7 @@ use std::alloc::Global;
 
 /// What the bytes of a file offer to a relation with these columns: its rows, or what is wrong with the bytes.
 ///
-/// The rows are read as text at once. Where that fails, they are read again one by one, for the first fault.
+/// The rows are read as text at once. Where that fails, the records are read again, for the first fault.
 pub(crate) fn read_offer(
     alloc: Global,
     bytes: &[u8],
@@ -40,7 +40,10 @@ pub(crate) fn read_offer(
             let places = places_of(alloc, &header, columns.as_slice())?;
             match text_rows(alloc, &mut reader, header.len(), places.as_slice()) {
                 Some(rows) => Ok(Ok(rows)),
-                None => offer_of_rows(alloc, text, header.len(), places.as_slice()),
+                None => match fault_of_rows(alloc, text, header.len())? {
+                    Some(fault) => Ok(Err(fault)),
+                    None => Err(NoMemory),
+                },
             }
         }
     }
@@ -86,52 +89,40 @@ fn text_rows(
     Some(rows)
 }
 
-// The fields at the places of every record of the text but the first, in order, or what is wrong with the first that is no row of this
-// width and of text.
-fn offer_of_rows(
-    alloc: Global,
-    text: &[u8],
-    width: usize,
-    places: &[usize],
-) -> Result<Result<PackedRows, AttachFault>, NoMemory>
+// What is wrong with the first record of the text behind the first one that is no row of this width or no text, if there is one.
+fn fault_of_rows(alloc: Global, text: &[u8], width: usize) -> Result<Option<AttachFault>, NoMemory>
     requires few { length (records default_config (strip_bom text.now)) < 2 ^ 32 }
-    ensures offer { (header : List (List ℕ)) (rows : List (List (List ℕ))) → records default_config (strip_bom text.now) ≡ header ∷ rows
-        → IfOk result (λ offer. offer ≡ unless (first_fault width 1 rows) (map (λ row. map (λ p. slice_index_or row p []) places.now) rows)) }
-    ensures fit { IfOk result (λ offer. IfOk offer (HaveArity (length places.now))) }
+    ensures { (header : List (List ℕ)) (rows : List (List (List ℕ))) → records default_config (strip_bom text.now) ≡ header ∷ rows
+        → IfOk result (λ fault. fault ≡ first_fault width 1 rows) }
 {
     let mut reader = open(alloc, text);
     let mut header = ByteRecord::new(alloc);
     if !next_record(&mut reader, &mut header)? {
         return Err(NoMemory);
     }
-    rows_at(alloc, &mut reader, width, places)
+    first_fault(alloc, &mut reader, width)
 }
 
-// The fields at the places of every record that is left, in order, where each record is a row of this width and of text.
-fn rows_at(
+// What is wrong with the first record that is left that is no row of this width or no text, if there is one.
+fn first_fault(
     alloc: Global,
     reader: &mut Reader<&[u8]>,
     width: usize,
-    places: &[usize],
-) -> Result<Result<PackedRows, AttachFault>, NoMemory>
+) -> Result<Option<AttachFault>, NoMemory>
     requires reading { IsReading reader.old }
     requires few { length (records_left reader.old) < 2 ^ 32 }
-    ensures offer { IfOk result (λ offer. offer ≡ unless (first_fault width 1 (records_left reader.old)) (map (λ row. map (λ p. slice_index_or row p []) places.now) (records_left reader.old))) }
-    ensures fit { IfOk result (λ offer. IfOk offer (HaveArity (length places.now))) }
+    ensures { IfOk result (λ fault. fault ≡ first_fault width 1 (records_left reader.old)) }
 {
     let mut record = ByteRecord::new(alloc);
-    let mut rows = PackedRows::new(alloc);
     let mut number: u32 = 0;
     while next_record(reader, &mut record)? {
         number += 1;
-        let row = match text_row(record, width, number) {
-            Ok(row) => row,
-            Err(fault) => return Ok(Err(fault)),
+        record = match text_row(record, width, number) {
+            Ok(row) => row.into_byte_record(),
+            Err(fault) => return Ok(Some(fault)),
         };
-        rows = rows.with_fields(&row, places)?;
-        record = row.into_byte_record();
     }
-    Ok(Ok(rows))
+    Ok(None)
 }
 
 // The row of this number as text, or what is wrong with it. Takes no memory.

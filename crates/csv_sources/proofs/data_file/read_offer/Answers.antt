@@ -1,13 +1,10 @@
-use Rattle.std.proofs.Common.{◌≡◌, ◌<◌, ◌≤◌, ◌∷◌, Some, None, [], ◌∙◌, sym, ap, arith, length, false, true, map, rules, List, ℕ, Result, get_or}
+use Rattle.std.proofs.Common.{◌≡◌, ◌<◌, ◌≤◌, ◌∷◌, Some, None, ◌∙◌, sym, ap, arith, length, false, true, map, rules, List, ℕ}
 use Rattle.std.specs.Prelude.{Ok}
-use Rattle.std.proofs.lemmas.Result.{IfOk-weaker}
-use Rattle.source_trait.specs.Asking.{RowList}
-use Rattle.source_trait.specs.declared.source.AttachFault.{AttachFault}
 use Rattle.csv.specs.Reading.{default_config, records, strip_bom}
 use Rattle.csv.specs.Records.{fields_of}
-use Rattle.csv_sources.specs.DataFile.{after_marks, first_fault, header_fault, offer_of, place_in, unless}
+use Rattle.csv_sources.specs.DataFile.{after_marks, first_fault, header_fault, place_in}
 use Rattle.csv_sources.specs.Records.{records_left}
-use Rattle.csv_sources.proofs.Rows.{few_records, marks_shorten, no_mark_left, offer_bad, offer_none, offer_rows}
+use Rattle.csv_sources.proofs.Rows.{few_records, marks_shorten, no_mark_left, offer_bad, offer_bad_row, offer_none, offer_rows}
 use Rattle.csv_sources.proofs.data_file.read_offer.Goals as goal
 
 -- the records of a text behind its marks
@@ -32,8 +29,8 @@ returns-in-Some-clause-offer c =
     let bad : Some c.in-Some.fault ≡ header_fault (fields_of c.next_record.new.row) c.args.columns.now = search rules in
     offer_bad c.args.columns.now (fields_of c.next_record.new.row) (records_left c.next_record.new.reader) (records default_config (after_marks c.args.bytes.now)) c.in-Some.fault first bad
 
-pub offer_of_rows-requires : goal.offer_of_rows-requires
-offer_of_rows-requires c =
+pub fault_of_rows-requires : goal.fault_of_rows-requires
+fault_of_rows-requires c =
     let all : records_left c.open-reader.result ≡ records default_config (after_marks c.args.bytes.now) = all_of (records_left c.open-reader.result) c.behind_marks-text.result.now c.args.bytes.now c.open-reader.ensures.records c.behind_marks-text.ensures in
     record { few = few_of (records default_config (strip_bom c.behind_marks-text.result.now)) c.args.bytes.now (sym c.open-reader.ensures.records ∙ all) c.requires.small }
 
@@ -49,16 +46,16 @@ returns-in-Some-text_rows-clause-offer c =
     offer_rows c.args.columns.now (fields_of c.next_record.new.row) (records_left c.next_record.new.reader) (records default_config (after_marks c.args.bytes.now)) c.in_ok-places-in-None.places.items (Ok c.in-Some-text_rows.rows) first good at
     (rw (← width, ← places) c.in-Some-text_rows.ensures.offer)
 
-pub returns-clause-offer : goal.returns-clause-offer
-returns-clause-offer c =
+pub returns-in-Some-2-clause-offer : goal.returns-in-Some-2-clause-offer
+returns-in-Some-2-clause-offer c =
     let all : records_left c.open-reader.result ≡ records default_config (after_marks c.args.bytes.now) = all_of (records_left c.open-reader.result) c.behind_marks-text.result.now c.args.bytes.now c.open-reader.ensures.records c.behind_marks-text.ensures in
     let found : c.in_ok-next_record.field-0 ≡ true = search rules in
-    let first : records default_config (after_marks c.args.bytes.now) ≡ fields_of c.next_record.new.row ∷ records_left c.next_record.new.reader = sym all ∙ c.in_ok-next_record.ensures.taken found in
-    let again : records default_config (strip_bom c.behind_marks-text.result.now) ≡ fields_of c.next_record.new.row ∷ records_left c.next_record.new.reader = sym c.open-reader.ensures.records ∙ c.in_ok-next_record.ensures.taken found in
-    let good : None ≡ header_fault (fields_of c.next_record.new.row) c.args.columns.now = search rules in
-    let at : c.in_ok-places-in-None.places.items ≡ map (place_in (fields_of c.next_record.new.row)) c.args.columns.now = search rules in
-    let width : c.len-in-None-text_rows.result ≡ length (fields_of c.next_record.new.row) = search rules in
-    let places : c.as_slice-in-None-text_rows.result.now ≡ c.in_ok-places-in-None.places.items = c.as_slice-in-None-text_rows.ensures.value in
-    let take : (offer : Result RowList AttachFault) → offer ≡ unless (first_fault c.len-in-None-text_rows.result 1 (records_left c.next_record.new.reader)) (map (λ row. map (λ p. get_or row p []) c.as_slice-in-None-text_rows.result.now) (records_left c.next_record.new.reader)) → offer ≡ offer_of c.args.columns.now (records default_config (after_marks c.args.bytes.now)) =
-    λ offer is. offer_rows c.args.columns.now (fields_of c.next_record.new.row) (records_left c.next_record.new.reader) (records default_config (after_marks c.args.bytes.now)) c.in_ok-places-in-None.places.items offer first good at (rw (← width, ← places) is) in
-    IfOk-weaker c.offer_of_rows.result _ _ take (c.offer_of_rows.ensures.offer (fields_of c.next_record.new.row) (records_left c.next_record.new.reader) again)
+    let header = fields_of c.next_record.new.row in
+    let rows = records_left c.next_record.new.reader in
+    let taken : records_left c.open-reader.result ≡ header ∷ rows = c.in_ok-next_record.ensures.taken found in
+    let again : records default_config (strip_bom c.behind_marks-text.result.now) ≡ header ∷ rows = sym c.open-reader.ensures.records ∙ taken in
+    let good : None ≡ header_fault header c.args.columns.now = search rules in
+    let width : c.len-in-None-text_rows.result ≡ length header = search rules in
+    let bad : Some c.in-Some-2.fault ≡ first_fault (length header) 1 rows =
+    sym c.in-Some-2.is ∙ c.in_ok-fault-in-None-text_rows.ensures header rows again ∙ ap (λ n. first_fault n 1 rows) width in
+    offer_bad_row c.args.columns.now header rows (records default_config (after_marks c.args.bytes.now)) c.in-Some-2.fault (sym all ∙ taken) good bad
