@@ -6,9 +6,13 @@ use meaning::types::{Out, Place, Step};
 use row_text::{LentRow, PackedRows};
 use std::alloc::{AllocError, Global};
 
+// The most bytes of a value that is kept although no place names it, since to drop it would cost more.
+const SHORT: usize = 16;
+
 /// The partial rows with the empty text at each column that no place of the steps and of the output names.
 ///
-/// Where there is no memory for that, or the columns before the first of these tell the rows apart, they stay as they are.
+/// They stay as they are where there is no memory for that, and where the columns before the first of these tell the rows apart and no
+/// value from there on is long.
 pub fn live_rows(alloc: Global, steps: &[Step], outs: &[Out], rows: PackedRows) -> PackedRows
     ensures { AreAlike (is_live steps.now outs.now) rows result }
 {
@@ -39,11 +43,12 @@ fn width_of(rows: &PackedRows) -> usize {
     if rows.len() == 0 { 0 } else { rows.at(0).len() }
 }
 
-// Whether no two rows could become one: each column is live, or those before the first that is not tell the rows apart.
+// Whether nothing is gained without the columns that are not live: there are none, or those before the first of them tell the rows
+// apart, and the values from there on are short.
 fn stay_apart(steps: &[Step], outs: &[Out], rows: &PackedRows) -> bool {
     let width = width_of(rows);
     let live = live_front(steps, outs, width);
-    live == width || fronts_ascend(rows, live)
+    live == width || (fronts_ascend(rows, live) && backs_are_short(rows, live))
 }
 
 // How many of the first columns come before one that is not live.
@@ -77,6 +82,27 @@ fn is_front_below(row: &LentRow<'_>, other: &LentRow<'_>, columns: usize) -> boo
         }
     }
     false
+}
+
+// Whether each value behind the first columns is short.
+fn backs_are_short(rows: &PackedRows, columns: usize) -> bool {
+    for number in 0..rows.len() {
+        if !is_back_short(&rows.at(number), columns) {
+            return false;
+        }
+    }
+    true
+}
+
+// Whether each value of the row behind the first columns is short.
+fn is_back_short(row: &LentRow<'_>, columns: usize) -> bool {
+    for column in columns..row.len() {
+        match row.value(column) {
+            Some(value) if value.len() > SHORT => return false,
+            _ => {}
+        }
+    }
+    true
 }
 
 // Which of the first columns are live.
