@@ -29,12 +29,12 @@ use Rattle.data_verify.specs.Unmet.{lesser, AreLeastRows, AreLeastRowsIf, AreLea
 total : IsTotalOrder row_lists_cmp
 total = lists_total (lists_total (lists_total nat_cmp_total))
 
-not_above : (o : Ordering) → o ≢ Greater → is_gt o ≡ false
+pub not_above : (o : Ordering) → o ≢ Greater → is_gt o ≡ false
 not_above Less n = refl
 not_above Equal n = refl
 not_above Greater n = absurd (n refl)
 
-never_above : (o : Ordering) → is_gt o ≡ false → o ≢ Greater
+pub never_above : (o : Ordering) → is_gt o ≡ false → o ≢ Greater
 never_above o e g = clash (sym e ∙ ap is_gt g)
   where
     clash : false ≡ true → ⊥

@@ -3,3 +3,7 @@ pub mod Choosing
 pub mod Pairing
 pub mod First
 pub mod Written
+pub mod Terms
+pub mod Including
+pub mod KeySets
+pub mod Lowest

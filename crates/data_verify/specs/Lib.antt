@@ -1,3 +1,5 @@
 pub mod Breaking
 pub mod Telling
 pub mod Unmet
+pub mod Inclusion
+pub mod Finding

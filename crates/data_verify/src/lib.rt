@@ -5,6 +5,9 @@
 #![tactic(auto)]
 
 mod broken;
+mod fitting;
+mod inclusion;
+mod keys;
 mod least;
 mod rows;
 mod text;

@@ -1,21 +1,23 @@
-use Rattle.std.proofs.Common.{refl}
-use Rattle.access_schema.proofs.Keeping.{rules_fit}
-use Rattle.data_verify.proofs.Texts.{meets}
-use Rattle.data_verify.proofs.First.{rule_among, met_more, first_broken, met_all, broken_tells}
+use Rattle.std.proofs.Common.{◌≡◌, ℕ, Some, slice_get}
+use Rattle.std.proofs.lemmas.Result.{IfOk-weaker}
+use Rattle.meaning.specs.declared.types.Rule.{Rule}
+use Rattle.homomorphism.proofs.Covering.{denied}
+use Rattle.data_verify.specs.Finding.{IsOpen}
+use Rattle.data_verify.proofs.First.{no_open, as_found, met_told, broken_told}
 use Rattle.data_verify.proofs.verifying.verify_taken.Goals as goal
 
-pub least_unmet-requires : goal.least_unmet-requires
-least_unmet-requires c = (rules_fit c.args.schema.now c.args.schema.now.constants (λ t h. h)).numbered _ (rule_among _ _ _ _ c.as_slice-rule-items.ensures c.loop-number-test.true c.rule-item.is)
+pub returns-then-not-has_open-clause-met : goal.returns-then-not-has_open-clause-met
+returns-then-not-has_open-clause-met c =
+    let none : (k : ℕ) (rule : Rule) → slice_get c.args.schema.now.rules k ≡ Some rule → IsOpen c.in_ok-found.found k rule → ⊥ = λ k rule got is. denied _ (rw c.as_slice-2.ensures at c.has_open.ensures) c.if-not-has_open.true (k, rule, got, is) in
+    met_told c.args.instance c.args.schema.now.rules c.in_ok-found.found (as_found c.args.instance c.args.schema.now.rules c.in_ok-found.found (rw c.as_slice.ensures at c.in_ok-found.ensures) (no_open c.args.instance c.args.schema.now.rules c.in_ok-found.found none))
 
-pub returns-in-Some-clause-met : goal.returns-in-Some-clause-met
-returns-in-Some-clause-met c = broken_tells _ _ _ (first_broken c.args.schema.now.rules c.as_slice-rule-items.result.now c.loop-number.number c.rule-item.result c.as_slice-rule-items.ensures c.loop-number-test.true c.rule-item.is c.args.instance c.in_ok-store.store c.in-Some.rows c.loop-number.invariant c.in_ok-store.ensures (rw c.in-Some.is at c.in_ok-rows.ensures.some))
-
-pub returns-in-Some-clause-broken : goal.returns-in-Some-clause-broken
-returns-in-Some-clause-broken c = first_broken c.args.schema.now.rules c.as_slice-rule-items.result.now c.loop-number.number c.rule-item.result c.as_slice-rule-items.ensures c.loop-number-test.true c.rule-item.is c.args.instance c.in_ok-store.store c.in-Some.rows c.loop-number.invariant c.in_ok-store.ensures (rw c.in-Some.is at c.in_ok-rows.ensures.some)
-
-pub loop-number-preserved : goal.loop-number-preserved
-loop-number-preserved c = met_more c.args.schema.now.rules c.as_slice-rule-items.result.now c.loop-number.number c.rule-item.result c.as_slice-rule-items.ensures c.loop-number-test.true c.rule-item.is c.args.instance c.loop-number.invariant
-    (meets c.args.instance c.in_ok-store.store c.in_ok-store.ensures c.rule-item.result (rw c.in_default.is at c.in_ok-rows.ensures.none))
+pub returns-then-not-has_open-clause-broken : goal.returns-then-not-has_open-clause-broken
+returns-then-not-has_open-clause-broken c =
+    let none : (k : ℕ) (rule : Rule) → slice_get c.args.schema.now.rules k ≡ Some rule → IsOpen c.in_ok-found.found k rule → ⊥ = λ k rule got is. denied _ (rw c.as_slice-2.ensures at c.has_open.ensures) c.if-not-has_open.true (k, rule, got, is) in
+    broken_told c.args.instance c.args.schema.now.rules c.in_ok-found.found (as_found c.args.instance c.args.schema.now.rules c.in_ok-found.found (rw c.as_slice.ensures at c.in_ok-found.ensures) (no_open c.args.instance c.args.schema.now.rules c.in_ok-found.found none))
 
 pub returns-clause-met : goal.returns-clause-met
-returns-clause-met c = ((λ e. met_all _ _ _ _ c.as_slice-rule-items.ensures c.loop-number-test.false c.loop-number.invariant), (λ m. refl))
+returns-clause-met c = IfOk-weaker c.first_of_all.result _ _ (λ found f. met_told c.args.instance c.args.schema.now.rules found f) c.first_of_all.ensures
+
+pub returns-clause-broken : goal.returns-clause-broken
+returns-clause-broken c = IfOk-weaker c.first_of_all.result _ _ (λ found f. broken_told c.args.instance c.args.schema.now.rules found f) c.first_of_all.ensures

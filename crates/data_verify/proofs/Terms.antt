@@ -1,0 +1,142 @@
+-- Terms against a row, from the front, and the values that a row gives variables.
+use Rattle.std.proofs.Common.{◌≡◌, ◌↔◌, ◌⊎◌, ◌==◌, IsTrue, ℕ, zero, suc, ◌-◌, ◌<◌, ◌≤◌, List, [], ◌∷◌, map, length, take, drop, Some, Bool, true, false, cond, eqb, refl, sym, ap, ◌∙◌, subst, ⊎_elim, arith, Contains, slice_get, slice_index_or}
+use Rattle.std.proofs.lemmas.Bool.{cases_eq, eq-eqb, eqb-true}
+use Rattle.std.proofs.lemmas.Option.{slice_get-get_or}
+use Rattle.lists.proofs.Members.{contains_cases, map_got, some_injective}
+use Rattle.meaning.specs.declared.types.Term.{Term}
+use Rattle.meaning.specs.declared.types.Term.TheVariants.{Var, Const}
+use Rattle.meaning.specs.Matching.{value_of, itself}
+use Rattle.meaning_laws.proofs.Deciding.{same_values}
+use Rattle.homomorphism.proofs.Binding.{apart, none_left, no_left}
+use Rattle.data_verify.specs.Inclusion.{Fits, StandsAt, FitsBefore, reading}
+
+head_is : {X : Type 0} (x y : X) (xs ys : List X) → x ∷ xs ≡ y ∷ ys → x ≡ y
+head_is x y xs ys e = cc
+
+tail_is : {X : Type 0} (x y : X) (xs ys : List X) → x ∷ xs ≡ y ∷ ys → xs ≡ ys
+tail_is x y xs ys e = cc
+
+both : {X : Type 0} (x y : X) (xs ys : List X) → x ≡ y → xs ≡ ys → x ∷ xs ≡ y ∷ ys
+both x y xs ys e f = cc
+
+var_is : (x y : ℕ) → Var x ≡ Var y → x ≡ y
+var_is x y e = cc
+
+const_var : (c : List ℕ) (x : ℕ) → Const c ≡ Var x → ⊥
+const_var c x e = cc
+
+pub eqb_apart : (x y : ℕ) → (x ≡ y → ⊥) → eqb x y ≡ false
+eqb_apart x y differ = by (eqb x y) refl
+  where
+    by : (b : Bool) → eqb x y ≡ b → b ≡ false
+    by true e = absurd (differ (eqb-true x y e))
+    by false e = refl
+
+-- the first of the terms
+pub reading_same : (x : ℕ) (term : Term) (value : List ℕ) (terms : List Term) (row : List (List ℕ)) → term ≡ Var x → reading (term ∷ terms) (value ∷ row) x ≡ value
+reading_same x (Var y) value terms row e = ap (λ b. cond b value (reading terms row x)) (eq-eqb y x (var_is y x e))
+reading_same x (Const c) value terms row e = absurd (const_var c x e)
+
+pub reading_other : (x : ℕ) (term : Term) (value : List ℕ) (terms : List Term) (row : List (List ℕ)) → (term ≡ Var x → ⊥) → reading (term ∷ terms) (value ∷ row) x ≡ reading terms row x
+reading_other x (Var y) value terms row differ = ap (λ b. cond b value (reading terms row x)) (eqb_apart y x (λ e. differ (ap Var e)))
+reading_other x (Const c) value terms row differ = refl
+
+reading_none : (x : ℕ) (terms : List Term) → reading terms [] x ≡ []
+reading_none x [] = refl
+reading_none x (Var y ∷ terms) = refl
+reading_none x (Const c ∷ terms) = refl
+
+-- a variable of terms that a row fits has the value that the row gives it
+pub reading_is : (a : ℕ → List ℕ) (terms : List Term) (row : List (List ℕ)) (x : ℕ) → map (value_of itself a) terms ≡ row → Contains terms (Var x) → reading terms row x ≡ a x
+reading_is a [] row x e c = absurd (omega arith)
+reading_is a (term ∷ terms) [] x e c = absurd (cc)
+reading_is a (Var y ∷ terms) (value ∷ row) x e c =
+    ⊎_elim (λ same. reading_same x (Var y) value terms row (ap Var same) ∙ sym (head_is (a y) value _ row e) ∙ ap a same)
+    (λ differ. reading_other x (Var y) value terms row (λ f. differ (var_is y x f)) ∙ ⊎_elim (λ f. absurd (differ (var_is y x f))) (λ h. reading_is a terms row x (tail_is _ _ _ row e) h) (contains_cases (Var y) terms (Var x) c))
+    (cases_eq y x)
+reading_is a (Const d ∷ terms) (value ∷ row) x e c =
+    ⊎_elim (λ f. absurd (const_var d x f)) (λ h. reading_is a terms row x (tail_is _ _ _ row e) h) (contains_cases (Const d) terms (Var x) c)
+
+-- places of a variable
+pub stands_first : (x : ℕ) (value : List ℕ) (term : Term) (terms : List Term) (other : List ℕ) (row : List (List ℕ)) → StandsAt x value (term ∷ terms) (other ∷ row) → term ≡ Var x → other ≡ value
+stands_first x value term terms other row s e = s 0 other (ap Some e) refl
+
+pub stands_rest : (x : ℕ) (value : List ℕ) (term : Term) (terms : List Term) (other : List ℕ) (row : List (List ℕ)) → (term ≡ Var x → other ≡ value) → StandsAt x value (term ∷ terms) (other ∷ row) ↔ StandsAt x value terms row
+stands_rest x value term terms other row first = ((λ s k w e f. s (suc k) w e f), back)
+  where
+    back : StandsAt x value terms row → StandsAt x value (term ∷ terms) (other ∷ row)
+    back s zero w e f = sym (some_injective other w f) ∙ first (some_injective term (Var x) e)
+    back s (suc k) w e f = s k w e f
+
+stands_no_terms : (x : ℕ) (value : List ℕ) (row : List (List ℕ)) → StandsAt x value [] row
+stands_no_terms x value row k w e f = absurd (cc)
+
+stands_no_row : (x : ℕ) (value : List ℕ) (terms : List Term) → StandsAt x value terms []
+stands_no_row x value terms k w e f = absurd (cc)
+
+-- the first term and the first value
+pub fits_first : (term : Term) (value : List ℕ) (terms : List Term) (row : List (List ℕ)) → Fits (term ∷ terms) (value ∷ row) → FitsBefore term value terms row
+fits_first (Const c) value terms row (a, e) = head_is c value _ row e
+fits_first (Var x) value terms row (a, e) = λ k w f g.
+    some_injective w (a x) (sym g ∙ ap (λ z. slice_get z k) (sym (tail_is _ _ _ row e)) ∙ map_got (value_of itself a) terms k (Var x) f) ∙ head_is (a x) value _ row e
+
+fits_both : (term : Term) (value : List ℕ) (terms : List Term) (row : List (List ℕ)) → FitsBefore term value terms row → Fits terms row → Fits (term ∷ terms) (value ∷ row)
+fits_both (Const c) value terms row first (a, e) = (a, both c value _ row first e)
+fits_both (Var x) value terms row first (a, e) = (changed, both (changed x) value _ row (ap (λ b. cond b value (a x)) (eq-eqb x x refl)) (sym (same_values itself a changed terms same) ∙ e))
+  where
+    changed : ℕ → List ℕ
+    changed y = cond (eqb y x) value (a y)
+
+    here : Contains terms (Var x) → a x ≡ value
+    here (k, l, f) =
+        let at : slice_get terms k ≡ Some (Var x) = slice_get-get_or terms k (Var x) l ∙ ap Some f in
+        first k (a x) at (ap (λ z. slice_get z k) (sym e) ∙ map_got (value_of itself a) terms k (Var x) at)
+
+    same : (y : ℕ) → Contains terms (Var y) → a y ≡ changed y
+    same y c =
+        ⊎_elim (λ f. ap a f ∙ here (subst (λ z. Contains terms (Var z)) f c) ∙ sym (ap (λ b. cond b value (a y)) (eq-eqb y x f)))
+        (λ differ. sym (ap (λ b. cond b value (a y)) (eqb_apart y x differ))) (cases_eq y x)
+
+pub fits_rest : (term : Term) (value : List ℕ) (terms : List Term) (row : List (List ℕ)) → FitsBefore term value terms row → Fits (term ∷ terms) (value ∷ row) ↔ Fits terms row
+fits_rest term value terms row first = ((λ (a, e). (a, tail_is _ _ _ row e)), (λ f. fits_both term value terms row first f))
+
+pub fits_none : Fits [] []
+fits_none = ((λ x. []), refl)
+
+pub fits_short : (terms : List Term) (row : List (List ℕ)) → Fits terms row → length terms ≡ length row
+fits_short terms row (a, e) = sym (map_length (value_of itself a) terms) ∙ ap length e
+  where
+    map_length : {X Y : Type 0} (f : X → Y) (xs : List X) → length (map f xs) ≡ length xs
+    map_length f [] = refl
+    map_length f (x ∷ xs) = ap suc (map_length f xs)
+
+-- one turn of a loop that takes terms and a row apart
+module _ (left : List Term) (values : List (List ℕ)) (term : Term) (value : List ℕ) (l : 1 ≤ length left) (e : term ≡ slice_index_or left 0 term) (m : 1 ≤ length values) (f : value ≡ slice_index_or values 0 value) where
+  abbrev later : List Term
+  later = take (length left - 1) (drop 1 left)
+
+  abbrev others : List (List ℕ)
+  others = take (length values - 1) (drop 1 values)
+
+  there : (P : List Term → List (List ℕ) → Type 0) → P left values → P (term ∷ later) (value ∷ others)
+  there P p = subst (P (term ∷ later)) (apart values value m f) (subst (λ z. P z values) (apart left term l e) p)
+
+  back : (P : List Term → List (List ℕ) → Type 0) → P (term ∷ later) (value ∷ others) → P left values
+  back P p = subst (λ z. P z values) (sym (apart left term l e)) (subst (P (term ∷ later)) (sym (apart values value m f)) p)
+
+  pub rest_of : (P : List Term → List (List ℕ) → Type 0) (Q : Type 0) → (Q ↔ P left values) → (P (term ∷ later) (value ∷ others) ↔ P later others) → Q ↔ P later others
+  unfolding there back
+  rest_of P Q before now = ((λ q. now.0 (there P (before.0 q))), (λ p. before.1 (back P (now.1 p))))
+
+-- where the terms or the row are at their end
+pub reading_end : (x : ℕ) (left : List Term) (values : List (List ℕ)) → (length left < 1) ⊎ (length values < 1) → reading left values x ≡ []
+reading_end x left values short = ⊎_elim (λ l. ap (λ z. reading z values x) (none_left left l)) (λ m. ap (λ z. reading left z x) (none_left values m) ∙ reading_none x left) short
+
+pub fits_not : (left : List Term) (values : List (List ℕ)) → 1 ≤ length left → length values < 1 → Fits left values → ⊥
+fits_not left values l m f = let same = fits_short left values f in omega arith
+
+pub fits_end : (left : List Term) (values : List (List ℕ)) (b : Bool) → length left < 1 → b ≡ (length values == 0) → IsTrue b ↔ Fits left values
+fits_end left values b l e = (
+  (λ t. subst (λ z. Fits z values) (sym (none_left left l)) (subst (Fits []) (sym (none_left values (no_left b (length values) e t))) fits_none)),
+  (λ f. let same = fits_short left values f in e ∙ eq-eqb (length values) 0 (omega arith)),
+)
