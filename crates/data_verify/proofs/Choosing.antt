@@ -9,6 +9,7 @@ use Rattle.std.proofs.lemmas.Cmp.{upto, tied_itself, lists_total, nat_cmp_total}
 use Rattle.std.proofs.lemmas.List.{take_more, take_all, ext_get_or}
 use Rattle.std.proofs.lemmas.List.Elements.{Contains-append_left, Contains-push, Contains-push_cases}
 use Rattle.std.proofs.lemmas.List.FromFn.{length-map-range_with_len, get_or-map-range_with_len}
+use Rattle.meaning_laws.proofs.Carrying.{occurs_below}
 use Rattle.meaning.specs.declared.types.Val.{Val}
 use Rattle.meaning.specs.declared.types.Val.TheVariants.{Const, Label}
 use Rattle.meaning.specs.declared.types.Atom.{Atom}
@@ -19,9 +20,8 @@ use Rattle.meaning.specs.Matching.{MeetsRule, GroundsOf}
 use Rattle.meaning.specs.Triggers.{bound}
 use Rattle.homomorphism.specs.declared.assignment.Assignment.{Assignment}
 use Rattle.homomorphism.specs.Bindings.{at, values_of}
-use Rattle.homomorphism.specs.Rules.{AreBodyMatches, IsMet, IsUnmet}
+use Rattle.homomorphism.specs.Rules.{AreBodyMatches, IsMet, IsUnmet, IsUnmetMatch}
 use Rattle.homomorphism.proofs.Members.{contains_none}
-use Rattle.homomorphism.proofs.Giving.{unmet_match, all_met}
 use Rattle.data_verify.specs.Breaking.{row_under, facts_under, row_lists_cmp}
 use Rattle.homomorphism.specs.Texts.{text_at}
 use Rattle.data_verify.specs.Unmet.{lesser, AreLeastRows, AreLeastRowsIf, AreLeastUnmet}
@@ -88,6 +88,18 @@ min_is first rows = by (row_lists_cmp rows first) refl
     by Less e = subst (IsLesser first rows) (pick Less e) (goes e)
     by Equal e = subst (IsLesser first rows) (pick Equal e) (stays Equal e no_less_equal)
     by Greater e = subst (IsLesser first rows) (pick Greater e) (stays Greater e no_less_greater)
+
+-- where each match of the body extends, the rule is met
+all_met : (facts : List Ground) (rule : Rule) (found : List Assignment) → AreBodyMatches facts rule found → ((one : Assignment) → Contains found one → IsMet facts rule one.vals) → MeetsRule Const (GroundsOf facts) rule
+all_met facts rule found m met a body =
+    let (b, ext) = met (record { vals = values_of (bound rule.body) a }) (m.all a body) in
+    (b, record { agrees = λ x occurs. ext.agrees x occurs ∙ listed x (occurs_below rule.body x occurs); head = ext.head })
+  where
+    listed : (x : ℕ) → x < bound rule.body → at (values_of (bound rule.body) a) x ≡ a x
+    listed x l = get_or-map-range_with_len a 0 (bound rule.body) x x (Label 0) l (omega arith)
+
+unmet_match : (facts : List Ground) (rule : Rule) (found : List Assignment) (one : Assignment) → AreBodyMatches facts rule found → Contains found one → IsUnmet facts rule one.vals → IsUnmetMatch facts rule one.vals
+unmet_match facts rule found one m c u = record { width = m.width one c; body = m.each one c; unmet = u }
 
 module _ (facts : List Ground) (rule : Rule) where
   abbrev rows_of : Assignment → List (List (List ℕ))
