@@ -3,24 +3,22 @@ use Rattle.std.proofs.Common.{◌≡◌, ℕ, suc, ◌+◌, ◌-◌, ◌<◌, �
 use Rattle.std.proofs.lemmas.Bool.{cases_lt}
 use Rattle.std.proofs.lemmas.List.{take_more}
 use Rattle.std.proofs.lemmas.List.Elements.{Contains-push_cases}
-use Rattle.std.proofs.lemmas.List.FromFn.{get_or-map-range_with_len}
 use Rattle.std.proofs.lemmas.Option.{slice_get_within, slice_get-get_or}
 use Rattle.lists.proofs.Members.{got_push, got_before, map_got, some_injective}
 use Rattle.meaning_laws.proofs.Carrying.{occurs_below}
 use Rattle.meaning.specs.declared.types.Term.{Term}
 use Rattle.meaning.specs.declared.types.Term.TheVariants.{Var, Const as Said}
 use Rattle.meaning.specs.declared.types.Val.{Val}
-use Rattle.meaning.specs.declared.types.Val.TheVariants.{Const, Label}
+use Rattle.meaning.specs.declared.types.Val.TheVariants.{Label}
 use Rattle.meaning.specs.declared.types.Atom.{Atom}
 use Rattle.meaning.specs.declared.types.Ground.{Ground}
 use Rattle.meaning.specs.declared.types.Rule.{Rule}
-use Rattle.meaning.specs.Matching.{GroundsOf, MeetsRule}
 use Rattle.meaning.specs.Triggers.{bound, terms_bound, IsNumbered}
 use Rattle.homomorphism.specs.declared.assignment.Assignment.{Assignment}
 use Rattle.homomorphism.specs.Bindings.{at, values_of}
 use Rattle.homomorphism.specs.Matches.{IsMatch, NoMatch, AreMatches, AreCovered}
 use Rattle.homomorphism.specs.Narrowing.{Gives}
-use Rattle.homomorphism.specs.Rules.{AreBodyMatches, IsMet, IsUnmet, IsUnmetMatch}
+use Rattle.homomorphism.specs.Rules.{AreBodyMatches, IsMet, IsUnmet}
 use Rattle.homomorphism.proofs.Binding.{apart}
 
 -- widths
@@ -104,18 +102,7 @@ head_met facts rule values found fixed width g m = (at found, record { agrees = 
 pub head_unmet : (facts : List Ground) (rule : Rule) (values : List Val) (fixed : List (Option Val)) → IsNumbered rule → length values ≡ bound rule.body → Gives values (bound rule.head) fixed → NoMatch facts rule.head fixed → IsUnmet facts rule values
 head_unmet facts rule values fixed numbered width g none b ext = none b (g.complete b (λ x l. ext.agrees x (numbered.body x (omega arith)))) ext.head
 
--- where each match of the body extends, the rule is met
-pub all_met : (facts : List Ground) (rule : Rule) (found : List Assignment) → AreBodyMatches facts rule found → ((one : Assignment) → Contains found one → IsMet facts rule one.vals) → MeetsRule Const (GroundsOf facts) rule
-all_met facts rule found m met a body =
-    let (b, ext) = met (record { vals = values_of (bound rule.body) a }) (m.all a body) in
-    (b, record { agrees = λ x occurs. ext.agrees x occurs ∙ listed x (occurs_below rule.body x occurs); head = ext.head })
-  where
-    listed : (x : ℕ) → x < bound rule.body → at (values_of (bound rule.body) a) x ≡ a x
-    listed x l = get_or-map-range_with_len a 0 (bound rule.body) x x (Label 0) l (omega arith)
-
-pub unmet_match : (facts : List Ground) (rule : Rule) (found : List Assignment) (one : Assignment) → AreBodyMatches facts rule found → Contains found one → IsUnmet facts rule one.vals → IsUnmetMatch facts rule one.vals
-unmet_match facts rule found one m c u = record { width = m.width one c; body = m.each one c; unmet = u }
-
+-- one match more at which the rule is met
 pub met_push : (facts : List Ground) (rule : Rule) (found : List Assignment) (i : ℕ) (one : Assignment) → i < length found → one ≡ slice_index_or found i one →
     ((other : Assignment) → Contains (take i found) other → IsMet facts rule other.vals) → IsMet facts rule one.vals → (other : Assignment) → Contains (take (i + 1) found) other → IsMet facts rule other.vals
 met_push facts rule found i one l e before now other c =

@@ -18,3 +18,5 @@ pub mod FactByFact
 pub mod Touching
 pub mod Extending
 pub mod Runs
+pub mod FrontierMatches
+pub mod Heads

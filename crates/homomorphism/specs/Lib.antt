@@ -1,6 +1,7 @@
 pub mod Bindings
 pub mod Matches
 pub mod Rules
+pub mod Frontier
 pub mod Instances
 pub mod Narrowing
 pub mod Ways
@@ -10,3 +11,4 @@ pub mod Codes
 pub mod Present
 pub mod Listed
 pub mod Widening
+pub mod Heads

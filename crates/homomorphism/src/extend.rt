@@ -34,7 +34,7 @@ fn free_variable(term: &Term, given: &[Option<Val>]) -> Option<usize>
 }
 
 /// The variables of the terms that have no value.
-fn free_variables(
+pub fn free_variables(
     alloc: Global,
     terms: &[Term],
     given: &[Option<Val>],
@@ -52,7 +52,7 @@ fn free_variables(
 }
 
 /// Takes the values of these variables back. Takes no memory.
-fn release(given: &mut Vec<Option<Val>>, free: &[usize])
+pub fn release(given: &mut Vec<Option<Val>>, free: &[usize])
     requires { (x : ℕ) → Contains free.now x → x < length given.old.items }
     ensures { (terms : List TheTerm) (before : List (Option TheVal)) → AreFree terms before free.now → Touches terms before given.old.items → given.new.items ≡ before }
 {
@@ -63,7 +63,7 @@ fn release(given: &mut Vec<Option<Val>>, free: &[usize])
 
 /// Gives the atom's variables the values of the fact, if they can have them; if not, nothing changes. `free` are the
 /// atom's variables without a value.
-fn take_fact(
+pub fn take_fact(
     alloc: Global,
     atom: &Atom,
     fact: &Ground,

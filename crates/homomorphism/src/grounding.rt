@@ -1,11 +1,13 @@
-// Atoms as labelled facts: under the values of a trigger, or frozen, with a label for each variable.
+// Atoms as labelled facts: under values, under those of a trigger, or frozen, with a label for each variable.
 ghost use Rattle.std.specs.Prelude.{◌≡◌, ◌+◌, ◌-◌, ◌<◌, ◌^◌, ℕ, Contains, length, map, IfOk};
 ghost use Rattle.meaning.specs.declared.types.Val.{Val};
 ghost use Rattle.meaning.specs.declared.types.Val.TheVariants.{Const, Label};
 ghost use Rattle.meaning.specs.declared.types.Term.TheVariants.{Var};
 ghost use Rattle.meaning.specs.Matching.{value_of, OccursIn};
 ghost use Rattle.meaning.specs.Triggers.{assigned, ground as ground_of};
+ghost use Rattle.homomorphism.specs.Bindings.{at};
 
+use crate::assignment::Assignment;
 use lists::{Copies, NoMemory, Seq};
 use meaning::types::{Atom, Ground, Term, Trigger, Val};
 use std::alloc::Global;
@@ -37,6 +39,17 @@ impl Assigns for Trigger {
             return values[variable].copy(alloc);
         }
         Ok(Val::Label(self.fresh + (variable - values.len()) as u32))
+    }
+}
+
+/// Values give each variable below their count its own.
+impl Assigns for Assignment {
+    ghost value_at = { λ m. at m.vals };
+
+    ghost covers = { λ m x. x < length m.vals };
+
+    fn value(&self, alloc: Global, variable: u32) -> Result<Val, NoMemory> {
+        self.vals.as_slice()[variable as usize].copy(alloc)
     }
 }
 

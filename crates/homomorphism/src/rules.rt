@@ -5,9 +5,12 @@ ghost use Rattle.meaning.specs.Triggers.{terms_bound, bound, IsNumbered};
 ghost use Rattle.meaning.specs.Matching.{MeetsRule, GroundsOf};
 ghost use Rattle.homomorphism.specs.Narrowing.{Gives};
 ghost use Rattle.homomorphism.specs.Rules.{AreBodyMatches, IsMet, IsUnmet, IsUnmetMatch};
+ghost use Rattle.homomorphism.specs.Frontier.{AreFrontierMatches};
 
+use crate::arrange::numbers;
 use crate::assignment::{Assignment, Assignments, Bindings};
 use crate::find::all_matches;
+use crate::frontier::frontier;
 use crate::search::search;
 use crate::store::Store;
 use lists::{Copies, NoMemory, Seq};
@@ -43,7 +46,7 @@ pub fn variables_width(atoms: &[Atom]) -> usize
 }
 
 /// These values for the first variables, and none for others below the width.
-fn given(alloc: Global, values: &[Val], width: usize) -> Result<Bindings, NoMemory>
+pub fn given(alloc: Global, values: &[Val], width: usize) -> Result<Bindings, NoMemory>
     ensures { IfOk result (λ fixed. Gives values.now width fixed) }
 {
     let mut fixed = Vec::new(alloc);
@@ -66,6 +69,31 @@ pub fn body_matches(alloc: Global, rule: &Rule, store: &Store) -> Result<Assignm
     let fixed = given(alloc, none.as_slice(), width)?;
     let found = all_matches(alloc, &rule.body, store, &fixed)?;
     Ok(found)
+}
+
+/// Matches of the rule's body: for each match one that gives the variables of the head the same values.
+///
+/// A rule that is met at the one is met at the other.
+pub fn frontier_matches(alloc: Global, rule: &Rule, store: &Store) -> Result<Assignments, NoMemory>
+    requires { IsNumbered rule.now }
+    ensures { IfOk result (λ found. AreFrontierMatches store.now rule.now found) }
+{
+    let body = rule.body.as_slice();
+    let none = Vec::new(alloc);
+    let fixed = given(alloc, none.as_slice(), variables_width(body))?;
+    let order = numbers(alloc, body.len())?;
+    let mut values = fixed.into_vec();
+    let mut found = Vec::new(alloc);
+    frontier(
+        alloc,
+        body,
+        order.as_slice(),
+        rule.head.as_slice(),
+        store,
+        &mut values,
+        &mut found,
+    )?;
+    Ok(Seq::from_vec(found))
 }
 
 /// Whether the values of the body variables extend to values that make the head atoms facts.
@@ -93,7 +121,7 @@ pub fn first_unmet(
     ensures some { IfOk result (λ found. IfSome found (λ m. IsUnmetMatch store.now rule.now m.vals)) }
     ensures none { IfOk result (λ found. IfNone found (MeetsRule Const (GroundsOf store.now) rule.now)) }
 {
-    let found = body_matches(alloc, rule, store)?;
+    let found = frontier_matches(alloc, rule, store)?;
     for one in found.as_slice() {
         if !is_met(alloc, rule, store, one.vals.as_slice())? {
             return Ok(Some(one.copy(alloc)?));

@@ -5,7 +5,7 @@ ghost use Rattle.meaning.specs.Triggers.{bound};
 ghost use Rattle.homomorphism.specs.Matches.{NoMatch};
 ghost use Rattle.homomorphism.specs.Widening.{AreRuns, AreUntouched, Widens, taken};
 
-use crate::arrange::{arranged, numbers};
+use crate::arrange::{Run, arranged, numbers};
 use crate::assignment::Bindings;
 use crate::extend::extend;
 use crate::store::Store;
@@ -31,8 +31,24 @@ pub fn search(
         return search_run(alloc, atoms, &[0], store, given);
     }
     let runs = arranged(alloc, atoms, given.as_slice())?;
+    search_runs(alloc, atoms, runs.as_slice(), store, given)
+}
+
+/// The same in these runs, which have the numbers of all atoms.
+pub fn search_runs(
+    alloc: Global,
+    atoms: &[Atom],
+    runs: &[Run],
+    store: &Store,
+    given: Bindings,
+) -> Result<Option<Bindings>, NoMemory>
+    requires fits { bound atoms.now ≤ length given }
+    requires all { AreRuns (length atoms.now) runs.now }
+    ensures some { IfOk result (λ found. IfSome found (λ found. Widens store.now atoms.now given found)) }
+    ensures none { IfOk result (λ found. IfNone found (NoMatch store.now atoms.now given)) }
+{
     let mut now = given.copy(alloc)?.into_vec();
-    for run in &runs {
+    for run in runs {
         if !are_untouched(atoms, run.as_slice(), given.as_slice(), now.as_slice()) {
             return search_whole(alloc, atoms, store, given);
         }

@@ -1,0 +1,177 @@
+-- Matches that stand for all others with the same values at the frontier.
+use Rattle.std.proofs.Common.{◌≡◌, ◌⊎◌, ℕ, ◌+◌, ◌-◌, ◌<◌, ◌≤◌, List, [], ◌∷◌, ◌++◌, length, Some, None, Option, sym, ap, ◌∙◌, subst, inl, inr, ⊎_elim, arith, Contains, map, take, drop, slice_get, slice_index_or}
+use Rattle.std.proofs.lemmas.Bool.{cases_lt}
+use Rattle.std.proofs.lemmas.List.{take_more, take_all}
+use Rattle.std.proofs.lemmas.List.Elements.{Contains-append_left, Contains-append_right, Contains-append_cases, Contains-push_cases}
+use Rattle.std.proofs.lemmas.Option.{slice_get-get_or}
+use Rattle.lists.proofs.Members.{contains_here, contains_there, contains_cases, contains_map, contains_mapped}
+use Rattle.meaning_laws.proofs.Carrying.{occurs_below}
+use Rattle.meaning_laws.proofs.Deciding.{same_facts}
+use Rattle.meaning_laws.proofs.Joined.{joined_below, joined_above}
+use Rattle.meaning.specs.declared.types.Term.TheVariants.{Var}
+use Rattle.meaning.specs.declared.types.Val.{Val}
+use Rattle.meaning.specs.declared.types.Val.TheVariants.{Const}
+use Rattle.meaning.specs.declared.types.Atom.{Atom}
+use Rattle.meaning.specs.declared.types.Ground.{Ground}
+use Rattle.meaning.specs.declared.types.Rule.{Rule}
+use Rattle.meaning.specs.Matching.{AreFacts, OccursIn, GroundsOf, Extends, MeetsRule}
+use Rattle.meaning.specs.Triggers.{ground, bound, joined, IsNumbered}
+use Rattle.homomorphism.specs.declared.assignment.Assignment.{Assignment}
+use Rattle.homomorphism.specs.Bindings.{Agrees, IsBound, at}
+use Rattle.homomorphism.specs.Narrowing.{Gives, value_or_none}
+use Rattle.homomorphism.specs.Ways.{IsWay}
+use Rattle.homomorphism.specs.Matches.{IsMatch, NoMatch, AreCovered}
+use Rattle.homomorphism.specs.Listed.{AreCandidates}
+use Rattle.homomorphism.specs.Rules.{IsMet, IsUnmet, IsUnmetMatch}
+use Rattle.homomorphism.specs.Widening.{AreRuns, taken}
+use Rattle.homomorphism.specs.Frontier.{HasLike, AreFrontier, AreFrontierMatches}
+use Rattle.homomorphism.proofs.AtomByAtom.{match_none}
+use Rattle.homomorphism.proofs.Binding.{apart}
+use Rattle.homomorphism.proofs.Choosing.{picked, picked_has, length_picked}
+use Rattle.homomorphism.proofs.Giving.{body_fits}
+use Rattle.homomorphism.proofs.Members.{contains_none}
+use Rattle.homomorphism.proofs.Touching.{default}
+
+-- a variable that is not one without a value has one
+pub bound_there : (given : List (Option Val)) (x : ℕ) → x < length given → (slice_get given x ≡ Some None → ⊥) → IsBound given x
+bound_there given x l not = by (slice_index_or given x None) (slice_get-get_or given x None l)
+  where
+    by : (r : Option Val) → slice_get given x ≡ Some r → IsBound given x
+    by None e = absurd (not e)
+    by (Some v) e = (v, e)
+
+-- a match with values for all variables of the head is like each other one
+pub frontier_one : (facts : List Ground) (atoms head : List Atom) (given : List (Option Val)) (m : Assignment) → ((x : ℕ) → OccursIn head x → x < length given → IsBound given x) → IsMatch facts atoms given m.vals → AreFrontier facts atoms head given (m ∷ [])
+frontier_one facts atoms head given m has is = record {
+  each = λ other c. ⊎_elim (λ e. subst (λ (n : Assignment). IsMatch facts atoms given n.vals) e is) (λ h. absurd (contains_none other h)) (contains_cases m [] other c);
+  all = λ a ag are. (m, contains_here m [], λ x o l. let (v, got) = has x o l in ag x v got ∙ sym (is.agrees x v got));
+}
+
+pub frontier_none : (facts : List Ground) (atoms head : List Atom) (given : List (Option Val)) → NoMatch facts atoms given → AreFrontier facts atoms head given []
+frontier_none facts atoms head given none = record {
+  each = λ m c. absurd (contains_none m c);
+  all = λ a ag are. absurd (none a ag are);
+}
+
+pub frontier_end : (facts : List Ground) (atoms : List Atom) (order : List ℕ) (head : List Atom) (given : List (Option Val)) (m : Assignment) → order ≡ [] → AreCovered (taken atoms order) given → m.vals ≡ map value_or_none given → AreFrontier facts (taken atoms order) head given (m ∷ [])
+frontier_end facts atoms order head given m none covered is = subst (λ z. AreFrontier facts (taken atoms z) head given (m ∷ [])) (sym none)
+    (frontier_one facts [] head given m (λ x o l. ⊎_elim (λ b. b) (λ (atom, among, h). absurd (contains_none atom among)) (subst (λ z. AreCovered (taken atoms z) given) none covered x l)) (match_none facts given m.vals is))
+
+-- the matches by some facts of the first atom
+pub record ByFacts (done facts : List Ground) (atom : Atom) (rest head : List Atom) (given : List (Option Val)) (matches : List Assignment) : Type 0 where
+  pub each : (m : Assignment) → Contains matches m → IsMatch facts (atom ∷ rest) given m.vals
+  pub all : (a : ℕ → Val) → Agrees given a → Contains done (ground a atom) → AreFacts Const (GroundsOf facts) a rest → HasLike matches head (length given) a
+
+pub by_none : (facts : List Ground) (atom : Atom) (rest head : List Atom) (given : List (Option Val)) → ByFacts [] facts atom rest head given []
+by_none facts atom rest head given = record {
+  each = λ m c. absurd (contains_none m c);
+  all = λ a ag c are. absurd (contains_none (ground a atom) c);
+}
+
+-- one turn of the loop over the facts that are picked
+module _ (chosen : List Ground) (i : ℕ) (fact : Ground) (l : i < length chosen) (is : fact ≡ slice_index_or chosen i fact) (facts : List Ground) (atom : Atom) (rest head : List Atom) (given : List (Option Val)) (matches : List Assignment) (before : ByFacts (take i chosen) facts atom rest head given matches) where
+  cases : (a : ℕ → Val) → Contains (take (i + 1) chosen) (ground a atom) → Contains (take i chosen) (ground a atom) ⊎ (fact ≡ ground a atom)
+  cases a c = Contains-push_cases (take i chosen) fact (ground a atom) (subst (λ done. Contains done (ground a atom)) (take_more chosen i fact l ∙ ap (λ f. take i chosen ++ f ∷ []) (sym is)) c)
+
+  pub by_without : ((a : ℕ → Val) → Agrees given a → ground a atom ≡ fact → ⊥) → ByFacts (take (i + 1) chosen) facts atom rest head given matches
+  unfolding cases
+  by_without not = record {
+    each = before.each;
+    all = λ a ag c are. ⊎_elim (λ h. before.all a ag h are) (λ e. absurd (not a ag (sym e))) (cases a c);
+  }
+
+  pub by_with : (way : List (Option Val)) (more : List Assignment) → Contains facts fact → IsWay fact atom given way → AreFrontier facts rest head way more → ByFacts (take (i + 1) chosen) facts atom rest head given (matches ++ more)
+  unfolding cases
+  by_with way more among w r = record {
+    each = λ m c. ⊎_elim (λ h. before.each m h) (λ h. longer m (r.each m h)) (Contains-append_cases matches more m c);
+    all = λ a ag c are. ⊎_elim (λ h. let (m, there, like) = before.all a ag h are in (m, Contains-append_left matches more m there, like))
+        (λ e. let (m, there, like) = r.all a (w.narrows.complete a ag (ap (λ (f : Ground). f.vals) (sym e))) are in (m, Contains-append_right matches more m there, λ x o low. like x o (subst (λ n. x < n) (sym w.narrows.width) low))) (cases a c);
+  }
+    where
+      made : (a : ℕ → Val) → Agrees way a → ground a atom ≡ fact
+      made a ag = let e = w.relation in let v = w.narrows.sound a ag in λ i. record { rel = sym e i; vals = v i }
+
+      longer : (m : Assignment) → IsMatch facts rest way m.vals → IsMatch facts (atom ∷ rest) given m.vals
+      longer m n = record {
+        width = n.width ∙ w.narrows.width;
+        agrees = w.narrows.wider (at m.vals) n.agrees;
+        facts_are = λ other c. ⊎_elim (λ e. subst (λ (t : Atom). Contains facts (ground (at m.vals) t)) e (subst (Contains facts) (sym (made (at m.vals) n.agrees)) among)) (λ h. n.facts_are other h) (contains_cases atom rest other c);
+      }
+
+-- the first of the numbers, and the rest of them
+module _ (facts : List Ground) (atoms : List Atom) (order : List ℕ) (place : ℕ) (atom : Atom) (given : List (Option Val)) (l : 1 ≤ length order) (is : place ≡ slice_index_or order 0 place) (below : place < length atoms) (here : atom ≡ slice_index_or atoms place atom) where
+  abbrev rest : List Atom
+  rest = taken atoms (take (length order - 1) (drop 1 order))
+
+  split : taken atoms order ≡ atom ∷ rest
+  split = ap (taken atoms) (apart order place l is) ∙ ap (λ (t : Atom). t ∷ rest) (sym (here ∙ default atoms place atom (record { rel = 0; terms = [] }) below))
+
+  pub covered_by : (fact : Ground) (way : List (Option Val)) → IsWay fact atom given way → AreCovered (taken atoms order) given → AreCovered (taken atoms (take (length order - 1) (drop 1 order))) way
+  unfolding split
+  covered_by fact way w covered x low =
+      ⊎_elim (λ b. inl (w.narrows.kept x b))
+      (λ (other, among, o). ⊎_elim (λ e. inl (w.narrows.bound x (subst (λ (t : Atom). Contains t.terms (Var x)) (sym e) o))) (λ h. inr (other, h, o)) (contains_cases atom rest other (subst (λ z. Contains z other) split among)))
+      (covered x (subst (λ n. x < n) w.narrows.width low))
+
+  pub frontier_all : (head : List Atom) (matches : List Assignment) (numbers : List ℕ) (i : ℕ) → AreCandidates facts atom given numbers → length numbers ≤ i → ByFacts (take i (picked facts numbers)) facts atom (taken atoms (take (length order - 1) (drop 1 order))) head given matches →
+      AreFrontier facts (taken atoms order) head given matches
+  unfolding split
+  frontier_all head matches numbers i r past by = subst (λ z. AreFrontier facts z head given matches) (sym split) (record {
+    each = by.each;
+    all = λ a ag are. by.all a ag (subst (λ z. Contains z (ground a atom)) (sym (take_all i (picked facts numbers) (let e = length_picked facts numbers in omega arith))) (picked_has facts atom given numbers r a ag (are atom (contains_here atom rest))))
+        (λ other c. are other (contains_there atom rest other c));
+  })
+
+-- all atoms, by their numbers
+module _ (atoms : List Atom) (order : List ℕ) (r : AreRuns (length atoms) (order ∷ [])) where
+  to_atom : (atom : Atom) → Contains (taken atoms order) atom → Contains atoms atom
+  to_atom atom c =
+      let (n, among, e) = contains_mapped (λ k. slice_index_or atoms k (record { rel = 0; terms = [] })) order atom c in
+      let low = r.within order n (contains_here order []) among in
+      (n, low, sym (default atoms n (record { rel = 0; terms = [] }) atom low) ∙ e)
+
+  from_atom : (atom : Atom) → Contains atoms atom → Contains (taken atoms order) atom
+  from_atom atom (n, low, e) =
+      let (other, among, c) = r.each n low in
+      let here : Contains order n = ⊎_elim (λ same. subst (λ z. Contains z n) (sym same) c) (λ h. absurd (contains_none other h)) (contains_cases order [] other among) in
+      subst (Contains (taken atoms order)) (default atoms n (record { rel = 0; terms = [] }) atom low ∙ e) (contains_map (λ k. slice_index_or atoms k (record { rel = 0; terms = [] })) order n here)
+
+  pub covered_taken : (given : List (Option Val)) → AreCovered atoms given → AreCovered (taken atoms order) given
+  unfolding from_atom
+  covered_taken given covered x low = ⊎_elim inl (λ (atom, c, o). inr (atom, from_atom atom c, o)) (covered x low)
+
+  pub frontier_found : (facts : List Ground) (rule : Rule) (fixed : List (Option Val)) (found : List Assignment) → rule.body ≡ atoms → Gives [] (bound rule.body) fixed → AreFrontier facts (taken atoms order) rule.head fixed found → AreFrontierMatches facts rule found
+  unfolding to_atom from_atom
+  frontier_found facts rule fixed found same g f = record {
+    width = λ m c. (f.each m c).width ∙ body_fits rule fixed g;
+    each = λ m c. subst (AreFacts Const (GroundsOf facts) (at m.vals)) (sym same) (λ atom h. (f.each m c).facts_are atom (from_atom atom h));
+    all = λ a are. subst (λ n. HasLike found rule.head n a) (body_fits rule fixed g) (f.all a (g.complete a (λ x l. absurd (omega arith))) (λ atom h. are atom (subst (λ z. Contains z atom) (sym same) (to_atom atom h))));
+  }
+
+-- a rule that is met at values is met at each assignment that has them at the frontier
+pub met_along : (facts : List Ground) (rule : Rule) (values : List Val) (a : ℕ → Val) → IsNumbered rule → IsMet facts rule values → ((x : ℕ) → OccursIn rule.head x → x < bound rule.body → a x ≡ at values x) →
+    (b : ℕ → Val) × Extends Const (GroundsOf facts) rule a b
+met_along facts rule values a numbered (b, ext) like = (
+  both,
+  record {
+    agrees = λ x occurs. low x (occurs_below rule.body x occurs);
+    head = same_facts facts b both rule.head (λ x occurs. ⊎_elim (λ l. ext.agrees x (numbered.body x l) ∙ sym (like x occurs l) ∙ sym (low x l)) (λ h. sym (high x h)) (cases_lt x (bound rule.body))) ext.head;
+  },
+)
+  where
+    both : ℕ → Val
+    both = joined (bound rule.body) a (λ i. b (bound rule.body + i))
+
+    low : (x : ℕ) → x < bound rule.body → both x ≡ a x
+    low x l = joined_below (bound rule.body) a (λ i. b (bound rule.body + i)) x l
+
+    high : (x : ℕ) → bound rule.body ≤ x → both x ≡ b x
+    high x l =
+        let e : bound rule.body + (x - bound rule.body) ≡ x = omega arith in
+        subst (λ y. both y ≡ b y) e (joined_above (bound rule.body) a (λ i. b (bound rule.body + i)) (x - bound rule.body))
+
+pub frontier_met : (facts : List Ground) (rule : Rule) (found : List Assignment) → IsNumbered rule → AreFrontierMatches facts rule found → ((one : Assignment) → Contains found one → IsMet facts rule one.vals) → MeetsRule Const (GroundsOf facts) rule
+frontier_met facts rule found numbered m met a body = let (one, among, like) = m.all a body in met_along facts rule one.vals a numbered (met one among) like
+
+pub unmet_frontier : (facts : List Ground) (rule : Rule) (found : List Assignment) (one : Assignment) → AreFrontierMatches facts rule found → Contains found one → IsUnmet facts rule one.vals → IsUnmetMatch facts rule one.vals
+unmet_frontier facts rule found one m c u = record { width = m.width one c; body = m.each one c; unmet = u }

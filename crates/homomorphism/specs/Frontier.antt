@@ -1,0 +1,35 @@
+-- Matches of a rule's body by their values at the frontier, which is the variables that occur in the body and in the head.
+use Rattle.std.specs.Prelude.{◌≡◌, ◌++◌, ℕ, ◌<◌, List, Contains, length, Option}
+use Rattle.meaning.specs.declared.types.Atom.{Atom}
+use Rattle.meaning.specs.declared.types.Rule.{Rule}
+use Rattle.meaning.specs.declared.types.Val.{Val}
+use Rattle.meaning.specs.declared.types.Val.TheVariants.{Const}
+use Rattle.meaning.specs.declared.types.Ground.{Ground}
+use Rattle.meaning.specs.Matching.{AreFacts, OccursIn, GroundsOf}
+use Rattle.meaning.specs.Triggers.{bound}
+use Rattle.homomorphism.specs.declared.assignment.Assignment.{Assignment}
+use Rattle.homomorphism.specs.Bindings.{Agrees, at}
+use Rattle.homomorphism.specs.Matches.{IsMatch}
+
+-- One of the matches has the values of an assignment at each variable of the head that is below the width.
+abbrev pub HasLike : List Assignment → List Atom → ℕ → (ℕ → Val) → Type 0
+HasLike matches head width a =
+    (m : Assignment) × Contains matches m × ((x : ℕ) → OccursIn head x → x < width → a x ≡ at m.vals x)
+
+-- The assignments match, and one of them is like each assignment that agrees with what is given and makes each atom a fact.
+pub record AreFrontier (facts : List Ground) (atoms head : List Atom) (given : List (Option Val)) (matches : List Assignment) : Type 0 where
+  pub each : (m : Assignment) → Contains matches m → IsMatch facts atoms given m.vals
+  pub all : (a : ℕ → Val) → Agrees given a → AreFacts Const (GroundsOf facts) a atoms →
+      HasLike matches head (length given) a
+
+-- Such matches were added behind what was there.
+abbrev pub AddsFrontier : List Ground → List Atom → List Atom → List (Option Val) → List Assignment → List Assignment → Type 0
+AddsFrontier facts atoms head given before after =
+    (matches : List Assignment) × (after ≡ before ++ matches) × AreFrontier facts atoms head given matches
+
+-- The matches make the body facts, and one of them is like each assignment that does.
+pub record AreFrontierMatches (facts : List Ground) (rule : Rule) (matches : List Assignment) : Type 0 where
+  pub width : (m : Assignment) → Contains matches m → length m.vals ≡ bound rule.body
+  pub each : (m : Assignment) → Contains matches m → AreFacts Const (GroundsOf facts) (at m.vals) rule.body
+  pub all : (a : ℕ → Val) → AreFacts Const (GroundsOf facts) a rule.body →
+      HasLike matches rule.head (bound rule.body) a
