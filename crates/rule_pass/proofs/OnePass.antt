@@ -1,10 +1,9 @@
 -- Why one pass in the rule order leaves nothing active: a rule that was gone through stays met, since no later rule
 -- feeds it; and the matches of a rule's body, taken before its firings, are all that there are after them, since it does
--- not feed itself.
+-- not feed itself. Of those that agree at the frontier one is taken.
 use Rattle.std.proofs.Common.{◌≡◌, ℕ, ◌+◌, ◌*◌, ◌<◌, ◌≤◌, List, [], ◌∷◌, ◌++◌, length, max, append_assoc, Some, refl, sym, ap, ◌∙◌, subst, ⊎_elim, arith, Contains, map, take, slice_get, slice_index_or}
 use Rattle.std.proofs.lemmas.List.{take_more, append-nil}
 use Rattle.std.proofs.lemmas.List.Elements.{Contains-append_left, Contains-push, Contains-push_cases}
-use Rattle.std.proofs.lemmas.List.FromFn.{get_or-map-range_with_len}
 use Rattle.std.proofs.lemmas.Option.{slice_get-get_or}
 use Rattle.lists.proofs.Members.{contains_map, contains_mapped, contains_got, some_injective}
 use Rattle.meaning.specs.declared.types.Val.{Val}
@@ -14,7 +13,7 @@ use Rattle.meaning.specs.declared.types.Rule.{Rule}
 use Rattle.meaning.specs.declared.types.Trigger.{Trigger}
 use Rattle.meaning.specs.Matching.{OccursIn, AreFacts, GroundsOf, MeetsRule, MeetsAll}
 use Rattle.meaning.specs.Added.{with_facts}
-use Rattle.meaning.specs.Triggers.{State, ground, bound, assigned, fired, IsActive, IsQuiet}
+use Rattle.meaning.specs.Triggers.{State, ground, bound, assigned, fired, IsActive, IsQuiet, IsNumbered}
 use Rattle.meaning.specs.RuleOrder.{StandsBefore}
 use Rattle.meaning.specs.Runs.{IsFirstActive, IsBaseRun}
 use Rattle.meaning_laws.proofs.Joined.{joined_below}
@@ -22,8 +21,10 @@ use Rattle.meaning_laws.proofs.Added.{added_left, added_right, added_cases}
 use Rattle.meaning_laws.proofs.Carrying.{occurs_below}
 use Rattle.meaning_laws.proofs.Deciding.{same_facts}
 use Rattle.homomorphism.specs.declared.assignment.Assignment.{Assignment}
-use Rattle.homomorphism.specs.Bindings.{at, values_of}
-use Rattle.homomorphism.specs.Rules.{AreBodyMatches, IsMet, IsUnmet, IsUnmetMatch}
+use Rattle.homomorphism.specs.Bindings.{at}
+use Rattle.homomorphism.specs.Rules.{IsMet, IsUnmet, IsUnmetMatch}
+use Rattle.homomorphism.specs.Frontier.{HasLike, AreFrontierMatches}
+use Rattle.homomorphism.proofs.FrontierMatches.{met_along}
 use Rattle.access_schema.specs.declared.limits.TheConstants.{MOST_VARIABLES}
 use Rattle.rule_pass.specs.Orderly.{AreOrderly}
 use Rattle.rule_pass.specs.Order.{IsRuleOrder}
@@ -124,13 +125,13 @@ pub record Passing {L : Type 0} (logged : L → Trigger → ℕ → L) (size : L
   pub before : AreMet rules now.facts (take k order)
   pub width : (m : Assignment) → Contains found m → length m.vals ≡ bound rule.body
   pub each : (m : Assignment) → Contains found m → AreFacts Const (GroundsOf now.facts) (at m.vals) rule.body
-  pub all : (a : ℕ → Val) → AreFacts Const (GroundsOf now.facts) a rule.body → Contains found (record { vals = values_of (bound rule.body) a })
+  pub all : (a : ℕ → Val) → AreFacts Const (GroundsOf now.facts) a rule.body → HasLike found rule.head (bound rule.body) a
   pub met : (m : Assignment) → Contains done m → IsMet now.facts rule m.vals
   pub budget_kept : size log ≤ max (size begun) budget
   pub labels_kept : now.next + size begun * MOST_VARIABLES ≤ first.next + size log * MOST_VARIABLES
 
 pub passing_start : {L : Type 0} (logged : L → Trigger → ℕ → L) (size : L → ℕ) (rules : List Rule) (order : List ℕ) (first : State) (begun : L) (k budget : ℕ) (rule : Rule) (found : List Assignment) →
-    AreMet rules first.facts (take k order) → AreBodyMatches first.facts rule found → Passing logged size rules order first begun k budget rule found [] begun first
+    AreMet rules first.facts (take k order) → AreFrontierMatches first.facts rule found → Passing logged size rules order first begun k budget rule found [] begun first
 passing_start logged size rules order first begun k budget rule found m b = record {
   goes = ([], (refl, refl));
   before = m;
@@ -195,13 +196,9 @@ module _ {L : Type 0} (logged : L → Trigger → ℕ → L) (size : L → ℕ) 
 
 -- after all matches the rule is met
 pub passing_all : {L : Type 0} (logged : L → Trigger → ℕ → L) (size : L → ℕ) (rules : List Rule) (order : List ℕ) (first : State) (begun : L) (k budget : ℕ) (rule : Rule) (found : List Assignment) (log : L) (now : State) →
-    Passing logged size rules order first begun k budget rule found found log now → MeetsRule Const (GroundsOf now.facts) rule
-passing_all logged size rules order first begun k budget rule found log now p a body =
-    let (b, ext) = p.met (record { vals = values_of (bound rule.body) a }) (p.all a body) in
-    (b, record { agrees = λ x occurs. ext.agrees x occurs ∙ listed x (occurs_below rule.body x occurs); head = ext.head })
-  where
-    listed : (x : ℕ) → x < bound rule.body → at (values_of (bound rule.body) a) x ≡ a x
-    listed x l = get_or-map-range_with_len a 0 (bound rule.body) x x (Label 0) l (omega arith)
+    IsNumbered rule → Passing logged size rules order first begun k budget rule found found log now → MeetsRule Const (GroundsOf now.facts) rule
+passing_all logged size rules order first begun k budget rule found log now numbered p a body =
+    let (m, among, like) = p.all a body in met_along now.facts rule m.vals a numbered (p.met m among) like
 
 -- one rule more of the order is met
 pub met_more : (rules : List Rule) (order : List ℕ) (facts : List Ground) (k : ℕ) (rule : Rule) → k < length order → slice_get rules (slice_index_or order k 0) ≡ Some rule →

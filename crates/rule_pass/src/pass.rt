@@ -16,7 +16,7 @@ use crate::firing::fire;
 use crate::log::Log;
 use crate::order::rule_order;
 use crate::state::State;
-use homomorphism::{body_matches, is_met};
+use homomorphism::{Head, frontier_matches};
 use lists::{Copies, NoMemory};
 use meaning::types::{Rules, Trigger, Triggers, Vals};
 use std::alloc::Global;
@@ -91,7 +91,8 @@ pub fn run_in_order<L: Log>(
     Ok(Stopped::Ended)
 }
 
-/// Fires the matches of one rule that have no extension, until the budget is spent.
+/// Fires the matches of one rule that have no extension, until the budget is spent. Of matches that give the variables of the
+/// head the same values one is enough: where it has an extension, so have the others.
 fn run_rule<L: Log>(
     alloc: Global,
     state: &mut State,
@@ -115,9 +116,13 @@ fn run_rule<L: Log>(
 {
     let number = order[place];
     let rule = &rules.as_slice()[number as usize];
-    let found = body_matches(alloc, rule, state.store())?;
+    let found = frontier_matches(alloc, rule, state.store())?;
+    if found.is_empty() {
+        return Ok(Stopped::Ended);
+    }
+    let head = Head::of(alloc, rule)?;
     for one in found.as_slice() {
-        if !is_met(alloc, rule, state.store(), one.vals.as_slice())? {
+        if !head.is_met(alloc, rule, state.store(), one)? {
             if log.firings() >= budget {
                 return Ok(Stopped::Spent);
             }
