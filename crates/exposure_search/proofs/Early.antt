@@ -1,10 +1,7 @@
 -- What is seen of a set before its facts are exposed.
-use Rattle.std.proofs.Common.{◌≡◌, ℕ, ◌+◌, ◌<◌, ◌≤◌, List, [], ◌∷◌, ◌++◌, Some, None, length, Bool, refl, sym, ap, ◌∙◌, subst, inl, inr, ⊎_elim, arith}
+use Rattle.std.proofs.Common.{◌≡◌, ℕ, ◌<◌, List, [], Some, length, Bool, true, false, refl, sym, ap, ◌∙◌, subst, inl, inr, ⊎_elim, arith}
 use Rattle.std.specs.Prelude.{Contains, slice_get}
-use Rattle.std.proofs.lemmas.Bool.{cases_eq}
-use Rattle.std.proofs.lemmas.Option.{slice_get_within}
-use Rattle.std.proofs.lemmas.List.Elements.{Contains-append_left, Contains-push, Contains-push_cases}
-use Rattle.lists.proofs.Members.{some_injective}
+use Rattle.lists.proofs.Members.{contains_got, some_injective}
 use Rattle.meaning_laws.proofs.Quieting.{quiet_is_reached}
 use Rattle.meaning.specs.declared.types.SchemaParts.{SchemaParts}
 use Rattle.meaning.specs.declared.types.Ground.{Ground}
@@ -12,67 +9,30 @@ use Rattle.meaning.specs.declared.types.Method.{Method}
 use Rattle.meaning.specs.declared.types.Query.{Query}
 use Rattle.meaning.specs.declared.types.Val.{Val}
 use Rattle.meaning.specs.Triggers.{State, ground}
-use Rattle.meaning.specs.Runs.{IsKnownValue}
 use Rattle.meaning.specs.Extract.{HasGoalFrom}
 use Rattle.rule_pass.specs.Levels.{AreShort}
-use Rattle.accessible_copy.specs.Methods.{IsMethodIndex, methods_of}
+use Rattle.accessible_copy.specs.Known.{known_values}
+use Rattle.accessible_copy.specs.Listing.{AreInputs}
 use Rattle.accessible_copy.specs.Proving.{Proving, IsProofOf, log_of}
+use Rattle.accessible_copy.proofs.Listed.{proof_once, inputs_to, inputs_from}
 use Rattle.least_search.specs.declared.space.Move.{Move}
 use Rattle.least_search.specs.declared.space.End.TheVariants as end
 use Rattle.least_search.specs.Walks.{IsWalk, no_facts}
 use Rattle.exposure_search.specs.declared.marks.Marks.{Marks}
+use Rattle.exposure_search.specs.declared.candidates.Candidate.{Candidate}
 use Rattle.exposure_search.specs.Tries.{picked, IsOpen, IsMarked}
-use Rattle.exposure_search.specs.Making.{bases_of, CannotMake}
-use Rattle.exposure_search.specs.Ahead.{facts_along, CannotMatch, HasEachMove, MayBeKnown, MayBeMade}
+use Rattle.exposure_search.specs.Making.{bases_of, CannotMake, IsServed}
+use Rattle.exposure_search.specs.Ahead.{facts_along, CannotMatch}
+use Rattle.exposure_search.specs.Candidates.{IsCandidate, AreCandidates, CanBeMade, AreMovesFrom}
 use Rattle.exposure_search.specs.Relevance.{AreRelevant, IsWanted}
-use Rattle.exposure_search.specs.Exploring.{exploring_of, CanExpose}
+use Rattle.exposure_search.specs.Exploring.{exploring_of, CanExpose, GainsAt}
 use Rattle.exposure_search.specs.Visiting.{IsVisitEnd, AreMovesAt}
-use Rattle.exposure_search.specs.Sets.{AreSame, none_same}
-use Rattle.exposure_search.specs.Spaces.{is_space}
+use Rattle.exposure_search.specs.Sets.{AreSame, none_same, got_once, picked_back}
+use Rattle.exposure_search.specs.Spaces.{is_space, known_same}
 use Rattle.exposure_search.proofs.Still.{needed_stay}
 use Rattle.exposure_search.proofs.Bridging.{goal_same}
+use Rattle.exposure_search.proofs.Serving.{adds_same}
 use Rattle.exposure_search.proofs.Steps.{walked}
-
--- ---- a list of moves
-
--- a move of the fact for each of the methods
-abbrev pub HasMovesBy : List Method → ℕ → List ℕ → List Move → Type 0
-HasMovesBy methods place numbers moves = (number : ℕ) (method : Method) → Contains numbers number → slice_get methods number ≡ Some method → Contains moves (record { fact = place; method = number; cost = method.cost })
-
-module _ (methods : List Method) (place : ℕ) (numbers : List ℕ) (moves : List Move) (number : ℕ) (has : HasMovesBy methods place numbers moves) where
-  pub moves_more : (method : Method) → slice_get methods number ≡ Some method → HasMovesBy methods place (numbers ++ number ∷ []) (moves ++ record { fact = place; method = number; cost = method.cost } ∷ [])
-  moves_more method named other of among its =
-      let new : Move = record { fact = place; method = number; cost = method.cost } in
-      ⊎_elim (λ old. Contains-append_left moves (new ∷ []) (record { fact = place; method = other; cost = of.cost }) (has other of old its))
-      (λ same.
-      let both : method ≡ of = some_injective method of (sym named ∙ ap (slice_get methods) same ∙ its) in
-      let moved : new ≡ record { fact = place; method = other; cost = of.cost } = (λ i. record { fact = place; method = same i; cost = (both i).cost }) in
-      subst (λ (m : Move). Contains (moves ++ new ∷ []) m) moved (Contains-push moves new)) (Contains-push_cases numbers number other among)
-
-  pub moves_none : slice_get methods number ≡ None → HasMovesBy methods place (numbers ++ number ∷ []) moves
-  moves_none none other of among its = ⊎_elim (λ old. has other of old its)
-      (λ same. let clash : None ≡ Some of = sym none ∙ ap (slice_get methods) same ∙ its in absurd (cc)) (Contains-push_cases numbers number other among)
-
--- the moves of the first facts
-abbrev pub HasEachTo : List Method → List Ground → List Bool → List Move → ℕ → Type 0
-HasEachTo methods base marks moves count = (number of : ℕ) (fact : Ground) (method : Method) → number < count → slice_get base number ≡ Some fact → IsMarked marks number → slice_get methods of ≡ Some method → method.rel ≡ fact.rel → Contains moves (record { fact = number; method = of; cost = method.cost })
-
-module _ (methods : List Method) (base : List Ground) (marks : List Bool) (moves : List Move) (count : ℕ) (has : HasEachTo methods base marks moves count) where
-  pub each_more : (index : List (List ℕ)) → IsMethodIndex methods index → (fact : Ground) → slice_get base count ≡ Some fact → (new : List Move) → ((move : Move) → Contains moves move → Contains new move) → HasMovesBy methods count (methods_of index fact.rel) new → HasEachTo methods base marks new (count + 1)
-  each_more index indexed fact at new stay added number of its method low got on named rel =
-      ⊎_elim
-      (λ same.
-      let facts : its ≡ fact = some_injective its fact (sym got ∙ ap (slice_get base) same ∙ at) in
-      let among : Contains (methods_of index fact.rel) of = subst (λ (r : ℕ). Contains (methods_of index r) of) (rel ∙ ap (λ (f : Ground). f.rel) facts) (indexed.all of method named) in
-      subst (λ (n : ℕ). Contains new (record { fact = n; method = of; cost = method.cost })) (sym same) (added of method among named))
-      (λ other. stay (record { fact = number; method = of; cost = method.cost }) (has number of its method (omega arith) got on named rel)) (cases_eq number count)
-
-  pub each_less : (IsMarked marks count → ⊥) → HasEachTo methods base marks moves (count + 1)
-  each_less off number of its method low got on named rel =
-      ⊎_elim (λ same. absurd (off (subst (λ n. IsMarked marks n) same on))) (λ other. has number of its method (omega arith) got on named rel) (cases_eq number count)
-
-  pub each_all : length base ≤ count → HasEachMove methods base marks moves
-  each_all all number of its method got on named rel = has number of its method (let low : number < length base = slice_get_within base number its got in omega arith) got on named rel
 
 -- ---- a set at whose facts no rule that counts can fire, without a match
 
@@ -108,26 +68,62 @@ module _ (schema : SchemaParts) (proof : Proving) (path : List Move) (set : List
           run = (firings, tried, omega arith);
         }
 
-    -- no move is possible, if none of the list may be made
-    pub bare_moves : (moves : List Move) (below : ℕ) → HasEachMove schema.methods proof.end.base marks.relevant.items moves → ((move : Move) → Contains moves move → MayBeMade schema.methods proof.end.base (facts_along proof.end.base path) set below move → ⊥) →
-        AreMovesAt (exploring_of schema proof queries head budget marks) set end.NoGoal below []
-    bare_moves moves below each none = record {
-      possible = λ move among. absurd (omega arith);
-      complete = λ goes move can gains low. absurd (never move can low);
+    -- the moves of the candidates that can be made
+    pub bare_moves : IsProofOf schema proof → (candidates : List Candidate) (below : ℕ) (moves : List Move) → AreCandidates schema.methods proof.constants proof.end.base marks candidates → AreMovesFrom (facts_along proof.end.base path) set below candidates moves →
+        AreMovesAt (exploring_of schema proof queries head budget marks) set end.NoGoal below moves
+    bare_moves is candidates below moves are from = record {
+      possible = λ move among. let (candidate, c, its, made) = from.possible move among in
+          subst (λ (m : Move). CanExpose (exploring_of schema proof queries head budget marks) set m) its (opened candidate (are.each candidate c) made);
+      complete = λ goes move can gains low. completed move can gains low;
     }
       where
-        known : (v : Val) → IsKnownValue proof.constants (picked proof.end.base set) v → MayBeKnown (facts_along proof.end.base path) v
-        known v is = ⊎_elim (λ (c, among, same). inl (c, same)) (λ (fact, among, has). inr (fact, along_same.to fact among, has)) is
+        facts : List Ground
+        facts = facts_along proof.end.base path
 
-        never : (move : Move) → CanExpose (exploring_of schema proof queries head budget marks) set move → move.cost < below → ⊥
-        never move ((e, is), on) low =
-            let listed : Contains moves (record { fact = move.fact; method = move.method; cost = e.method.cost }) = each move.fact move.method e.fact e.method is.fact on is.method is.exposes.of_relation in
-            none move (subst (λ (cost : ℕ). Contains moves (record { fact = move.fact; method = move.method; cost = cost })) (sym is.cost) listed) (record {
-              fact = e.fact;
-              method = e.method;
-              low = low;
-              lacks = is.new;
-              at = is.fact;
-              named = is.method;
-              inputs = λ p c. let (v, at, is_known) = is.exposes.inputs p c in (v, at, known v is_known);
-            })
+        opened : (candidate : Candidate) → IsCandidate schema.methods proof.constants proof.end.base marks candidate → CanBeMade facts set below candidate → CanExpose (exploring_of schema proof queries head budget marks) set candidate.step
+        opened candidate its made =
+            let base : List Ground = proof.end.base in
+            let only : (j : ℕ) → slice_get base j ≡ Some its.fact → j ≡ candidate.step.fact = (λ j there. got_once base its.fact j candidate.step.fact (proof_once schema proof is) there its.at) in (
+              (
+                record { method = its.exposes.method; fact = its.fact },
+                record {
+                  fact = its.at;
+                  only = only;
+                  method = its.exposes.named;
+                  cost = its.exposes.cost;
+                  new = made.lacks;
+                  exposes = record {
+                    of_base = contains_got base candidate.step.fact its.fact its.at;
+                    new = λ c. let (j, at, marked) = picked_back base set its.fact c in
+                        let clash : Some true ≡ Some false = sym marked ∙ ap (λ i. slice_get set i) (only j at) ∙ made.lacks in absurd (cc);
+                    of_schema = contains_got schema.methods candidate.step.method its.exposes.method its.exposes.named;
+                    of_relation = its.exposes.of_relation;
+                    inputs = λ p i. let (v, at, known) = inputs_to proof.constants facts its.exposes.method.inputs its.fact.vals ((its.exposes.asks facts).0 made.known) p i in
+                        (v, at, known_same schema proof.constants base facts (picked base set) v along_same.from known);
+                  };
+                },
+              ),
+              its.relevant,
+            )
+
+        -- where a move is possible and gains something, a candidate with it can be made
+        completed : (move : Move) → CanExpose (exploring_of schema proof queries head budget marks) set move → GainsAt (exploring_of schema proof queries head budget marks) set move → move.cost < below → IsServed moves move
+        completed move ((e, its), on) gains low =
+            let base : List Ground = proof.end.base in
+            let inputs : AreInputs (known_values proof.constants facts) e.method.inputs e.fact.vals =
+            inputs_from proof.constants facts e.method.inputs e.fact.vals (λ p i. let (v, at, known) = its.exposes.inputs p i in (v, at, known_same schema proof.constants base (picked base set) facts v along_same.to known)) in
+            let (candidate, among, step) = are.all move.fact move.method e.fact e.method facts its.fact on its.method its.exposes.of_relation inputs in
+            let each : IsCandidate schema.methods proof.constants base marks candidate = are.each candidate among in
+            let here : candidate.step.fact ≡ move.fact = ap (λ (m : Move). m.fact) step in
+            let cost : candidate.step.cost ≡ move.cost = ap (λ (m : Move). m.cost) step ∙ sym its.cost in
+            let same_fact : e.fact ≡ each.fact = some_injective e.fact each.fact (sym its.fact ∙ ap (slice_get base) (sym here) ∙ each.at) in
+            let same_method : e.method ≡ each.exposes.method = some_injective e.method each.exposes.method (sym its.method ∙ ap (slice_get schema.methods) (sym (ap (λ (m : Move). m.method) step)) ∙ each.exposes.named) in
+            let made : CanBeMade facts set below candidate = record {
+              low = omega arith;
+              lacks = ap (slice_get set) here ∙ its.new;
+              known = (each.exposes.asks facts).1 (subst (λ (m : Method). AreInputs (known_values proof.constants facts) m.inputs each.fact.vals) same_method (subst (λ (f : Ground). AreInputs (known_values proof.constants facts) e.method.inputs f.vals) same_fact inputs));
+              gains = ⊎_elim (λ need. inl (each.needed.1 (subst (λ n. IsMarked marks.needed.items n) (sym here) need)))
+                  (λ (fact, v, at, has, new). inr (λ held. new ((each.exposes.brings facts).0 held v (subst (λ (f : Ground). Contains f.vals v) (some_injective fact each.fact (sym at ∙ ap (slice_get base) (sym here) ∙ each.at)) has))))
+                  (adds_same schema proof is (picked base set) facts marks.needed.items move.fact along_same.from gains);
+            } in
+            let (other, c, same, cheap) = from.served candidate among made in (other, c, same ∙ here, omega arith)

@@ -12,6 +12,7 @@ pub mod Still
 pub mod Serving
 pub mod Offering
 pub mod Settled
+pub mod MovesFrom
 pub mod Early
 pub mod Visited
 pub mod Explored

@@ -1,11 +1,9 @@
 -- Rules with a relation in the body that has no fact.
-use Rattle.std.proofs.Common.{◌≡◌, ⊎_elim, ℕ, ◌+◌, ◌<◌, ◌≤◌, List, [], ◌∷◌, ◌++◌, Bool, Some, length, take, sym, ap, ◌∙◌, subst, arith}
+use Rattle.std.proofs.Common.{◌≡◌, ⊎_elim, ℕ, ◌+◌, List, [], ◌∷◌, ◌++◌, Bool, Some, take, sym, ap, ◌∙◌, subst}
 use Rattle.std.specs.Prelude.{Contains, slice_get}
 use Rattle.std.proofs.lemmas.List.{map-append}
 use Rattle.std.proofs.lemmas.List.Elements.{Contains-push_cases}
-use Rattle.std.proofs.lemmas.Bool.{cases_eq}
-use Rattle.std.proofs.lemmas.Option.{slice_get_within}
-use Rattle.lists.proofs.Members.{some_injective}
+use Rattle.lists.proofs.Members.{contains_got, contains_map}
 use Rattle.meaning.specs.declared.types.Atom.{Atom}
 use Rattle.meaning.specs.declared.types.Rule.{Rule}
 use Rattle.meaning.specs.declared.types.Ground.{Ground}
@@ -15,22 +13,13 @@ use Rattle.accessible_copy.specs.declared.entry.Exposed.{Exposed}
 use Rattle.accessible_copy.specs.Known.{facts_of}
 use Rattle.accessible_copy.proofs.Listed.{take_got}
 use Rattle.least_search.specs.declared.space.Move.{Move}
-use Rattle.exposure_search.specs.Tries.{IsMarked}
 use Rattle.exposure_search.specs.Making.{IsMissing, CannotMake, fact_at, made_by, all_made}
-use Rattle.exposure_search.specs.Ahead.{IsHeld, facts_along}
+use Rattle.exposure_search.specs.Ahead.{AreTheMarked, CannotFire, facts_along}
+use Rattle.exposure_search.specs.Candidates.{IsHeld}
 
--- each marked one of the first rules has a body atom of a relation without facts
-abbrev pub CannotTo : List Rule → List Bool → List Ground → ℕ → Type 0
-CannotTo rules makers facts count = (number : ℕ) (rule : Rule) → number < count → slice_get rules number ≡ Some rule → IsMarked makers number → (atom : Atom) × Contains rule.body atom × IsMissing facts atom.rel
-
-pub cannot_more : (rules : List Rule) (makers : List Bool) (facts : List Ground) (count : ℕ) (rule : Rule) → slice_get rules count ≡ Some rule → CannotTo rules makers facts count →
-    (IsMarked makers count → (atom : Atom) × Contains rule.body atom × IsMissing facts atom.rel) → CannotTo rules makers facts (count + 1)
-cannot_more rules makers facts count rule got before here number other low at on =
-    ⊎_elim (λ same. subst (λ (r : Rule). (atom : Atom) × Contains r.body atom × IsMissing facts atom.rel) (some_injective rule other (sym got ∙ ap (slice_get rules) (sym same) ∙ at)) (here (subst (λ k. IsMarked makers k) same on)))
-    (λ less. before number other (omega arith) at on) (cases_eq number count)
-
-pub cannot_all : (rules : List Rule) (makers : List Bool) (facts : List Ground) (count : ℕ) → length rules ≤ count → CannotTo rules makers facts count → CannotMake rules makers facts
-cannot_all rules makers facts count all cannot number rule at on = cannot number rule (let low : number < length rules = slice_get_within rules number rule at in omega arith) at on
+-- the marked rules are those with these numbers
+pub cannot_make : (rules : List Rule) (makers : List Bool) (numbers : List ℕ) (facts : List Ground) → AreTheMarked makers numbers → CannotFire rules numbers facts → CannotMake rules makers facts
+cannot_make rules makers numbers facts marked cannot number rule at on = cannot number ((marked number).0 on) rule at
 
 -- one more fact of a path
 pub along_more : (base : List Ground) (path : List Move) (n : ℕ) (step : Move) → slice_get path n ≡ Some step → facts_along base (take (n + 1) path) ≡ facts_along base (take n path) ++ fact_at base step.fact ∷ []
@@ -47,6 +36,9 @@ module _ (base : List Ground) (path : List Move) (n : ℕ) (step : Move) (at : s
   held_more value here before (fact, among, has) =
       ⊎_elim (λ old. before (fact, old, has)) (λ e. here (subst (λ (f : Ground). Contains f.vals value) (sym e) has))
       (Contains-push_cases (facts_along base (take n path)) (fact_at base step.fact) fact (subst (λ fs. Contains fs fact) (along_more base path n step at) among))
+
+  pub held_here : (value : Val) → Contains (fact_at base step.fact).vals value → IsHeld (facts_along base path) value
+  held_here value has = (fact_at base step.fact, contains_map (λ (one : Exposed). one.fact) (all_made base path) (made_by base step) (contains_map (made_by base) path step (contains_got path n step at)), has)
 
 -- each of the first queries has an atom of a relation without facts
 abbrev pub UnmatchedTo : List Query → List Ground → ℕ → Type 0

@@ -10,7 +10,8 @@ ghost use Rattle.exposure_search.specs.Exploring.{exploring_of, space_size, CanE
 ghost use Rattle.exposure_search.specs.Visiting.{IsReached};
 ghost use Rattle.exposure_search.specs.Spaces.{explored_is_space};
 
-use crate::ahead::moves_of;
+use crate::candidates::candidates_of;
+use crate::marks::marked_numbers;
 use crate::relevance::relevant_facts;
 use crate::visiting::{Aim, reach_set, visit_set};
 use access_schema::Schema;
@@ -26,8 +27,8 @@ use std::marker::Model;
 ///
 /// A fact is relevant where a match can rest on it: directly, by rules, or as what makes an input of a relevant fact known. Where a
 /// fact is relevant for the last of these alone, and holds no value that is not known yet, exposing it gains nothing.
-/// A visit leaves the exposures of its path made, so that the next visit makes only those that its path has beyond the common
-/// front. Contracts see the schema, the proof's beginning and what is looked for.
+/// A visit that looks at the copy leaves the exposures of its path made, so that the next one makes only those that its path has
+/// beyond the common front. Contracts see the schema, the proof's beginning and what is looked for.
 #[derive(Drop)]
 pub struct ExposureSpace<'a> {
     aim: Aim<'a>,
@@ -37,7 +38,8 @@ pub struct ExposureSpace<'a> {
 impl<'a> Model for ExposureSpace<'a> {
     ghost use Rattle.access_schema.specs.Meaning.{meaning_of};
     ghost use Rattle.exposure_search.specs.Making.{IsReady};
-    ghost use Rattle.exposure_search.specs.Ahead.{HasEachMove};
+    ghost use Rattle.exposure_search.specs.Ahead.{AreTheMarked};
+    ghost use Rattle.exposure_search.specs.Candidates.{AreCandidates};
     ghost use Rattle.exposure_search.specs.Exploring.{Exploring, exploring_of};
 
     ghost Value = { Exploring };
@@ -45,7 +47,8 @@ impl<'a> Model for ExposureSpace<'a> {
     ghost view = { λ s. exploring_of (meaning_of s.aim.schema.now) s.proof s.aim.queries.now s.aim.head.now s.aim.budget s.aim.marks };
 
     ghost invariant = { λ s. IsReady (meaning_of s.aim.schema.now) s.proof s.aim.facts.items s.aim.methods s.aim.bases s.aim.queries.now s.aim.head.now s.aim.budget s.aim.marks
-        × HasEachMove s.aim.schema.now.methods s.aim.facts.items s.aim.marks.relevant.items s.aim.moves.items };
+        × AreTheMarked s.aim.marks.makers.items s.aim.makers.items
+        × AreCandidates s.aim.schema.now.methods s.proof.constants s.aim.facts.items s.aim.marks s.aim.candidates.items };
 }
 
 impl<'a> ExposureSpace<'a> {
@@ -77,13 +80,8 @@ impl<'a> ExposureSpace<'a> {
             &methods,
             facts.as_slice(),
         )?;
-        let moves = moves_of(
-            alloc,
-            schema,
-            &methods,
-            facts.as_slice(),
-            marks.relevant.as_slice(),
-        )?;
+        let makers = marked_numbers(alloc, marks.makers.as_slice())?;
+        let candidates = candidates_of(alloc, &proof, schema, &methods, facts.as_slice(), &marks)?;
         let aim = Aim {
             alloc,
             schema,
@@ -94,7 +92,8 @@ impl<'a> ExposureSpace<'a> {
             bases,
             methods,
             marks,
-            moves,
+            makers,
+            candidates,
         };
         Ok(ExposureSpace { aim, proof })
     }

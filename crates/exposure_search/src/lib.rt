@@ -4,7 +4,7 @@
 //! it found. Begin at `specs/Tries.antt` and `specs/Exploring.antt`.
 #![tactic(auto)]
 
-mod ahead;
+mod candidates;
 mod exposure_space;
 mod founding;
 mod going;

@@ -1,6 +1,7 @@
 // What the relations of facts leave possible, and settling the copy where a rule on which a match can rest may fire.
-ghost use Rattle.std.specs.Prelude.{◌≡◌, ◌≤◌, ◌⊎◌, max, length, Contains, Ok, true, false};
+ghost use Rattle.std.specs.Prelude.{◌≡◌, ◌≤◌, ◌⊎◌, max, length, slice_get, Contains, Ok, Some, true, false};
 ghost use Rattle.meaning.specs.declared.types.Atom.{Atom as TheAtom};
+ghost use Rattle.meaning.specs.declared.types.Rule.{Rule as TheRule};
 ghost use Rattle.meaning.specs.Runs.{copy_state};
 ghost use Rattle.meaning.specs.Triggers.{IsQuiet};
 ghost use Rattle.access_schema.specs.Meaning.{meaning_of};
@@ -9,11 +10,9 @@ ghost use Rattle.rule_pass.specs.declared.pass.TheConstants.{MOST_FIRINGS};
 ghost use Rattle.accessible_copy.specs.declared.settling.Round.TheVariants.{Quiet, Done, Spent};
 ghost use Rattle.accessible_copy.specs.Proving.{IsProofOf};
 ghost use Rattle.accessible_copy.specs.Settling.{Settles};
-ghost use Rattle.exposure_search.specs.Tries.{IsMarked};
-ghost use Rattle.exposure_search.specs.Making.{OnlyExposes, IsMissing, CannotMake, fact_at};
-ghost use Rattle.exposure_search.specs.Ahead.{CannotMatch, facts_along};
+ghost use Rattle.exposure_search.specs.Making.{OnlyExposes, IsMissing, fact_at};
+ghost use Rattle.exposure_search.specs.Ahead.{CannotMatch, CannotFire, facts_along};
 
-use crate::marks::is_marked;
 use access_schema::Schema;
 use accessible_copy::{Proof, Round, settle};
 use least_search::Move;
@@ -44,30 +43,28 @@ pub(crate) fn settle_copy(
     settle(alloc, proof, schema, true, budget)
 }
 
-/// Whether the facts of the path have one of each relation of some marked rule's body. `facts` are the base facts.
-pub(crate) fn may_fire(rules: &[Rule], makers: &[bool], facts: &[Ground], path: &[Move]) -> bool
-    ensures { result ≡ false → CannotMake rules.now makers.now (facts_along facts.now path.now) }
+/// Whether the facts of the path have one of each relation of the body of some rule with one of these numbers. `facts` are the base
+/// facts.
+pub(crate) fn may_fire(rules: &[Rule], numbers: &[usize], facts: &[Ground], path: &[Move]) -> bool
+    ensures { result ≡ false → CannotFire rules.now numbers.now (facts_along facts.now path.now) }
 {
-    for (number, rule) in rules.iter().enumerate() {
-        if can_fire(makers, number, rule, facts, path) {
+    for &number in numbers {
+        if can_fire(rules, number, facts, path) {
             return true;
         }
     }
     false
 }
 
-/// Whether the rule is marked, and the facts of the path have one of each relation of its body.
-fn can_fire(makers: &[bool], number: usize, rule: &Rule, facts: &[Ground], path: &[Move]) -> bool
-    ensures { result ≡ false → IsMarked makers.now number →
-        (atom : TheAtom) × Contains rule.now.body atom × IsMissing (facts_along facts.now path.now) atom.rel }
+/// Whether the facts of the path have one of each relation of the rule's body.
+fn can_fire(rules: &[Rule], number: usize, facts: &[Ground], path: &[Move]) -> bool
+    ensures { result ≡ false → (rule : TheRule) → slice_get rules.now number ≡ Some rule →
+        (atom : TheAtom) × Contains rule.body atom × IsMissing (facts_along facts.now path.now) atom.rel }
 {
-    if !is_marked(makers, number) {
-        return false;
+    match rules.get(number) {
+        Some(rule) => !lacks_some(rule.body.as_slice(), facts, path),
+        None => false,
     }
-    if lacks_some(rule.body.as_slice(), facts, path) {
-        return false;
-    }
-    true
 }
 
 /// Whether the facts of the path have one of each relation of some query's atoms. `facts` are the base facts.

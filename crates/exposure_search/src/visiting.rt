@@ -11,11 +11,12 @@ ghost use Rattle.least_search.specs.Walks.{IsWalk, no_facts};
 ghost use Rattle.least_search.specs.Ends.{GoesOn};
 ghost use Rattle.exposure_search.specs.Tries.{IsOpen, IsMarked, Adds};
 ghost use Rattle.exposure_search.specs.Making.{OnlyExposes, SameBase, IsReady, IsActiveMove, IsServed, CannotMake};
-ghost use Rattle.exposure_search.specs.Ahead.{CannotMatch, HasEachMove, facts_along};
+ghost use Rattle.exposure_search.specs.Ahead.{CannotMatch, AreTheMarked, facts_along};
+ghost use Rattle.exposure_search.specs.Candidates.{AreCandidates};
 ghost use Rattle.exposure_search.specs.Exploring.{exploring_of, HasGoalAt, HasRunBeyond};
 ghost use Rattle.exposure_search.specs.Visiting.{IsVisitEnd, AreMovesAt, IsReached};
 
-use crate::ahead::may_move;
+use crate::candidates::{Candidate, moves_from};
 use crate::going::go_along;
 use crate::listing::active_moves;
 use crate::looking::look;
@@ -29,8 +30,8 @@ use meaning::types::{Ground, Queries, Vals};
 use std::alloc::Global;
 
 /// What is looked for: a match of one of the queries with this head, in runs of at most `budget` firings over the schema. The base
-/// facts of these runs, how many base firings made them, the index of the schema's methods, marks of the base facts on which a match
-/// can rest, and the moves that expose these.
+/// facts of these runs, how many base firings made them, the index of the schema's methods, marks of the base facts and rules on which
+/// a match can rest, the numbers of these rules, and the candidates that expose these facts.
 #[derive(Drop)]
 pub struct Aim<'a> {
     pub alloc: Global,
@@ -42,14 +43,15 @@ pub struct Aim<'a> {
     pub bases: u64,
     pub methods: MethodIndex,
     pub marks: Marks,
-    pub moves: Vec<Move>,
+    pub makers: Vec<usize>,
+    pub candidates: Vec<Candidate>,
 }
 
 /// Goes along the path, settles the copy there with at most `room` firings, looks for a match, undoes the copy firings, and lists
 /// the moves of relevant facts from there that gain something and cost less than `below`.
 ///
-/// Where the relations of the path's facts show that there is no match, the copy is not settled; and where there can be no moves
-/// either, nothing is exposed.
+/// Where the relations of the path's facts show that there is no match, nothing is exposed: the moves are those of candidates that can
+/// be made from these facts.
 pub(crate) fn visit_set(
     aim: &Aim,
     proof: &mut Proof,
@@ -61,7 +63,8 @@ pub(crate) fn visit_set(
     requires ready { IsReady (meaning_of aim.now.schema.now) proof.old aim.now.facts.items aim.now.methods aim.now.bases aim.now.queries.now aim.now.head.now aim.now.budget aim.now.marks }
     requires walk { IsWalk (IsOpen (meaning_of aim.now.schema.now) proof.old.constants proof.old.end.base)
         (no_facts (length proof.old.end.base)) path.now set.now }
-    requires moves { HasEachMove aim.now.schema.now.methods aim.now.facts.items aim.now.marks.relevant.items aim.now.moves.items }
+    requires makers { AreTheMarked aim.now.marks.makers.items aim.now.makers.items }
+    requires candidates { AreCandidates aim.now.schema.now.methods proof.old.constants aim.now.facts.items aim.now.marks aim.now.candidates.items }
     ensures exposes { OnlyExposes (meaning_of aim.now.schema.now) proof.new }
     ensures same { SameBase proof.old proof.new }
     ensures ended { IfOk result (λ visit. IsVisitEnd
@@ -75,14 +78,26 @@ pub(crate) fn visit_set(
 {
     let fires = may_fire(
         aim.schema.rules.as_slice(),
-        aim.marks.makers.as_slice(),
+        aim.makers.as_slice(),
         aim.facts.as_slice(),
         path,
     );
     if fires || needs_look(aim, path) {
         return visit_copy(aim, proof, path, set, fires, room, below);
     }
-    visit_bare(aim, proof, path, set, below)
+    let moves = moves_from(
+        aim.alloc,
+        aim.candidates.as_slice(),
+        aim.facts.as_slice(),
+        path,
+        set,
+        below,
+    )?;
+    Ok(Visit {
+        end: End::NoGoal,
+        fired: 0,
+        moves,
+    })
 }
 
 /// Whether the copy has to be looked at: the path takes more firings than a run may have, or its facts have one of each relation of
@@ -95,47 +110,6 @@ fn needs_look(aim: &Aim, path: &[Move]) -> bool
         return true;
     }
     may_match(aim.queries.as_slice(), aim.facts.as_slice(), path)
-}
-
-/// Lists the moves from a set that has no match, as the relations of its path's facts show. Where there can be none, nothing is exposed.
-fn visit_bare(
-    aim: &Aim,
-    proof: &mut Proof,
-    path: &[Move],
-    set: &[bool],
-    below: u64,
-) -> Result<Visit, NoMemory>
-    requires ready { IsReady (meaning_of aim.now.schema.now) proof.old aim.now.facts.items aim.now.methods aim.now.bases aim.now.queries.now aim.now.head.now aim.now.budget aim.now.marks }
-    requires walk { IsWalk (IsOpen (meaning_of aim.now.schema.now) proof.old.constants proof.old.end.base)
-        (no_facts (length proof.old.end.base)) path.now set.now }
-    requires moves { HasEachMove aim.now.schema.now.methods aim.now.facts.items aim.now.marks.relevant.items aim.now.moves.items }
-    requires still { CannotMake aim.now.schema.now.rules aim.now.marks.makers.items (facts_along aim.now.facts.items path.now) }
-    requires none { CannotMatch aim.now.queries.now (facts_along aim.now.facts.items path.now) }
-    ensures exposes { OnlyExposes (meaning_of aim.now.schema.now) proof.new }
-    ensures same { SameBase proof.old proof.new }
-    ensures ended { IfOk result (λ visit. IsVisitEnd
-        (exploring_of (meaning_of aim.now.schema.now) proof.old aim.now.queries.now aim.now.head.now aim.now.budget aim.now.marks)
-        path.now set.now visit.end visit.fired) }
-    ensures none { IfOk result (λ visit. (visit.end ≡ end.NoGoal) × (visit.fired ≡ 0)) }
-    ensures moves { IfOk result (λ visit. AreMovesAt
-        (exploring_of (meaning_of aim.now.schema.now) proof.old aim.now.queries.now aim.now.head.now aim.now.budget aim.now.marks)
-        set.now visit.end below visit.moves.items) }
-{
-    let facts = aim.facts.as_slice();
-    if !may_move(aim.schema, facts, aim.moves.as_slice(), path, set, below) {
-        return Ok(Visit {
-            end: End::NoGoal,
-            fired: 0,
-            moves: Vec::new(aim.alloc),
-        });
-    }
-    go_along(aim.alloc, proof, aim.schema, facts, aim.bases, path)?;
-    let moves = moves_after(aim, proof, End::NoGoal, below)?;
-    Ok(Visit {
-        end: End::NoGoal,
-        fired: 0,
-        moves,
-    })
 }
 
 /// Goes along the path, settles the copy there where a rule on which a match can rest `fires`, looks for a match, undoes the copy firings,

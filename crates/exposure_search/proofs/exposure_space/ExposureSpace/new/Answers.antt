@@ -1,7 +1,8 @@
 use Rattle.std.proofs.Common.{List, Bool, ◌∙◌, subst}
 use Rattle.meaning.specs.declared.types.Ground.{Ground}
 use Rattle.access_schema.specs.Meaning.{meaning_of}
-use Rattle.exposure_search.specs.Ahead.{HasEachMove}
+use Rattle.exposure_search.specs.Ahead.{AreTheMarked}
+use Rattle.exposure_search.specs.Candidates.{AreCandidates}
 use Rattle.exposure_search.proofs.Explored.{begins_only, begins_bare, begins_long, founded}
 use Rattle.exposure_search.proofs.exposure_space.ExposureSpace.new.Goals as goal
 
@@ -17,8 +18,8 @@ invariant_of-result c = (
     low = c.requires.budget;
     relevant = c.in_ok-marks.ensures;
   },
-  subst (λ (marks : List Bool). HasEachMove c.args.schema.now.methods c.in_ok-facts.facts.items marks c.in_ok-moves.moves.items) c.as_slice-3.ensures.value
-      (subst (λ (facts : List Ground). HasEachMove c.args.schema.now.methods facts c.as_slice-3.result.now c.in_ok-moves.moves.items) c.as_slice-2.ensures.value c.in_ok-moves.ensures),
+  subst (λ (marks : List Bool). AreTheMarked marks c.in_ok-makers.makers.items) c.as_slice-2.ensures.value c.in_ok-makers.ensures,
+  subst (λ (facts : List Ground). AreCandidates c.args.schema.now.methods c.args.proof.constants facts c.in_ok-marks.marks c.in_ok-candidates.candidates.items) c.as_slice-3.ensures.value c.in_ok-candidates.ensures,
 )
 
 pub returns-clause-founded : goal.returns-clause-founded
@@ -26,3 +27,6 @@ returns-clause-founded c = founded (meaning_of c.args.schema.now) c.args.proof c
 
 pub relevant_facts-requires-clause-none : goal.relevant_facts-requires-clause-none
 relevant_facts-requires-clause-none c = begins_bare (meaning_of c.args.schema.now) c.args.proof c.requires.base
+
+pub candidates_of-requires-clause-none : goal.candidates_of-requires-clause-none
+candidates_of-requires-clause-none c = begins_bare (meaning_of c.args.schema.now) c.args.proof c.requires.base
