@@ -1,7 +1,7 @@
 -- Facts added one after another.
 use Rattle.std.proofs.Common.{◌≡◌, ◌↔◌, Bool, true, false, ℕ, zero, suc, ◌+◌, ◌-◌, ◌<◌, ◌≤◌, List, [], ◌∷◌, ◌++◌, length, refl, sym, ap, ◌∙◌, subst, ⊎_elim, arith, Contains, take, slice_index_or}
 use Rattle.std.specs.Prelude.{IsTrue}
-use Rattle.std.proofs.lemmas.List.Sums.{fold_more, fold-append}
+use Rattle.std.proofs.lemmas.List.Sums.{fold-append}
 use Rattle.meaning.specs.declared.types.Fact.{Fact}
 use Rattle.meaning.specs.declared.types.Ground.{Ground}
 use Rattle.meaning.specs.Search.{AreDistinct}
@@ -19,9 +19,9 @@ pushed facts fact new = sym (with_new facts fact new)
 pub stays : (facts : List Ground) (fact : Ground) → Contains facts fact → facts ≡ with_fact facts fact
 stays facts fact there = sym (with_old facts fact there)
 
-pub adding_more : (first news now next : List Ground) (i : ℕ) (fact copy : Ground) → i < length news → fact ≡ slice_index_or news i fact → copy ≡ fact → now ≡ with_facts first (take i news) → next ≡ with_fact now copy → next ≡ with_facts first (take (i + 1) news)
-adding_more first news now next i fact copy l is same so e =
-    e ∙ ap (λ f. with_fact now f) (same ∙ is) ∙ ap (λ facts. with_fact facts (slice_index_or news i fact)) so ∙ sym (fold_more with_fact first news i fact l)
+-- one turn of the loop over the facts
+pub adding_more : (first done now next : List Ground) (fact : Ground) → now ≡ with_facts first done → next ≡ with_fact now fact → next ≡ with_facts first (done ++ fact ∷ [])
+adding_more first done now next fact so e = e ∙ ap (λ facts. with_fact facts fact) so ∙ sym (fold-append with_fact first done (fact ∷ []))
 
 -- the facts that were there stand in front
 pub front : (first news now : List Ground) → now ≡ with_facts first news → take (length first) now ≡ first

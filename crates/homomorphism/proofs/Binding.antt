@@ -38,7 +38,7 @@ same_or_not zero (suc k) = inr (λ e. omega arith)
 same_or_not (suc j) zero = inr (λ e. omega arith)
 same_or_not (suc j) (suc k) = ⊎_elim (λ e. inl (ap suc e)) (λ n. inr (λ e. n (omega arith))) (same_or_not j k)
 
-var_is : (x y : ℕ) → Var x ≡ Var y → x ≡ y
+pub var_is : (x y : ℕ) → Var x ≡ Var y → x ≡ y
 var_is x y e = cc
 
 head_is : {X : Type 0} (x y : X) (xs ys : List X) → x ∷ xs ≡ y ∷ ys → x ≡ y

@@ -1,7 +1,6 @@
 -- Values fixed for a search, and what its answer says of a rule.
 use Rattle.std.proofs.Common.{◌≡◌, ℕ, suc, ◌+◌, ◌-◌, ◌<◌, ◌≤◌, max, List, [], ◌∷◌, ◌++◌, length, Some, None, Option, refl, sym, ap, ◌∙◌, subst, inr, ⊎_elim, arith, Contains, map, take, drop, slice_get, slice_index_or}
 use Rattle.std.proofs.lemmas.Bool.{cases_lt}
-use Rattle.std.proofs.lemmas.List.{take_more}
 use Rattle.std.proofs.lemmas.List.Elements.{Contains-push_cases}
 use Rattle.std.proofs.lemmas.Option.{slice_get_within, slice_get-get_or}
 use Rattle.lists.proofs.Members.{got_push, got_before, map_got, some_injective}
@@ -20,6 +19,7 @@ use Rattle.homomorphism.specs.Matches.{IsMatch, NoMatch, AreMatches, AreCovered}
 use Rattle.homomorphism.specs.Narrowing.{Gives}
 use Rattle.homomorphism.specs.Rules.{AreBodyMatches, IsMet, IsUnmet}
 use Rattle.homomorphism.proofs.Binding.{apart}
+use Rattle.homomorphism.proofs.Members.{turn}
 
 -- widths
 pub terms_apart : (left : List Term) (term : Term) → 1 ≤ length left → term ≡ slice_index_or left 0 term → terms_bound left ≡ max (terms_bound (term ∷ [])) (terms_bound (take (length left - 1) (drop 1 left)))
@@ -106,4 +106,4 @@ head_unmet facts rule values fixed numbered width g none b ext = none b (g.compl
 pub met_push : (facts : List Ground) (rule : Rule) (found : List Assignment) (i : ℕ) (one : Assignment) → i < length found → one ≡ slice_index_or found i one →
     ((other : Assignment) → Contains (take i found) other → IsMet facts rule other.vals) → IsMet facts rule one.vals → (other : Assignment) → Contains (take (i + 1) found) other → IsMet facts rule other.vals
 met_push facts rule found i one l e before now other c =
-    ⊎_elim (λ h. before other h) (λ same. subst (λ (n : Assignment). IsMet facts rule n.vals) same now) (Contains-push_cases (take i found) one other (subst (λ z. Contains z other) (take_more found i one l ∙ ap (λ z. take i found ++ z ∷ []) (sym e)) c))
+    ⊎_elim (λ h. before other h) (λ same. subst (λ (n : Assignment). IsMet facts rule n.vals) same now) (Contains-push_cases (take i found) one other (subst (λ z. Contains z other) (turn found i one l e) c))

@@ -1,9 +1,14 @@
 -- Membership and lists without doubles.
-use Rattle.std.proofs.Common.{◌≡◌, ◌⊎◌, ℕ, zero, suc, List, [], ◌∷◌, ◌++◌, Bool, true, false, cond, refl, sym, ap, ◌∙◌, subst, ⊎_elim, arith, Contains, take}
+use Rattle.std.proofs.Common.{◌≡◌, ◌⊎◌, ℕ, zero, suc, List, [], ◌∷◌, ◌++◌, Bool, true, false, cond, refl, sym, ap, ◌∙◌, subst, ⊎_elim, arith, Contains, take, slice_index_or, ◌+◌, ◌<◌, length}
 use Rattle.std.specs.List.{filter}
+use Rattle.std.proofs.lemmas.List.{take_more}
 use Rattle.std.proofs.lemmas.List.Elements.{Contains-append_cases, Contains-append_left, Contains-push}
 use Rattle.lists.proofs.Members.{contains_here, contains_there, contains_cases}
 use Rattle.meaning.specs.Search.{AreDistinct}
+
+-- one item more of a list
+pub turn : {A : Type 0} (xs : List A) (n : ℕ) (x : A) → n < length xs → x ≡ slice_index_or xs n x → take (n + 1) xs ≡ take n xs ++ x ∷ []
+turn xs n x l is = take_more xs n x l ∙ ap (λ z. take n xs ++ z ∷ []) (sym is)
 
 pub contains_else : {X : Type 0} (y : X) (xs : List X) (x : X) → (y ≡ x → ⊥) → Contains (y ∷ xs) x → Contains xs x
 contains_else y xs x differ c = ⊎_elim (λ e. absurd (differ e)) (λ h. h) (contains_cases y xs x c)

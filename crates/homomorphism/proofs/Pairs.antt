@@ -38,7 +38,7 @@ pair_ties x y = both_tied _ _ (nat_cmp x.0 y.0) (slice_cmp (slice_cmp nat_cmp) x
 pair_equiv : IsEquivalence pair_same
 pair_equiv = and_equiv (on_equiv (λ (t : Pair). t.0) nat_eq_equiv) (on_equiv (λ (t : Pair). t.1) rows_equiv)
 
-both_hold : (a b : Bool) → (a && b) ≡ true → (a ≡ true) × (b ≡ true)
+pub both_hold : (a b : Bool) → (a && b) ≡ true → (a ≡ true) × (b ≡ true)
 both_hold true b e = (refl, e)
 both_hold false b e = absurd (cc)
 

@@ -1,6 +1,6 @@
 -- Runs of numbers, and atoms looked for run by run.
 use Rattle.std.proofs.Common.{◌≡◌, ◌⊎◌, ℕ, zero, suc, ◌+◌, ◌<◌, ◌≤◌, List, [], ◌∷◌, ◌++◌, length, Some, None, Option, Bool, true, false, refl, sym, ap, ◌∙◌, subst, inl, inr, ⊎_elim, arith, Contains, slice_get, slice_set, slice_index_or, take, replicate}
-use Rattle.std.proofs.lemmas.List.{take_more, take_all}
+use Rattle.std.proofs.lemmas.List.{take_all}
 use Rattle.std.proofs.lemmas.List.Elements.{Contains-append_left, Contains-push, Contains-push_cases}
 use Rattle.std.proofs.lemmas.Option.{slice_get-get_or}
 use Rattle.lists.proofs.Members.{contains_cases, contains_map, contains_mapped}
@@ -16,7 +16,7 @@ use Rattle.homomorphism.specs.Matches.{NoMatch}
 use Rattle.homomorphism.specs.Widening.{Widens, AreUntouched, AreRuns, taken}
 use Rattle.homomorphism.proofs.Binding.{got_set_other, same_or_not}
 use Rattle.homomorphism.proofs.Extending.{wider}
-use Rattle.homomorphism.proofs.Members.{contains_none}
+use Rattle.homomorphism.proofs.Members.{contains_none, turn}
 use Rattle.homomorphism.proofs.Touching.{default}
 
 below_or_last : (n count : ℕ) → n < count + 1 → (n < count) ⊎ (n ≡ count)
@@ -57,13 +57,13 @@ marked_none seen = (refl, (λ n e. inl e), λ n c. absurd (contains_none n c))
 pub marked_more : (run : List ℕ) (i v : ℕ) (before now : List Bool) → i < length run → v ≡ slice_index_or run i v → v < length now → AreMarked (take i run) before now → AreMarked (take (i + 1) run) before (slice_set now v true)
 marked_more run i v before now l is within (width, marked, low) = (
   length_set now v true ∙ width,
-  (λ n e. ⊎_elim (λ same. inr (subst (λ z. Contains z n) (sym turn) (subst (Contains (take i run ++ v ∷ [])) (sym same) (Contains-push (take i run) v))))
-      (λ differ. ⊎_elim (λ h. inl h) (λ c. inr (subst (λ z. Contains z n) (sym turn) (Contains-append_left (take i run) (v ∷ []) n c))) (marked n (sym (got_set_other now n v true differ) ∙ e))) (same_or_not n v)),
-  λ n c. ⊎_elim (λ h. low n h) (λ e. subst (λ z. z < length before) e (subst (λ z. v < z) width within)) (Contains-push_cases (take i run) v n (subst (λ z. Contains z n) turn c)),
+  (λ n e. ⊎_elim (λ same. inr (subst (λ z. Contains z n) (sym one_more) (subst (Contains (take i run ++ v ∷ [])) (sym same) (Contains-push (take i run) v))))
+      (λ differ. ⊎_elim (λ h. inl h) (λ c. inr (subst (λ z. Contains z n) (sym one_more) (Contains-append_left (take i run) (v ∷ []) n c))) (marked n (sym (got_set_other now n v true differ) ∙ e))) (same_or_not n v)),
+  λ n c. ⊎_elim (λ h. low n h) (λ e. subst (λ z. z < length before) e (subst (λ z. v < z) width within)) (Contains-push_cases (take i run) v n (subst (λ z. Contains z n) one_more c)),
 )
   where
-    turn : take (i + 1) run ≡ take i run ++ v ∷ []
-    turn = take_more run i v l ∙ ap (λ f. take i run ++ f ∷ []) (sym is)
+    one_more : take (i + 1) run ≡ take i run ++ v ∷ []
+    one_more = turn run i v l is
 
     length_set : {X : Type 0} (xs : List X) (k : ℕ) (x : X) → length (slice_set xs k x) ≡ length xs
     length_set [] k x = refl
@@ -100,13 +100,13 @@ pub marked_run : (count : ℕ) (runs : List (List ℕ)) (i : ℕ) (run : List �
     length next ≡ length seen → ((n : ℕ) → slice_get next n ≡ Some true → (slice_get seen n ≡ Some true) ⊎ Contains run n) → ((n : ℕ) → Contains run n → n < length seen) → Marked count (take (i + 1) runs) next
 marked_run count runs i run seen next l is r width marked low = record {
   width = width ∙ r.width;
-  marked = λ n e. ⊎_elim (λ h. let (other, among, c) = r.marked n h in (other, subst (λ z. Contains z other) (sym turn) (Contains-append_left (take i runs) (run ∷ []) other among), c))
-      (λ c. (run, subst (λ z. Contains z run) (sym turn) (Contains-push (take i runs) run), c)) (marked n e);
-  within = λ other n c h. ⊎_elim (λ d. r.within other n d h) (λ e. subst (λ z. n < z) r.width (low n (subst (λ z. Contains z n) (sym e) h))) (Contains-push_cases (take i runs) run other (subst (λ z. Contains z other) turn c));
+  marked = λ n e. ⊎_elim (λ h. let (other, among, c) = r.marked n h in (other, subst (λ z. Contains z other) (sym one_more) (Contains-append_left (take i runs) (run ∷ []) other among), c))
+      (λ c. (run, subst (λ z. Contains z run) (sym one_more) (Contains-push (take i runs) run), c)) (marked n e);
+  within = λ other n c h. ⊎_elim (λ d. r.within other n d h) (λ e. subst (λ z. n < z) r.width (low n (subst (λ z. Contains z n) (sym e) h))) (Contains-push_cases (take i runs) run other (subst (λ z. Contains z other) one_more c));
 }
   where
-    turn : take (i + 1) runs ≡ take i runs ++ run ∷ []
-    turn = take_more runs i run l ∙ ap (λ f. take i runs ++ f ∷ []) (sym is)
+    one_more : take (i + 1) runs ≡ take i runs ++ run ∷ []
+    one_more = turn runs i run l is
 
 pub all_marked : (count : ℕ) (runs : List (List ℕ)) (i : ℕ) (seen : List Bool) → length runs ≤ i → Marked count (take i runs) seen → ((n : ℕ) → n < length seen → slice_get seen n ≡ Some true) → AreRuns count runs
 all_marked count runs i seen past r all = record {
@@ -147,10 +147,10 @@ untouched_more atoms run i n atom given now l is low here before one x (other, c
     let (k, among, same) = contains_mapped (λ m. slice_index_or atoms m (record { rel = 0; terms = [] })) (take (i + 1) run) other c in
     ⊎_elim (λ h. before x (other, subst (Contains (taken atoms (take i run))) same (contains_map (λ m. slice_index_or atoms m (record { rel = 0; terms = [] })) (take i run) k h), o) e)
     (λ last. one x (subst (λ (t : Atom). Contains t.terms (Var x)) (sym same ∙ ap (λ m. slice_index_or atoms m (record { rel = 0; terms = [] })) (sym last) ∙ default atoms n (record { rel = 0; terms = [] }) atom low ∙ sym here) o) e)
-    (Contains-push_cases (take i run) n k (subst (λ z. Contains z k) turn among))
+    (Contains-push_cases (take i run) n k (subst (λ z. Contains z k) one_more among))
   where
-    turn : take (i + 1) run ≡ take i run ++ n ∷ []
-    turn = take_more run i n l ∙ ap (λ f. take i run ++ f ∷ []) (sym is)
+    one_more : take (i + 1) run ≡ take i run ++ n ∷ []
+    one_more = turn run i n l is
 
 -- the runs that were gone through
 pub record Searched (facts : List Ground) (atoms : List Atom) (done : List (List ℕ)) (given now : List (Option Val)) : Type 0 where
@@ -170,11 +170,11 @@ pub searched_more : (facts : List Ground) (atoms : List Atom) (runs : List (List
 searched_more facts atoms runs i run given now next l is r w = record {
   width = w.width ∙ r.width;
   kept = λ x v e. w.kept x v (r.kept x v e);
-  sound = λ a ag other c. ⊎_elim (λ h. r.sound a (wider now next w.kept a ag) other h) (λ e. subst (λ z. AreFacts Const (GroundsOf facts) a (taken atoms z)) e (w.sound a ag)) (Contains-push_cases (take i runs) run other (subst (λ z. Contains z other) turn c));
+  sound = λ a ag other c. ⊎_elim (λ h. r.sound a (wider now next w.kept a ag) other h) (λ e. subst (λ z. AreFacts Const (GroundsOf facts) a (taken atoms z)) e (w.sound a ag)) (Contains-push_cases (take i runs) run other (subst (λ z. Contains z other) one_more c));
 }
   where
-    turn : take (i + 1) runs ≡ take i runs ++ run ∷ []
-    turn = take_more runs i run l ∙ ap (λ f. take i runs ++ f ∷ []) (sym is)
+    one_more : take (i + 1) runs ≡ take i runs ++ run ∷ []
+    one_more = turn runs i run l is
 
 -- an atom by its number
 number_of : (atoms : List Atom) (run : List ℕ) (n : ℕ) (atom : Atom) → (l : n < length atoms) → slice_index_or atoms n atom ≡ atom → Contains run n → Contains (taken atoms run) atom

@@ -1,6 +1,5 @@
 -- Values that are given in place, and taken back.
 use Rattle.std.proofs.Common.{◌≡◌, ◌⊎◌, ℕ, zero, suc, ◌+◌, ◌-◌, ◌<◌, ◌≤◌, List, [], ◌∷◌, ◌++◌, length, Some, None, Option, refl, sym, ap, ◌∙◌, subst, inl, inr, ⊎_elim, arith, Contains, slice_get, slice_set, slice_index_or, take, drop}
-use Rattle.std.proofs.lemmas.List.{take_more}
 use Rattle.std.proofs.lemmas.List.Elements.{Contains-append_left, Contains-push, Contains-push_cases}
 use Rattle.std.proofs.lemmas.Option.{slice_get_within, slice_get-get_or}
 use Rattle.lists.proofs.Members.{contains_there, contains_cases, some_injective}
@@ -9,8 +8,8 @@ use Rattle.meaning.specs.declared.types.Term.TheVariants.{Var}
 use Rattle.meaning.specs.declared.types.Val.{Val}
 use Rattle.meaning.specs.Triggers.{terms_bound}
 use Rattle.homomorphism.specs.Widening.{Touches, AreFree}
-use Rattle.homomorphism.proofs.Binding.{got_set_same, got_set_other, length_set, same_or_not, apart}
-use Rattle.homomorphism.proofs.Members.{contains_none}
+use Rattle.homomorphism.proofs.Binding.{got_set_same, got_set_other, length_set, same_or_not, apart, var_is}
+use Rattle.homomorphism.proofs.Members.{contains_none, turn}
 
 -- a variable without a value gets one
 pub touched_bind : (given : List (Option Val)) (x : ℕ) (w : Val) (term : Term) (r : Option Val) → term ≡ Var x → terms_bound (term ∷ []) ≤ length given → r ≡ slice_index_or given x r → r ≡ None →
@@ -52,7 +51,7 @@ free_none given = record {
 
 module _ (terms : List Term) (i : ℕ) (term : Term) (given : List (Option Val)) (free : List ℕ) (l : i < length terms) (is : term ≡ slice_index_or terms i term) (r : AreFree (take i terms) given free) where
   cases : (x : ℕ) → Contains (take (i + 1) terms) (Var x) → Contains (take i terms) (Var x) ⊎ (term ≡ Var x)
-  cases x c = Contains-push_cases (take i terms) term (Var x) (subst (λ done. Contains done (Var x)) (take_more terms i term l ∙ ap (λ t. take i terms ++ t ∷ []) (sym is)) c)
+  cases x c = Contains-push_cases (take i terms) term (Var x) (subst (λ done. Contains done (Var x)) (turn terms i term l is) c)
 
   pub free_skip : ((x : ℕ) → term ≡ Var x → slice_get given x ≡ Some None → ⊥) → AreFree (take (i + 1) terms) given free
   unfolding cases
@@ -67,10 +66,6 @@ module _ (terms : List Term) (i : ℕ) (term : Term) (given : List (Option Val))
     all = λ x c e. ⊎_elim (λ h. Contains-append_left free (y ∷ []) x (r.all x h e)) (λ same. subst (Contains (free ++ y ∷ [])) (var_is y x (sym var ∙ same)) (Contains-push free y)) (cases x c);
     without = λ x c. ⊎_elim (λ h. r.without x h) (λ e. subst (λ z. slice_get given z ≡ Some None) e none) (Contains-push_cases free y x c);
   }
-    where
-      var_is : (y x : ℕ) → Var y ≡ Var x → y ≡ x
-      var_is y x e = cc
-
 -- what stands within a list does not depend on what is said of places behind its end
 pub default : {X : Type 0} (xs : List X) (i : ℕ) (d e : X) → i < length xs → slice_index_or xs i d ≡ slice_index_or xs i e
 default [] i d e l = absurd (omega arith)
@@ -92,15 +87,15 @@ released_more free i v before now l is within (width, r) = (
   length_set now v None ∙ width,
   λ x. ⊎_elim
       (λ same. inr (subst (Contains (take (i + 1) free)) (sym same) here, ap (slice_get (slice_set now v None)) same ∙ got_set_same now v None within))
-      (λ differ. ⊎_elim (λ (e, not). inl (got_set_other now x v None differ ∙ e, λ c. ⊎_elim not (λ same. differ (sym same)) (Contains-push_cases (take i free) v x (subst (λ z. Contains z x) turn c))))
-      (λ (c, e). inr (subst (λ z. Contains z x) (sym turn) (Contains-append_left (take i free) (v ∷ []) x c), got_set_other now x v None differ ∙ e)) (r x)) (same_or_not x v),
+      (λ differ. ⊎_elim (λ (e, not). inl (got_set_other now x v None differ ∙ e, λ c. ⊎_elim not (λ same. differ (sym same)) (Contains-push_cases (take i free) v x (subst (λ z. Contains z x) one_more c))))
+      (λ (c, e). inr (subst (λ z. Contains z x) (sym one_more) (Contains-append_left (take i free) (v ∷ []) x c), got_set_other now x v None differ ∙ e)) (r x)) (same_or_not x v),
 )
   where
-    turn : take (i + 1) free ≡ take i free ++ v ∷ []
-    turn = take_more free i v l ∙ ap (λ f. take i free ++ f ∷ []) (sym is)
+    one_more : take (i + 1) free ≡ take i free ++ v ∷ []
+    one_more = turn free i v l is
 
     here : Contains (take (i + 1) free) v
-    here = subst (λ z. Contains z v) (sym turn) (Contains-push (take i free) v)
+    here = subst (λ z. Contains z v) (sym one_more) (Contains-push (take i free) v)
 
 same_lists : {X : Type 0} (xs ys : List X) → ((i : ℕ) → slice_get xs i ≡ slice_get ys i) → xs ≡ ys
 same_lists [] [] same = refl

@@ -1,6 +1,5 @@
 -- The ways to make one atom one of the facts, fact by fact.
 use Rattle.std.proofs.Common.{◌≡◌, ℕ, zero, suc, ◌+◌, ◌<◌, List, [], ◌∷◌, ◌++◌, length, Option, refl, sym, ap, ◌∙◌, subst, ⊎_elim, arith, Contains, take, slice_index_or}
-use Rattle.std.proofs.lemmas.List.{take_more}
 use Rattle.std.proofs.lemmas.List.Elements.{Contains-append_left, Contains-push, Contains-push_cases}
 use Rattle.lists.proofs.Members.{contains_here, contains_there, contains_cases}
 use Rattle.meaning.specs.declared.types.Term.TheVariants.{Var}
@@ -12,7 +11,7 @@ use Rattle.meaning.specs.Triggers.{ground}
 use Rattle.meaning.specs.Search.{AreDistinct}
 use Rattle.homomorphism.specs.Bindings.{Agrees, IsBound}
 use Rattle.homomorphism.specs.Ways.{AreApart, AreWays, IsWay}
-use Rattle.homomorphism.proofs.Members.{contains_none}
+use Rattle.homomorphism.proofs.Members.{contains_none, turn}
 
 -- what stands before a place differs from what stands there
 pub distinct_take : {X : Type 0} (xs : List X) (i : ℕ) (d : X) → AreDistinct xs → i < length xs → Contains (take i xs) (slice_index_or xs i d) → ⊥
@@ -79,13 +78,13 @@ module _ (done : List Ground) (fact : Ground) (atom : Atom) (given : List (Optio
 
 -- one turn of the loop over the facts
 module _ (facts : List Ground) (i : ℕ) (fact : Ground) (atom : Atom) (given : List (Option Val)) (ways : List (List (Option Val))) (l : i < length facts) (is : fact ≡ slice_index_or facts i fact) (r : AreWays (take i facts) atom given ways) where
-  turn : take (i + 1) facts ≡ take i facts ++ fact ∷ []
-  turn = take_more facts i fact l ∙ ap (λ f. take i facts ++ f ∷ []) (sym is)
+  one_more : take (i + 1) facts ≡ take i facts ++ fact ∷ []
+  one_more = turn facts i fact l is
 
   pub turn_skip : ((a : ℕ → Val) → Agrees given a → ground a atom ≡ fact → ⊥) → AreWays (take (i + 1) facts) atom given ways
-  unfolding turn
-  turn_skip not = subst (λ done. AreWays done atom given ways) (sym turn) (ways_skip (take i facts) fact atom given ways r not)
+  unfolding one_more
+  turn_skip not = subst (λ done. AreWays done atom given ways) (sym one_more) (ways_skip (take i facts) fact atom given ways r not)
 
   pub turn_more : (way : List (Option Val)) → AreDistinct facts → IsWay fact atom given way → AreWays (take (i + 1) facts) atom given (ways ++ way ∷ [])
-  unfolding turn
-  turn_more way once w = subst (λ done. AreWays done atom given (ways ++ way ∷ [])) (sym turn) (ways_more (take i facts) fact atom given ways r way (λ c. distinct_take facts i fact once l (subst (λ f. Contains (take i facts) f) is c)) w)
+  unfolding one_more
+  turn_more way once w = subst (λ done. AreWays done atom given (ways ++ way ∷ [])) (sym one_more) (ways_more (take i facts) fact atom given ways r way (λ c. distinct_take facts i fact once l (subst (λ f. Contains (take i facts) f) is c)) w)

@@ -32,6 +32,7 @@ pub use conditions::{is_covered, is_numbered};
 pub use find::{all_matches, first_match};
 pub use grounding::{Assigns, Freezing, ground_under, values_under};
 pub use head::Head;
+pub use positions::Positions;
 pub use rules::{body_matches, first_unmet, frontier_matches, is_met, variables_width};
 pub use store::Store;
 pub use texts::row_under;

@@ -9,9 +9,10 @@ use meaning::types::{Atom, Rule, Term};
 use std::alloc::Global;
 use std::collections::BTreeSet;
 
-/// Positions of relations: all, or those whose codes are marked.
+/// Positions of relations by whose values the facts of a store are found: all, or those whose codes are marked.
 ///
-/// No clause says which are marked: where a position is not, facts are found by another one, or by the relation alone.
+/// No clause says which are marked: where a position is not, facts are found by another one, or by the relation alone. So
+/// a position that is left out makes a look-up slow and never wrong, and one that is marked in vain costs memory.
 #[derive(Drop)]
 pub struct Positions {
     all: bool,
@@ -23,6 +24,14 @@ impl Positions {
     pub fn all(alloc: Global) -> Positions {
         Positions {
             all: true,
+            marked: BTreeSet::new(alloc),
+        }
+    }
+
+    /// No position: facts are found by their relation alone. Takes no memory.
+    pub fn none(alloc: Global) -> Positions {
+        Positions {
+            all: false,
             marked: BTreeSet::new(alloc),
         }
     }
@@ -39,12 +48,31 @@ impl Positions {
         Ok(Positions { all: false, marked })
     }
 
+    /// Marks every position of these atoms, as for a query whose matches are looked for.
+    pub fn add_atoms(&mut self, atoms: &[Atom]) -> Result<(), NoMemory> {
+        if self.all {
+            return Ok(());
+        }
+        for atom in atoms {
+            mark_all(&mut self.marked, atom)?;
+        }
+        Ok(())
+    }
+
     /// Whether the position of the relation is one of these. Takes no memory.
-    pub fn has(&self, rel: u32, position: usize) -> bool
+    pub(crate) fn has(&self, rel: u32, position: usize) -> bool
         ensures { result ≡ has_position self.now rel position }
     {
         self.all || self.marked.contains(&place_code(rel, position))
     }
+}
+
+/// Marks every position of the atom.
+fn mark_all(marked: &mut BTreeSet<u64>, atom: &Atom) -> Result<(), NoMemory> {
+    for position in 0..atom.terms.len() {
+        marked.insert(place_code(atom.rel, position))?;
+    }
+    Ok(())
 }
 
 /// Marks where an atom has a value once those before it are facts.

@@ -39,11 +39,11 @@ impl Store {
     pub fn new(alloc: Global) -> Store
         ensures { result ≡ [] }
     {
-        Store::with_positions(alloc, Positions::all(alloc))
+        Store::found_by(alloc, Positions::all(alloc))
     }
 
     /// The store without facts, in which facts are found by their values at these positions. Takes no memory.
-    fn with_positions(alloc: Global, positions: Positions) -> Store
+    pub fn found_by(alloc: Global, positions: Positions) -> Store
         ensures { result ≡ [] }
     {
         Store {
@@ -75,7 +75,7 @@ impl Store {
         requires { AreDistinct facts.items }
         ensures { IfOk result (λ store. store ≡ facts.items) }
     {
-        let mut store = Store::with_positions(alloc, positions);
+        let mut store = Store::found_by(alloc, positions);
         for fact in facts {
             store.push(alloc, fact)?;
         }
@@ -143,13 +143,14 @@ impl Store {
         }
     }
 
-    /// Adds copies of the facts that are not there yet, behind those that are. Where memory is refused, nothing changes.
-    pub fn add_all(&mut self, alloc: Global, news: &[Ground]) -> Result<(), NoMemory>
-        ensures added { OnOk result (self.new ≡ with_facts self.old news.now) }
+    /// Adds the facts that are not there yet, behind those that are, and copies none. Where memory is refused, nothing
+    /// changes.
+    pub fn add_all(&mut self, alloc: Global, news: Vec<Ground>) -> Result<(), NoMemory>
+        ensures added { OnOk result (self.new ≡ with_facts self.old news.items) }
         ensures refused { OnErr result (self.new ≡ self.old) }
     {
         let count = self.facts.len();
-        match self.add_copies(alloc, news) {
+        match self.add_each(alloc, news) {
             Ok(()) => Ok(()),
             Err(fault) => {
                 self.truncate(count);
@@ -199,12 +200,12 @@ impl Store {
     }
 
     /// Adds the facts that are not there yet; where memory is refused, some of them stand at the end.
-    fn add_copies(&mut self, alloc: Global, news: &[Ground]) -> Result<(), NoMemory>
+    fn add_each(&mut self, alloc: Global, news: Vec<Ground>) -> Result<(), NoMemory>
         ensures front { take (length self.old) self.new ≡ self.old }
-        ensures added { OnOk result (self.new ≡ with_facts self.old news.now) }
+        ensures added { OnOk result (self.new ≡ with_facts self.old news.items) }
     {
         for fact in news {
-            self.insert(alloc, fact.copy(alloc)?)?;
+            self.insert(alloc, fact)?;
         }
         Ok(())
     }

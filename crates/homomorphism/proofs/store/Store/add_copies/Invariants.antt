@@ -1,6 +1,0 @@
-use Rattle.std.proofs.Common.{◌≡◌, take}
-use Rattle.meaning.specs.Added.{with_facts}
-use Rattle.homomorphism.proofs.store.Store.add_copies.Given as goal
-
-abbrev pub invariant-loop-fact : goal.invariant-loop-fact
-invariant-loop-fact l = l.self ≡ with_facts l.fn.self (take l.fact-index l.news)
