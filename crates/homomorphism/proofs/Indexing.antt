@@ -1,6 +1,5 @@
 -- An index of facts, with one fact more and one fact fewer.
 use Rattle.std.proofs.Common.{◌≡◌, ◌⊎◌, ℕ, zero, suc, ◌+◌, ◌<◌, List, [], ◌∷◌, ◌++◌, length, Option, Some, None, Bool, true, false, refl, sym, ap, ◌∙◌, subst, inl, inr, ⊎_elim, arith, Contains, slice_get}
-use Rattle.std.specs.List.{filter}
 use Rattle.std.specs.Prelude.{Decides, nat_eq, ◌&&◌, if◌then◌else◌}
 use Rattle.std.proofs.lemmas.Bool.Decides.{Decides-eqb, Decides-and, Decides-like}
 use Rattle.lists.proofs.Members.{contains_here, contains_there, contains_cases, some_injective}
@@ -15,7 +14,7 @@ use Rattle.homomorphism.specs.declared.fact_index.FactIndex.{FactIndex}
 use Rattle.homomorphism.specs.declared.key_lists.KeyLists.{KeyLists}
 use Rattle.homomorphism.specs.Listed.{is_found_by, value_keys, keys_of, is_val, has_key, numbers_from, listed, MayEndIn, IsIndexOf}
 use Rattle.homomorphism.specs.Present.{IsPresence}
-use Rattle.homomorphism.proofs.Members.{contains_none, in_filter, to_filter}
+use Rattle.homomorphism.proofs.Members.{contains_none}
 
 -- the keys of a row
 in_values : (rel i : ℕ) (vals : List Val) (key : Key) → Contains (value_keys rel i vals) key → (k : ℕ) × (v : Val) × (slice_get vals k ≡ Some v) × (Value rel (i + k) v ≡ key)
@@ -161,36 +160,18 @@ module _ (facts : List Ground) (fact : Ground) (number : ℕ) (is : number ≡ l
 
   -- the fact is not added after all
   pub index_refused : (mid : KeyLists) → ((key : Key) → MayEndIn (Contains (keys_of fact) key) number (listed was.lists key) (listed mid key)) →
-      ((key : Key) (before : List ℕ) → (Contains before number → ⊥) → MayEndIn (Contains (keys_of fact) key) number before (listed mid key) → listed now.lists key ≡ before) →
+      ((key : Key) (before : List ℕ) → is_found_by was.positions key ≡ true → (Contains before number → ⊥) → MayEndIn (Contains (keys_of fact) key) number before (listed mid key) → listed now.lists key ≡ before) →
       IsPresence facts now.present → IsIndexOf facts was → IsIndexOf facts now
   index_refused mid part struck present r = record {
     members = present;
-    lists = λ key found. struck key (numbers_from 0 key facts) (not_numbered key facts number is) (subst (λ l. MayEndIn (Contains (keys_of fact) key) number l (listed mid key)) (r.lists key (sought key found)) (part key));
+    lists = λ key found. struck key (numbers_from 0 key facts) (sought key found) (not_numbered key facts number is) (subst (λ l. MayEndIn (Contains (keys_of fact) key) number l (listed mid key)) (r.lists key (sought key found)) (part key));
   }
 
   -- the last fact is taken out
-  pub index_removed : ((key : Key) (before : List ℕ) → (Contains before number → ⊥) → MayEndIn (Contains (keys_of fact) key) number before (listed was.lists key) → listed now.lists key ≡ before) →
+  pub index_removed : ((key : Key) (before : List ℕ) → is_found_by was.positions key ≡ true → (Contains before number → ⊥) → MayEndIn (Contains (keys_of fact) key) number before (listed was.lists key) → listed now.lists key ≡ before) →
       IsPresence facts now.present → IsIndexOf (facts ++ fact ∷ []) was → IsIndexOf facts now
   index_removed struck present r = record {
     members = present;
-    lists = λ key found. struck key (numbers_from 0 key facts) (not_numbered key facts number is)
+    lists = λ key found. struck key (numbers_from 0 key facts) (sought key found) (not_numbered key facts number is)
         (subst (λ l. MayEndIn (Contains (keys_of fact) key) number (numbers_from 0 key facts) l) (sym (r.lists key (sought key found))) (ends_as facts fact number key is));
   }
-
--- the same of the keys that the fact is found by
-module _ (fact : Ground) (keys : List Key) (number : ℕ) (was now : FactIndex) (same : now.positions ≡ was.positions) (ks : keys ≡ filter (is_found_by was.positions) (keys_of fact)) where
-  among : (one two : KeyLists) → ((key : Key) → MayEndIn (Contains keys key) number (listed one key) (listed two key)) →
-      (key : Key) → MayEndIn (Contains (keys_of fact) key) number (listed one key) (listed two key)
-  among one two part key = ⊎_elim (λ e. inl e) (λ (c, e). inr (in_filter (is_found_by was.positions) (keys_of fact) key (subst (λ k. Contains k key) ks c), e)) (part key)
-
-  pub added_as : ((key : Key) → Contains keys key → listed now.lists key ≡ listed was.lists key ++ number ∷ []) →
-      ((key : Key) → MayEndIn (Contains keys key) number (listed was.lists key) (listed now.lists key)) →
-      (facts : List Ground) → IsPresence (facts ++ fact ∷ []) now.present → IsIndexOf facts was → number ≡ length facts → IsIndexOf (facts ++ fact ∷ []) now
-  added_as noted part facts present r is = index_added facts fact number is was now same
-      (λ key found c. noted key (subst (λ k. Contains k key) (sym ks) (to_filter (is_found_by was.positions) (keys_of fact) key c found)))
-      (among was.lists now.lists part) present r
-
-  pub refused_as : (mid : KeyLists) → ((key : Key) → MayEndIn (Contains keys key) number (listed was.lists key) (listed mid key)) →
-      ((key : Key) (before : List ℕ) → (Contains before number → ⊥) → MayEndIn (Contains (keys_of fact) key) number before (listed mid key) → listed now.lists key ≡ before) →
-      (facts : List Ground) → IsPresence facts now.present → IsIndexOf facts was → number ≡ length facts → IsIndexOf facts now
-  refused_as mid part struck facts present r is = index_refused facts fact number is was now same mid (among was.lists mid part) struck present r

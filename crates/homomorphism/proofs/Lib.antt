@@ -8,8 +8,8 @@ pub mod Pairs
 pub mod Covering
 pub mod Instances
 pub mod Exact
-pub mod Numbering
 pub mod Present
+pub mod Refused
 pub mod Coded
 pub mod Noting
 pub mod Indexing

@@ -10,7 +10,7 @@ ghost use Rattle.homomorphism.specs.declared.key.Key.{Key as TheKey};
 ghost use Rattle.homomorphism.specs.Bindings.{Agrees};
 ghost use Rattle.homomorphism.specs.Listed.{has_position, keys_of, listed, MayEndIn, IsIndexOf, AreCandidates};
 
-use crate::key::{Key, fact_keys};
+use crate::key::Key;
 use crate::key_lists::KeyLists;
 use crate::positions::Positions;
 use crate::presence::Presence;
@@ -55,18 +55,17 @@ impl FactIndex {
         ensures added { OnOk result ((facts : List TheGround) → IsIndexOf facts self.old → number ≡ length facts → IsIndexOf (facts ++ fact ∷ []) self.new) }
         ensures refused { OnErr result ((facts : List TheGround) → IsIndexOf facts self.old → number ≡ length facts → IsIndexOf facts self.new) }
     {
-        let keys = fact_keys(alloc, &fact, &self.positions)?;
-        match self.lists.note_all(alloc, keys, number) {
+        match self.lists.note_all(alloc, &self.positions, &fact, number) {
             Ok(()) => {}
             Err(fault) => {
-                self.lists.strike_all(fact, number);
+                self.lists.strike_all(&self.positions, fact, number);
                 return Err(fault);
             }
         }
         match self.present.add(alloc, &fact, number) {
             Ok(()) => Ok(fact),
             Err(fault) => {
-                self.lists.strike_all(fact, number);
+                self.lists.strike_all(&self.positions, fact, number);
                 Err(fault)
             }
         }
@@ -77,7 +76,7 @@ impl FactIndex {
         ensures { (facts : List TheGround) → IsIndexOf (facts ++ fact ∷ []) self.old → number ≡ length facts → (Contains facts fact → ⊥) → IsIndexOf facts self.new }
     {
         self.present.remove(&fact, number);
-        self.lists.strike_all(fact, number);
+        self.lists.strike_all(&self.positions, fact, number);
     }
 
     /// Numbers of facts, ascending, among which is each fact that the atom can be where the given values hold: the

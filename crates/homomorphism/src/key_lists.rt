@@ -2,13 +2,13 @@
 ghost use Rattle.std.specs.Prelude.{◌≡◌, ℕ, IsTrue, [], ◌∷◌, ◌++◌, List, Contains, Some, None, true, false, IfOk, IfNone, IfSome, OnErr, OnOk, unwrap_or};
 ghost use Rattle.std.specs.BTreeMap.{get, is_at};
 ghost use Rattle.meaning.specs.declared.types.Ground.{Ground as TheGround};
-ghost use Rattle.meaning.specs.Search.{AreDistinct};
 ghost use Rattle.homomorphism.specs.declared.key.Key.{Key as TheKey};
-ghost use Rattle.homomorphism.specs.Listed.{keys_of, key_cmp, own_list, coded_list, listed, MayEndIn};
+ghost use Rattle.homomorphism.specs.Listed.{keys_of, is_found_by, key_cmp, own_list, coded_list, listed, MayEndIn};
 
 use crate::code::key_code;
 use crate::key::Key;
-use lists::{NoMemory, Seq};
+use crate::positions::Positions;
+use lists::{Copies, NoMemory, Seq};
 use meaning::types::Ground;
 use std::alloc::Global;
 use std::collections::BTreeMap;
@@ -94,29 +94,42 @@ impl KeyLists {
         }
     }
 
-    /// Adds the number to the lists of these keys. Where memory is refused, it is at the ends of some of them.
-    pub fn note_all(&mut self, alloc: Global, keys: Vec<Key>, number: usize) -> Result<(), NoMemory>
-        requires { AreDistinct keys.items }
-        ensures noted { OnOk result ((key : TheKey) → Contains keys.items key → listed self.new key ≡ listed self.old key ++ number ∷ []) }
-        ensures part { (key : TheKey) → MayEndIn (Contains keys.items key) number (listed self.old key) (listed self.new key) }
+    /// Adds the number to the lists of the keys that the fact is found by: its relation, and its value at each of the
+    /// positions. Where memory is refused, it is at the ends of some of them.
+    pub fn note_all(
+        &mut self,
+        alloc: Global,
+        positions: &Positions,
+        fact: &Ground,
+        number: usize,
+    ) -> Result<(), NoMemory>
+        ensures noted { OnOk result ((key : TheKey) → is_found_by positions.now key ≡ true → Contains (keys_of fact.now) key → listed self.new key ≡ listed self.old key ++ number ∷ []) }
+        ensures part { (key : TheKey) → MayEndIn (Contains (keys_of fact.now) key) number (listed self.old key) (listed self.new key) }
     {
-        let mut left = keys;
-        while let Some(key) = left.pop() {
-            self.note(alloc, key, number)?;
+        let rel = fact.rel;
+        self.note(alloc, Key::Relation(rel), number)?;
+        for (position, val) in fact.vals.as_slice().iter().enumerate() {
+            if positions.has(rel, position) {
+                let val = val.copy(alloc)?;
+                self.note(alloc, Key::Value { rel, position, val }, number)?;
+            }
         }
         Ok(())
     }
 
-    /// Takes the number from the ends of the lists of the fact's keys, where it stands there. Takes no memory.
-    pub fn strike_all(&mut self, fact: Ground, number: usize)
-        ensures { (key : TheKey) (before : List ℕ) → (Contains before number → ⊥) → MayEndIn (Contains (keys_of fact) key) number before (listed self.old key) → listed self.new key ≡ before }
+    /// Takes the number from the ends of the lists of the keys that the fact is found by, where it stands there. Takes no
+    /// memory.
+    pub fn strike_all(&mut self, positions: &Positions, fact: Ground, number: usize)
+        ensures { (key : TheKey) (before : List ℕ) → is_found_by positions.now key ≡ true → (Contains before number → ⊥) → MayEndIn (Contains (keys_of fact) key) number before (listed self.old key) → listed self.new key ≡ before }
     {
         let rel = fact.rel;
         self.strike(&Key::Relation(rel), number);
         let mut vals = fact.vals.into_vec();
         while let Some(val) = vals.pop() {
             let position = vals.len();
-            self.strike(&Key::Value { rel, position, val }, number);
+            if positions.has(rel, position) {
+                self.strike(&Key::Value { rel, position, val }, number);
+            }
         }
     }
 

@@ -11,6 +11,7 @@ use crate::arrange::numbers;
 use crate::assignment::{Assignment, Assignments, Bindings};
 use crate::find::all_matches;
 use crate::frontier::frontier;
+use crate::head::Head;
 use crate::search::search;
 use crate::store::Store;
 use lists::{Copies, NoMemory, Seq};
@@ -121,9 +122,10 @@ pub fn first_unmet(
     ensures some { IfOk result (λ found. IfSome found (λ m. IsUnmetMatch store.now rule.now m.vals)) }
     ensures none { IfOk result (λ found. IfNone found (MeetsRule Const (GroundsOf store.now) rule.now)) }
 {
+    let head = Head::of(alloc, rule)?;
     let found = frontier_matches(alloc, rule, store)?;
     for one in found.as_slice() {
-        if !is_met(alloc, rule, store, one.vals.as_slice())? {
+        if !head.is_met(alloc, rule, store, one)? {
             return Ok(Some(one.copy(alloc)?));
         }
     }

@@ -11,18 +11,18 @@ use Rattle.homomorphism.proofs.rules.first_unmet.Goals as goal
 pub is_met-requires-clause-width : goal.is_met-requires-clause-width
 is_met-requires-clause-width c =
     let m : AreFrontierMatches c.args.store.now c.args.rule.now c.as_slice-one-items.result.now = rw c.as_slice-one-items.ensures c.in_ok-found.ensures in
-    rw c.as_slice.ensures (m.width c.one-item.result (is_among c.as_slice-one-items.result.now c.loop-one.one-index c.one-item.result c.loop-one-test.true c.one-item.is))
+    m.width c.one-item.result (is_among c.as_slice-one-items.result.now c.loop-one.one-index c.one-item.result c.loop-one-test.true c.one-item.is)
 
 pub returns-then-not-branch-clause-some : goal.returns-then-not-branch-clause-some
 returns-then-not-branch-clause-some c =
     let m : AreFrontierMatches c.args.store.now c.args.rule.now c.as_slice-one-items.result.now = rw c.as_slice-one-items.ensures c.in_ok-found.ensures in
-    let u : IsUnmet c.args.store.now c.args.rule.now c.one-item.result.vals = rw c.as_slice.ensures at (c.in_ok-is_met.ensures.unmet c.if-not-branch.true) in
+    let u : IsUnmet c.args.store.now c.args.rule.now c.one-item.result.vals = c.in_ok-is_met.ensures.unmet c.if-not-branch.true in
     subst (λ (m : Assignment). IsUnmetMatch c.args.store.now c.args.rule.now m.vals) (sym c.in_ok-copy.ensures) (unmet_frontier c.args.store.now c.args.rule.now c.as_slice-one-items.result.now c.one-item.result m
     (is_among c.as_slice-one-items.result.now c.loop-one.one-index c.one-item.result c.loop-one-test.true c.one-item.is) u)
 
 pub loop-one-preserved : goal.loop-one-preserved
 loop-one-preserved c =
-    let u : IsMet c.args.store.now c.args.rule.now c.one-item.result.vals = rw c.as_slice.ensures at (c.in_ok-is_met.ensures.met c.if-not-branch.false) in
+    let u : IsMet c.args.store.now c.args.rule.now c.one-item.result.vals = c.in_ok-is_met.ensures.met c.if-not-branch.false in
     met_push c.args.store.now c.args.rule.now c.as_slice-one-items.result.now c.loop-one.one-index c.one-item.result c.loop-one-test.true c.one-item.is c.loop-one.invariant u
 
 pub returns-clause-none : goal.returns-clause-none

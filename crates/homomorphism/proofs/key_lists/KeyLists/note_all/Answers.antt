@@ -1,5 +1,17 @@
-use Rattle.homomorphism.proofs.Noting.{noting_more}
+use Rattle.std.proofs.Common.{sym, ap, ◌∙◌}
+use Rattle.homomorphism.specs.declared.key.Key.TheVariants.{Value}
+use Rattle.homomorphism.proofs.Noting.{noting_relation, noting_more, noting_skip, noting_refused, noting_end}
+use Rattle.homomorphism.proofs.key_lists.KeyLists.note_all.Goals.{then-has+in_ok-val+in_ok-note-2, else-has}
 use Rattle.homomorphism.proofs.key_lists.KeyLists.note_all.Goals as goal
 
-pub loop-key-preserved : goal.loop-key-preserved
-loop-key-preserved c = noting_more c.args.keys.items c.loop-key.left.items c.pop.new.self.items c.in-Some.key c.args.number c.args.self.now c.loop-key.self c.note.new.self c.in-Some.ensures.items c.loop-key.invariant c.in_ok-note.ensures.here c.in_ok-note.ensures.others
+pub loop-position-preserved : goal.loop-position-preserved
+loop-position-preserved c = elim c.if-has.branch [
+  | then-has+in_ok-val+in_ok-note-2 w ↦ rw w.self-is
+      (noting_more c.args.positions.now c.args.fact.now c.as_slice-val-items.result.now c.as_slice-val-items.ensures c.args.number c.loop-position.position c.val-item.result c.loop-position-test.true c.val-item.is c.args.self.now c.loop-position.self c.loop-position.invariant
+      (Value c.args.fact.now.rel c.loop-position.position w.in_ok-val.val) w.note-then-has.new.self (ap (Value c.args.fact.now.rel c.loop-position.position) w.in_ok-val.ensures) w.in_ok-note-2.ensures.here w.in_ok-note-2.ensures.others)
+  | else-has w ↦ rw w.self-is
+      (noting_skip c.args.positions.now c.args.fact.now c.as_slice-val-items.result.now c.as_slice-val-items.ensures c.args.number c.loop-position.position c.val-item.result c.loop-position-test.true c.val-item.is c.args.self.now c.loop-position.self c.loop-position.invariant (sym c.has.ensures ∙ w.if-has.false))
+]
+
+pub returns-clause-noted : goal.returns-clause-noted
+returns-clause-noted c = noting_end c.args.positions.now c.args.fact.now c.as_slice-val-items.result.now c.loop-position.position c.args.number c.args.self.now c.loop-position.self c.as_slice-val-items.ensures c.loop-position-test.false c.loop-position.invariant

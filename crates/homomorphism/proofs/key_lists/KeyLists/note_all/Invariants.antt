@@ -1,9 +1,6 @@
-use Rattle.std.proofs.Common.{length}
-use Rattle.homomorphism.proofs.Noting.{Noting}
+use Rattle.homomorphism.specs.Listed.{keys_of}
+use Rattle.homomorphism.proofs.Noting.{Noting, keys_before}
 use Rattle.homomorphism.proofs.key_lists.KeyLists.note_all.Given as goal
 
-abbrev pub invariant-loop-key : goal.invariant-loop-key
-invariant-loop-key l = Noting l.fn.keys.items l.left.items l.number l.fn.self l.self
-
-abbrev pub decreases-loop-key : goal.decreases-loop-key
-decreases-loop-key l = length l.left.items
+abbrev pub invariant-loop-position : goal.invariant-loop-position
+invariant-loop-position l = Noting l.positions (keys_of l.fact) (keys_before l.fact l.val-items l.position) l.number l.fn.self l.self

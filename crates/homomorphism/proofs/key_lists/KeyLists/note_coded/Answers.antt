@@ -1,15 +1,9 @@
 use Rattle.std.proofs.Common.{refl, sym, ap, ◌∙◌, rules, [], ◌∷◌, ◌++◌}
-use Rattle.std.specs.Prelude.{OnErr}
 use Rattle.std.specs.BTreeMap.{get}
 use Rattle.std.specs.Ordering.{nat_cmp}
-use Rattle.std.specs.declared.result.Result.{Result}
-use Rattle.std.specs.declared.result.Result.TheVariants.{Ok, Err}
 use Rattle.homomorphism.proofs.Coded.{coded_before, coded_after, coded_apart, coded_same, first_noted, first_apart}
+use Rattle.homomorphism.proofs.Refused.{on_err}
 use Rattle.homomorphism.proofs.key_lists.KeyLists.note_coded.Goals as goal
-
-on_err : {T E : Type 0} (r : Result T E) (P : Type 0) → P → OnErr r P
-on_err (Ok x) P p = tt
-on_err (Err e) P p = p
 
 pub returns-in_err-is_own-in-Some-clause-refused : goal.returns-in_err-is_own-in-Some-clause-refused
 returns-in_err-is_own-in-Some-clause-refused c = on_err c.from_residual.result _ (coded_after c.args.key c.key_code-code.result c.args.self.now.coded (c.get_mut.follows.lender c.note.new.self) c.in-Some.list.now c.note.new.self c.key_code-code.ensures c.in-Some.ensures.value

@@ -1,17 +1,11 @@
 use Rattle.std.proofs.Common.{ap, sym, ◌∙◌, rules, Some}
-use Rattle.std.specs.Prelude.{OnErr}
 use Rattle.std.specs.Map.{lookup}
 use Rattle.std.specs.BTreeMap.{get, is_at}
-use Rattle.std.specs.declared.result.Result.{Result}
-use Rattle.std.specs.declared.result.Result.TheVariants.{Ok, Err}
 use Rattle.std.proofs.lemmas.Map.Steps.{set_value_same}
 use Rattle.homomorphism.specs.Listed.{key_cmp}
 use Rattle.homomorphism.proofs.Exact.{key_apart}
+use Rattle.homomorphism.proofs.Refused.{on_err}
 use Rattle.homomorphism.proofs.key_lists.KeyLists.note_other.Goals as goal
-
-on_err : {T E : Type 0} (r : Result T E) (P : Type 0) → P → OnErr r P
-on_err (Ok x) P p = tt
-on_err (Err e) P p = p
 
 pub returns-in_err-push-in-Some-clause-refused : goal.returns-in_err-push-in-Some-clause-refused
 returns-in_err-push-in-Some-clause-refused c =

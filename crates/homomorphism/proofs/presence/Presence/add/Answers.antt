@@ -1,13 +1,7 @@
 use Rattle.std.proofs.Common.{refl}
-use Rattle.std.specs.Prelude.{OnErr}
-use Rattle.std.specs.declared.result.Result.{Result}
-use Rattle.std.specs.declared.result.Result.TheVariants.{Ok, Err}
 use Rattle.homomorphism.proofs.Present.{added_at, added_copy, same_presence}
+use Rattle.homomorphism.proofs.Refused.{on_err}
 use Rattle.homomorphism.proofs.presence.Presence.add.Goals as goal
-
-on_err : {T E : Type 0} (r : Result T E) (P : Type 0) → P → OnErr r P
-on_err (Ok x) P p = tt
-on_err (Err e) P p = p
 
 pub returns-in_err-insert-clause-refused : goal.returns-in_err-insert-clause-refused
 returns-in_err-insert-clause-refused c = on_err c.from_residual-in_err-insert.result _ (λ facts r. same_presence facts c.args.self.now (record { firsts = c.args.self.now.firsts; others = c.insert.new.self }) refl c.in_err-insert.ensures.err r)
