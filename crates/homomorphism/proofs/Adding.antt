@@ -1,16 +1,14 @@
 -- Facts added one after another.
-use Rattle.std.proofs.Common.{◌≡◌, ◌↔◌, Bool, true, false, ℕ, zero, suc, ◌+◌, ◌-◌, ◌<◌, ◌≤◌, List, [], ◌∷◌, ◌++◌, length, refl, sym, ap, ◌∙◌, subst, ⊎_elim, arith, Contains, take, slice_index_or}
+use Rattle.std.proofs.Common.{◌≡◌, ◌↔◌, Bool, true, false, ℕ, zero, suc, ◌-◌, ◌<◌, ◌≤◌, List, [], ◌∷◌, ◌++◌, length, refl, sym, ap, ◌∙◌, subst, arith, Contains, take}
 use Rattle.std.specs.Prelude.{IsTrue}
 use Rattle.std.proofs.lemmas.List.Sums.{fold-append}
-use Rattle.meaning.specs.declared.types.Fact.{Fact}
 use Rattle.meaning.specs.declared.types.Ground.{Ground}
 use Rattle.meaning.specs.Search.{AreDistinct}
 use Rattle.meaning.specs.Added.{with_fact, with_facts}
-use Rattle.meaning_laws.proofs.Added.{added_front, added_right, added_cases, with_new, with_old}
+use Rattle.meaning_laws.proofs.Added.{added_front, with_new, with_old}
 use Rattle.homomorphism.specs.declared.fact_index.FactIndex.{FactIndex}
-use Rattle.homomorphism.specs.Instances.{AreFactsOf}
 use Rattle.homomorphism.specs.Listed.{IsIndexOf}
-use Rattle.homomorphism.proofs.Members.{contains_none, distinct_parts}
+use Rattle.homomorphism.proofs.Members.{distinct_parts}
 
 -- a push where the fact is not there, and none where it is
 pub pushed : (facts : List Ground) (fact : Ground) → (Contains facts fact → ⊥) → facts ++ fact ∷ [] ≡ with_fact facts fact

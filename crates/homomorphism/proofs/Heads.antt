@@ -1,5 +1,5 @@
 -- Heads of which nothing has to be looked for.
-use Rattle.std.proofs.Common.{◌≡◌, ℕ, ◌+◌, ◌<◌, ◌≤◌, List, [], ◌∷◌, ◌++◌, length, refl, sym, ap, ◌∙◌, subst, ⊎_elim, arith, Contains, take, slice_index_or}
+use Rattle.std.proofs.Common.{◌≡◌, ℕ, ◌+◌, ◌<◌, ◌≤◌, List, [], ◌∷◌, length, refl, subst, ⊎_elim, arith, Contains, take, slice_index_or}
 use Rattle.std.proofs.lemmas.List.Elements.{Contains-push_cases}
 use Rattle.lists.proofs.Members.{contains_here}
 use Rattle.meaning_laws.proofs.Carrying.{occurs_below}

@@ -1,6 +1,5 @@
 -- Which facts are there, with one fact more and one fact fewer.
 use Rattle.std.proofs.Common.{◌≡◌, ℕ, ◌+◌, ◌<◌, List, [], ◌∷◌, ◌++◌, length, Option, Some, None, Bool, true, false, cond, refl, sym, ap, ◌∙◌, subst, inl, inr, ⊎_elim, arith, Contains, slice_get}
-use Rattle.std.specs.Prelude.{is_some}
 use Rattle.std.specs.Ordering.{is_eq, nat_cmp}
 use Rattle.std.specs.BTreeMap.{get, is_at}
 use Rattle.std.specs.BTreeSet.{contains}
@@ -63,7 +62,7 @@ module _ (facts : List Ground) (fact : Ground) (number : ℕ) (is : number ≡ l
       wider there = ⊎_elim (λ first. inl (first_stays other keeps first)) (λ among. inr (ap (λ s. contains ground_cmp s other) late ∙ among)) there
 
   -- an earlier fact has its code
-  pub added_late : now.firsts ≡ was.firsts → ((other : Ground) → contains ground_cmp now.others other ≡ cond (is_at (ground_cmp fact) other) true (contains ground_cmp was.others other)) →
+  pub added_late : now.firsts.entries ≡ was.firsts.entries → ((other : Ground) → contains ground_cmp now.others other ≡ cond (is_at (ground_cmp fact) other) true (contains ground_cmp was.others other)) →
       IsPresence facts was → IsPresence (facts ++ fact ∷ []) now
   added_late same put r other = (
     (λ there. ⊎_elim (λ (n, at, got). contains_got (facts ++ fact ∷ []) n other got) (λ among. by (ground_cmp fact other) refl (sym (put other) ∙ among)) there),
@@ -83,7 +82,7 @@ module _ (facts : List Ground) (fact : Ground) (number : ℕ) (is : number ≡ l
       here e = ap (λ o. cond (is_eq o) true (contains ground_cmp was.others other)) (ap (ground_cmp fact) (sym e) ∙ tied_itself ground_total fact)
 
       wider : IsThere facts was other → IsThere (facts ++ fact ∷ []) now other
-      wider there = ⊎_elim (λ first. inl (first_stays other (λ n at. ap (λ m. get nat_cmp m (fact_code other)) same ∙ at) first))
+      wider there = ⊎_elim (λ first. inl (first_stays other (λ n at. ap (λ es. lookup (is_at (nat_cmp (fact_code other))) es) same ∙ at) first))
           (λ among. inr (put other ∙ before (is_at (ground_cmp fact) other) among)) there
 
   -- the last fact is taken out
@@ -120,20 +119,15 @@ module _ (facts : List Ground) (fact : Ground) (number : ℕ) (is : number ≡ l
       below n got c = ⊎_elim (λ e. absurd (new (subst (Contains facts) (some_injective other fact (sym got ∙ ap (slice_get (facts ++ fact ∷ [])) e ∙ got_push facts fact)) c)))
           (λ differ. let l = slice_get_within (facts ++ fact ∷ []) n other got in let p = length_push facts fact in omega arith) (cases_eq n (length facts))
 
-none_of : {X : Type 0} (o : Option X) → is_some o ≡ false → o ≡ None
-none_of None e = refl
-none_of (Some x) e = absurd (cc)
-
 -- the same by a code and a copy that the code has made
 module _ (facts : List Ground) (fact : Ground) (number : ℕ) (is : number ≡ length facts) (was now : Presence) where
-  pub added_at : (code : ℕ) (has : Bool) → code ≡ fact_code fact → has ≡ is_some (get nat_cmp was.firsts code) → has ≡ false → get nat_cmp now.firsts code ≡ Some number →
+  pub added_at : (code : ℕ) → code ≡ fact_code fact → (get nat_cmp was.firsts code ≡ None) × (get nat_cmp now.firsts code ≡ Some number) →
       ((other : ℕ) → is_at (nat_cmp code) other ≡ false → get nat_cmp now.firsts other ≡ get nat_cmp was.firsts other) →
       now.others ≡ was.others → IsPresence facts was → IsPresence (facts ++ fact ∷ []) now
-  added_at code has e there fails present same late r = added_first facts fact number is was now
-      (none_of (get nat_cmp was.firsts (fact_code fact)) (ap (λ n. is_some (get nat_cmp was.firsts n)) (sym e) ∙ sym there ∙ fails))
+  added_at code e (absent, present) same late r = added_first facts fact number is was now (ap (get nat_cmp was.firsts) (sym e) ∙ absent)
       (ap (get nat_cmp now.firsts) (sym e) ∙ present) (λ other apart. same other (ap (λ n. is_at (nat_cmp n) other) e ∙ apart)) late r
 
-  pub added_copy : (copy : Ground) → copy ≡ fact → now.firsts ≡ was.firsts → ((other : Ground) → contains ground_cmp now.others other ≡ cond (is_at (ground_cmp copy) other) true (contains ground_cmp was.others other)) →
+  pub added_copy : (copy : Ground) → copy ≡ fact → now.firsts.entries ≡ was.firsts.entries → ((other : Ground) → contains ground_cmp now.others other ≡ cond (is_at (ground_cmp copy) other) true (contains ground_cmp was.others other)) →
       IsPresence facts was → IsPresence (facts ++ fact ∷ []) now
   added_copy copy e same put r = added_late facts fact number is was now same
       (λ other. put other ∙ ap (λ f. cond (is_at (ground_cmp f) other) true (contains ground_cmp was.others other)) e) r

@@ -66,6 +66,7 @@ module _ (terms : List Term) (i : ℕ) (term : Term) (given : List (Option Val))
     all = λ x c e. ⊎_elim (λ h. Contains-append_left free (y ∷ []) x (r.all x h e)) (λ same. subst (Contains (free ++ y ∷ [])) (var_is y x (sym var ∙ same)) (Contains-push free y)) (cases x c);
     without = λ x c. ⊎_elim (λ h. r.without x h) (λ e. subst (λ z. slice_get given z ≡ Some None) e none) (Contains-push_cases free y x c);
   }
+
 -- what stands within a list does not depend on what is said of places behind its end
 pub default : {X : Type 0} (xs : List X) (i : ℕ) (d e : X) → i < length xs → slice_index_or xs i d ≡ slice_index_or xs i e
 default [] i d e l = absurd (omega arith)

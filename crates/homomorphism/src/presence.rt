@@ -1,6 +1,6 @@
 // Which facts there are, by their codes.
-ghost use Rattle.std.specs.Prelude.{◌≡◌, ◌↔◌, ◌<◌, ℕ, IsTrue, [], ◌∷◌, ◌++◌, length, List, Contains, Some, OnErr, OnOk};
-ghost use Rattle.std.specs.BTreeMap.{get};
+ghost use Rattle.std.specs.Prelude.{◌≡◌, ◌↔◌, ◌<◌, ℕ, IsTrue, [], ◌∷◌, ◌++◌, length, List, Contains, Some, None, true, false, IfOk, OnErr, OnOk};
+ghost use Rattle.std.specs.BTreeMap.{get, is_at};
 ghost use Rattle.std.specs.Ordering.{nat_cmp};
 ghost use Rattle.meaning.specs.declared.types.Ground.{Ground as TheGround};
 ghost use Rattle.homomorphism.specs.Present.{IsFirst, IsPresence};
@@ -9,6 +9,7 @@ use crate::code::fact_code;
 use lists::{Copies, Exact, NoMemory};
 use meaning::types::Ground;
 use std::alloc::Global;
+use std::collections::btree_map::Entry;
 use std::collections::{BTreeMap, BTreeSet};
 
 /// For each code the number of the first fact that has it; and the facts whose code an earlier one had, in order.
@@ -43,12 +44,11 @@ impl Presence {
         ensures added { OnOk result ((facts : List TheGround) → IsPresence facts self.old → number ≡ length facts → IsPresence (facts ++ fact.now ∷ []) self.new) }
         ensures refused { OnErr result ((facts : List TheGround) → IsPresence facts self.old → IsPresence facts self.new) }
     {
-        let code = fact_code(fact);
-        if self.firsts.contains_key(&code) {
-            self.others.insert(fact.copy(alloc)?)?;
-        } else {
-            self.firsts.insert(code, number)?;
+        let is_first = take_code(&mut self.firsts, fact_code(fact), number)?;
+        if is_first {
+            return Ok(());
         }
+        self.others.insert(fact.copy(alloc)?)?;
         Ok(())
     }
 
@@ -82,6 +82,22 @@ impl Presence {
             if *first == number {
                 self.firsts.remove(&code);
             }
+        }
+    }
+}
+
+/// Gives the code this number, if it has none, and says whether it did.
+fn take_code(firsts: &mut BTreeMap<u64, usize>, code: u64, number: usize) -> Result<bool, NoMemory>
+    ensures new { IfOk result (λ is_first. is_first ≡ true → (get nat_cmp firsts.old code ≡ None) × (get nat_cmp firsts.new code ≡ Some number)) }
+    ensures apart { OnOk result ((other : ℕ) → is_at (nat_cmp code) other ≡ false → get nat_cmp firsts.new other ≡ get nat_cmp firsts.old other) }
+    ensures taken { IfOk result (λ is_first. is_first ≡ false → firsts.new.entries ≡ firsts.old.entries) }
+    ensures refused { OnErr result (firsts.new.entries ≡ firsts.old.entries) }
+{
+    match firsts.entry(code)? {
+        Entry::Occupied(_) => Ok(false),
+        Entry::Vacant(entry) => {
+            entry.insert(number);
+            Ok(true)
         }
     }
 }

@@ -1,4 +1,4 @@
-use Rattle.std.proofs.Common.{◌++◌, ◌∷◌, [], ◌∙◌, sym, ap, subst, ⊎_elim, Contains, take}
+use Rattle.std.proofs.Common.{sym, subst, ⊎_elim, Contains, take}
 use Rattle.std.proofs.lemmas.List.{take_all}
 use Rattle.std.proofs.lemmas.List.Elements.{Contains-push_cases}
 use Rattle.meaning.specs.declared.types.Term.TheVariants.{Var}

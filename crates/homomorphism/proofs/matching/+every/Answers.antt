@@ -1,4 +1,4 @@
-use Rattle.std.proofs.Common.{arith, ap, append_assoc, refl, sym, ◌∙◌, ◌∷◌, ◌++◌, rules, subst, length, ◌≡◌, [], take, drop, ◌-◌, Contains}
+use Rattle.std.proofs.Common.{arith, ap, append_assoc, sym, ◌∙◌, ◌∷◌, ◌++◌, rules, subst, length, ◌≡◌, [], take, drop, ◌-◌, Contains}
 use Rattle.std.proofs.lemmas.Grind.{common_steps}
 use Rattle.std.proofs.lemmas.List.{map-id}
 use Rattle.std.proofs.lemmas.Iterator.Consumers.{YieldsList-so_far, YieldsList-turn, YieldsList-end}

@@ -1,4 +1,4 @@
-use Rattle.std.proofs.Common.{arith, refl, Contains}
+use Rattle.std.proofs.Common.{arith, refl}
 use Rattle.homomorphism.specs.Matches.{NoMatch}
 use Rattle.homomorphism.specs.Widening.{Widens, taken}
 use Rattle.homomorphism.proofs.Runs.{whole_is, none_of_taken}

@@ -1,6 +1,6 @@
 use Rattle.std.proofs.Common.{sym, ap, ◌∙◌}
 use Rattle.homomorphism.specs.declared.key.Key.TheVariants.{Value}
-use Rattle.homomorphism.proofs.Noting.{noting_relation, noting_more, noting_skip, noting_refused, noting_end}
+use Rattle.homomorphism.proofs.Noting.{noting_more, noting_skip, noting_end}
 use Rattle.homomorphism.proofs.key_lists.KeyLists.note_all.Goals.{then-has+in_ok-val+in_ok-note-2, else-has}
 use Rattle.homomorphism.proofs.key_lists.KeyLists.note_all.Goals as goal
 
