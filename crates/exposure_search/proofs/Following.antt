@@ -21,11 +21,11 @@ use Rattle.accessible_copy.specs.OpenFacts.{held_by, AreHolders}
 use Rattle.accessible_copy.proofs.Listed.{take_got, known_to}
 use Rattle.exposure_search.specs.declared.relevance.Marking.{Marking}
 use Rattle.exposure_search.specs.Tries.{IsMarked}
-use Rattle.exposure_search.specs.Sets.{got_contained, picked_at, picked_back, set_kept, set_cases}
+use Rattle.exposure_search.specs.Sets.{got_contained, picked_at, picked_back, set_here, set_kept, set_cases}
 use Rattle.exposure_search.specs.declared.marks.Marks.{Marks}
 use Rattle.exposure_search.specs.Relevance.{AreRelevant, MakersMarked, IsWanted, IsImageOf, IsImageAmong, Keeps, BodiesMarked, AreFed, WantedMarked, IsOfKind, HoldsInput, IsAskedBy, Grows, IsFollowed, IsFollowing}
 use Rattle.exposure_search.proofs.Imaging.{image_next, image_none}
-use Rattle.exposure_search.proofs.Wanting.{keeps_push, set_on}
+use Rattle.exposure_search.proofs.Wanting.{keeps_push}
 
 pub grows_none : (now : Marking) → Grows now now
 grows_none now = record { long = refl; stays = λ n on. on; waits = λ n c. c; news = λ n on. inl on }
@@ -49,7 +49,7 @@ grows_one old new number marks waiting = record {
 }
 
 pub one_on : (old new : Marking) (number : ℕ) → new.marks.items ≡ slice_set old.marks.items number true → number < length old.marks.items → IsMarked new.marks.items number
-one_on old new number marks low = subst (λ ms. IsMarked ms number) (sym marks) (set_on old.marks.items number low)
+one_on old new number marks low = subst (λ ms. IsMarked ms number) (sym marks) (set_here old.marks.items number low)
 
 -- what is marked of a kind of numbers, after some steps
 pub record IsReached (Kind : ℕ → Type 0) (old new : Marking) : Type 0 where
@@ -122,11 +122,11 @@ module _ (schema : SchemaParts) (constants : List (List ℕ)) (facts : List Grou
   pub all_followed : (now : Marking) → now.waiting.items ≡ [] → IsFollowing schema constants facts now → (number : ℕ) → IsMarked now.marks.items number → IsFollowed schema constants facts now.marks.items number
   all_followed now none is number on = ⊎_elim (λ w. absurd (let c : Contains [] number = subst (λ ws. Contains ws number) none w in omega arith)) (λ f. f) (is.followed number on)
 
-  -- closed marks: `begun` are those of wanted relations, and `seen` those of images too
-  pub marks_relevant : (next : ℕ) (queries : List Query) (head : List Val) (wanted begun seen : List Bool) (marks : Marks) → BodiesMarked schema.rules next (IsImageAmong queries head) wanted → AreFed schema.rules wanted →
-      length begun ≡ length facts → WantedMarked wanted facts begun → Keeps begun seen → ((number : ℕ) → IsOfKind facts (IsImageAmong queries head) number → number < length begun → IsMarked seen number) → Keeps seen marks.relevant.items → marks.needed.items ≡ seen → MakersMarked schema.rules next (IsWanted queries head wanted) marks.makers.items →
+  -- closed marks: `seen` are those of wanted relations and of images
+  pub marks_relevant : (next : ℕ) (queries : List Query) (head : List Val) (wanted seen : List Bool) (marks : Marks) → BodiesMarked schema.rules next (IsImageAmong queries head) wanted → AreFed schema.rules wanted →
+      WantedMarked wanted facts seen → ((number : ℕ) → IsOfKind facts (IsImageAmong queries head) number → IsMarked seen number) → Keeps seen marks.relevant.items → marks.needed.items ≡ seen → MakersMarked schema.rules next (IsWanted queries head wanted) marks.makers.items →
       ((number : ℕ) → IsMarked marks.relevant.items number → IsFollowed schema constants facts marks.relevant.items number) → AreRelevant schema constants facts next queries head marks
-  marks_relevant next queries head wanted begun seen marks served fed long begins sees images keeps same makers closed = record {
+  marks_relevant next queries head wanted seen marks served fed wants_seen images keeps same makers closed = record {
     wanted = wanted;
     closed = record {
       images = λ query atom fact c d i. inl (query, c, (atom, d, i));
@@ -150,16 +150,19 @@ module _ (schema : SchemaParts) (constants : List (List ℕ)) (facts : List Grou
   }
     where
       at_seen : (k : ℕ) (fact : Ground) → slice_get facts k ≡ Some fact → IsWanted queries head wanted fact → IsMarked seen k
-      at_seen k fact at wants =
-          let low : k < length facts = slice_get_within facts k fact at in
-          ⊎_elim (λ image. images k (fact, at, image) (omega arith)) (λ on. sees k (begins k fact at on)) wants
+      at_seen k fact at wants = ⊎_elim (λ image. images k (fact, at, image)) (λ on. wants_seen k fact at on) wants
 
-  -- what waits, and what was newly marked
-  pub following_begun : (old new : Marking) → length old.marks.items ≡ length facts → ((number : ℕ) → IsMarked old.marks.items number → Contains old.waiting.items number) → Grows old new → IsFollowing schema constants facts new
-  following_begun old new long waits grows = record {
-    long = grows.long ∙ long;
-    followed = λ number on. ⊎_elim (λ was. inl (grows.waits number (waits number was))) (λ w. inl w) (grows.news number on);
-  }
+-- each mark still waits, and so does what was newly marked
+pub waits_more : (old new : Marking) → ((number : ℕ) → IsMarked old.marks.items number → Contains old.waiting.items number) → Grows old new → (number : ℕ) → IsMarked new.marks.items number → Contains new.waiting.items number
+waits_more old new waits grows number on = ⊎_elim (λ was. grows.waits number (waits number was)) (λ w. w) (grows.news number on)
+
+-- nothing was followed yet
+pub following_begun : (schema : SchemaParts) (constants : List (List ℕ)) (facts : List Ground) (now : Marking) → length now.marks.items ≡ length facts → ((number : ℕ) → IsMarked now.marks.items number → Contains now.waiting.items number) → IsFollowing schema constants facts now
+following_begun schema constants facts now long waits = record { long = long; followed = λ number on. inl (waits number on) }
+
+-- the facts of a kind are marked, each of which has a mark
+pub kinds_marked : (facts : List Ground) (Kind : Ground → Type 0) (old new : Marking) → length old.marks.items ≡ length facts → ((number : ℕ) → IsOfKind facts Kind number → number < length old.marks.items → IsMarked new.marks.items number) → (number : ℕ) → IsOfKind facts Kind number → IsMarked new.marks.items number
+kinds_marked facts Kind old new long marked number (fact, at, is) = let low : number < length facts = slice_get_within facts number fact at in marked number (fact, at, is) (omega arith)
 
 -- the first facts that are of a kind, and the next one
 abbrev pub IsFront : List Ground → (Ground → Type 0) → ℕ → ℕ → Type 0
@@ -207,13 +210,3 @@ begun_none wanted facts now none = record {
   wants = λ number fact low got wants. absurd (omega arith);
   waits = λ number on. absurd (let e : slice_get [] number ≡ Some true = subst (λ ms. IsMarked ms number) none on in cc);
 }
-
-pub none_left : {X : Type 0} (xs : List X) → length xs ≡ 0 → xs ≡ []
-none_left [] e = refl
-none_left (x ∷ xs) e = absurd (omega arith)
-
-pub none_asked : (methods : List Method) (n : ℕ) (method : Method) → slice_get methods n ≡ None → slice_get methods n ≡ Some method → ⊥
-none_asked methods n method none named = differ (sym none ∙ named)
-  where
-    differ : ◌≡◌ {A = Option Method} None (Some method) → ⊥
-    differ e = cc

@@ -1,7 +1,8 @@
 -- Logs of base firings, exposures and copy firings, and the proofs that they lead to.
 use Rattle.std.proofs.Common.{◌≡◌, ℕ, zero, suc, ◌+◌, ◌≤◌, List, [], ◌∷◌, ◌++◌, ◌-◌, length, take, map, refl, sym, ap, ◌∙◌, subst, arith, append_assoc}
 use Rattle.std.specs.Prelude.{true}
-use Rattle.std.proofs.lemmas.List.{append-nil, length-append, map-append, length-map}
+use Rattle.std.proofs.lemmas.List.{append-nil, length-append, map-append, length-map, take-map}
+use Rattle.std.proofs.Math.Seq.{take-append-add, take-append_seam}
 use Rattle.lists.proofs.Members.{some_injective}
 use Rattle.meaning_laws.proofs.Running.{run_once, plain_split, plain_push}
 use Rattle.meaning.specs.declared.types.SchemaParts.{SchemaParts}
@@ -24,21 +25,6 @@ use Rattle.accessible_copy.proofs.Writing.{written_run, firings_on}
 use Rattle.accessible_copy.proofs.PassEntries.{part_low}
 use Rattle.exposure_search.specs.Making.{bases_of, OnlyExposes, SameBase}
 use Rattle.exposure_search.proofs.Trying.{quiet_later}
-
--- ---- lists
-
-map_take : {X Y : Type 0} (f : X → Y) (n : ℕ) (xs : List X) → map f (take n xs) ≡ take n (map f xs)
-map_take f zero xs = refl
-map_take f (suc n) [] = refl
-map_take f (suc n) (x ∷ xs) = ap (λ z. f x ∷ z) (map_take f n xs)
-
-take_past : {X : Type 0} (xs ys : List X) (k : ℕ) → take (length xs + k) (xs ++ ys) ≡ xs ++ take k ys
-take_past [] ys k = let e : 0 + k ≡ k = omega arith in rw e refl
-take_past (x ∷ xs) ys k = let e : suc (length xs) + k ≡ suc (length xs + k) = omega arith in rw e (ap (λ z. x ∷ z) (take_past xs ys k))
-
-take_front : {X : Type 0} (xs ys : List X) → take (length xs) (xs ++ ys) ≡ xs
-take_front [] ys = refl
-take_front (x ∷ xs) ys = ap (λ z. x ∷ z) (take_front xs ys)
 
 -- ---- what a log has
 
@@ -187,10 +173,10 @@ module _ (schema : SchemaParts) where
       let bases : List Trigger = bases_of (log_of old) in
       let long : length (map Base bases) ≡ length bases = length-map bases Base in
       goes_alike old new (take count old.exposed) is its constants start
-      (ap firings_of entries ∙ map_take (λ (entry : Entry). entry.firing) (length bases + count) old.entries ∙ ap (take (length bases + count)) is.log
+      (ap firings_of entries ∙ sym (take-map (λ (entry : Entry). entry.firing) (length bases + count) old.entries) ∙ ap (take (length bases + count)) is.log
       ∙ ap (λ n. take (n + count) (map Base bases ++ map exposure_of old.exposed)) (sym long)
-      ∙ take_past (map Base bases) (map exposure_of old.exposed) count
-      ∙ ap (λ l. map Base bases ++ l) (sym (map_take exposure_of count old.exposed)))
+      ∙ take-append-add (map Base bases) (map exposure_of old.exposed) count
+      ∙ ap (λ l. map Base bases ++ l) (take-map exposure_of count old.exposed))
 
   -- how long the log is
   pub lies_long : (proof : Proving) → OnlyExposes schema proof → length proof.entries ≡ length (bases_of (log_of proof)) + length proof.exposed
@@ -225,9 +211,9 @@ module _ (schema : SchemaParts) where
   goes_back old settled new is its of constants start entries =
       let long : length (log_of old) ≡ length old.entries = length-map old.entries (λ (entry : Entry). entry.firing) in
       goes_alike old new old.exposed is of (constants ∙ its.constants) (start ∙ its.start)
-      (ap firings_of entries ∙ map_take (λ (entry : Entry). entry.firing) (length old.entries) settled.entries ∙ ap (take (length old.entries)) its.log
+      (ap firings_of entries ∙ sym (take-map (λ (entry : Entry). entry.firing) (length old.entries) settled.entries) ∙ ap (take (length old.entries)) its.log
       ∙ ap (λ n. take n (log_of old ++ map (firing_of true) its.more)) (sym long)
-      ∙ take_front (log_of old) (map (firing_of true) its.more) ∙ is.log)
+      ∙ take-append_seam (log_of old) (map (firing_of true) its.more) ∙ is.log)
 
   -- ---- settled copies
 

@@ -1,6 +1,7 @@
 -- The rules whose firings make no image of an atom, and the relations that are marked for the others.
 use Rattle.std.proofs.Common.{◌≡◌, ℕ, zero, suc, ◌+◌, ◌-◌, ◌<◌, ◌≤◌, List, [], ◌∷◌, length, take, Bool, Some, Option, refl, sym, ap, ◌∙◌, subst, ⊎_elim, arith}
 use Rattle.std.specs.Prelude.{Contains, slice_get, slice_index_or, map}
+use Rattle.std.proofs.lemmas.List.{length-map}
 use Rattle.meaning_laws.proofs.Joined.{joined_above}
 use Rattle.meaning.specs.declared.types.Atom.{Atom}
 use Rattle.meaning.specs.declared.types.Ground.{Ground}
@@ -43,11 +44,7 @@ pub never_at : (given : List (Option Val)) (next width : ℕ) (made asked : List
 never_at given next width made asked i m n low e h never trigger a wide fresh agrees same = never trigger a wide fresh agrees (maps_at (value_of Const (assigned trigger)) (value_of Const a) made asked i m n low e h same)
 
 pub never_long : (given : List (Option Val)) (next width : ℕ) (made asked : List Term) → (length made ≡ length asked → ⊥) → NeverMatch given next width made asked
-never_long given next width made asked uneven trigger a wide fresh agrees same = uneven (sym (map_length (value_of Const (assigned trigger)) made) ∙ ap length same ∙ map_length (value_of Const a) asked)
-  where
-    map_length : {X Y : Type 0} (f : X → Y) (xs : List X) → length (map f xs) ≡ length xs
-    map_length f [] = refl
-    map_length f (x ∷ xs) = ap suc (map_length f xs)
+never_long given next width made asked uneven trigger a wide fresh agrees same = uneven (sym (length-map made (value_of Const (assigned trigger))) ∙ ap length same ∙ length-map asked (value_of Const a))
 
 -- none of the head's atoms can make a fact of the atom
 abbrev pub NoneServes : List (Option Val) → ℕ → ℕ → List Atom → Atom → Type 0

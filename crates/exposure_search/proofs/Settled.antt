@@ -1,6 +1,7 @@
 -- What settling the copy of exposures shows.
 use Rattle.std.proofs.Common.{◌≡◌, ◌⊎◌, ℕ, ◌+◌, ◌<◌, ◌≤◌, List, [], ◌++◌, length, map, Bool, true, false, Option, Some, None, refl, sym, ap, ◌∙◌, subst, inl, inr, ⊎_elim, arith}
-use Rattle.std.specs.Prelude.{Contains, is_some, IfSome, IfNone}
+use Rattle.std.specs.Prelude.{Contains, is_some, option_map, IfSome, IfNone}
+use Rattle.std.specs.Bool.{then_some}
 use Rattle.std.specs.List.{AllZip}
 use Rattle.std.proofs.lemmas.List.{append-nil, length-map}
 use Rattle.lists.proofs.Members.{contains_got}
@@ -58,6 +59,23 @@ none_found queries proof head (Some m) e is = absurd (cc)
 pub none_then : {X : Type 0} (P Q : Type 0) (found : Option X) → (P → Q) → IfNone found P → IfNone found Q
 none_then P Q None f p = f p
 none_then P Q (Some x) f p = tt
+
+pub mapped_some : {X Y : Type 0} (f : X → Y) (found : Option X) (P : Y → Type 0) → IfSome found (λ x. P (f x)) → IfSome (option_map f found) P
+mapped_some f None P is = tt
+mapped_some f (Some x) P is = is
+
+pub mapped_none : {X Y : Type 0} (f : X → Y) (found : Option X) (P : Type 0) → IfNone found P → IfNone (option_map f found) P
+mapped_none f None P is = is
+mapped_none f (Some x) P is = tt
+
+-- a value that is kept where a test passed
+pub kept_some : {X : Type 0} (b : Bool) (x : X) (P : X → Type 0) → (b ≡ true → P x) → IfSome (then_some b x) P
+kept_some true x P is = is refl
+kept_some false x P is = tt
+
+pub kept_none : {X : Type 0} (b : Bool) (x : X) (P : Type 0) → (b ≡ false → P) → IfNone (then_some b x) P
+kept_none true x P is = tt
+kept_none false x P is = is refl
 
 pub some_always : {X : Type 0} {P : Type 0} (found : Option X) → P → IfSome found (λ x. P)
 some_always None p = tt

@@ -104,11 +104,6 @@ step_active schema proof base path set n move is same exposed walk at =
       slice_get_within base move.fact e.fact there,
     )
 
-pub got_index : {X : Type 0} (xs : List X) (n : ℕ) (d : X) → n < length xs → slice_get xs n ≡ Some (slice_index_or xs n d)
-got_index [] n d low = absurd (omega arith)
-got_index (x ∷ xs) zero d low = refl
-got_index (x ∷ xs) (suc n) d low = got_index xs n d (omega arith)
-
 -- the same walk
 pub walk_same : (schema : SchemaParts) (old new : Proving) (path : List Move) (set : List Bool) → SameBase old new → IsWalk (IsOpen schema old.constants old.end.base) (no_facts (length old.end.base)) path set → IsWalk (IsOpen schema new.constants new.end.base) (no_facts (length new.end.base)) path set
 walk_same schema old new path set same walk =

@@ -15,21 +15,29 @@ use Rattle.accessible_copy.specs.Known.{known_values, facts_of}
 use Rattle.accessible_copy.specs.Proving.{Proving, IsProofOf}
 use Rattle.accessible_copy.specs.Settling.{Settles}
 use Rattle.least_search.specs.declared.space.Move.{Move}
-use Rattle.least_search.specs.declared.space.Visit.{Visit}
 use Rattle.least_search.specs.declared.space.End.{End}
 use Rattle.least_search.specs.declared.space.End.TheVariants as end
 use Rattle.least_search.specs.Walks.{IsWalk, no_facts}
 use Rattle.least_search.specs.Ends.{GoesOn}
+use Rattle.access_schema.specs.Meaning.{meaning_of}
+use Rattle.exposure_search.specs.declared.aiming.Aim.{Aim}
 use Rattle.exposure_search.specs.declared.marks.Marks.{Marks}
 use Rattle.exposure_search.specs.Tries.{IsOpen, IsMarked, Adds}
 use Rattle.exposure_search.specs.Making.{OnlyExposes, SameBase, GoesBeyond, all_made, IsActiveMove, IsServed, IsStill, CannotMake}
 use Rattle.exposure_search.specs.Ahead.{facts_along}
+use Rattle.exposure_search.specs.Candidates.{AreCandidates}
+use Rattle.exposure_search.specs.Aims.{IsAimed}
 use Rattle.exposure_search.specs.Relevance.{AreRelevant}
 use Rattle.exposure_search.specs.Exploring.{Exploring, exploring_of, CanExpose, GainsAt, HasGoalAt, HasTry, HasRunBeyond}
 use Rattle.exposure_search.specs.Visiting.{IsVisitEnd, AreMovesAt, IsReached}
 use Rattle.exposure_search.proofs.Logs.{lies, goes_back, same_on, settled_long}
 use Rattle.exposure_search.proofs.Steps.{walk_same}
 use Rattle.exposure_search.proofs.Settled.{unsettled, runs_beyond, same_space, made_same, moves_here, visit_end, reached_here, none_reached}
+
+relevant_same : (schema : SchemaParts) (queries : List Query) (head : List Val) (marks : Marks) (old new : Proving) → SameBase old new → AreRelevant schema old.constants old.end.base old.end.next queries head marks → AreRelevant schema new.constants new.end.base new.end.next queries head marks
+relevant_same schema queries head marks old new same relevant =
+    subst (λ (s : State). AreRelevant schema new.constants s.facts s.next queries head marks) (sym same.base)
+    (subst (λ k. AreRelevant schema k old.end.base old.end.next queries head marks) (sym same.constants) relevant)
 
 module _ (schema : SchemaParts) (queries : List Query) (head : List Val) (budget : ℕ) (marks : Marks) (old gone : Proving) (path : List Move) (set : List Bool)
     (is : OnlyExposes schema gone) (same : SameBase old gone) (made : gone.exposed ≡ all_made old.end.base path)
@@ -61,9 +69,15 @@ module _ (schema : SchemaParts) (queries : List Query) (head : List Val) (budget
         (ended ≡ end.FiringsSpent → GoesBeyond schema budget settled) → length gone.entries + fired ≡ length settled.entries →
         IsVisitEnd (exploring_of schema old queries head budget marks) path set ended fired
     end_seen short relevant ended fired goal still none long counted =
-        let here : AreRelevant schema gone.constants gone.end.base gone.end.next queries head marks = subst (λ (s : State). AreRelevant schema gone.constants s.facts s.next queries head marks) (sym same.base) (subst (λ k. AreRelevant schema k old.end.base old.end.next queries head marks) (sym same.constants) relevant) in
         subst (λ s. IsVisitEnd s path set ended fired) (same_space schema queries head budget marks old gone same)
-        (visit_end schema queries head budget marks gone settled path set is its settles (made_same old gone path same made) (walk_same schema old gone path set same walk) short here ended fired goal still none long counted)
+        (visit_end schema queries head budget marks gone settled path set is its settles (made_same old gone path same made) (walk_same schema old gone path set same walk) short (relevant_same schema queries head marks old gone same relevant) ended fired goal still none long counted)
+
+    -- how it ended, if memory did not run out
+    pub end_if : {E : Type 0} → AreShort schema.rules → AreRelevant schema old.constants old.end.base old.end.next queries head marks → (seen : Result (End × ℕ) E) → IfOk seen (λ s. s.0 ≡ end.Goal → HasGoal queries settled.end head) → IfOk seen (λ s. s.0 ≡ end.NoGoal → IsStill schema.rules marks.makers.items (copy_state settled.end)) → IfOk seen (λ s. s.0 ≡ end.NoGoal → HasGoal queries settled.end head → ⊥) →
+        IfOk seen (λ s. s.0 ≡ end.FiringsSpent → GoesBeyond schema budget settled) → IfOk seen (λ s. length gone.entries + s.1 ≡ length settled.entries) →
+        IfOk seen (λ s. IsVisitEnd (exploring_of schema old queries head budget marks) path set s.0 s.1)
+    end_if short relevant (Ok seen) goal still none long counted = end_seen short relevant seen.0 seen.1 goal still none long counted
+    end_if short relevant (Err e) goal still none long counted = tt
 
     -- the proof that was reached
     pub proof_reached : length settled.entries ≤ budget → IsReached (exploring_of schema old queries head budget marks) path settled
@@ -87,20 +101,19 @@ module _ (schema : SchemaParts) (queries : List Query) (head : List Val) (budget
     pub no_shorter : (firings : ℕ) → firings ≡ length gone.entries → firings ≤ length settled.entries
     no_shorter firings all = let long = settled_long schema gone settled settles in omega arith
 
--- ---- the clauses of a visit
-
-pub visit_none : {E : Type 0} (space : Exploring) (path : List Move) (set : List Bool) (r : Result Visit E) → IfOk r (λ visit. IsVisitEnd space path set visit.end visit.fired) → IfOk r (λ visit. visit.end ≡ end.NoGoal → HasGoalAt space set → ⊥)
-visit_none space path set (Ok visit) is = is.none
-visit_none space path set (Err e) is = tt
-
-pub visit_run : {E : Type 0} (space : Exploring) (path : List Move) (set : List Bool) (r : Result Visit E) → IfOk r (λ visit. IsVisitEnd space path set visit.end visit.fired) → IfOk r (λ visit. (firings : ℕ) × HasTry space firings (length path) × (visit.fired ≤ firings))
-visit_run space path set (Ok visit) is = is.run
-visit_run space path set (Err e) is = tt
-
-pub visit_possible : {E : Type 0} (space : Exploring) (set : List Bool) (below : ℕ) (r : Result Visit E) → IfOk r (λ visit. AreMovesAt space set visit.end below visit.moves.items) → IfOk r (λ visit. (move : Move) → Contains visit.moves.items move → CanExpose space set move)
-visit_possible space set below (Ok visit) are = are.possible
-visit_possible space set below (Err e) are = tt
-
-pub visit_complete : {E : Type 0} (space : Exploring) (set : List Bool) (below : ℕ) (r : Result Visit E) → IfOk r (λ visit. AreMovesAt space set visit.end below visit.moves.items) → IfOk r (λ visit. GoesOn visit.end → (move : Move) → CanExpose space set move → GainsAt space set move → move.cost < below → IsServed visit.moves.items move)
-visit_complete space set below (Ok visit) are = are.complete
-visit_complete space set below (Err e) are = tt
+-- what was right for a proof is so for one with the same base
+pub aimed_same : (aim : Aim) (old new : Proving) → IsAimed aim old → OnlyExposes (meaning_of aim.schema.now) new → SameBase old new → IsAimed aim new
+aimed_same aim old new is exposes same = record {
+  ready = record {
+    exposes = exposes;
+    facts_are = is.ready.facts_are ∙ sym (ap (λ (s : State). s.facts) same.base);
+    methods_are = is.ready.methods_are;
+    bases_are = is.ready.bases_are ∙ ap length (sym same.bases);
+    counted = is.ready.counted;
+    few = is.ready.few;
+    low = is.ready.low;
+    relevant = relevant_same (meaning_of aim.schema.now) aim.queries.now aim.head.now aim.marks old new same is.ready.relevant;
+  };
+  makers = is.makers;
+  candidates = subst (λ k. AreCandidates aim.schema.now.methods k aim.facts.items aim.marks aim.candidates.items) (sym same.constants) is.candidates;
+}

@@ -20,11 +20,6 @@ keeps_push [] mark number on = absurd (cc)
 keeps_push (m ∷ marks) mark zero on = on
 keeps_push (m ∷ marks) mark (suc number) on = keeps_push marks mark number on
 
-pub set_on : (marks : List Bool) (i : ℕ) → i < length marks → IsMarked (slice_set marks i true) i
-set_on [] i low = absurd (omega arith)
-set_on (m ∷ marks) zero low = refl
-set_on (m ∷ marks) (suc i) low = set_on marks i (omega arith)
-
 pub all_more : (old new : List Bool) (atoms : List Atom) → Keeps old new → AllMarked old atoms → AllMarked new atoms
 all_more old new atoms keeps all atom c = keeps atom.rel (all atom c)
 

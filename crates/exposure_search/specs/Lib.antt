@@ -5,5 +5,6 @@ pub mod Ahead
 pub mod Candidates
 pub mod Relevance
 pub mod Exploring
+pub mod Aims
 pub mod Visiting
 pub mod Spaces

@@ -1,7 +1,8 @@
 -- The base facts that a set marks, and lists with the same facts.
-use Rattle.std.proofs.Common.{◌≡◌, ◌⊎◌, ℕ, zero, suc, List, [], ◌∷◌, ◌++◌, length, Bool, true, false, Some, refl, sym, ap, ◌∙◌, subst, inl, inr, ⊎_elim, arith}
+use Rattle.std.proofs.Common.{◌≡◌, ◌⊎◌, ◌<◌, ℕ, zero, suc, List, [], ◌∷◌, ◌++◌, length, Bool, true, false, Some, refl, sym, ap, ◌∙◌, subst, inl, inr, ⊎_elim, arith}
 use Rattle.std.specs.Prelude.{Contains, slice_get, slice_set}
 use Rattle.std.proofs.lemmas.List.Elements.{Contains-append_left, Contains-push, Contains-push_cases}
+use Rattle.std.proofs.lemmas.Option.{slice_get_within}
 use Rattle.lists.proofs.Members.{contains_here, contains_there, contains_cases, contains_got, some_injective}
 use Rattle.meaning.specs.declared.types.Ground.{Ground}
 use Rattle.meaning.specs.Search.{AreDistinct}
@@ -53,10 +54,10 @@ set_cases (b ∷ set) zero (suc k) e = inr e
 set_cases (b ∷ set) (suc i) zero e = inr e
 set_cases (b ∷ set) (suc i) (suc k) e = ⊎_elim (λ h. inl (ap suc h)) (λ h. inr h) (set_cases set i k e)
 
-set_here : (set : List Bool) (i : ℕ) → slice_get set i ≡ Some false → slice_get (slice_set set i true) i ≡ Some true
-set_here [] i e = absurd (cc)
-set_here (b ∷ set) zero e = refl
-set_here (b ∷ set) (suc i) e = set_here set i e
+pub set_here : (set : List Bool) (i : ℕ) → i < length set → slice_get (slice_set set i true) i ≡ Some true
+set_here [] i low = absurd (omega arith)
+set_here (b ∷ set) zero low = refl
+set_here (b ∷ set) (suc i) low = set_here set i (omega arith)
 
 pub set_kept : (set : List Bool) (i k : ℕ) → slice_get set k ≡ Some true → slice_get (slice_set set i true) k ≡ Some true
 set_kept [] i k e = e
@@ -95,5 +96,5 @@ same_more base set exposed k fact same at out =
           ⊎_elim (λ here. let is : fact ≡ f = some_injective fact f (sym at ∙ ap (λ i. slice_get base i) (sym here) ∙ e) in subst (λ g. Contains (exposed ++ fact ∷ []) g) is (Contains-push exposed fact))
           (λ old. Contains-append_left exposed (fact ∷ []) f (same.to f (picked_at base set j f e old))) (set_cases set k j marked);
       from = λ f c. ⊎_elim (λ old. let (j, e, marked) = picked_back base set f (same.from f old) in picked_at base (slice_set set k true) j f e (set_kept set k j marked))
-          (λ is. subst (λ g. Contains (picked base (slice_set set k true)) g) is (picked_at base (slice_set set k true) k fact at (set_here set k out))) (Contains-push_cases exposed fact f c);
+          (λ is. subst (λ g. Contains (picked base (slice_set set k true)) g) is (picked_at base (slice_set set k true) k fact at (set_here set k (slice_get_within set k false out)))) (Contains-push_cases exposed fact f c);
     }

@@ -9,6 +9,7 @@ use Rattle.meaning.specs.Extract.{Exposure, IsExposing, exposed_facts, exposures
 use Rattle.accessible_copy.specs.Proving.{Proving, IsProofOf, log_of}
 use Rattle.accessible_copy.specs.Rounds.{exposure_of}
 use Rattle.least_search.specs.declared.space.Move.{Move}
+use Rattle.least_search.specs.declared.space.Visit.{Visit}
 use Rattle.least_search.specs.declared.space.End.{End}
 use Rattle.least_search.specs.declared.space.End.TheVariants as end
 use Rattle.least_search.specs.Walks.{walk_cost}
@@ -29,6 +30,14 @@ pub record AreMovesAt (space : Exploring) (set : List Bool) (ended : End) (below
   pub possible : (move : Move) → Contains moves move → CanExpose space set move
   pub complete : GoesOn ended → (move : Move) → CanExpose space set move → GainsAt space set move →
       move.cost < below → IsServed moves move
+
+-- What a visit shows that may make so many copy firings: how it ended, that it made no more, and all of them where it ended because these
+-- were spent, and the moves.
+pub record IsVisit (space : Exploring) (path : List Move) (set : List Bool) (room below : ℕ) (visit : Visit) : Type 0 where
+  pub ended : IsVisitEnd space path set visit.end visit.fired
+  pub few : visit.fired ≤ room
+  pub spent : visit.end ≡ end.UnitsSpent → visit.fired ≡ room
+  pub moves : AreMovesAt space set visit.end below visit.moves.items
 
 -- The proof has the base firings of the space, then the exposures of the path, at its cost, and then copy firings, and no more
 -- firings than the budget.

@@ -1,5 +1,5 @@
 // The space of a proof.
-ghost use Rattle.std.specs.Prelude.{◌≡◌, ◌≤◌, ◌^◌, ◌⊎◌, Contains, IfOk, IfSome, IfNone, length};
+ghost use Rattle.std.specs.Prelude.{◌≡◌, ◌≤◌, ◌^◌, ◌⊎◌, Contains, IfOk, IfSome, IfNone, option_map, length};
 ghost use Rattle.meaning.specs.declared.types.Query.{Query};
 ghost use Rattle.access_schema.specs.Meaning.{meaning_of};
 ghost use Rattle.rule_pass.specs.declared.pass.TheConstants.{MOST_FIRINGS};
@@ -10,15 +10,13 @@ ghost use Rattle.exposure_search.specs.Exploring.{exploring_of, space_size, CanE
 ghost use Rattle.exposure_search.specs.Visiting.{IsReached};
 ghost use Rattle.exposure_search.specs.Spaces.{explored_is_space};
 
-use crate::candidates::candidates_of;
-use crate::marks::marked_numbers;
-use crate::relevance::relevant_facts;
-use crate::visiting::{Aim, reach_set, visit_set};
+use crate::aiming::Aim;
+use crate::visiting::{reach_set, visit_set};
 use access_schema::Schema;
-use accessible_copy::{Match, MethodIndex, Proof, mark};
+use accessible_copy::{Match, Proof};
 use least_search::{Move, Space, Visit};
-use lists::{Copies, NoMemory};
-use meaning::types::{Ground, Queries, Vals};
+use lists::NoMemory;
+use meaning::types::{Queries, Vals};
 use std::alloc::Global;
 use std::marker::Model;
 
@@ -36,19 +34,14 @@ pub struct ExposureSpace<'a> {
 }
 
 impl<'a> Model for ExposureSpace<'a> {
-    ghost use Rattle.access_schema.specs.Meaning.{meaning_of};
-    ghost use Rattle.exposure_search.specs.Making.{IsReady};
-    ghost use Rattle.exposure_search.specs.Ahead.{AreTheMarked};
-    ghost use Rattle.exposure_search.specs.Candidates.{AreCandidates};
-    ghost use Rattle.exposure_search.specs.Exploring.{Exploring, exploring_of};
+    ghost use Rattle.exposure_search.specs.Exploring.{Exploring};
+    ghost use Rattle.exposure_search.specs.Aims.{space_of, IsAimed};
 
     ghost Value = { Exploring };
 
-    ghost view = { λ s. exploring_of (meaning_of s.aim.schema.now) s.proof s.aim.queries.now s.aim.head.now s.aim.budget s.aim.marks };
+    ghost view = { λ s. space_of s.aim s.proof };
 
-    ghost invariant = { λ s. IsReady (meaning_of s.aim.schema.now) s.proof s.aim.facts.items s.aim.methods s.aim.bases s.aim.queries.now s.aim.head.now s.aim.budget s.aim.marks
-        × AreTheMarked s.aim.marks.makers.items s.aim.makers.items
-        × AreCandidates s.aim.schema.now.methods s.proof.constants s.aim.facts.items s.aim.marks s.aim.candidates.items };
+    ghost invariant = { λ s. IsAimed s.aim s.proof };
 }
 
 impl<'a> ExposureSpace<'a> {
@@ -68,33 +61,7 @@ impl<'a> ExposureSpace<'a> {
         ensures space { IfOk result (λ space. space ≡ exploring_of (meaning_of schema.now) proof queries.now head.now budget space.marks) }
         ensures founded { IfOk result (λ space. IsFounded space) }
     {
-        let facts = base_facts(alloc, &proof)?;
-        let bases = mark(&proof).firings;
-        let methods = MethodIndex::of(alloc, schema)?;
-        let marks = relevant_facts(
-            alloc,
-            &proof,
-            schema,
-            queries,
-            head,
-            &methods,
-            facts.as_slice(),
-        )?;
-        let makers = marked_numbers(alloc, marks.makers.as_slice())?;
-        let candidates = candidates_of(alloc, &proof, schema, &methods, facts.as_slice(), &marks)?;
-        let aim = Aim {
-            alloc,
-            schema,
-            queries,
-            head,
-            budget,
-            facts,
-            bases,
-            methods,
-            marks,
-            makers,
-            candidates,
-        };
+        let aim = Aim::of(alloc, schema, &proof, queries, head, budget)?;
         Ok(ExposureSpace { aim, proof })
     }
 
@@ -109,22 +76,19 @@ impl<'a> ExposureSpace<'a> {
         ensures none { IfOk result (λ found. IfNone found (HasRunBeyond self.entry ⊎ (HasGoalAt self.entry set.now → ⊥))) }
     {
         let ExposureSpace { aim, mut proof } = self;
-        match reach_set(&aim, &mut proof, path, set)? {
-            Some(found) => Ok(Some((proof, found))),
-            None => Ok(None),
-        }
+        let found = reach_set(&aim, &mut proof, path, set)?;
+        Ok(with_match(proof, found))
     }
 }
 
-/// Copies of the base facts.
-fn base_facts(alloc: Global, proof: &Proof) -> Result<Vec<Ground>, NoMemory>
-    ensures { IfOk result (λ facts. facts.items ≡ proof.now.end.base) }
+/// The proof with the match, if there is one.
+fn with_match(proof: Proof, found: Option<Match>) -> Option<(Proof, Match)>
+    ensures { result ≡ option_map (λ m. (proof, m)) found }
 {
-    let mut facts = Vec::new(alloc);
-    while let Some(fact) = proof.base(facts.len()) {
-        facts.push(fact.copy(alloc)?)?;
+    match found {
+        Some(found) => Some((proof, found)),
+        None => None,
     }
-    Ok(facts)
 }
 
 impl<'a> Space for ExposureSpace<'a> {

@@ -1,9 +1,10 @@
 // The proof of the base firings of a query.
-ghost use Rattle.std.specs.Prelude.{◌≡◌, ◌≤◌, IfOk, IfSome, IfNone};
+ghost use Rattle.std.specs.Prelude.{◌≡◌, ◌≤◌, [], IfOk, OnOk, IfSome, IfNone, Ok, true, false};
 ghost use Rattle.meaning.specs.Triggers.{bound};
 ghost use Rattle.meaning.specs.Runs.{opening};
 ghost use Rattle.access_schema.specs.Meaning.{meaning_of};
 ghost use Rattle.rule_pass.specs.declared.pass.TheConstants.{MOST_FIRINGS, HIGHEST_FIRST_LABEL};
+ghost use Rattle.accessible_copy.specs.Proving.{IsProofOf};
 ghost use Rattle.exposure_search.specs.Making.{IsBaseProof};
 ghost use Rattle.exposure_search.specs.Exploring.{IsRunBeyond};
 
@@ -31,9 +32,29 @@ pub fn base_proof(
     ensures none { IfOk result (λ made. IfNone made (IsRunBeyond (meaning_of schema.now) known.now (opening query.now) budget)) }
 {
     let mut proof = Proof::start(alloc, schema, query, known)?;
-    match settle(alloc, &mut proof, schema, false, budget)? {
-        Round::Quiet => Ok(Some(proof)),
+    let quiet = fire_base(alloc, &mut proof, schema, budget)?;
+    Ok(quiet.then_some(proof))
+}
+
+/// Makes the base firings of a proof of the empty log. Whether none is active at the end; where one is, some run has more firings than
+/// the budget.
+fn fire_base(
+    alloc: Global,
+    proof: &mut Proof,
+    schema: &Schema,
+    budget: u32,
+) -> Result<bool, NoMemory>
+    requires run { IsProofOf (meaning_of schema.now) proof.old }
+    requires empty { proof.old.entries ≡ [] }
+    requires budget { budget ≤ MOST_FIRINGS }
+    ensures start { OnOk result (proof.new.start ≡ proof.old.start) }
+    ensures constants { OnOk result (proof.new.constants ≡ proof.old.constants) }
+    ensures quiet { result ≡ Ok true → IsBaseProof (meaning_of schema.now) proof.new }
+    ensures spent { result ≡ Ok false → IsRunBeyond (meaning_of schema.now) proof.old.constants proof.old.start budget }
+{
+    match settle(alloc, proof, schema, false, budget)? {
+        Round::Quiet => Ok(true),
         Round::Done => unreachable!(),
-        Round::Spent => Ok(None),
+        Round::Spent => Ok(false),
     }
 }

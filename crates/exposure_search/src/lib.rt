@@ -4,6 +4,7 @@
 //! it found. Begin at `specs/Tries.antt` and `specs/Exploring.antt`.
 #![tactic(auto)]
 
+mod aiming;
 mod candidates;
 mod exposure_space;
 mod founding;

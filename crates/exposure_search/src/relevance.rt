@@ -46,20 +46,56 @@ pub(crate) fn relevant_facts(
     let next = proof.next();
     let wanted = wanted_relations(alloc, rules, next, asked, head)?;
     let makers = making_rules(alloc, rules, next, asked, head, wanted.as_slice())?;
-    let mut marking = wanted_facts(alloc, facts, wanted.as_slice())?;
-    marking.reach_images(alloc, asked, head, facts)?;
-    let needed = Vec::from_slice(alloc, marking.marks.as_slice())?;
-    let holders = proof.holders(alloc)?;
-    marking.follow_all(proof, schema, methods, &holders)?;
-    let Marking {
-        marks: relevant,
-        ..
-    } = marking;
+    let seen = seen_facts(alloc, facts, wanted.as_slice(), asked, head)?;
+    let needed = Vec::from_slice(alloc, seen.marks.as_slice())?;
+    let relevant = closed_marks(alloc, proof, schema, methods, seen)?;
     Ok(Marks {
         relevant,
         needed,
         makers,
     })
+}
+
+/// A mark for each fact of a wanted relation, and for each that a match with this head can make of an atom of a query. Each of these
+/// waits.
+fn seen_facts(
+    alloc: Global,
+    facts: &[Ground],
+    wanted: &[bool],
+    queries: &[Query],
+    head: &Vals,
+) -> Result<Marking, NoMemory>
+    requires { (query : TheQuery) → Contains queries.now query → IsCounted query }
+    ensures long { IfOk result (λ seen. length seen.marks.items ≡ length facts.now) }
+    ensures wanted { IfOk result (λ seen. WantedMarked wanted.now facts.now seen.marks.items) }
+    ensures images { IfOk result (λ seen. (number : ℕ) → IsOfKind facts.now (IsImageAmong queries.now head.now) number →
+        IsMarked seen.marks.items number) }
+    ensures wait { IfOk result (λ seen. (number : ℕ) → IsMarked seen.marks.items number → Contains seen.waiting.items number) }
+{
+    let mut marking = wanted_facts(alloc, facts, wanted)?;
+    marking.reach_images(alloc, queries, head, facts)?;
+    Ok(marking)
+}
+
+/// The marks, with those of the facts for which marked ones ask, until there are no more.
+fn closed_marks(
+    alloc: Global,
+    proof: &Proof,
+    schema: &Schema,
+    methods: &MethodIndex,
+    mut marking: Marking,
+) -> Result<Vec<bool>, NoMemory>
+    requires none { proof.now.end.exposed ≡ [] }
+    requires methods { IsMethodIndex schema.now.methods methods.now }
+    requires begun { IsFollowing (meaning_of schema.now) proof.now.constants proof.now.end.base marking }
+    ensures stays { IfOk result (λ marks. Keeps marking.marks.items marks.items) }
+    ensures closed { IfOk result (λ marks. (number : ℕ) → IsMarked marks.items number →
+        IsFollowed (meaning_of schema.now) proof.now.constants proof.now.end.base marks.items number) }
+{
+    let holders = proof.holders(alloc)?;
+    marking.follow_all(proof, schema, methods, &holders)?;
+    let Marking { marks, .. } = marking;
+    Ok(marks)
 }
 
 /// A mark for each fact of a wanted relation. Each of these waits.

@@ -1,5 +1,5 @@
-// A visit of a set: what it is looked for, and how.
-ghost use Rattle.std.specs.Prelude.{◌≡◌, ◌<◌, ◌≤◌, ◌⊎◌, Contains, IfOk, IfSome, IfNone, length, true, false};
+// A visit of a set.
+ghost use Rattle.std.specs.Prelude.{◌≡◌, ◌<◌, ◌≤◌, ◌⊎◌, Contains, IfOk, OnOk, IfSome, IfNone, false};
 ghost use Rattle.access_schema.specs.Meaning.{meaning_of};
 ghost use Rattle.accessible_copy.specs.Proving.{IsProofOf};
 ghost use Rattle.accessible_copy.specs.Goals.{IsGoal};
@@ -7,45 +7,23 @@ ghost use Rattle.accessible_copy.specs.Known.{known_values};
 ghost use Rattle.accessible_copy.specs.Methods.{IsMethodIndex};
 ghost use Rattle.least_search.specs.declared.space.Move.{Move};
 ghost use Rattle.least_search.specs.declared.space.End.TheVariants as end;
-ghost use Rattle.least_search.specs.Walks.{IsWalk, no_facts};
 ghost use Rattle.least_search.specs.Ends.{GoesOn};
-ghost use Rattle.exposure_search.specs.Tries.{IsOpen, IsMarked, Adds};
-ghost use Rattle.exposure_search.specs.Making.{OnlyExposes, SameBase, IsReady, IsActiveMove, IsServed, CannotMake};
-ghost use Rattle.exposure_search.specs.Ahead.{CannotMatch, AreTheMarked, facts_along};
-ghost use Rattle.exposure_search.specs.Candidates.{AreCandidates};
-ghost use Rattle.exposure_search.specs.Exploring.{exploring_of, HasGoalAt, HasRunBeyond};
-ghost use Rattle.exposure_search.specs.Visiting.{IsVisitEnd, AreMovesAt, IsReached};
+ghost use Rattle.exposure_search.specs.Tries.{IsMarked, Adds};
+ghost use Rattle.exposure_search.specs.Making.{OnlyExposes, SameBase, IsActiveMove, IsServed, CannotMake, all_made};
+ghost use Rattle.exposure_search.specs.Ahead.{CannotMatch, facts_along};
+ghost use Rattle.exposure_search.specs.Exploring.{HasGoalAt, HasRunBeyond};
+ghost use Rattle.exposure_search.specs.Aims.{space_of, IsAimed, LeadsTo};
+ghost use Rattle.exposure_search.specs.Visiting.{IsVisitEnd, IsVisit, IsReached};
 
-use crate::candidates::{Candidate, moves_from};
+use crate::aiming::Aim;
+use crate::candidates::moves_from;
 use crate::going::go_along;
 use crate::listing::active_moves;
 use crate::looking::look;
-use crate::marks::Marks;
 use crate::quieting::{may_fire, may_match};
-use access_schema::Schema;
-use accessible_copy::{Match, MethodIndex, Proof, goal, mark, settle, undo};
+use accessible_copy::{Match, Proof, goal, mark, settle, undo};
 use least_search::{End, Move, Visit};
 use lists::NoMemory;
-use meaning::types::{Ground, Queries, Vals};
-use std::alloc::Global;
-
-/// What is looked for: a match of one of the queries with this head, in runs of at most `budget` firings over the schema. The base
-/// facts of these runs, how many base firings made them, the index of the schema's methods, marks of the base facts and rules on which
-/// a match can rest, the numbers of these rules, and the candidates that expose these facts.
-#[derive(Drop)]
-pub struct Aim<'a> {
-    pub alloc: Global,
-    pub schema: &'a Schema,
-    pub queries: &'a Queries,
-    pub head: &'a Vals,
-    pub budget: u32,
-    pub facts: Vec<Ground>,
-    pub bases: u64,
-    pub methods: MethodIndex,
-    pub marks: Marks,
-    pub makers: Vec<usize>,
-    pub candidates: Vec<Candidate>,
-}
 
 /// Goes along the path, settles the copy there with at most `room` firings, looks for a match, undoes the copy firings, and lists
 /// the moves of relevant facts from there that gain something and cost less than `below`.
@@ -60,21 +38,11 @@ pub(crate) fn visit_set(
     room: u64,
     below: u64,
 ) -> Result<Visit, NoMemory>
-    requires ready { IsReady (meaning_of aim.now.schema.now) proof.old aim.now.facts.items aim.now.methods aim.now.bases aim.now.queries.now aim.now.head.now aim.now.budget aim.now.marks }
-    requires walk { IsWalk (IsOpen (meaning_of aim.now.schema.now) proof.old.constants proof.old.end.base)
-        (no_facts (length proof.old.end.base)) path.now set.now }
-    requires makers { AreTheMarked aim.now.marks.makers.items aim.now.makers.items }
-    requires candidates { AreCandidates aim.now.schema.now.methods proof.old.constants aim.now.facts.items aim.now.marks aim.now.candidates.items }
+    requires aimed { IsAimed aim.now proof.old }
+    requires walk { LeadsTo (space_of aim.now proof.old) path.now set.now }
     ensures exposes { OnlyExposes (meaning_of aim.now.schema.now) proof.new }
     ensures same { SameBase proof.old proof.new }
-    ensures ended { IfOk result (λ visit. IsVisitEnd
-        (exploring_of (meaning_of aim.now.schema.now) proof.old aim.now.queries.now aim.now.head.now aim.now.budget aim.now.marks)
-        path.now set.now visit.end visit.fired) }
-    ensures room { IfOk result (λ visit. visit.fired ≤ room) }
-    ensures spent { IfOk result (λ visit. visit.end ≡ end.UnitsSpent → visit.fired ≡ room) }
-    ensures moves { IfOk result (λ visit. AreMovesAt
-        (exploring_of (meaning_of aim.now.schema.now) proof.old aim.now.queries.now aim.now.head.now aim.now.budget aim.now.marks)
-        set.now visit.end below visit.moves.items) }
+    ensures visit { IfOk result (λ visit. IsVisit (space_of aim.now proof.old) path.now set.now room below visit) }
 {
     let fires = may_fire(
         aim.schema.rules.as_slice(),
@@ -123,20 +91,37 @@ fn visit_copy(
     room: u64,
     below: u64,
 ) -> Result<Visit, NoMemory>
-    requires ready { IsReady (meaning_of aim.now.schema.now) proof.old aim.now.facts.items aim.now.methods aim.now.bases aim.now.queries.now aim.now.head.now aim.now.budget aim.now.marks }
-    requires walk { IsWalk (IsOpen (meaning_of aim.now.schema.now) proof.old.constants proof.old.end.base)
-        (no_facts (length proof.old.end.base)) path.now set.now }
+    requires aimed { IsAimed aim.now proof.old }
+    requires walk { LeadsTo (space_of aim.now proof.old) path.now set.now }
     requires still { fires ≡ false → CannotMake aim.now.schema.now.rules aim.now.marks.makers.items (facts_along aim.now.facts.items path.now) }
     ensures exposes { OnlyExposes (meaning_of aim.now.schema.now) proof.new }
     ensures same { SameBase proof.old proof.new }
-    ensures ended { IfOk result (λ visit. IsVisitEnd
-        (exploring_of (meaning_of aim.now.schema.now) proof.old aim.now.queries.now aim.now.head.now aim.now.budget aim.now.marks)
-        path.now set.now visit.end visit.fired) }
-    ensures room { IfOk result (λ visit. visit.fired ≤ room) }
-    ensures spent { IfOk result (λ visit. visit.end ≡ end.UnitsSpent → visit.fired ≡ room) }
-    ensures moves { IfOk result (λ visit. AreMovesAt
-        (exploring_of (meaning_of aim.now.schema.now) proof.old aim.now.queries.now aim.now.head.now aim.now.budget aim.now.marks)
-        set.now visit.end below visit.moves.items) }
+    ensures visit { IfOk result (λ visit. IsVisit (space_of aim.now proof.old) path.now set.now room below visit) }
+{
+    let (end, fired) = look_along(aim, proof, path, set, fires, room)?;
+    let moves = moves_after(aim, proof, end, below)?;
+    Ok(Visit { end, fired, moves })
+}
+
+/// Goes along the path, settles the copy there where a rule on which a match can rest `fires`, looks for a match, and undoes the copy
+/// firings. How it ended, and how many firings were made.
+fn look_along(
+    aim: &Aim,
+    proof: &mut Proof,
+    path: &[Move],
+    set: &[bool],
+    fires: bool,
+    room: u64,
+) -> Result<(End, u64), NoMemory>
+    requires aimed { IsAimed aim.now proof.old }
+    requires walk { LeadsTo (space_of aim.now proof.old) path.now set.now }
+    requires still { fires ≡ false → CannotMake aim.now.schema.now.rules aim.now.marks.makers.items (facts_along aim.now.facts.items path.now) }
+    ensures exposes { OnlyExposes (meaning_of aim.now.schema.now) proof.new }
+    ensures same { SameBase proof.old proof.new }
+    ensures made { OnOk result (proof.new.exposed ≡ all_made proof.old.end.base path.now) }
+    ensures ended { IfOk result (λ seen. IsVisitEnd (space_of aim.now proof.old) path.now set.now seen.0 seen.1) }
+    ensures room { IfOk result (λ seen. seen.1 ≤ room) }
+    ensures spent { IfOk result (λ seen. seen.0 ≡ end.UnitsSpent → seen.1 ≡ room) }
 {
     go_along(
         aim.alloc,
@@ -158,9 +143,7 @@ fn visit_copy(
         room,
     );
     undo(proof, made);
-    let (end, fired) = seen?;
-    let moves = moves_after(aim, proof, end, below)?;
-    Ok(Visit { end, fired, moves })
+    seen
 }
 
 /// The moves of relevant facts from a set that gain something and cost less than `below`, after a visit from which the search goes on.
@@ -198,18 +181,13 @@ pub(crate) fn reach_set(
     path: &[Move],
     set: &[bool],
 ) -> Result<Option<Match>, NoMemory>
-    requires ready { IsReady (meaning_of aim.now.schema.now) proof.old aim.now.facts.items aim.now.methods aim.now.bases aim.now.queries.now aim.now.head.now aim.now.budget aim.now.marks }
-    requires walk { IsWalk (IsOpen (meaning_of aim.now.schema.now) proof.old.constants proof.old.end.base)
-        (no_facts (length proof.old.end.base)) path.now set.now }
-    ensures reached { IfOk result (λ found. IfSome found (λ m. IsReached
-        (exploring_of (meaning_of aim.now.schema.now) proof.old aim.now.queries.now aim.now.head.now aim.now.budget aim.now.marks)
-        path.now proof.new)) }
+    requires aimed { IsAimed aim.now proof.old }
+    requires walk { LeadsTo (space_of aim.now proof.old) path.now set.now }
+    ensures reached { IfOk result (λ found. IfSome found (λ m. IsReached (space_of aim.now proof.old) path.now proof.new)) }
     ensures found { IfOk result (λ found. IfSome found
         (λ m. IsGoal aim.now.queries.now proof.new.end.copy aim.now.head.now m.select m.assignment.vals)) }
     ensures none { IfOk result (λ found. IfNone found
-        (HasRunBeyond (exploring_of (meaning_of aim.now.schema.now) proof.old aim.now.queries.now aim.now.head.now aim.now.budget aim.now.marks)
-        ⊎ (HasGoalAt (exploring_of (meaning_of aim.now.schema.now) proof.old aim.now.queries.now aim.now.head.now aim.now.budget aim.now.marks)
-        set.now → ⊥))) }
+        (HasRunBeyond (space_of aim.now proof.old) ⊎ (HasGoalAt (space_of aim.now proof.old) set.now → ⊥))) }
 {
     go_along(
         aim.alloc,

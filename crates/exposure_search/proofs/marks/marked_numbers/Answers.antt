@@ -1,5 +1,5 @@
 use Rattle.std.proofs.Common.{◌≡◌, Some, true, false, sym, ap, ◌∙◌}
-use Rattle.exposure_search.proofs.Steps.{got_index}
+use Rattle.std.proofs.lemmas.Option.{slice_get-get_or}
 use Rattle.exposure_search.proofs.MovesFrom.{marked_none, marked_more, marked_less, marked_all}
 use Rattle.exposure_search.proofs.marks.marked_numbers.Goals as goal
 use Rattle.exposure_search.proofs.marks.marked_numbers.Goals.{then-mark+in_ok-push, else-mark}
@@ -9,7 +9,7 @@ loop-number-init c = rw c.new-numbers.ensures.items (marked_none c.args.marks.no
 
 pub loop-number-preserved : goal.loop-number-preserved
 loop-number-preserved c =
-    let at = got_index c.args.marks.now c.loop-number.number false c.loop-number-test.true in
+    let at = slice_get-get_or c.args.marks.now c.loop-number.number false c.loop-number-test.true in
     elim c.if-mark.branch [
       | then-mark+in_ok-push w ↦
           rw (w.numbers-is, w.in_ok-push.ensures.items) (marked_more c.args.marks.now c.loop-number.number c.loop-number.numbers.items c.loop-number.invariant (at ∙ ap (λ b. Some b) w.if-mark.true))

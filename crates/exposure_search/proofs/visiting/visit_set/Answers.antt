@@ -1,4 +1,4 @@
-use Rattle.std.proofs.Common.{List, ℕ, subst}
+use Rattle.std.proofs.Common.{List, ℕ, subst, arith}
 use Rattle.meaning.specs.declared.types.Ground.{Ground}
 use Rattle.meaning.specs.declared.types.Rule.{Rule}
 use Rattle.rule_pass.proofs.Bounds.{orderly}
@@ -14,27 +14,27 @@ use Rattle.exposure_search.proofs.visiting.visit_set.Goals as goal
 
 pub visit_copy-requires-clause-still : goal.visit_copy-requires-clause-still
 visit_copy-requires-clause-still c off =
-    cannot_make c.args.aim.now.schema.now.rules c.args.aim.now.marks.makers.items c.args.aim.now.makers.items (facts_along c.args.aim.now.facts.items c.args.path.now) c.requires.makers
+    cannot_make c.args.aim.now.schema.now.rules c.args.aim.now.marks.makers.items c.args.aim.now.makers.items (facts_along c.args.aim.now.facts.items c.args.path.now) c.requires.aimed.makers
     (subst (λ (facts : List Ground). CannotFire c.args.aim.now.schema.now.rules c.args.aim.now.makers.items (facts_along facts c.args.path.now)) c.as_slice-3.ensures.value
     (subst (λ (makers : List ℕ). CannotFire c.args.aim.now.schema.now.rules makers (facts_along c.as_slice-3.result.now c.args.path.now)) c.as_slice-2.ensures.value
     (subst (λ (rules : List Rule). CannotFire rules c.as_slice-2.result.now (facts_along c.as_slice-3.result.now c.args.path.now)) c.as_slice.ensures (c.may_fire-fires.ensures off))))
 
-pub returns-clause-ended : goal.returns-clause-ended
-returns-clause-ended c =
-    bare_end (meaning_of c.args.aim.now.schema.now) c.args.proof.now c.args.path.now c.args.set.now c.requires.walk c.args.aim.now.queries.now c.args.aim.now.head.now c.args.aim.now.budget c.args.aim.now.marks c.requires.ready.exposes.run
-    (are_short c.args.aim.now.schema.now.rules (orderly c.args.aim.now.schema.now).non_recursive) c.requires.ready.relevant
-    (subst (λ (facts : List Ground). CannotMake c.args.aim.now.schema.now.rules c.args.aim.now.marks.makers.items (facts_along facts c.args.path.now)) c.requires.ready.facts_are
-    (cannot_make c.args.aim.now.schema.now.rules c.args.aim.now.marks.makers.items c.args.aim.now.makers.items (facts_along c.args.aim.now.facts.items c.args.path.now) c.requires.makers
-    (subst (λ (facts : List Ground). CannotFire c.args.aim.now.schema.now.rules c.args.aim.now.makers.items (facts_along facts c.args.path.now)) c.as_slice-3.ensures.value
-    (subst (λ (makers : List ℕ). CannotFire c.args.aim.now.schema.now.rules makers (facts_along c.as_slice-3.result.now c.args.path.now)) c.as_slice-2.ensures.value
-    (subst (λ (rules : List Rule). CannotFire rules c.as_slice-2.result.now (facts_along c.as_slice-3.result.now c.args.path.now)) c.as_slice.ensures (c.may_fire-fires.ensures c.if-fires.false))))))
-    (subst (λ (facts : List Ground). CannotMatch c.args.aim.now.queries.now (facts_along facts c.args.path.now)) c.requires.ready.facts_are (c.needs_look.ensures c.if-needs_look.false))
-
-pub returns-clause-moves : goal.returns-clause-moves
-returns-clause-moves c =
-    bare_moves (meaning_of c.args.aim.now.schema.now) c.args.proof.now c.args.path.now c.args.set.now c.requires.walk c.args.aim.now.queries.now c.args.aim.now.head.now c.args.aim.now.budget c.args.aim.now.marks c.requires.ready.exposes.run
-    c.args.aim.now.candidates.items c.args.below c.in_ok-moves.moves.items
-    (subst (λ (facts : List Ground). AreCandidates c.args.aim.now.schema.now.methods c.args.proof.now.constants facts c.args.aim.now.marks c.args.aim.now.candidates.items) c.requires.ready.facts_are c.requires.candidates)
-    (subst (λ (facts : List Ground). AreMovesFrom (facts_along facts c.args.path.now) c.args.set.now c.args.below c.args.aim.now.candidates.items c.in_ok-moves.moves.items) c.requires.ready.facts_are
-    (subst (λ (facts : List Ground). AreMovesFrom (facts_along facts c.args.path.now) c.args.set.now c.args.below c.args.aim.now.candidates.items c.in_ok-moves.moves.items) c.as_slice-5.ensures.value
-    (subst (λ (candidates : List Candidate). AreMovesFrom (facts_along c.as_slice-5.result.now c.args.path.now) c.args.set.now c.args.below candidates c.in_ok-moves.moves.items) c.as_slice-4.ensures.value c.in_ok-moves.ensures)))
+pub returns-clause-visit : goal.returns-clause-visit
+returns-clause-visit c = record {
+  ended = bare_end (meaning_of c.args.aim.now.schema.now) c.args.proof.now c.args.path.now c.args.set.now c.requires.walk c.args.aim.now.queries.now c.args.aim.now.head.now c.args.aim.now.budget c.args.aim.now.marks c.requires.aimed.ready.exposes.run
+      (are_short c.args.aim.now.schema.now.rules (orderly c.args.aim.now.schema.now).non_recursive) c.requires.aimed.ready.relevant
+      (subst (λ (facts : List Ground). CannotMake c.args.aim.now.schema.now.rules c.args.aim.now.marks.makers.items (facts_along facts c.args.path.now)) c.requires.aimed.ready.facts_are
+      (cannot_make c.args.aim.now.schema.now.rules c.args.aim.now.marks.makers.items c.args.aim.now.makers.items (facts_along c.args.aim.now.facts.items c.args.path.now) c.requires.aimed.makers
+      (subst (λ (facts : List Ground). CannotFire c.args.aim.now.schema.now.rules c.args.aim.now.makers.items (facts_along facts c.args.path.now)) c.as_slice-3.ensures.value
+      (subst (λ (makers : List ℕ). CannotFire c.args.aim.now.schema.now.rules makers (facts_along c.as_slice-3.result.now c.args.path.now)) c.as_slice-2.ensures.value
+      (subst (λ (rules : List Rule). CannotFire rules c.as_slice-2.result.now (facts_along c.as_slice-3.result.now c.args.path.now)) c.as_slice.ensures (c.may_fire-fires.ensures c.if-fires.false))))))
+      (subst (λ (facts : List Ground). CannotMatch c.args.aim.now.queries.now (facts_along facts c.args.path.now)) c.requires.aimed.ready.facts_are (c.needs_look.ensures c.if-needs_look.false));
+  few = omega arith;
+  spent = λ e. absurd (cc);
+  moves = bare_moves (meaning_of c.args.aim.now.schema.now) c.args.proof.now c.args.path.now c.args.set.now c.requires.walk c.args.aim.now.queries.now c.args.aim.now.head.now c.args.aim.now.budget c.args.aim.now.marks c.requires.aimed.ready.exposes.run
+      c.args.aim.now.candidates.items c.args.below c.in_ok-moves.moves.items
+      (subst (λ (facts : List Ground). AreCandidates c.args.aim.now.schema.now.methods c.args.proof.now.constants facts c.args.aim.now.marks c.args.aim.now.candidates.items) c.requires.aimed.ready.facts_are c.requires.aimed.candidates)
+      (subst (λ (facts : List Ground). AreMovesFrom (facts_along facts c.args.path.now) c.args.set.now c.args.below c.args.aim.now.candidates.items c.in_ok-moves.moves.items) c.requires.aimed.ready.facts_are
+      (subst (λ (facts : List Ground). AreMovesFrom (facts_along facts c.args.path.now) c.args.set.now c.args.below c.args.aim.now.candidates.items c.in_ok-moves.moves.items) c.as_slice-5.ensures.value
+      (subst (λ (candidates : List Candidate). AreMovesFrom (facts_along c.as_slice-5.result.now c.args.path.now) c.args.set.now c.args.below candidates c.in_ok-moves.moves.items) c.as_slice-4.ensures.value c.in_ok-moves.ensures)));
+}

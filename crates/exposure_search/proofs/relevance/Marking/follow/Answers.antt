@@ -1,12 +1,12 @@
 use Rattle.std.proofs.Common.{◌≡◌, ◌+◌, Some, None, take, get_or, sym, ◌∙◌, subst, inl, inr, ⊎_elim, rules}
 use Rattle.std.specs.Prelude.{slice_get}
 use Rattle.std.proofs.lemmas.List.{take_all}
-use Rattle.std.proofs.lemmas.Option.{slice_get-get_or}
+use Rattle.std.proofs.lemmas.Option.{slice_get-get_or, none-some}
 use Rattle.lists.proofs.Members.{some_injective}
 use Rattle.meaning.specs.declared.types.Method.{Method}
 use Rattle.accessible_copy.specs.Known.{known_values}
 use Rattle.exposure_search.specs.Relevance.{HoldsInput, IsAskedBy}
-use Rattle.exposure_search.proofs.Following.{IsReached, reached_more, reached_none, asked_next, none_asked}
+use Rattle.exposure_search.proofs.Following.{IsReached, reached_more, reached_none, asked_next}
 use Rattle.exposure_search.proofs.relevance.Marking.follow.Goals.{in-Some+in_ok-follow_inputs, in_default}
 use Rattle.exposure_search.proofs.relevance.Marking.follow.Goals as goal
 
@@ -35,7 +35,7 @@ loop-number-preserved c =
           subst (λ s. IsReached (IsAskedBy methods holders known vals (take (i + 1) numbers)) c.args.self.now s) (sym w.self-is)
           (reached_more (IsAskedBy methods holders known vals (take i numbers)) (λ k. ⊥) (IsAskedBy methods holders known vals (take (i + 1) numbers)) c.args.self.now c.loop-number.self c.loop-number.self c.loop-number.invariant
           (reached_none (λ k. ⊥) c.loop-number.self (λ k no'. no'))
-          (λ k asked. ⊎_elim (λ old. inl old) (λ (method, named, holds). absurd (none_asked methods n method none named)) (asked_next methods holders known vals numbers i n got k asked)))
+          (λ k asked. ⊎_elim (λ old. inl old) (λ (method, named, holds). absurd (none-some method (sym none ∙ named))) (asked_next methods holders known vals numbers i n got k asked)))
     ]
 
 pub returns-clause-reached : goal.returns-clause-reached

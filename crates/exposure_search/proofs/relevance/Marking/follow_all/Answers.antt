@@ -1,10 +1,11 @@
 use Rattle.std.proofs.Common.{◌≡◌, Some, None, [], length, refl, sym, subst, rules, arith}
 use Rattle.std.specs.Prelude.{slice_get}
+use Rattle.homomorphism.proofs.Binding.{none_left}
 use Rattle.access_schema.specs.Meaning.{meaning_of}
 use Rattle.exposure_search.specs.declared.relevance.Marking.{Marking}
 use Rattle.exposure_search.specs.Tries.{IsMarked}
 use Rattle.exposure_search.specs.Relevance.{IsFollowing}
-use Rattle.exposure_search.proofs.Following.{grows_none, followed_here, followed_none, following_next, all_followed, none_left}
+use Rattle.exposure_search.proofs.Following.{grows_none, followed_here, followed_none, following_next, all_followed}
 use Rattle.exposure_search.proofs.relevance.Marking.follow_all.Goals.{in-Some-base+in_ok-follow, in_default-base}
 use Rattle.exposure_search.proofs.relevance.Marking.follow_all.Goals as goal
 

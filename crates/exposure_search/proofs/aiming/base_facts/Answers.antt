@@ -3,7 +3,7 @@ use Rattle.std.specs.Prelude.{slice_get}
 use Rattle.std.proofs.lemmas.List.{length_push, take_all}
 use Rattle.accessible_copy.proofs.Lists.{none_beyond}
 use Rattle.accessible_copy.proofs.Listed.{take_got}
-use Rattle.exposure_search.proofs.exposure_space.base_facts.Goals as goal
+use Rattle.exposure_search.proofs.aiming.base_facts.Goals as goal
 
 pub loop-fact-preserved : goal.loop-fact-preserved
 loop-fact-preserved c =

@@ -1,5 +1,5 @@
 use Rattle.std.proofs.Common.{◌≡◌, ◌-◌, take, length}
-use Rattle.exposure_search.proofs.exposure_space.base_facts.Given as goal
+use Rattle.exposure_search.proofs.aiming.base_facts.Given as goal
 
 -- the first facts
 abbrev pub invariant-loop-fact : goal.invariant-loop-fact

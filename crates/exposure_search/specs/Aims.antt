@@ -1,0 +1,28 @@
+-- What is looked for in the space of a proof, and what is kept for that.
+use Rattle.std.specs.Prelude.{List, Bool}
+use Rattle.access_schema.specs.Meaning.{meaning_of}
+use Rattle.accessible_copy.specs.Proving.{Proving}
+use Rattle.least_search.specs.declared.space.Move.{Move}
+use Rattle.least_search.specs.Walks.{IsWalk, no_facts}
+use Rattle.exposure_search.specs.declared.aiming.Aim.{Aim}
+use Rattle.exposure_search.specs.Tries.{IsOpen}
+use Rattle.exposure_search.specs.Making.{IsReady}
+use Rattle.exposure_search.specs.Ahead.{AreTheMarked}
+use Rattle.exposure_search.specs.Candidates.{AreCandidates}
+use Rattle.exposure_search.specs.Exploring.{Exploring, exploring_of, space_size}
+
+-- The space of the proof.
+abbrev pub space_of : Aim → Proving → Exploring
+space_of aim proof = exploring_of (meaning_of aim.schema.now) proof aim.queries.now aim.head.now aim.budget aim.marks
+
+-- The proof can be visited, and what is kept is right for it: the numbers are those of the marked rules, and the candidates expose the
+-- relevant base facts.
+pub record IsAimed (aim : Aim) (proof : Proving) : Type 0 where
+  pub ready : IsReady (meaning_of aim.schema.now) proof aim.facts.items aim.methods aim.bases aim.queries.now aim.head.now aim.budget
+      aim.marks
+  pub makers : AreTheMarked aim.marks.makers.items aim.makers.items
+  pub candidates : AreCandidates aim.schema.now.methods proof.constants aim.facts.items aim.marks aim.candidates.items
+
+-- The path leads from the empty set to this one, by moves that are possible.
+abbrev pub LeadsTo : Exploring → List Move → List Bool → Type 0
+LeadsTo space path set = IsWalk (IsOpen space.schema space.constants space.base.facts) (no_facts (space_size space)) path set
