@@ -30,7 +30,7 @@ use Rattle.rule_pass.specs.Orderly.{AreOrderly}
 use Rattle.rule_pass.specs.Order.{IsRuleOrder}
 use Rattle.rule_pass.specs.States.{IsPass, Goes}
 use Rattle.rule_pass.specs.Passing.{AreMet}
-use Rattle.rule_pass.proofs.Ordered.{FeedsNot, stands_earlier, feeds_no_earlier}
+use Rattle.rule_pass.proofs.Ordered.{FeedsNot, stands_earlier, feeds_no_earlier, order_below}
 
 -- what a firing adds
 abbrev made : Trigger → Rule → List Ground
@@ -166,16 +166,15 @@ module _ {L : Type 0} (logged : L → Trigger → ℕ → L) (size : L → ℕ) 
   pub passing_first : IsFirstActive rules now plain rule
   passing_first = unmet_first rules order k rule now one.vals fresh ordered l numbered p.before (record { width = p.width one among; body = p.each one among; unmet = unmet }) next
 
-  pub passing_room : (trigger : Trigger) (other : Rule) → trigger ≡ plain → slice_get rules trigger.rule ≡ Some other → size log < budget → budget ≤ 100000 → first.next ≤ 1048576 + size begun * MOST_VARIABLES → (fired now trigger other).next < 4294967296
-  passing_room trigger other is got spare few low =
-      let small = orderly.variables other (contains_got rules trigger.rule other got) in
-      let same : trigger.fresh ≡ now.next = ap (λ (t : Trigger). t.fresh) is ∙ next in
+  pub passing_room : (other : Rule) → slice_get rules (slice_index_or order k 0) ≡ Some other → size log < budget → budget ≤ 100000 → first.next ≤ 1048576 + size begun * MOST_VARIABLES → (fired now plain other).next < 4294967296
+  passing_room other got spare few low =
+      let small = orderly.variables other (contains_got rules (slice_index_or order k 0) other got) in
+      let same = next in
       let b = p.labels_kept in omega arith
 
-  pub passing_fired : (trigger : Trigger) (after : State) → trigger ≡ plain → size log < budget → after ≡ fired now trigger rule → Passing logged size rules order first begun k budget rule found (done ++ one ∷ []) (logged log trigger (length now.facts)) after
-  passing_fired trigger after is spare e =
-      subst (λ s. Passing logged size rules order first begun k budget rule found (done ++ one ∷ []) (logged log trigger (length now.facts)) s) (sym e)
-      (subst (λ t. Passing logged size rules order first begun k budget rule found (done ++ one ∷ []) (logged log t (length now.facts)) (fired now t rule)) (sym is) (record {
+  pub passing_fired : (after : State) → size log < budget → after ≡ fired now plain rule → Passing logged size rules order first begun k budget rule found (done ++ one ∷ []) (logged log plain (length now.facts)) after
+  passing_fired after spare e =
+      subst (λ s. Passing logged size rules order first begun k budget rule found (done ++ one ∷ []) (logged log plain (length now.facts)) s) (sym e) (record {
         goes = goes_on logged rules first now (fired now plain rule) begun log (logged log plain (length now.facts)) p.goes (plain ∷ [], (rule, passing_first, (refl, refl)));
         before = λ j other c e. met_stays now.facts plain rule other (feeds_no_earlier rules order ordered k (slice_index_or order k 0) j rule other l refl (earlier j c) numbered e) (p.before j other c e);
         width = p.width;
@@ -186,7 +185,7 @@ module _ {L : Type 0} (logged : L → Trigger → ℕ → L) (size : L → ℕ) 
         budget_kept = let n = grows log plain (length now.facts) in omega arith;
         labels_kept =
             let n = grows log plain (length now.facts) in let b = p.labels_kept in let small = orderly.variables rule (contains_got rules (slice_index_or order k 0) rule numbered) in omega arith;
-      }))
+      })
     where
       earlier : (j : ℕ) → Contains (take k order) j → Contains (take (k + 1) order) j
       earlier j c = subst (λ z. Contains z j) (sym (take_more order k 0 l)) (Contains-append_left (take k order) (slice_index_or order k 0 ∷ []) j c)
@@ -213,3 +212,7 @@ met_all rules order facts ordered met rule (i, l, e) = met i rule (ordered.each 
 
 pub numbered_at : (rules : List Rule) (number : ℕ) (rule : Rule) → number < length rules → rule ≡ slice_index_or rules number rule → slice_get rules number ≡ Some rule
 numbered_at rules number rule l e = slice_get-get_or rules number rule l ∙ ap Some (sym e)
+
+-- the rule whose number stands at a place of the order
+pub rule_at : (rules : List Rule) (order : List ℕ) (k : ℕ) (rule : Rule) → IsRuleOrder rules order → k < length order → rule ≡ slice_index_or rules (slice_index_or order k 0) rule → slice_get rules (slice_index_or order k 0) ≡ Some rule
+rule_at rules order k rule ordered l is = numbered_at rules (slice_index_or order k 0) rule (order_below rules order k ordered l) is

@@ -3,9 +3,8 @@ ghost use Rattle.std.specs.Prelude.{◌≡◌, ◌+◌, ◌++◌, ◌∷◌, [],
 ghost use Rattle.std.proofs.lemmas.List.{length_push};
 ghost use Rattle.meaning.specs.declared.types.Trigger.{Trigger};
 
-use lists::{Copies, NoMemory};
+use lists::NoMemory;
 use meaning::types::{Trigger, Triggers};
-use std::alloc::Global;
 
 /// A list of firings, to which a pass adds its own.
 pub trait Log {
@@ -19,9 +18,10 @@ pub trait Log {
     fn firings(&self) -> usize
         ensures { result ≡ size self.now };
 
-    /// Writes one more firing of a trigger down, before which there are so many facts.
-    fn write_down(&mut self, alloc: Global, trigger: &Trigger, facts: usize) -> Result<(), NoMemory>
-        ensures logged { OnOk result (self.new ≡ logged self.old trigger.now facts) }
+    /// Writes one more firing of a trigger down, before which there are so many facts. Where memory is refused, nothing
+    /// changes.
+    fn write_down(&mut self, trigger: Trigger, facts: usize) -> Result<(), NoMemory>
+        ensures logged { OnOk result (self.new ≡ logged self.old trigger facts) }
         ensures refused { OnErr result (self.new ≡ self.old) };
 
     /// Takes the last firing back. Takes no memory.
@@ -42,13 +42,8 @@ impl Log for Triggers {
         self.len()
     }
 
-    fn write_down(
-        &mut self,
-        alloc: Global,
-        trigger: &Trigger,
-        _facts: usize,
-    ) -> Result<(), NoMemory> {
-        self.push(trigger.copy(alloc)?)?;
+    fn write_down(&mut self, trigger: Trigger, _facts: usize) -> Result<(), NoMemory> {
+        self.push(trigger)?;
         Ok(())
     }
 

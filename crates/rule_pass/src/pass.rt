@@ -1,14 +1,13 @@
 // One pass through the rules.
-ghost use Rattle.std.specs.Prelude.{◌≡◌, ◌+◌, ◌*◌, ◌<◌, ◌≤◌, ◌^◌, [], ◌∷◌, ◌++◌, length, max, take, OnOk, OnErr, IfOk, Ok, Some, slice_get, slice_index_or};
-ghost use Rattle.meaning.specs.declared.types.Rule.{Rule};
+ghost use Rattle.std.specs.Prelude.{◌≡◌, ◌+◌, ◌*◌, ◌<◌, ◌≤◌, [], length, max, take, Ok};
 ghost use Rattle.meaning.specs.declared.types.Val.TheVariants.{Const};
 ghost use Rattle.meaning.specs.Matching.{MeetsAll, GroundsOf};
-ghost use Rattle.meaning.specs.Triggers.{AreNumbered, fired, IsQuiet};
+ghost use Rattle.meaning.specs.Triggers.{IsQuiet};
 ghost use Rattle.meaning.specs.Runs.{IsBaseRun};
 ghost use Rattle.access_schema.specs.declared.limits.TheConstants.{MOST_VARIABLES};
 ghost use Rattle.rule_pass.specs.Orderly.{AreOrderly};
 ghost use Rattle.rule_pass.specs.Order.{IsRuleOrder};
-ghost use Rattle.rule_pass.specs.States.{IsActiveTrigger, SomeActive, Goes};
+ghost use Rattle.rule_pass.specs.States.{SomeActive, Goes};
 ghost use Rattle.rule_pass.specs.Passing.{AreMet};
 ghost use Rattle.rule_pass.specs.declared.pass.Stopped.TheVariants.{Ended, Spent};
 
@@ -17,8 +16,8 @@ use crate::log::Log;
 use crate::order::rule_order;
 use crate::state::State;
 use homomorphism::{Head, frontier_matches};
-use lists::{Copies, NoMemory};
-use meaning::types::{Rules, Trigger, Triggers, Vals};
+use lists::NoMemory;
+use meaning::types::{Rules, Trigger, Triggers};
 use std::alloc::Global;
 
 /// The most firings that a pass may be given.
@@ -121,51 +120,19 @@ fn run_rule<L: Log>(
         return Ok(Stopped::Ended);
     }
     let head = Head::of(alloc, rule)?;
-    for one in found.as_slice() {
-        if !head.is_met(alloc, rule, state.store(), one)? {
+    for one in found.into_vec() {
+        if !head.is_met(alloc, rule, state.store(), &one)? {
             if log.firings() >= budget {
                 return Ok(Stopped::Spent);
             }
-            let trigger = trigger_of(alloc, number, &one.vals, state.next())?;
-            step(alloc, state, rules, &trigger, log)?;
+            let fresh = state.next();
+            let trigger = Trigger {
+                rule: number,
+                values: one.vals,
+                fresh,
+            };
+            fire(alloc, state, rules, trigger, log)?;
         }
     }
     Ok(Stopped::Ended)
-}
-
-/// A trigger with a copy of these values.
-fn trigger_of(alloc: Global, rule: u32, values: &Vals, fresh: u32) -> Result<Trigger, NoMemory>
-    ensures { IfOk result (λ trigger. trigger ≡ record { rule = rule; values = values.now; fresh = fresh }) }
-{
-    Ok(Trigger {
-        rule,
-        values: values.copy(alloc)?,
-        fresh,
-    })
-}
-
-/// Fires one trigger and writes it down; where memory is refused, nothing changes.
-fn step<L: Log>(
-    alloc: Global,
-    state: &mut State,
-    rules: &Rules,
-    trigger: &Trigger,
-    log: &mut L,
-) -> Result<(), NoMemory>
-    requires numbered { AreNumbered rules.now }
-    requires active { IsActiveTrigger rules.now state.old trigger.now }
-    requires labels { (rule : Rule) → slice_get rules.now trigger.now.rule ≡ Some rule → (fired state.old trigger.now rule).next < 2 ^ 32 }
-    ensures logged { OnOk result (log.new ≡ L.logged log.old trigger.now (length state.old.facts)) }
-    ensures fired { OnOk result ((rule : Rule) → slice_get rules.now trigger.now.rule ≡ Some rule → state.new ≡ fired state.old trigger.now rule) }
-    ensures unlogged { OnErr result (log.new ≡ log.old) }
-    ensures refused { OnErr result (state.new ≡ state.old) }
-{
-    log.write_down(alloc, trigger, state.store().len())?;
-    match fire(alloc, state, rules, trigger) {
-        Ok(()) => Ok(()),
-        Err(fault) => {
-            log.take_back();
-            Err(fault)
-        }
-    }
 }

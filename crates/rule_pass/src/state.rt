@@ -1,11 +1,11 @@
 // Labelled facts and the next label.
-ghost use Rattle.std.specs.Prelude.{◌≡◌, ◌≤◌, [], take, IfOk, OnOk, OnErr};
-ghost use Rattle.meaning.specs.Added.{with_facts};
+ghost use Rattle.std.specs.Prelude.{◌≡◌, ◌≤◌, [], ◌∷◌, take, IfOk, OnOk, OnErr};
+ghost use Rattle.meaning.specs.Added.{with_fact, with_facts};
 ghost use Rattle.meaning.specs.Triggers.{LabelsBelow};
 
-use homomorphism::Store;
+use homomorphism::{Positions, Store};
 use lists::NoMemory;
-use meaning::types::{Ground, Grounds};
+use meaning::types::Ground;
 use std::alloc::Global;
 use std::marker::Model;
 
@@ -27,13 +27,18 @@ impl Model for State {
 }
 
 impl State {
-    /// The state of these facts, with this next label.
-    pub fn start(alloc: Global, facts: &Grounds, next: u32) -> Result<State, NoMemory>
-        requires { LabelsBelow facts.now next }
-        ensures { IfOk result (λ state. state ≡ record { facts = with_facts [] facts.now; next = next }) }
+    /// The state of these facts, with this next label. Facts are found by their values at these positions.
+    pub fn start(
+        alloc: Global,
+        facts: Vec<Ground>,
+        next: u32,
+        positions: Positions,
+    ) -> Result<State, NoMemory>
+        requires { LabelsBelow facts.items next }
+        ensures { IfOk result (λ state. state ≡ record { facts = with_facts [] facts.items; next = next }) }
     {
-        let mut store = Store::new(alloc);
-        store.add_all(alloc, facts.as_slice())?;
+        let mut store = Store::found_by(alloc, positions);
+        store.add_all(alloc, facts)?;
         Ok(State { store, next })
     }
 
@@ -54,13 +59,26 @@ impl State {
 
     /// Adds the facts that are not there yet, and sets the next label, which may stay. Where memory is refused, nothing
     /// changes.
-    pub fn add(&mut self, alloc: Global, news: &[Ground], next: u32) -> Result<(), NoMemory>
+    pub fn add(&mut self, alloc: Global, news: Vec<Ground>, next: u32) -> Result<(), NoMemory>
         requires later { self.old.next ≤ next }
-        requires labels { LabelsBelow self.old.facts self.old.next → LabelsBelow news.now next }
-        ensures added { OnOk result (self.new ≡ record { facts = with_facts self.old.facts news.now; next = next }) }
+        requires labels { LabelsBelow self.old.facts self.old.next → LabelsBelow news.items next }
+        ensures added { OnOk result (self.new ≡ record { facts = with_facts self.old.facts news.items; next = next }) }
         ensures refused { OnErr result (self.new ≡ self.old) }
     {
         self.store.add_all(alloc, news)?;
+        self.next = next;
+        Ok(())
+    }
+
+    /// Adds the fact if it is not there yet, and sets the next label, which may stay. Where memory is refused, nothing
+    /// changes.
+    pub fn insert(&mut self, alloc: Global, fact: Ground, next: u32) -> Result<(), NoMemory>
+        requires later { self.old.next ≤ next }
+        requires labels { LabelsBelow self.old.facts self.old.next → LabelsBelow (fact ∷ []) next }
+        ensures added { OnOk result (self.new ≡ record { facts = with_fact self.old.facts fact; next = next }) }
+        ensures refused { OnErr result (self.new ≡ self.old) }
+    {
+        self.store.insert(alloc, fact)?;
         self.next = next;
         Ok(())
     }

@@ -5,7 +5,7 @@ use Rattle.meaning.specs.Matching.{MeetsRule, GroundsOf}
 use Rattle.homomorphism.specs.Rules.{IsUnmetMatch}
 use Rattle.rule_pass.specs.Passing.{AreMet}
 use Rattle.rule_pass.proofs.Ordered.{order_below}
-use Rattle.rule_pass.proofs.Steps.{at_place}
+use Rattle.homomorphism.proofs.AtomByAtom.{is_among}
 use Rattle.rule_pass.proofs.OnePass.{numbered_at, met_more, met_all, unmet_first}
 use Rattle.rule_pass.proofs.choose.first_active.Goals as goal
 
@@ -13,7 +13,7 @@ pub bounds-as_slice-number : goal.bounds-as_slice-number
 bounds-as_slice-number c = rw c.as_slice.ensures (order_below c.args.rules.now c.args.order.now c.loop-place.place c.requires.ordered c.loop-place-test.true)
 
 pub first_unmet-requires : goal.first_unmet-requires
-first_unmet-requires c = c.requires.orderly.numbered c.index-as_slice-number.result (at_place c.args.rules.now (slice_index_or c.args.order.now c.loop-place.place 0) c.index-as_slice-number.result (order_below c.args.rules.now c.args.order.now c.loop-place.place c.requires.ordered c.loop-place-test.true) (rw c.as_slice.ensures at c.index-as_slice-number.is))
+first_unmet-requires c = c.requires.orderly.numbered c.index-as_slice-number.result (is_among c.args.rules.now (slice_index_or c.args.order.now c.loop-place.place 0) c.index-as_slice-number.result (order_below c.args.rules.now c.args.order.now c.loop-place.place c.requires.ordered c.loop-place-test.true) (rw c.as_slice.ensures at c.index-as_slice-number.is))
 
 pub returns-in-Some-clause-some : goal.returns-in-Some-clause-some
 returns-in-Some-clause-some c =

@@ -1,11 +1,11 @@
 use Rattle.std.proofs.Common.{◌≡◌}
 use Rattle.rule_pass.specs.Levels.{greatest_level}
-use Rattle.rule_pass.proofs.Steps.{at_place}
+use Rattle.homomorphism.proofs.AtomByAtom.{is_among}
 use Rattle.rule_pass.proofs.Ranking.{ranked_more}
 use Rattle.rule_pass.proofs.order.ranked_rules.Goals as goal
 
 pub greatest_level-requires : goal.greatest_level-requires
-greatest_level-requires c = rw c.as_slice.ensures (c.requires.below c.index-rules-number.result (at_place c.args.rules.now c.loop-number.number c.index-rules-number.result c.loop-number-test.true c.index-rules-number.is)).0
+greatest_level-requires c = rw c.as_slice.ensures (c.requires.below c.index-rules-number.result (is_among c.args.rules.now c.loop-number.number c.index-rules-number.result c.loop-number-test.true c.index-rules-number.is)).0
 
 pub loop-number-preserved : goal.loop-number-preserved
 loop-number-preserved c =

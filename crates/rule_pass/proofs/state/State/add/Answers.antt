@@ -11,5 +11,5 @@ pub invariant_of-self-2 : goal.invariant_of-self-2
 invariant_of-self-2 c =
     let later : c.self.inside.next ≤ c.args.next = subst (λ (s : State). s.next ≤ c.args.next) (sym c.self.view_is) c.requires.later in
     subst (λ (facts : List Ground). LabelsBelow facts c.args.next) (sym c.in_ok-add_all.ensures.added)
-    (below_added c.self.inside.store c.args.news.now c.self.inside.next c.args.next c.self.invariant later
+    (below_added c.self.inside.store c.args.news.items c.self.inside.next c.args.next c.self.invariant later
     (c.requires.labels (subst (λ (s : State). LabelsBelow s.facts s.next) c.self.view_is c.self.invariant)))
