@@ -15,7 +15,6 @@ use access_schema::Schema;
 use lists::{Copies, NoMemory};
 use meaning::types::{Firing, Ground};
 use std::alloc::Global;
-use std::slice;
 
 /// Exposes a base fact by a method. Where memory is refused, nothing changes.
 pub fn expose(
@@ -105,12 +104,13 @@ fn add_exposure(
     let before = proof.sizes();
     let next = proof.base.next();
     let own = proof.copy.next();
+    let shown = fact.copy(alloc)?;
     let firing = Firing::Expose {
         method,
         fact: fact.copy(alloc)?,
     };
     proof.known.push(alloc, method, fact)?;
-    if let Err(fault) = proof.copy.add(alloc, slice::from_ref(fact), next) {
+    if let Err(fault) = proof.copy.insert(alloc, shown, next) {
         proof.known.truncate(before.exposed, before.known);
         return Err(fault);
     }

@@ -1,11 +1,11 @@
 // The log of a proof, to which passes write their firings.
-ghost use Rattle.std.specs.Prelude.{◌≡◌, ◌+◌, ◌++◌, ◌∷◌, [], ℕ, IfOk, OnOk, OnErr, length, take, slice_get, option_copied};
+ghost use Rattle.std.specs.Prelude.{◌≡◌, ◌+◌, ◌++◌, ◌∷◌, [], ℕ, OnOk, OnErr, length, take, slice_get, option_copied};
 ghost use Rattle.std.proofs.lemmas.List.{length_push};
 ghost use Rattle.meaning.specs.declared.types.Trigger.{Trigger};
 ghost use Rattle.accessible_copy.specs.Written.{logged, firing_of, sizes_at};
 
 use crate::entry::{Entry, Sizes};
-use lists::{Copies, NoMemory};
+use lists::NoMemory;
 use meaning::types::{Firing, Trigger};
 use rule_pass::Log;
 use std::alloc::Global;
@@ -78,14 +78,13 @@ impl History {
 }
 
 /// The trigger as a firing of this kind.
-fn firing_of(alloc: Global, copies: bool, trigger: &Trigger) -> Result<Firing, NoMemory>
-    ensures { IfOk result (λ firing. firing ≡ firing_of copies trigger.now) }
+fn firing_of(copies: bool, trigger: Trigger) -> Firing
+    ensures { result ≡ firing_of copies trigger }
 {
-    let trigger = trigger.copy(alloc)?;
     if copies {
-        Ok(Firing::Copy(trigger))
+        Firing::Copy(trigger)
     } else {
-        Ok(Firing::Base(trigger))
+        Firing::Base(trigger)
     }
 }
 
@@ -119,14 +118,9 @@ impl Log for History {
         self.entries.len()
     }
 
-    fn write_down(
-        &mut self,
-        alloc: Global,
-        trigger: &Trigger,
-        facts: usize,
-    ) -> Result<(), NoMemory> {
-        let firing = firing_of(alloc, self.copies, trigger)?;
+    fn write_down(&mut self, trigger: Trigger, facts: usize) -> Result<(), NoMemory> {
         let before = sizes_at(self.copies, self.held, facts, trigger.fresh);
+        let firing = firing_of(self.copies, trigger);
         self.entries.push(Entry { firing, before })?;
         Ok(())
     }

@@ -6,12 +6,11 @@ ghost use Rattle.accessible_copy.specs.Known.{known_values, facts_of};
 
 use crate::entry::Exposed;
 use crate::values::Values;
-use homomorphism::Store;
+use homomorphism::{Positions, Store};
 use lists::{Copies, NoMemory, Texts};
 use meaning::types::{Ground, Val};
 use std::alloc::Global;
 use std::marker::Model;
-use std::slice;
 
 /// Constants, exposed facts with their methods, and the values that these make known.
 #[derive(Drop)]
@@ -41,7 +40,7 @@ impl Known {
         Ok(Known {
             constants: constants.copy(alloc)?,
             list: Vec::new(alloc),
-            facts: Store::new(alloc),
+            facts: Store::found_by(alloc, Positions::none(alloc)),
             values: constant_values(alloc, constants)?,
         })
     }
@@ -104,11 +103,12 @@ impl Known {
         ensures refused { OnErr result (self.new ≡ self.old) }
     {
         let count = self.list.len();
+        let shown = fact.copy(alloc)?;
         self.list.push(Exposed {
             method,
             fact: fact.copy(alloc)?,
         })?;
-        if let Err(fault) = self.facts.add_all(alloc, slice::from_ref(fact)) {
+        if let Err(fault) = self.facts.insert(alloc, shown) {
             self.list.truncate(count);
             return Err(fault);
         }

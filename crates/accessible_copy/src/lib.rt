@@ -30,6 +30,6 @@ pub use holders::Holders;
 pub use listing::{exposures, indexed_exposures};
 pub use marks::{mark, undo};
 pub use method_index::MethodIndex;
-pub use proof::Proof;
+pub use proof::{Proof, opening_state};
 pub use rounds::round;
 pub use settling::{Round, settle};

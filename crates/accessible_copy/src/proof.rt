@@ -1,7 +1,7 @@
 // A proof, and what it lends.
 ghost use Rattle.std.specs.Prelude.{◌≡◌, ◌≤◌, ◌↔◌, [], IsTrue, IfOk, IfSome, IfNone, Contains, slice_get, option_copied, None, Some};
 ghost use Rattle.meaning.specs.Triggers.{bound};
-ghost use Rattle.meaning.specs.Runs.{opening};
+ghost use Rattle.meaning.specs.Runs.{opening, opening_state};
 ghost use Rattle.access_schema.specs.Meaning.{meaning_of};
 ghost use Rattle.rule_pass.specs.declared.pass.TheConstants.{HIGHEST_FIRST_LABEL};
 ghost use Rattle.accessible_copy.specs.Known.{known_values};
@@ -14,9 +14,9 @@ use crate::holders::Holders;
 use crate::known::Known;
 use crate::open_facts::OpenFacts;
 use access_schema::Schema;
-use homomorphism::{Freezing, ground_under};
-use lists::{NoMemory, Seq, Texts};
-use meaning::types::{Firing, Ground, Query, Val};
+use homomorphism::{Freezing, Positions, ground_under};
+use lists::{NoMemory, Texts};
+use meaning::types::{Firing, Ground, Queries, Query, Val};
 use rule_pass::State;
 use std::alloc::Global;
 use std::marker::Model;
@@ -56,10 +56,14 @@ impl Model for Proof {
 
 impl Proof {
     /// The proof of the empty log, whose base facts are the query's atoms, with variable k as label k.
+    ///
+    /// Its copy is made for matches of these goals: by other values than those that they and the rules look for, no copy fact
+    /// is found quickly.
     pub fn start(
         alloc: Global,
         schema: &Schema,
         query: &Query,
+        goals: &Queries,
         known: &Texts,
     ) -> Result<Proof, NoMemory>
         requires counted { bound query.now.atoms ≤ query.now.variables }
@@ -70,11 +74,12 @@ impl Proof {
         ensures constants { IfOk result (λ proof. proof.constants ≡ known.now) }
         ensures empty { IfOk result (λ proof. proof.entries ≡ []) }
     {
-        let facts = Seq::from_vec(ground_under(alloc, query.atoms.as_slice(), &Freezing)?);
+        let for_base = Positions::of_rules(alloc, schema.rules.as_slice())?;
+        let for_copy = looked_for(alloc, schema, goals)?;
         Ok(Proof {
-            opening: State::start(alloc, &facts, query.variables)?,
-            base: State::start(alloc, &facts, query.variables)?,
-            copy: State::start(alloc, &Seq::new(alloc), query.variables)?,
+            opening: opening_state(alloc, query, Positions::none(alloc))?,
+            base: opening_state(alloc, query, for_base)?,
+            copy: State::start(alloc, Vec::new(alloc), query.variables, for_copy)?,
             known: Known::start(alloc, known)?,
             history: History::new(alloc),
             open_facts: None,
@@ -184,4 +189,22 @@ impl Proof {
     {
         self.base.next()
     }
+}
+
+/// The opening state of the query: its atoms, with variable k as label k. Facts are found by their values at these positions.
+pub fn opening_state(alloc: Global, query: &Query, positions: Positions) -> Result<State, NoMemory>
+    requires { bound query.now.atoms ≤ query.now.variables }
+    ensures { IfOk result (λ state. state ≡ opening_state query.now) }
+{
+    let facts = ground_under(alloc, query.atoms.as_slice(), &Freezing)?;
+    Ok(State::start(alloc, facts, query.variables, positions)?)
+}
+
+/// The positions that the rules look for, and all of the goals' atoms.
+fn looked_for(alloc: Global, schema: &Schema, goals: &Queries) -> Result<Positions, NoMemory> {
+    let mut positions = Positions::of_rules(alloc, schema.rules.as_slice())?;
+    for goal in goals.as_slice() {
+        positions.add_atoms(goal.atoms.as_slice())?;
+    }
+    Ok(positions)
 }

@@ -18,24 +18,24 @@ push-requires c =
     let (of, active) = c.requires.active in
     record { new = λ h. active.new (subst (λ (p : Proving). Contains p.end.exposed c.args.fact.now) c.proof.view_is h) }
 
-pub add-requires-clause-labels : goal.add-requires-clause-labels
-add-requires-clause-labels c = λ own.
+pub insert-requires-clause-labels : goal.insert-requires-clause-labels
+insert-requires-clause-labels c = λ own.
     let (of, active) = c.requires.active in
     let there : Contains c.proof.inside.base.facts c.args.fact.now = subst (λ (p : Proving). Contains p.end.base c.args.fact.now) (sym c.proof.view_is) active.of_base in
-    let one : c.from_ref.result.now ≡ c.args.fact.now ∷ [] = search rules in
+    let one : c.in_ok-shown.shown ≡ c.args.fact.now = search rules in
     rw (one, c.next-next.ensures.next) (fact_below c.proof.inside.base.facts c.args.fact.now c.proof.inside.base.next there c.next-next.ensures.labels)
 
 pub cut_back-requires : goal.cut_back-requires
 cut_back-requires c =
     let sizes : c.sizes-before.result.copy ≡ length c.proof.inside.copy.facts = search rules in
-    let added : c.add.new.self.facts ≡ with_facts c.proof.inside.copy.facts (c.args.fact.now ∷ []) = search rules in
-    let cut : take c.sizes-before.result.copy c.add.new.self.facts ≡ c.proof.inside.copy.facts = rw (sizes, added) (added_front c.proof.inside.copy.facts (c.args.fact.now ∷ [])) in
+    let added : c.insert.new.self.facts ≡ with_facts c.proof.inside.copy.facts (c.args.fact.now ∷ []) = search rules in
+    let cut : take c.sizes-before.result.copy c.insert.new.self.facts ≡ c.proof.inside.copy.facts = rw (sizes, added) (added_front c.proof.inside.copy.facts (c.args.fact.now ∷ [])) in
     record { labels = rw (cut, c.next-own.ensures.next) c.next-own.ensures.labels }
 
 pub returns-in-Err-push-clause-refused : goal.returns-in-Err-push-clause-refused
 returns-in-Err-push-clause-refused c =
     let sizes : c.sizes-before.result ≡ sizes_of c.proof.inside.known.constants (the_view c.proof.inside).end = search rules in
-    let added : c.add.new.self.facts ≡ with_facts c.proof.inside.copy.facts (c.args.fact.now ∷ []) = search rules in
+    let added : c.insert.new.self.facts ≡ with_facts c.proof.inside.copy.facts (c.args.fact.now ∷ []) = search rules in
     let copy : c.cut_back.new.self.facts ≡ c.proof.inside.copy.facts =
     ap (λ (s : State). s.facts) c.cut_back.ensures ∙ rw (sizes, added) (added_front c.proof.inside.copy.facts (c.args.fact.now ∷ [])) in
     let shown : c.push.new.self ≡ record { constants = c.proof.inside.known.constants; exposed = c.proof.inside.known.exposed ++ record { method = c.args.method; fact = c.args.fact.now } ∷ [] } = search rules in
@@ -53,8 +53,8 @@ returns-clause-exposed c =
     = subst (λ (p : Proving). IsActiveExposure (meaning_of c.args.schema.now) p.constants p.end c.args.method c.args.fact.now of) (sym c.proof.view_is) active' in
     let part : last_part 0 (log_of view) ≤ 1 = subst (λ (p : Proving). last_part 0 (log_of p) ≤ 1) (sym c.proof.view_is) c.requires.part in
     let sizes : c.sizes-before.result ≡ sizes_of c.proof.inside.known.constants (the_view c.proof.inside).end = search rules in
-    let added : c.add.new.self.facts ≡ with_facts c.proof.inside.copy.facts (c.args.fact.now ∷ []) = search rules in
-    let copy : c.add.new.self.facts ≡ c.proof.inside.copy.facts ++ c.args.fact.now ∷ [] = added ∙ copy_new (meaning_of c.args.schema.now) view c.args.method c.args.fact.now of is active part in
+    let added : c.insert.new.self.facts ≡ with_facts c.proof.inside.copy.facts (c.args.fact.now ∷ []) = search rules in
+    let copy : c.insert.new.self.facts ≡ c.proof.inside.copy.facts ++ c.args.fact.now ∷ [] = added ∙ copy_new (meaning_of c.args.schema.now) view c.args.method c.args.fact.now of is active part in
     let shown : c.push.new.self ≡ record { constants = c.proof.inside.known.constants; exposed = c.proof.inside.known.exposed ++ record { method = c.args.method; fact = c.args.fact.now } ∷ [] } = search rules in
     let facts : facts_of (c.proof.inside.known.exposed ++ record { method = c.args.method; fact = c.args.fact.now } ∷ []) ≡ facts_of c.proof.inside.known.exposed ++ c.args.fact.now ∷ [] = facts_push c.proof.inside.known.exposed (record { method = c.args.method; fact = c.args.fact.now }) in
     let entries : c.push-2.new.self.entries ≡ c.proof.inside.history.entries ++ record { firing = Expose c.args.method c.args.fact.now; before = c.sizes-before.result } ∷ [] = search rules in
