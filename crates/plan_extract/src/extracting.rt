@@ -47,7 +47,7 @@ pub fn extract(
     let query = &queries.as_slice()[found.select as usize];
     let values = found.assignment.vals.as_slice();
     let atoms = facts_at(alloc, query.atoms.as_slice(), values)?;
-    let wanted = wanted_facts(alloc, schema, proof, atoms.as_slice())?;
+    let wanted = wanted_facts(alloc, schema, proof, atoms)?;
     let shown = shown(alloc, schema, proof)?;
     let marks = marked(alloc, shown.as_slice(), &wanted)?;
     let kept = picked(alloc, shown.as_slice(), marks.as_slice())?;

@@ -20,4 +20,4 @@ mod wanting;
 pub use branch::read_off;
 pub use exposures::Exposure;
 pub use extracting::extract;
-pub use frozen::{frozen_facts, frozen_values};
+pub use frozen::frozen_values;

@@ -14,7 +14,7 @@ ghost use Rattle.plan_extract.specs.Passes.{AreWanted, HasRule};
 use crate::matched::facts_at;
 use access_schema::Schema;
 use accessible_copy::{Proof, mark};
-use homomorphism::Store;
+use homomorphism::{Positions, Store};
 use lists::NoMemory;
 use meaning::types::{Firing, Ground, Trigger};
 use std::alloc::Global;
@@ -27,13 +27,13 @@ pub fn wanted_facts(
     alloc: Global,
     schema: &Schema,
     proof: &Proof,
-    atoms: &[Ground],
+    atoms: Vec<Ground>,
 ) -> Result<Store, NoMemory>
     requires run { IsProofOf (meaning_of schema.now) proof.now }
-    requires there { (fact : Ground) → Contains atoms.now fact → Contains proof.now.end.copy fact }
-    ensures { IfOk result (AreWanted (meaning_of schema.now) proof.now atoms.now) }
+    requires there { (fact : Ground) → Contains atoms.items fact → Contains proof.now.end.copy fact }
+    ensures { IfOk result (AreWanted (meaning_of schema.now) proof.now atoms.items) }
 {
-    let mut wanted = Store::new(alloc);
+    let mut wanted = Store::found_by(alloc, Positions::none(alloc));
     wanted.add_all(alloc, atoms)?;
     let mut left = mark(proof).firings as usize;
     let mut after = proof.sizes().copy;
@@ -97,5 +97,5 @@ fn want_body(
 {
     let rule = &schema.rules.as_slice()[trigger.rule as usize];
     let body = facts_at(alloc, rule.body.as_slice(), trigger.values.as_slice())?;
-    wanted.add_all(alloc, body.as_slice())
+    wanted.add_all(alloc, body)
 }

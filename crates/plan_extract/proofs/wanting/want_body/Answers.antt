@@ -25,7 +25,7 @@ facts_at-requires c =
 
 pub returns : goal.returns
 returns c =
-    IfOk-weaker c.add_all.result (λ _. c.add_all.new.self ≡ with_facts c.args.wanted.now c.as_slice-4.result.now)
+    IfOk-weaker c.add_all.result (λ _. c.add_all.new.self ≡ with_facts c.args.wanted.now c.in_ok-body.body.items)
     (λ _. (rule : Rule) → slice_get c.args.schema.now.rules c.args.trigger.now.rule ≡ Some rule → c.add_all.new.self ≡ with_facts c.args.wanted.now (map (ground (assigned c.args.trigger.now)) rule.body))
     (λ _ added rule named.
     let (other, has) = c.requires in
@@ -34,8 +34,8 @@ returns c =
     let one : c.index-as_slice-trigger.result ≡ rule = some_injective c.index-as_slice-trigger.result rule (sym got ∙ named) in
     let same : other ≡ rule = some_injective other rule (sym has.numbered ∙ named) in
     let width : length c.args.trigger.now.values ≡ bound rule.body = has.width ∙ ap (λ (r : Rule). bound r.body) same in
-    let body : c.as_slice-4.result.now ≡ map (ground (assigned c.args.trigger.now)) rule.body =
-    c.as_slice-4.ensures.value ∙ c.in_ok-body.ensures
+    let body : c.in_ok-body.body.items ≡ map (ground (assigned c.args.trigger.now)) rule.body =
+    c.in_ok-body.ensures
     ∙ ap (λ (vals : List Val). map (ground (at vals)) c.as_slice-2.result.now) c.as_slice-3.ensures
     ∙ ap (map (ground (at c.args.trigger.now.values))) (c.as_slice-2.ensures ∙ ap (λ (r : Rule). r.body) one)
     ∙ body_at c.args.trigger.now rule width in
