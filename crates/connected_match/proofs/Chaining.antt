@@ -14,6 +14,7 @@ use Rattle.meaning.specs.Matching.{OccursIn}
 use Rattle.meaning.specs.Triggers.{bound, terms_bound}
 use Rattle.meaning_laws.proofs.Carrying.{occurs_below}
 use Rattle.homomorphism.specs.Bindings.{IsBound}
+use Rattle.homomorphism.proofs.Members.{contains_none, to_filter}
 use Rattle.connected_match.specs.declared.chain.Link.{Link}
 use Rattle.connected_match.specs.Chains.{given_at, first_of, is_none, comes_before, row_before, AreFirsts, IsLink, IsCarried, IsChain}
 use Rattle.connected_match.proofs.Naming.{Naming, naming}
@@ -32,18 +33,6 @@ kept_is test (y ∷ xs) x among = ⊎_elim
     let all : Contains (filter test xs) x = rw left at among in
     let (inside, passes) = kept_is test xs x all in (contains_there y xs x inside, passes))
     (cases_Bool (test y))
-
-is_kept : {X : Type 0} (test : X → Bool) (xs : List X) (x : X) → Contains xs x → test x ≡ true → Contains (filter test xs) x
-is_kept test [] x among passes = absurd (omega (arith, among.1))
-is_kept test (y ∷ xs) x among passes = ⊎_elim
-    (λ (kept : test y ≡ true). rw kept (⊎_elim (λ same. subst (Contains (y ∷ filter test xs)) same (contains_here y (filter test xs)))
-    (λ there. contains_there y (filter test xs) x (is_kept test xs x there passes)) (contains_cases y xs x among)))
-    (λ (left : test y ≡ false). rw left (⊎_elim (λ same. absurd (clash (sym left ∙ subst (λ z. test z ≡ true) (sym same) passes)))
-    (λ there. is_kept test xs x there passes) (contains_cases y xs x among)))
-    (cases_Bool (test y))
-  where
-    clash : false ≡ true → ⊥
-    clash e = cc
 
 -- ---- given values
 
@@ -83,11 +72,11 @@ module _ (given : List (Option Val)) (firsts : List ℕ) (place : ℕ) (next : L
 
   row_next : (x : ℕ) → Contains next x → first_of firsts x < place → Contains (row_before firsts place given next terms) x
   row_next x among low = subst (λ l. Contains l x) (sym before.is)
-      (Contains-append_left earlier before.more x (is_kept (λ y. nat_lt (first_of firsts y) place) next x among (lt-ltb (first_of firsts x) place low)))
+      (Contains-append_left earlier before.more x (to_filter (λ y. nat_lt (first_of firsts y) place) next x among (lt-ltb (first_of firsts x) place low)))
 
   row_own : (x : ℕ) → Contains terms (Var x) → first_of firsts x < place → is_none (given_at given x) ≡ true → Contains (row_before firsts place given next terms) x
   row_own x among low none = before.own x
-      (is_kept (comes_before firsts place given) terms (Var x) among (and_from (nat_lt (first_of firsts x) place) (is_none (given_at given x)) (lt-ltb (first_of firsts x) place low) none))
+      (to_filter (comes_before firsts place given) terms (Var x) among (and_from (nat_lt (first_of firsts x) place) (is_none (given_at given x)) (lt-ltb (first_of firsts x) place low) none))
 
 -- ---- from the last atom to the first
 
@@ -101,22 +90,15 @@ pub record Chaining (given : List (Option Val)) (firsts : List ℕ) (atoms left 
   pub unknown : (x : ℕ) → Contains next x → IsBound given x → ⊥
   pub named : (x : ℕ) → OccursIn rest x → first_of firsts x < length left → IsBound given x ⊎ Contains next x
 
-no_member : {X : Type 0} (x : X) → Contains [] x → ⊥
-no_member x among = omega (arith, among.1)
-
-pub empty : {X : Type 0} (xs : List X) → length xs ≡ 0 → xs ≡ []
-empty [] none = refl
-empty (x ∷ xs) none = absurd (omega (arith, none))
-
 pub chaining_none : (given : List (Option Val)) (firsts : List ℕ) (atoms : List Atom) → Chaining given firsts atoms atoms [] []
 chaining_none given firsts atoms = record {
   rest = [];
   split = sym (append-nil atoms);
   chain = refl;
-  early = λ x among. absurd (no_member x among);
-  low = λ x among. absurd (no_member x among);
-  unknown = λ x among. absurd (no_member x among);
-  named = λ x (atom, among, there) early. absurd (no_member atom among);
+  early = λ x among. absurd (contains_none x among);
+  low = λ x among. absurd (contains_none x among);
+  unknown = λ x among. absurd (contains_none x among);
+  named = λ x (atom, among, there) early. absurd (contains_none atom among);
 }
 
 pub chaining_all : (given : List (Option Val)) (firsts : List ℕ) (atoms : List Atom) (next : List ℕ) (links : List Link) → Chaining given firsts atoms [] next links → IsChain given [] atoms (reverse links)

@@ -12,6 +12,7 @@ use Rattle.meaning.specs.declared.types.Atom.{Atom}
 use Rattle.meaning.specs.Triggers.{terms_bound}
 use Rattle.connected_match.specs.Chains.{first_of, AreFirsts, AreNoted}
 use Rattle.connected_match.proofs.Places.{standing}
+use Rattle.connected_match.proofs.Naming.{same_variable}
 
 pub noted_none : (place : ℕ) (firsts : List ℕ) → AreNoted [] place firsts firsts
 noted_none place firsts = record {
@@ -28,9 +29,6 @@ noted_said terms c place before now r = record {
   less = r.less;
   either = λ x. ⊎_elim inl (λ w. inr (w.0, Contains-append_left terms (Said c ∷ []) (Var x) w.1)) (r.either x);
 }
-
-same_variable : (x y : ℕ) → Var x ≡ Var y → x ≡ y
-same_variable x y e = cc
 
 module _ (terms : List Term) (y place : ℕ) (before now : List ℕ) (low : y < length now) (r : AreNoted terms place before now) where
   after : List ℕ

@@ -15,14 +15,12 @@ use Rattle.meaning.specs.declared.types.Ground.{Ground}
 use Rattle.meaning.specs.Matching.{value_of, AreFacts, OccursIn, GroundsOf}
 use Rattle.meaning.specs.Triggers.{bound, terms_bound}
 use Rattle.homomorphism.specs.Bindings.{Agrees, IsBound}
+use Rattle.homomorphism.proofs.Members.{contains_none}
 use Rattle.connected_match.specs.declared.chain.Link.{Link}
 use Rattle.connected_match.specs.Chains.{Completes, LinkFits, FitFrom, place_in, local_in, given_at, IsLink, IsCarried, IsChain}
 use Rattle.connected_match.proofs.Places.{among_or_not, at_place, place_low, place_before}
 
 -- ---- lists
-
-no_member : {X : Type 0} (x : X) → Contains [] x → ⊥
-no_member x among = omega (arith, among.1)
 
 got_behind : {X : Type 0} (xs ys : List X) (j : ℕ) → slice_get (xs ++ ys) (length xs + j) ≡ slice_get ys j
 got_behind [] ys j = let e : 0 + j ≡ j = omega arith in ap (slice_get ys) e
@@ -134,7 +132,7 @@ module _ (given : List (Option Val)) (row : List ℕ) (atom : Atom) (next : List
     local_facts facts among = subst (AreFacts Const (GroundsOf facts) local) (sym is.atom_is) (λ other i. ⊎_elim
         (λ same. subst (λ (t : Atom). Contains facts (record { rel = t.rel; vals = map (value_of Const local) t.terms })) same
         (subst (λ vals. Contains facts (record { rel = atom.rel; vals = vals })) (sym (values_same (row ++ is.others) a local atom.terms (λ x c. local_place x (is.own x c)))) among))
-        (λ none. absurd (no_member other none))
+        (λ none. absurd (contains_none other none))
         (contains_cases (record { rel = atom.rel; terms = map (local_in (row ++ is.others)) atom.terms }) [] other i))
 
     local_next : map a next ≡ map local link.kept
@@ -251,7 +249,7 @@ pub sound : (facts : List Ground) (given : List (Option Val)) (atoms : List Atom
     Completes facts links vals → (a : ℕ → Val) × Agrees given a × AreFacts Const (GroundsOf facts) a atoms × HasRow a row vals
 unfolding some_value
 sound facts given [] [] row vals is wide goes =
-    ((λ x. some_value (slice_get given x)), (λ x v got. ap some_value got), (λ atom among. absurd (no_member atom among)), (λ x among. absurd (no_member x (subst (λ l. Contains l x) is among))))
+    ((λ x. some_value (slice_get given x)), (λ x v got. ap some_value got), (λ atom among. absurd (contains_none atom among)), (λ x among. absurd (contains_none x (subst (λ l. Contains l x) is among))))
 sound facts given [] (link ∷ links) row vals is wide goes = absurd is
 sound facts given (atom ∷ atoms) [] row vals is wide goes = absurd is
 sound facts given (atom ∷ atoms) (link ∷ links) row vals (next, is, carried, chain) wide (after, (b, agrees, made, same), goes) =

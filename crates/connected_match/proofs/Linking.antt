@@ -1,8 +1,9 @@
 -- The link of an atom, from the names of its variables.
-use Rattle.std.proofs.Common.{◌≡◌, ℕ, suc, ◌+◌, ◌<◌, ◌≤◌, List, [], ◌∷◌, ◌++◌, length, map, take, drop, ◌-◌, refl, sym, ap, ◌∙◌, subst, ⊎_elim, arith}
+use Rattle.std.proofs.Common.{◌≡◌, ℕ, ◌+◌, ◌<◌, ◌≤◌, List, [], ◌∷◌, ◌++◌, length, map, take, drop, ◌-◌, sym, ap, ◌∙◌, subst, ⊎_elim, arith}
 use Rattle.std.specs.Prelude.{Contains, Option, Some, None, fold, slice_index_or}
 use Rattle.std.proofs.lemmas.Option.{slice_get-get_or}
 use Rattle.std.proofs.lemmas.List.{length-append, length-drop, take_all, take_more, map-append}
+use Rattle.std.proofs.Math.Seq.{drop-append_seam}
 use Rattle.lists.proofs.Members.{contains_cases, some_injective}
 use Rattle.meaning.specs.declared.types.Term.{Term}
 use Rattle.meaning.specs.declared.types.Term.TheVariants.{Var, Const as Said}
@@ -11,25 +12,15 @@ use Rattle.meaning.specs.declared.types.Val.{Val}
 use Rattle.meaning.specs.Triggers.{terms_bound}
 use Rattle.connected_match.specs.declared.chain.Link.{Link}
 use Rattle.connected_match.specs.Chains.{place_in, local_in, with_term, given_at, AreBelow, IsLink}
-use Rattle.connected_match.proofs.Naming.{Naming, naming}
-
-drop_front : {X : Type 0} (xs ys : List X) → drop (length xs) (xs ++ ys) ≡ ys
-drop_front [] ys = refl
-drop_front (x ∷ xs) ys = let e : length (x ∷ xs) ≡ suc (length xs) = omega arith in ap (λ n. drop n (x ∷ xs ++ ys)) e ∙ drop_front xs ys
+use Rattle.connected_match.proofs.Naming.{Naming, naming, same_variable, said_is_none}
 
 pub term_low : (terms : List Term) (x n : ℕ) → Contains terms (Var x) → terms_bound terms ≤ n → x < n
 term_low [] x n among few = absurd (omega (arith, among.1))
 term_low (Var y ∷ terms) x n among few = ⊎_elim
-    (λ same. let e : y ≡ x = injective y x same in omega (arith, few, e))
+    (λ same. let e : y ≡ x = same_variable y x same in omega (arith, few, e))
     (λ there. term_low terms x n there (omega (arith, few)))
     (contains_cases (Var y) terms (Var x) among)
-  where
-    injective : (y x : ℕ) → Var y ≡ Var x → y ≡ x
-    injective y x e = cc
-term_low (Said c ∷ terms) x n among few = ⊎_elim (λ same. absurd (unlike c x same)) (λ there. term_low terms x n there few) (contains_cases (Said c) terms (Var x) among)
-  where
-    unlike : (c : List ℕ) (x : ℕ) → Said c ≡ Var x → ⊥
-    unlike c x e = cc
+term_low (Said c ∷ terms) x n among few = ⊎_elim (λ same. absurd (said_is_none c x same)) (λ there. term_low terms x n there few) (contains_cases (Said c) terms (Var x) among)
 
 module _ (row : List ℕ) (terms : List Term) (names : List ℕ) (is : names ≡ fold with_term row terms) where
   named : Naming row terms (fold with_term row terms)
@@ -39,7 +30,7 @@ module _ (row : List ℕ) (terms : List Term) (names : List ℕ) (is : names ≡
   apart = is ∙ named.is
 
   others_are : drop (length row) names ≡ named.more
-  others_are = ap (drop (length row)) apart ∙ drop_front row named.more
+  others_are = ap (drop (length row)) apart ∙ drop-append_seam row named.more
 
   pub row_short : length row ≤ length names
   row_short = let e = ap length apart in let f = length-append row named.more in omega (arith, e, f)

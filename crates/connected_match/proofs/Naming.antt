@@ -18,10 +18,10 @@ pub record Naming (names : List ℕ) (terms : List Term) (all : List ℕ) : Type
   pub own : (x : ℕ) → Contains terms (Var x) → Contains all x
   pub numbered : (k : ℕ) → length names ≤ k → k < length names + length more → Contains (map (local_in all) terms) (Var k)
 
-same_variable : (x y : ℕ) → Var x ≡ Var y → x ≡ y
+pub same_variable : (x y : ℕ) → Var x ≡ Var y → x ≡ y
 same_variable x y e = cc
 
-said_is_none : (c : List ℕ) (x : ℕ) → Said c ≡ Var x → ⊥
+pub said_is_none : (c : List ℕ) (x : ℕ) → Said c ≡ Var x → ⊥
 said_is_none c x e = cc
 
 -- a variable that was not there, and then more terms

@@ -13,12 +13,10 @@ use Rattle.meaning.specs.Triggers.{bound}
 use Rattle.homomorphism.specs.declared.assignment.Assignment.{Assignment}
 use Rattle.homomorphism.specs.Bindings.{at, values_of}
 use Rattle.homomorphism.specs.Matches.{IsMatch, NoMatch, AreMatches, AreCovered}
+use Rattle.homomorphism.proofs.Members.{contains_none}
 use Rattle.connected_match.specs.declared.chain.Link.{Link}
 use Rattle.connected_match.specs.Chains.{Leads, LinkFits, AreNexts}
 use Rattle.connected_match.specs.Walks.{empty_row_if, kept_of, HavePlaces}
-
-no_member : {X : Type 0} (x : X) → Contains [] x → ⊥
-no_member x among = omega (arith, among.1)
 
 module _ (facts : List Ground) (link : Link) (row : List Val) (given : List (Option Val)) (same : given ≡ map Some row ++ link.values) where
   leads_by : (vals : List Val) → IsMatch facts link.atoms given vals → Leads facts link row (map (at vals) link.kept)
@@ -30,11 +28,11 @@ module _ (facts : List Ground) (link : Link) (row : List Val) (given : List (Opt
   one_next none (Some m) some never = record {
     each = λ next among. ⊎_elim
         (λ e. subst (Leads facts link row) (ap (map (at m.vals)) none ∙ e) (leads_by m.vals some))
-        (λ i. absurd (no_member next i)) (contains_cases [] [] next among);
+        (λ i. absurd (contains_none next i)) (contains_cases [] [] next among);
     all = λ next (a, agrees, made, e). subst (Contains ([] ∷ [])) (sym (e ∙ ap (map a) none)) (contains_here [] []);
   }
   one_next none None some never = record {
-    each = λ next among. absurd (no_member next among);
+    each = λ next among. absurd (contains_none next among);
     all = λ next (a, agrees, made, e). absurd (never a (subst (λ g. (x : ℕ) (v : Val) → slice_get g x ≡ Some (Some v) → a x ≡ v) (sym same) agrees) made);
   }
 

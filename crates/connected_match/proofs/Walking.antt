@@ -7,13 +7,11 @@ use Rattle.std.proofs.lemmas.List.Elements.{Contains-append_left, Contains-appen
 use Rattle.lists.proofs.Members.{contains_here, contains_cases, contains_map, contains_mapped, some_injective}
 use Rattle.meaning.specs.declared.types.Val.{Val}
 use Rattle.meaning.specs.declared.types.Ground.{Ground}
+use Rattle.homomorphism.proofs.Members.{contains_none}
 use Rattle.connected_match.specs.declared.chain.Link.{Link}
 use Rattle.connected_match.specs.declared.walk.Point.{Point}
 use Rattle.connected_match.specs.Chains.{Leads, Completes, LinkFits, FitFrom, AreNexts}
 use Rattle.connected_match.specs.Walks.{points_at}
-
-no_member : {X : Type 0} (x : X) → Contains [] x → ⊥
-no_member x among = omega (arith, among.1)
 
 -- the links behind the first, by place
 link_at : (links : List Link) (place : ℕ) (link : Link) → slice_get links place ≡ Some link → drop place links ≡ link ∷ drop (place + 1) links
@@ -48,7 +46,7 @@ pub walking_start : (facts : List Ground) (links : List Link) (Seen : Point → 
 walking_start facts links Seen fits none = record {
   on_way = λ point among. ⊎_elim
       (λ same. subst (IsOnWay facts links) same (record { within = omega arith; fits = fits; ends = λ goes. goes }))
-      (λ i. absurd (no_member point i)) (contains_cases (record { place = 0; row = [] }) [] point among);
+      (λ i. absurd (contains_none point i)) (contains_cases (record { place = 0; row = [] }) [] point among);
   begun = λ point seen. absurd (none point seen);
   gone_on = λ point link next seen got leads. absurd (none point seen);
   start = inl (contains_here (record { place = 0; row = [] }) []);
@@ -56,7 +54,7 @@ walking_start facts links Seen fits none = record {
 
 -- nothing waits
 pub walking_none : (facts : List Ground) (links : List Link) (Seen : Point → Type 0) → Walking facts links Seen [] → Completes facts links [] → ⊥
-walking_none facts links Seen r goes = ⊎_elim (λ among. no_member (record { place = 0; row = [] }) among) (λ seen. never links 0 [] refl seen goes) r.start
+walking_none facts links Seen r goes = ⊎_elim (λ among. contains_none (record { place = 0; row = [] }) among) (λ seen. never links 0 [] refl seen goes) r.start
   where
     never : (rest : List Link) (place : ℕ) (row : List Val) → drop place links ≡ rest → Seen (record { place = place; row = row }) → Completes facts rest row → ⊥
     never [] place row e seen goes =
@@ -66,7 +64,7 @@ walking_none facts links Seen r goes = ⊎_elim (λ among. no_member (record { p
         let low = r.begun (record { place = place; row = row }) seen in
         let got : slice_get links place ≡ Some link = got_first place links link rest e in
         let onward : drop (place + 1) links ≡ rest = tail_is (sym (link_at links place link got) ∙ e) in
-        never rest (place + 1) next onward (⊎_elim (λ among. absurd (no_member (record { place = place + 1; row = next }) among)) (λ was. was) (r.gone_on (record { place = place; row = row }) link next seen got leads)) goes
+        never rest (place + 1) next onward (⊎_elim (λ among. absurd (contains_none (record { place = place + 1; row = next }) among)) (λ was. was) (r.gone_on (record { place = place; row = row }) link next seen got leads)) goes
 
 -- a point at the end is reached
 pub walking_end : (facts : List Ground) (links : List Link) (Seen : Point → Type 0) (waiting : List Point) (point : Point) → Walking facts links Seen (waiting ++ point ∷ []) →

@@ -1,7 +1,8 @@
 use Rattle.std.proofs.Common.{◌≡◌, ◌∙◌, ◌++◌, [], length, ap, subst, arith}
 use Rattle.std.specs.Prelude.{Contains}
+use Rattle.std.proofs.lemmas.List.{nil_from_length}
 use Rattle.connected_match.specs.Chains.{row_before, IsLink}
-use Rattle.connected_match.proofs.Chaining.{Chaining, empty, atom_few, chaining_more, chaining_all}
+use Rattle.connected_match.proofs.Chaining.{Chaining, atom_few, chaining_more, chaining_all}
 use Rattle.connected_match.proofs.chain.chain.Goals as goal
 
 pub row_before-requires-clause-next : goal.row_before-requires-clause-next
@@ -38,7 +39,7 @@ loop-atom-preserved c =
 pub returns : goal.returns
 returns c =
     let short = c.in_default.ensures.cases.0 in
-    let none : c.loop-atom.left.items ≡ [] = empty c.loop-atom.left.items (let e = c.loop-atom.left.ok.0 in omega (arith, short, e)) in
+    let none : c.loop-atom.left.items ≡ [] = nil_from_length c.loop-atom.left.items (let e = c.loop-atom.left.ok.0 in omega (arith, short, e)) in
     rw c.reverse.ensures.items
     (chaining_all c.args.given.now c.in_ok-firsts.firsts.items c.args.atoms.items c.loop-atom.next.items c.loop-atom.links.items
     (subst (λ l. Chaining c.args.given.now c.in_ok-firsts.firsts.items c.args.atoms.items l c.loop-atom.next.items c.loop-atom.links.items) none c.loop-atom.invariant))

@@ -1,8 +1,8 @@
 use Rattle.std.proofs.Common.{◌≡◌, ◌++◌, ◌∷◌, [], Some, subst, sym, arith}
 use Rattle.std.specs.Prelude.{slice_get}
+use Rattle.std.proofs.lemmas.List.{nil_from_length}
 use Rattle.connected_match.specs.Chains.{AreNexts}
 use Rattle.connected_match.specs.Walks.{IsSeen}
-use Rattle.connected_match.proofs.Chaining.{empty}
 use Rattle.connected_match.proofs.Walking.{Walking, walking_none, walking_end, walking_seen, walking_on}
 use Rattle.connected_match.proofs.Places.{standing}
 use Rattle.connected_match.proofs.Points.{seen_cases, seen_still, seen_here}
@@ -11,7 +11,7 @@ use Rattle.connected_match.proofs.walk.completes.Goals as goal
 
 pub returns-in_default-clause-no : goal.returns-in_default-clause-no
 returns-in_default-clause-no c = λ _.
-    let none : c.loop.waiting.items ≡ [] = empty c.loop.waiting.items (let short = c.in_default.ensures.cases.0 in let e = c.loop.waiting.ok.0 in omega (arith, short, e)) in
+    let none : c.loop.waiting.items ≡ [] = nil_from_length c.loop.waiting.items (let short = c.in_default.ensures.cases.0 in let e = c.loop.waiting.ok.0 in omega (arith, short, e)) in
     walking_none c.args.store.now c.args.links.now (IsSeen c.loop.seen) (subst (Walking c.args.store.now c.args.links.now (IsSeen c.loop.seen)) none c.loop.invariant)
 
 pub returns-then-point-links-clause-yes : goal.returns-then-point-links-clause-yes

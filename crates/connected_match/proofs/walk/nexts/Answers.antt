@@ -1,12 +1,12 @@
 use Rattle.std.proofs.Common.{◌≡◌, [], subst, sym}
+use Rattle.std.proofs.lemmas.List.{nil_from_length}
 use Rattle.connected_match.specs.Walks.{HavePlaces}
-use Rattle.connected_match.proofs.Chaining.{empty}
 use Rattle.connected_match.proofs.Nexting.{one_next, link_covered, have_places, all_nexts}
 use Rattle.connected_match.proofs.walk.nexts.Goals as goal
 
 pub returns-then-is_empty : goal.returns-then-is_empty
 returns-then-is_empty c =
-    let none : c.args.link.now.kept ≡ [] = empty c.args.link.now.kept (c.is_empty.ensures.0 c.if-is_empty.true) in
+    let none : c.args.link.now.kept ≡ [] = nil_from_length c.args.link.now.kept (c.is_empty.ensures.0 c.if-is_empty.true) in
     rw c.in_ok-empty_row_if.ensures (rw c.is_some.ensures
     (one_next c.args.store.now c.args.link.now c.args.row.now c.in_ok-given.given c.in_ok-given.ensures none c.in_ok-found.found c.in_ok-found.ensures.some c.in_ok-found.ensures.none))
 
