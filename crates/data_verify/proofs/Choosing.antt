@@ -6,7 +6,7 @@ use Rattle.std.specs.Cmp.{IsTotalOrder}
 use Rattle.std.specs.declared.cmp.Ordering.{Ordering}
 use Rattle.std.specs.declared.cmp.Ordering.TheVariants.{Less, Equal, Greater}
 use Rattle.std.proofs.lemmas.Cmp.{upto, tied_itself, lists_total, nat_cmp_total}
-use Rattle.std.proofs.lemmas.List.{take_more, take_all, ext_get_or}
+use Rattle.std.proofs.lemmas.List.{take_all, ext_get_or}
 use Rattle.std.proofs.lemmas.List.Elements.{Contains-append_left, Contains-push, Contains-push_cases}
 use Rattle.std.proofs.lemmas.List.FromFn.{length-map-range_with_len, get_or-map-range_with_len}
 use Rattle.meaning_laws.proofs.Carrying.{occurs_below}
@@ -24,6 +24,7 @@ use Rattle.homomorphism.specs.Rules.{AreBodyMatches, IsMet, IsUnmet, IsUnmetMatc
 use Rattle.homomorphism.proofs.Members.{contains_none}
 use Rattle.data_verify.specs.Breaking.{row_under, facts_under, row_lists_cmp}
 use Rattle.homomorphism.specs.Texts.{text_at}
+use Rattle.data_verify.proofs.KeySets.{turn}
 use Rattle.data_verify.specs.Unmet.{lesser, AreLeastRows, AreLeastRowsIf, AreLeastUnmet}
 
 total : IsTotalOrder row_lists_cmp
@@ -136,17 +137,14 @@ module _ (facts : List Ground) (rule : Rule) where
 
   -- one turn of the loop over the matches
   module _ (found : List Assignment) (i : ℕ) (one : Assignment) (l : i < length found) (is : one ≡ slice_index_or found i one) where
-    turn : take (i + 1) found ≡ take i found ++ one ∷ []
-    turn = take_more found i one l ∙ ap (λ m. take i found ++ m ∷ []) (sym is)
-
     pub turn_met : (least : Option (List (List (List ℕ)))) → IsMet facts rule one.vals → AreLeastRowsIf facts rule (take i found) least → AreLeastRowsIf facts rule (take (i + 1) found) least
-    unfolding turn met_more
-    turn_met least met all = subst (λ done. AreLeastRowsIf facts rule done least) (sym turn) (met_more (take i found) one least met all)
+    unfolding met_more
+    turn_met least met all = subst (λ done. AreLeastRowsIf facts rule done least) (sym (turn found i one l is)) (met_more (take i found) one least met all)
 
     pub turn_unmet : (least : Option (List (List (List ℕ)))) (rows next : List (List (List ℕ))) → IsUnmet facts rule one.vals → rows ≡ rows_of one → next ≡ lesser least rows →
         AreLeastRowsIf facts rule (take i found) least → AreLeastRows facts rule (take (i + 1) found) next
-    unfolding turn unmet_more
-    turn_unmet least rows next u e f all = subst (λ done. AreLeastRows facts rule done next) (sym turn) (subst (AreLeastRows facts rule (take i found ++ one ∷ [])) (sym f) (unmet_more (take i found) one least rows u e all))
+    unfolding unmet_more
+    turn_unmet least rows next u e f all = subst (λ done. AreLeastRows facts rule done next) (sym (turn found i one l is)) (subst (AreLeastRows facts rule (take i found ++ one ∷ [])) (sym f) (unmet_more (take i found) one least rows u e all))
 
   values_are : (values : List Val) → length values ≡ bound rule.body → values_of (bound rule.body) (at values) ≡ values
   values_are values width = ext_get_or (Label 0) (values_of (bound rule.body) (at values)) values (length-map-range_with_len (at values) 0 (bound rule.body) ∙ sym width)

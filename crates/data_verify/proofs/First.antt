@@ -1,7 +1,7 @@
 -- The first broken rule among some of the rules, one rule after another, and what no rule of a schema breaks.
 use Rattle.std.proofs.Common.{◌≡◌, ◌↔◌, ℕ, ◌+◌, ◌<◌, ◌≤◌, List, length, slice_index_or, slice_get, Option, Some, None, Bool, sym, ap, ◌∙◌, subst, ⊎_elim, arith, true, false, refl}
 use Rattle.std.specs.Prelude.{Contains, IfSome, IsNone}
-use Rattle.std.proofs.lemmas.Bool.{cases_lt}
+use Rattle.std.proofs.lemmas.Bool.{cases_lt, true≢false}
 use Rattle.std.proofs.lemmas.Option.{slice_get-get_or, slice_get_within}
 use Rattle.lists.proofs.Members.{contains_got, some_injective}
 use Rattle.meaning.specs.declared.types.Rule.{Rule}
@@ -104,10 +104,7 @@ module _ (instance : List Fact) (rules : List Rule) where
   pub met_told : (found : Option Broken) → Finds IsRule instance rules found → IsNone found ↔ MeetsAll itself (FactsOf instance) rules
   unfolding not_met
   met_told None all = ((λ e rule (k, less, same). all k rule less (slice_get-get_or rules k rule less ∙ ap Some same) tt), (λ m. refl))
-  met_told (Some broken) first = ((λ e. absurd (clash e)), (λ meets. absurd (not_met broken first meets)))
-    where
-      clash : true ≡ false → ⊥
-      clash e = cc
+  met_told (Some broken) first = ((λ e. absurd (true≢false e)), (λ meets. absurd (not_met broken first meets)))
 
   pub broken_told : (found : Option Broken) → Finds IsRule instance rules found → IfSome found (IsFirstBroken instance rules)
   broken_told None all = tt

@@ -1,11 +1,11 @@
 -- A rule with one body atom and one head atom, by the keys of the facts of its atoms.
-use Rattle.std.proofs.Common.{◌≡◌, ℕ, List, [], ◌∷◌, map, length, slice_index_or, ◌==◌, ◌&&◌, Bool, true, false, cond, eqb, refl, sym, ap, ◌∙◌, subst, ⊎_elim, arith, Contains}
+use Rattle.std.proofs.Common.{◌≡◌, ℕ, List, [], ◌∷◌, map, length, slice_index_or, ◌==◌, Bool, true, false, cond, eqb, refl, sym, ap, ◌∙◌, subst, ⊎_elim, arith, Contains}
 use Rattle.std.specs.Prelude.{◌≢◌}
 use Rattle.std.specs.Ordering.{ordering_then}
 use Rattle.std.specs.BTreeSet.{BTreeSet, contains}
 use Rattle.std.specs.declared.cmp.Ordering.{Ordering}
 use Rattle.std.specs.declared.cmp.Ordering.TheVariants.{Less, Equal, Greater}
-use Rattle.std.proofs.lemmas.Bool.{cases_eq, eq-eqb, eqb-true}
+use Rattle.std.proofs.lemmas.Bool.{cases_eq, eq-eqb, eqb-true, ne_eqb, and_parts, true≢false}
 use Rattle.lists.proofs.Members.{contains_here, contains_there, contains_cases, map_same}
 use Rattle.meaning.specs.declared.types.Term.{Term}
 use Rattle.meaning.specs.declared.types.Term.TheVariants.{Var, Const}
@@ -14,10 +14,11 @@ use Rattle.meaning.specs.declared.types.Rule.{Rule}
 use Rattle.meaning.specs.declared.types.Fact.{Fact}
 use Rattle.meaning.specs.Matching.{value_of, AreFacts, OccursIn, Extends, MeetsRule, itself, FactsOf}
 use Rattle.meaning_laws.proofs.Deciding.{same_values}
+use Rattle.meaning_laws.proofs.Example.{only as only_member}
 use Rattle.homomorphism.proofs.Members.{contains_none}
 use Rattle.data_verify.specs.Breaking.{Breaks, AreLeastBreaking, row_under, facts_under, row_lists_cmp}
 use Rattle.data_verify.specs.Inclusion.{is_inclusion, reading, key_of, AreShared, IsKey, AreKeys, IsWithout, IsLeastOf, row_cmp}
-use Rattle.data_verify.proofs.Terms.{reading_is, eqb_apart}
+use Rattle.data_verify.proofs.Terms.{var_is, const_var, reading_is}
 
 -- whether a variable is one of the terms
 occurs : ℕ → List Term → Bool
@@ -30,7 +31,7 @@ unfolding occurs
 occurs_told x [] e = absurd (cc)
 occurs_told x (Var y ∷ terms) e =
     ⊎_elim (λ same. subst (λ z. Contains (Var y ∷ terms) (Var z)) same (contains_here (Var y) terms))
-    (λ differ. contains_there (Var y) terms (Var x) (occurs_told x terms (sym (ap (λ b. cond b true (occurs x terms)) (eqb_apart y x differ)) ∙ e))) (cases_eq y x)
+    (λ differ. contains_there (Var y) terms (Var x) (occurs_told x terms (sym (ap (λ b. cond b true (occurs x terms)) (ne_eqb y x differ)) ∙ e))) (cases_eq y x)
 occurs_told x (Const c ∷ terms) e = contains_there (Const c) terms (Var x) (occurs_told x terms e)
 
 occurs_is : (x : ℕ) (terms : List Term) → Contains terms (Var x) → occurs x terms ≡ true
@@ -38,14 +39,8 @@ unfolding occurs
 occurs_is x [] c = absurd (contains_none (Var x) c)
 occurs_is x (Var y ∷ terms) c =
     ⊎_elim (λ same. ap (λ b. cond b true (occurs x terms)) (eq-eqb y x same))
-    (λ differ. ap (λ b. cond b true (occurs x terms)) (eqb_apart y x differ) ∙ ⊎_elim (λ e. absurd (differ (var_is y x e))) (λ h. occurs_is x terms h) (contains_cases (Var y) terms (Var x) c)) (cases_eq y x)
-  where
-    var_is : (y x : ℕ) → Var y ≡ Var x → y ≡ x
-    var_is y x e = cc
-occurs_is x (Const c ∷ terms) d = ⊎_elim (λ e. absurd (clash e)) (λ h. occurs_is x terms h) (contains_cases (Const c) terms (Var x) d)
-  where
-    clash : Const c ≡ Var x → ⊥
-    clash e = cc
+    (λ differ. ap (λ b. cond b true (occurs x terms)) (ne_eqb y x differ) ∙ ⊎_elim (λ e. absurd (differ (var_is y x e))) (λ h. occurs_is x terms h) (contains_cases (Var y) terms (Var x) c)) (cases_eq y x)
+occurs_is x (Const c ∷ terms) d = ⊎_elim (λ e. absurd (const_var c x e)) (λ h. occurs_is x terms h) (contains_cases (Const c) terms (Var x) d)
 
 same_at : (f g : ℕ → List ℕ) (xs : List ℕ) (x : ℕ) → map f xs ≡ map g xs → Contains xs x → f x ≡ g x
 same_at f g [] x e c = absurd (contains_none x c)
@@ -80,14 +75,9 @@ module _ (body head : List Term) (variables : List ℕ) (shared : AreShared body
       by x c false told = ap (λ t. cond t (a x) (b x)) told
 
 -- the only atom of each side
-and_true : (a b : Bool) → (a && b) ≡ true → (a ≡ true) × (b ≡ true)
-and_true true true e = (refl, refl)
-and_true true false e = absurd (cc)
-and_true false b e = absurd (cc)
-
 pub one_each : (rule : Rule) → is_inclusion rule ≡ true → (length rule.body ≡ 1) × (length rule.head ≡ 1)
 one_each rule e =
-    let (first, second) = and_true (length rule.body == 1) (length rule.head == 1) e in
+    let (first, second) = and_parts (length rule.body == 1) (length rule.head == 1) e in
     (eqb-true (length rule.body) 1 first, eqb-true (length rule.head) 1 second)
 
 pub only : {X : Type 0} (xs items : List X) (x : X) → items ≡ xs → length xs ≡ 1 → x ≡ slice_index_or items 0 x → xs ≡ x ∷ []
@@ -106,10 +96,7 @@ module _ (instance : List Fact) (rule : Rule) (body head : Atom) (body_is : rule
   fact_under a atom = record { rel = atom.rel; row = map (value_of itself a) atom.terms }
 
   of_one : (atoms : List Atom) (atom : Atom) (a : ℕ → List ℕ) → atoms ≡ atom ∷ [] → Contains instance (fact_under a atom) → AreFacts itself (FactsOf instance) a atoms
-  of_one atoms atom a e c other among = subst (λ z. Contains instance (fact_under a z)) (only (subst (λ z. Contains z other) e among)) c
-    where
-      only : Contains (atom ∷ []) other → atom ≡ other
-      only h = ⊎_elim (λ same. same) (λ g. absurd (contains_none other g)) (contains_cases atom [] other h)
+  of_one atoms atom a e c other among = subst (λ z. Contains instance (fact_under a z)) (only_member atom other (subst (λ z. Contains z other) e among)) c
 
   one_of : (atoms : List Atom) (atom : Atom) (a : ℕ → List ℕ) → atoms ≡ atom ∷ [] → AreFacts itself (FactsOf instance) a atoms → Contains instance (fact_under a atom)
   one_of atoms atom a e facts = facts atom (subst (λ z. Contains z atom) (sym e) (contains_here atom []))
@@ -149,12 +136,6 @@ module _ (instance : List Fact) (rule : Rule) (body head : Atom) (body_is : rule
     same_key body.terms head.terms variables shared a b (λ x c. ext.agrees x (occurs_in x c)),
   )
 
-  clash : (b : Bool) → b ≡ true → b ≡ false → ⊥
-  clash b e f = differ (sym e ∙ f)
-    where
-      differ : true ≡ false → ⊥
-      differ h = cc
-
   without : (a : ℕ → List ℕ) → ((b : ℕ → List ℕ) → Extends itself (FactsOf instance) rule a b → ⊥) → IsWithout body variables keys (fact_under a body)
   unfolding extends
   without a unmet = record {
@@ -182,7 +163,7 @@ module _ (instance : List Fact) (rule : Rule) (body head : Atom) (body_is : rule
         a,
         record {
           body = of_one rule.body body a body_is (subst (Contains instance) same among);
-          unmet = λ b ext. clash (contains row_cmp keys (key_of body.terms variables fact.row)) (ap (λ row. contains row_cmp keys (key_of body.terms variables row)) (sym e) ∙ (are _).1 (has_key a b ext)) w.absent;
+          unmet = λ b ext. true≢false (sym (ap (λ row. contains row_cmp keys (key_of body.terms variables row)) (sym e) ∙ (are _).1 (has_key a b ext)) ∙ w.absent);
         },
         same,
       )

@@ -7,6 +7,7 @@ use Rattle.std.specs.BTreeSet.{BTreeSet, contains}
 use Rattle.std.specs.Ordering.{is_eq}
 use Rattle.std.specs.declared.cmp.Ordering.{Ordering}
 use Rattle.std.specs.declared.cmp.Ordering.TheVariants.{Less, Equal, Greater}
+use Rattle.std.proofs.lemmas.Bool.{not-true, true≢false}
 use Rattle.std.proofs.lemmas.Cmp.{tied_itself}
 use Rattle.std.proofs.lemmas.List.{take_more}
 use Rattle.std.proofs.lemmas.List.Elements.{Contains-append_left, Contains-push, Contains-push_cases}
@@ -17,6 +18,7 @@ use Rattle.meaning.specs.declared.types.Atom.{Atom}
 use Rattle.meaning.specs.declared.types.Fact.{Fact}
 use Rattle.homomorphism.proofs.Members.{contains_none}
 use Rattle.data_verify.specs.Inclusion.{FitsAtom, key_of, AreShared, AreKeys, IsWithout, row_cmp}
+use Rattle.data_verify.proofs.Terms.{var_is}
 
 -- one turn of a loop over a list
 pub turn : {X : Type 0} (xs : List X) (i : ℕ) (x : X) → i < length xs → x ≡ slice_index_or xs i x → take (i + 1) xs ≡ take i xs ++ x ∷ []
@@ -44,32 +46,22 @@ module _ (body head : List Term) (i : ℕ) (term : Term) (l : i < length head) (
     (λ (of_head, of_body). ⊎_elim (λ h. Contains-append_left variables (y ∷ []) x ((are x).1 (h, of_body)))
         (λ f. subst (Contains (variables ++ y ∷ [])) (var_is y x (sym e ∙ f)) (Contains-push variables y)) (Contains-push_cases (take i head) term (Var x) of_head)),
   ))
-    where
-      var_is : (y x : ℕ) → Var y ≡ Var x → y ≡ x
-      var_is y x h = cc
 
 pub without_is : (atom : Atom) (variables : List ℕ) (keys : BTreeSet (List (List ℕ))) (fact : Fact) (wanted : List (List ℕ)) (b : Bool) → FitsAtom atom fact → wanted ≡ key_of atom.terms variables fact.row → b ≡ contains row_cmp keys wanted →
     IsTrue (not b) ↔ IsWithout atom variables keys fact
 without_is atom variables keys fact wanted b fits same e = (
-  (λ t. record { fits = fits; absent = sym found ∙ lacks b t }),
+  (λ t. record { fits = fits; absent = sym found ∙ not-true b t }),
   (λ w. ap not (found ∙ w.absent)),
 )
   where
     found : b ≡ contains row_cmp keys (key_of atom.terms variables fact.row)
     found = e ∙ ap (contains row_cmp keys) same
 
-    lacks : (b : Bool) → not b ≡ true → b ≡ false
-    lacks true t = absurd (cc)
-    lacks false t = refl
-
 pub keys_none : (atom : Atom) (variables : List ℕ) (keys : BTreeSet (List (List ℕ))) → keys.keys ≡ [] → AreKeys [] atom variables keys
 keys_none atom variables keys e key = (
-  (λ t. absurd (clash (sym t ∙ ap (list_any (is_at (row_cmp key))) e))),
+  (λ t. absurd (true≢false (sym t ∙ ap (list_any (is_at (row_cmp key))) e))),
   (λ (fact, c, fits, same). absurd (contains_none fact c)),
 )
-  where
-    clash : true ≡ false → ⊥
-    clash h = cc
 
 module _ (facts : List Fact) (i : ℕ) (fact : Fact) (l : i < length facts) (is : fact ≡ slice_index_or facts i fact) (atom : Atom) (variables : List ℕ) (was : BTreeSet (List (List ℕ))) (are : AreKeys (take i facts) atom variables was) where
   pub keys_skip : (FitsAtom atom fact → ⊥) → AreKeys (take (i + 1) facts) atom variables was

@@ -1,6 +1,7 @@
 -- Terms against a row, from the front, and the values that a row gives variables.
-use Rattle.std.proofs.Common.{◌≡◌, ◌↔◌, ◌⊎◌, ◌==◌, IsTrue, ℕ, zero, suc, ◌-◌, ◌<◌, ◌≤◌, List, [], ◌∷◌, map, length, take, drop, Some, Bool, true, false, cond, eqb, refl, sym, ap, ◌∙◌, subst, ⊎_elim, arith, Contains, slice_get, slice_index_or}
-use Rattle.std.proofs.lemmas.Bool.{cases_eq, eq-eqb, eqb-true}
+use Rattle.std.proofs.Common.{◌≡◌, ◌↔◌, ◌⊎◌, ◌==◌, IsTrue, ℕ, zero, suc, ◌-◌, ◌<◌, ◌≤◌, List, [], ◌∷◌, map, length, take, drop, Some, Bool, cond, eqb, refl, sym, ap, ◌∙◌, subst, ⊎_elim, arith, Contains, slice_get, slice_index_or}
+use Rattle.std.proofs.lemmas.Bool.{cases_eq, eq-eqb, ne_eqb}
+use Rattle.std.proofs.lemmas.List.{length-map}
 use Rattle.std.proofs.lemmas.Option.{slice_get-get_or}
 use Rattle.lists.proofs.Members.{contains_cases, map_got, some_injective}
 use Rattle.meaning.specs.declared.types.Term.{Term}
@@ -19,18 +20,11 @@ tail_is x y xs ys e = cc
 both : {X : Type 0} (x y : X) (xs ys : List X) → x ≡ y → xs ≡ ys → x ∷ xs ≡ y ∷ ys
 both x y xs ys e f = cc
 
-var_is : (x y : ℕ) → Var x ≡ Var y → x ≡ y
+pub var_is : (x y : ℕ) → Var x ≡ Var y → x ≡ y
 var_is x y e = cc
 
-const_var : (c : List ℕ) (x : ℕ) → Const c ≡ Var x → ⊥
+pub const_var : (c : List ℕ) (x : ℕ) → Const c ≡ Var x → ⊥
 const_var c x e = cc
-
-pub eqb_apart : (x y : ℕ) → (x ≡ y → ⊥) → eqb x y ≡ false
-eqb_apart x y differ = by (eqb x y) refl
-  where
-    by : (b : Bool) → eqb x y ≡ b → b ≡ false
-    by true e = absurd (differ (eqb-true x y e))
-    by false e = refl
 
 -- the first of the terms
 pub reading_same : (x : ℕ) (term : Term) (value : List ℕ) (terms : List Term) (row : List (List ℕ)) → term ≡ Var x → reading (term ∷ terms) (value ∷ row) x ≡ value
@@ -38,7 +32,7 @@ reading_same x (Var y) value terms row e = ap (λ b. cond b value (reading terms
 reading_same x (Const c) value terms row e = absurd (const_var c x e)
 
 pub reading_other : (x : ℕ) (term : Term) (value : List ℕ) (terms : List Term) (row : List (List ℕ)) → (term ≡ Var x → ⊥) → reading (term ∷ terms) (value ∷ row) x ≡ reading terms row x
-reading_other x (Var y) value terms row differ = ap (λ b. cond b value (reading terms row x)) (eqb_apart y x (λ e. differ (ap Var e)))
+reading_other x (Var y) value terms row differ = ap (λ b. cond b value (reading terms row x)) (ne_eqb y x (λ e. differ (ap Var e)))
 reading_other x (Const c) value terms row differ = refl
 
 reading_none : (x : ℕ) (terms : List Term) → reading terms [] x ≡ []
@@ -95,7 +89,7 @@ fits_both (Var x) value terms row first (a, e) = (changed, both (changed x) valu
     same : (y : ℕ) → Contains terms (Var y) → a y ≡ changed y
     same y c =
         ⊎_elim (λ f. ap a f ∙ here (subst (λ z. Contains terms (Var z)) f c) ∙ sym (ap (λ b. cond b value (a y)) (eq-eqb y x f)))
-        (λ differ. sym (ap (λ b. cond b value (a y)) (eqb_apart y x differ))) (cases_eq y x)
+        (λ differ. sym (ap (λ b. cond b value (a y)) (ne_eqb y x differ))) (cases_eq y x)
 
 pub fits_rest : (term : Term) (value : List ℕ) (terms : List Term) (row : List (List ℕ)) → FitsBefore term value terms row → Fits (term ∷ terms) (value ∷ row) ↔ Fits terms row
 fits_rest term value terms row first = ((λ (a, e). (a, tail_is _ _ _ row e)), (λ f. fits_both term value terms row first f))
@@ -104,11 +98,7 @@ pub fits_none : Fits [] []
 fits_none = ((λ x. []), refl)
 
 pub fits_short : (terms : List Term) (row : List (List ℕ)) → Fits terms row → length terms ≡ length row
-fits_short terms row (a, e) = sym (map_length (value_of itself a) terms) ∙ ap length e
-  where
-    map_length : {X Y : Type 0} (f : X → Y) (xs : List X) → length (map f xs) ≡ length xs
-    map_length f [] = refl
-    map_length f (x ∷ xs) = ap suc (map_length f xs)
+fits_short terms row (a, e) = sym (length-map terms (value_of itself a)) ∙ ap length e
 
 -- one turn of a loop that takes terms and a row apart
 module _ (left : List Term) (values : List (List ℕ)) (term : Term) (value : List ℕ) (l : 1 ≤ length left) (e : term ≡ slice_index_or left 0 term) (m : 1 ≤ length values) (f : value ≡ slice_index_or values 0 value) where
