@@ -4,7 +4,7 @@ use Rattle.std.specs.Prelude.{codes, Contains, ◌≢◌}
 use Rattle.std.specs.List.{AllZip}
 use Rattle.std.proofs.lemmas.List.{append-nil, map-append}
 use Rattle.std.proofs.lemmas.List.Elements.{Contains-push_cases}
-use Rattle.lists.proofs.Members.{contains_here, contains_there}
+use Rattle.lists.proofs.Members.{contains_here, contains_there, some_injective}
 use Rattle.pq_text.specs.declared.lexeme.Lexeme.{Lexeme}
 use Rattle.pq_text.specs.declared.token.TokenKind.TheVariants.{Word, Text}
 use Rattle.pq_text.specs.Lexemes.{◌>>=◌}
@@ -40,9 +40,6 @@ Fit-split [] (f ∷ a) b p = absurd p
 Fit-split (x ∷ lines) (f ∷ a) b p =
     let r = Fit-split lines a b p.1 in
     (x ∷ r.0, r.1, ap (λ (ls : List (List Lexeme)). x ∷ ls) r.2, (p.0, r.3), r.4)
-
-some_same : (a b : Progress) → Some a ≡ Some b → a ≡ b
-some_same a b e = cc
 
 -- ---- what has been read
 
@@ -199,7 +196,7 @@ module _ (schema : Schema) where
 
   pub lines_found : (lines : List (List Lexeme)) (done last : Progress) → IsSound schema done → read_from done lines ≡ Some last → AreRead schema done lines last
   lines_found [] done last sound e =
-      subst (AreRead schema done []) (some_same done last e) (record { forms = []; forms_are = sym (append-nil (forms_of schema done)); fit = tt; sound = sound })
+      subst (AreRead schema done []) (some_injective done last e) (record { forms = []; forms_are = sym (append-nil (forms_of schema done)); fit = tt; sound = sound })
   lines_found (tokens ∷ lines) done last sound e =
       let a = bind_some (next_at schema done tokens) (λ (more : Progress). read_from more lines) last e in
       let f = next_follows done tokens a.0 sound a.1 in

@@ -1,5 +1,5 @@
 -- Facts in order: what sorting and dropping doubles leaves, by the facts that are lent.
-use Rattle.std.proofs.Common.{◌≡◌, ◌↔◌, List, [], ◌∷◌, map, Bool, true, false, ◌&&◌, refl, sym, ◌∙◌, subst}
+use Rattle.std.proofs.Common.{◌≡◌, ◌↔◌, List, [], ◌∷◌, map, Bool, true, ◌&&◌, sym, ◌∙◌, subst}
 use Rattle.std.specs.Prelude.{Contains, nat_eq}
 use Rattle.std.specs.List.{AllByRecursion, dedup}
 use Rattle.std.specs.List.Sorted.{IsPermutation, IsSorted, IsStrictlySortedBy}
@@ -7,7 +7,7 @@ use Rattle.std.specs.Ordering.{nat_cmp, eq_by_cmp}
 use Rattle.std.specs.Cmp.{IsTotalOrder, IsEquivalence, on_equiv, and_equiv, both_tied, unsigned_tied}
 use Rattle.std.specs.Cmp.Lexicographic.{slice_cmp, pointwise}
 use Rattle.std.specs.declared.cmp.Ordering.TheVariants.{Less}
-use Rattle.std.proofs.lemmas.Bool.{eqb-true}
+use Rattle.std.proofs.lemmas.Bool.{eqb-true, and_parts}
 use Rattle.std.proofs.lemmas.Cmp.{then_total, on_total, nat_cmp_total, nat_eq_equiv}
 use Rattle.std.proofs.lemmas.List.Kept.{Any-dedup, Contains-from_dedup, IsStrictlySortedBy-dedup}
 use Rattle.std.proofs.lemmas.List.Sorted.{Contains-permutation, IsPermutation-sym}
@@ -28,13 +28,9 @@ fact_ties x y = both_tied _ _ (nat_cmp x.rel y.rel) (slice_cmp (slice_cmp nat_cm
 fact_equiv : IsEquivalence fact_same
 fact_equiv = and_equiv (on_equiv (λ (t : Fact). t.rel) nat_eq_equiv) (on_equiv (λ (t : Fact). t.row) rows_equiv)
 
-both_hold : (a b : Bool) → (a && b) ≡ true → (a ≡ true) × (b ≡ true)
-both_hold true b e = (refl, e)
-both_hold false b e = absurd (cc)
-
 fact_equal : (x y : Fact) → fact_same x y ≡ true → x ≡ y
 fact_equal x y e =
-    let (first, rest) = both_hold (nat_eq x.rel y.rel) (pointwise (pointwise nat_eq) x.row y.row) e in
+    let (first, rest) = and_parts (nat_eq x.rel y.rel) (pointwise (pointwise nat_eq) x.row y.row) e in
     let rel : x.rel ≡ y.rel = eqb-true x.rel y.rel first in
     let row : x.row ≡ y.row = rows_same_equal x.row y.row rest in
     λ i. record { rel = rel i; row = row i }

@@ -3,6 +3,7 @@ use Rattle.std.proofs.Common.{◌≡◌, ℕ, zero, suc, Bool, true, false, cond
 use Rattle.std.specs.Prelude.{◌==◌, nat_eq, ◌≢◌}
 use Rattle.std.specs.Cmp.Lexicographic.{pointwise, nat_list_eq_equiv}
 use Rattle.std.proofs.lemmas.Bool.{eqb-true, eq-eqb}
+use Rattle.std.proofs.lemmas.Option.{none-some, cond_some}
 use Rattle.lists.proofs.Members.{map_got, got_mapped, some_injective}
 use Rattle.pq_text.proofs.Forms.{same_text}
 use Rattle.meaning.specs.declared.types.Relation.{Relation}
@@ -16,12 +17,9 @@ use Rattle.explain.specs.Reading.{number_of, fact_with, fact_of}
 
 -- ---- numbers of relations
 
-none_some : {X : Type 0} (x : X) → None ≡ Some x → ⊥
-none_some x e = cc
-
 -- a relation with that number has the name
 number_names : (relations : List Relation) (name : List ℕ) (relation : Relation) → slice_get relations (number_of relations name) ≡ Some relation → relation.name ≡ name
-number_names [] name relation e = absurd (none_some relation e)
+number_names [] name relation e = absurd (none-some relation e)
 number_names (r ∷ relations) name relation e = step (pointwise nat_eq r.name name) refl (λ h. number_names relations name relation h) e
   where
     step : (b : Bool) → pointwise nat_eq r.name name ≡ b → (slice_get relations (number_of relations name) ≡ Some relation → relation.name ≡ name) → slice_get (r ∷ relations) (cond b zero (suc (number_of relations name))) ≡ Some relation → relation.name ≡ name
@@ -30,7 +28,7 @@ number_names (r ∷ relations) name relation e = step (pointwise nat_eq r.name n
 
 -- a name that some relation has is found
 number_found : (relations : List Relation) (k : ℕ) (relation : Relation) → slice_get relations k ≡ Some relation → (found : Relation) × (slice_get relations (number_of relations relation.name) ≡ Some found)
-number_found [] k relation e = absurd (none_some relation e)
+number_found [] k relation e = absurd (none-some relation e)
 number_found (r ∷ relations) zero relation e = first (pointwise nat_eq r.name relation.name) (ap (λ (s : Relation). pointwise nat_eq s.name relation.name) (some_injective r relation e) ∙ nat_list_eq_equiv.refl relation.name)
   where
     first : (b : Bool) → b ≡ true → (found : Relation) × (slice_get (r ∷ relations) (cond b zero (suc (number_of relations relation.name))) ≡ Some found)
@@ -53,10 +51,6 @@ number_is relations k relation differ at =
 
 -- ---- facts
 
-fact_case : (b : Bool) (made fact : Fact) → cond b (Some made) None ≡ Some fact → (b ≡ true) × (made ≡ fact)
-fact_case true made fact e = (refl, some_injective made fact e)
-fact_case false made fact e = absurd (none_some fact e)
-
 -- what is made of a name and a row fits the relation of that name
 pub record IsMade (schema : Schema) (name : List ℕ) (row : List (List ℕ)) (fact : Fact) : Type 0 where
   pub name_is : name_of (slice_get schema.relations fact.rel) ≡ name
@@ -67,10 +61,10 @@ pub fact_made : (schema : Schema) (name : List ℕ) (row : List (List ℕ)) (fac
 fact_made schema name row fact e = step (slice_get schema.relations (number_of schema.relations name)) refl e
   where
     step : (o : Option Relation) → slice_get schema.relations (number_of schema.relations name) ≡ o → fact_with (number_of schema.relations name) row o ≡ Some fact → IsMade schema name row fact
-    step None at e = absurd (none_some fact e)
+    step None at e = absurd (none-some fact e)
     step (Some relation) at e =
         let made : Fact = record { rel = number_of schema.relations name; row = row } in
-        let c = fact_case (length row == length relation.columns) made fact e in
+        let c = cond_some (length row == length relation.columns) made fact e in
         subst (IsMade schema name row) c.1 (record {
           name_is = ap name_of at ∙ number_names schema.relations name relation at;
           row_is = refl;
@@ -107,4 +101,4 @@ fact_there schema name rel relation row named at =
 pub number_lost : (relations : List Relation) (rel : ℕ) (name : List ℕ) → slice_get (relation_names relations) rel ≡ Some name → None ≡ slice_get relations rel → ⊥
 number_lost relations rel name named lost =
     let there = got_mapped (λ (r : Relation). r.name) relations rel name named in
-    none_some there.0 (lost ∙ there.1)
+    none-some there.0 (lost ∙ there.1)

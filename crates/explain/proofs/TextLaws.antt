@@ -1,6 +1,8 @@
 -- A text is read as a pair exactly where it says that pair, and otherwise its first line that does not fit is told.
 use Rattle.std.proofs.Common.{◌≡◌, ℕ, List, [], ◌∷◌, ◌++◌, length, Option, None, Some, Result, Ok, Err, refl, sym, ap, subst, ◌∙◌, append_assoc, inl, inr, ◌⊎◌}
 use Rattle.std.specs.Prelude.{IfOk, IfErr}
+use Rattle.std.proofs.lemmas.Option.{none-some}
+use Rattle.lists.proofs.Members.{some_injective}
 use Rattle.pq_text.specs.declared.lexeme.Lexeme.{Lexeme}
 use Rattle.pq_text.specs.declared.lexeme.Line.{Line}
 use Rattle.pq_text.specs.declared.lexeme.TextLines.{TextLines}
@@ -117,9 +119,6 @@ module _ (schema : Schema) where
   lines_halt [] number done e = absurd cc
   lines_halt (line ∷ lines) number done e = line_halts line lines (λ more. progress_from schema more lines) number done line.tokens refl (λ more h. lines_halt lines number more h) e
 
-  none_never : (x : Progress) → None ≡ Some x → ⊥
-  none_never x e = cc
-
   has_misfit : (lines : List Line) (number : ℕ) → progress_from schema Opening lines ≡ bad number → HasMisfit schema lines number
   has_misfit lines number e =
       let r = lines_halt lines number Opening e in
@@ -135,7 +134,7 @@ module _ (schema : Schema) where
             let stops : read_from schema Opening (written (r.front ++ r.line ∷ [])) ≡ None =
             ap (read_from schema Opening) (written-append r.front (r.line ∷ [])) ∙ read-append schema Opening (written r.front) (behind_tokens r.line.tokens [])
             ∙ ap (λ (o : Option Progress). o >>= λ more. read_from schema more (behind_tokens r.line.tokens [])) r.read ∙ r.none in
-            none_never other.0 (sym stops ∙ other.1);
+            none-some other.0 (sym stops ∙ other.1);
       }
 
   -- ---- texts
@@ -161,14 +160,8 @@ module _ (schema : Schema) where
   pub text_early : (text : List ℕ) (told : TextLines) (last : Progress) (number : ℕ) → AreLines text told → told.broken ≡ None → progress_from schema Opening told.whole ≡ good last → witness_of last ≡ None →
       number ≡ number_at text (length text) → IsFirstMisfit schema text number
   text_early text told last number lines whole e early is =
-      let never : (pair : Witness) → AreWitnessLines schema (written told.whole) pair → ⊥ = λ pair are. none_pair pair (sym early ∙ ap witness_of (some_same last (Ended pair) (sym (all_read schema told.whole Opening last e) ∙ witness_again schema pair (written told.whole) are))) in
+      let never : (pair : Witness) → AreWitnessLines schema (written told.whole) pair → ⊥ = λ pair are. none-some pair (sym early ∙ ap witness_of (some_injective last (Ended pair) (sym (all_read schema told.whole Opening last e) ∙ witness_again schema pair (written told.whole) are))) in
       (told, lines, inr (read_begin schema (written told.whole) last (are_read schema told.whole last e), subst (λ (b : Option ℕ). Stops schema text told b number) (sym whole) (never, is)))
-    where
-      some_same : (a b : Progress) → Some a ≡ Some b → a ≡ b
-      some_same a b e = cc
-
-      none_pair : (pair : Witness) → None ≡ Some pair → ⊥
-      none_pair pair e = cc
 
   pub text_misfit : (text : List ℕ) (told : TextLines) (number : ℕ) → AreLines text told → progress_from schema Opening told.whole ≡ bad number → IsFirstMisfit schema text number
   text_misfit text told number lines e = (told, lines, inl (has_misfit told.whole number e))
