@@ -61,7 +61,7 @@ one_value rows conditions hold (turned j) = sym (one_value rows conditions hold 
 one_value rows conditions hold (chained i j) = one_value rows conditions hold i ∙ one_value rows conditions hold j
 
 module _ (schema : SchemaParts) (select : Select) where
-  shaped_length : (froms : List ℕ) (atoms : List Atom) → AreNarrow schema.relations → Shapes schema select froms atoms → length (terms_of atoms) ≤ 64 * length froms
+  pub shaped_length : (froms : List ℕ) (atoms : List Atom) → AreNarrow schema.relations → Shapes schema select froms atoms → length (terms_of atoms) ≤ 64 * length froms
   shaped_length [] [] narrow is = omega arith
   shaped_length [] (atom ∷ atoms) narrow is = absurd is
   shaped_length (rel ∷ froms) [] narrow is = absurd is

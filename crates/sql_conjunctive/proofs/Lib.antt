@@ -5,3 +5,4 @@ pub mod Literals
 pub mod Forming
 pub mod Rowing
 pub mod OfSchema
+pub mod Counted
