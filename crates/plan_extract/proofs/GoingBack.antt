@@ -4,7 +4,7 @@ use Rattle.std.specs.Prelude.{Contains, slice_get}
 use Rattle.std.proofs.lemmas.Bool.{cases_lt}
 use Rattle.std.proofs.lemmas.List.{append-nil, take_all, take-take, length-take, length-append}
 use Rattle.std.proofs.lemmas.Option.{slice_get_within}
-use Rattle.lists.proofs.Members.{some_injective, contains_here, contains_there, contains_cases, contains_got, contains_map, got_push, map_same}
+use Rattle.lists.proofs.Members.{some_injective, contains_here, contains_there, contains_got, contains_map, got_push, map_same}
 use Rattle.meaning.specs.declared.types.SchemaParts.{SchemaParts}
 use Rattle.meaning.specs.declared.types.Atom.{Atom}
 use Rattle.meaning.specs.declared.types.Rule.{Rule}
@@ -27,6 +27,7 @@ use Rattle.accessible_copy.specs.declared.entry.Entry.{Entry}
 use Rattle.accessible_copy.specs.Proving.{Proving, IsWritten, IsProofOf, exposed_in, exposed_by, firings_of, sizes_of}
 use Rattle.accessible_copy.proofs.Writing.{exposed_on, firings_on}
 use Rattle.accessible_copy.proofs.Listed.{take_got}
+use Rattle.accessible_copy.proofs.OpenListed.{place_of}
 use Rattle.plan_extract.specs.Resting.{Makes}
 use Rattle.plan_extract.specs.Resting.RestsOnFact.{atom as rests_atom, body as rests_body}
 use Rattle.plan_extract.specs.Passes.{Serves, IsBack, HasRule}
@@ -65,10 +66,6 @@ body_at trigger rule width = map_same (ground (at trigger.values)) (ground (assi
         (λ i. record { rel = atom.rel; vals = same i })
 
 -- ---- places in lists
-
-pub contained_at : {X : Type 0} (xs : List X) (x : X) → Contains xs x → (k : ℕ) × (slice_get xs k ≡ Some x)
-contained_at [] x c = absurd (omega arith)
-contained_at (y ∷ xs) x c = ⊎_elim (λ e. (0, ap (λ z. Some z) e)) (λ h. let (k, at) = contained_at xs x h in (suc k, at)) (contains_cases y xs x c)
 
 pub got_take : {X : Type 0} (xs : List X) (n k : ℕ) (x : X) → slice_get (take n xs) k ≡ Some x → (k < n) × (slice_get xs k ≡ Some x)
 got_take [] zero k x e = absurd (cc)
@@ -237,7 +234,7 @@ module _ (schema : SchemaParts) (proof : Proving) (goals : List Ground) (left af
     where
       old : (fact : Ground) → Contains wanted fact → Contains (fired (copy_state its.middle) trigger its.rule).facts fact → Contains its.middle.copy fact
       old fact want there =
-          let (k, at) = contained_at (take after proof.end.copy) fact (subst (λ facts. Contains facts fact) (sym its.copy ∙ back.copy) there) in
+          let (k, at) = place_of (take after proof.end.copy) fact (subst (λ facts. Contains facts fact) (sym its.copy ∙ back.copy) there) in
           let (below, is) = got_take proof.end.copy after k fact at in
           ⊎_elim (λ early. subst (λ facts. Contains facts fact) (sym front_copy) (take_has proof.end.copy entry.before.copy k fact early is)) (λ late. absurd (none k fact late below is want)) (cases_lt k entry.before.copy)
 
@@ -299,7 +296,7 @@ back_start schema proof goals left after wanted is there l a w = record {
 
 -- ---- where the pass ends
 
-last_push : (part : ℕ) (log : List Firing) (firing : Firing) → last_part part (log ++ firing ∷ []) ≡ part_of firing
+pub last_push : (part : ℕ) (log : List Firing) (firing : Firing) → last_part part (log ++ firing ∷ []) ≡ part_of firing
 last_push part [] firing = refl
 last_push part (other ∷ log) firing = last_push (part_of other) log firing
 

@@ -1,5 +1,6 @@
 pub mod Counting
 pub mod ExposedAtoms
+pub mod Zips
 pub mod Shown
 pub mod Read
 pub mod GoingBack

@@ -26,7 +26,8 @@ use Rattle.accessible_copy.specs.declared.entry.Exposed.{Exposed}
 use Rattle.accessible_copy.specs.Proving.{Proving, IsProofOf, log_of}
 use Rattle.accessible_copy.proofs.Writing.{written_run}
 use Rattle.plan_extract.specs.Trimmed.{IsShown}
-use Rattle.plan_extract.proofs.Shown.{shown_of, shown_in, zip_got}
+use Rattle.plan_extract.proofs.Shown.{shown_of, shown_in}
+use Rattle.plan_extract.proofs.Zips.{zip_from}
 
 module _ (schema : SchemaParts) (constants : List Value) where
   -- a run never goes back to an earlier part
@@ -170,7 +171,7 @@ schema_narrow schema relation rel there = (schema.valid.relations_are.columns re
 pub method_of : (schema : SchemaParts) (proof : Proving) → IsProofOf schema proof → (k : ℕ) (x : Exposed) → slice_get proof.exposed k ≡ Some x → (method : Method) × (slice_get schema.methods x.method ≡ Some method)
 method_of schema proof is k x got =
     let d = derives schema proof.constants proof.start (log_of proof) proof.end (written_run schema proof.constants 0 proof.start proof.entries proof.end is.written) is.none_exposed is.none_copied in
-    let (e, there) = zip_got (IsShown schema) proof.exposed d.exposures k x (subst (λ list. AllZip (IsShown schema) list d.exposures) (sym (is.exposed ∙ shown_in proof.entries)) d.shown) got in
+    let (e, at, there) = zip_from (IsShown schema) proof.exposed d.exposures k x (subst (λ list. AllZip (IsShown schema) list d.exposures) (sym (is.exposed ∙ shown_in proof.entries)) d.shown) got in
     (e.method, there.0)
 
 -- a step for each exposure

@@ -1,5 +1,5 @@
 -- What the log of a proof says of its exposed facts.
-use Rattle.std.proofs.Common.{◌≡◌, ℕ, ◌+◌, ◌≤◌, zero, suc, List, [], ◌∷◌, ◌++◌, length, take, refl, sym, ap, ◌∙◌, subst, ⊎_elim, arith, append_assoc}
+use Rattle.std.proofs.Common.{◌≡◌, ℕ, ◌+◌, ◌≤◌, List, [], ◌∷◌, ◌++◌, length, take, refl, sym, ap, ◌∙◌, subst, ⊎_elim, arith, append_assoc}
 use Rattle.std.specs.Prelude.{Contains, Some, None, slice_get}
 use Rattle.std.specs.List.{AllZip}
 use Rattle.std.proofs.lemmas.List.{append-nil, length-append, map-append, take_all}
@@ -18,6 +18,7 @@ use Rattle.accessible_copy.specs.Known.{facts_of}
 use Rattle.accessible_copy.proofs.Lists.{none_beyond}
 use Rattle.accessible_copy.proofs.Listed.{take_got}
 use Rattle.accessible_copy.specs.Proving.{Proving, firings_of, exposed_by, exposed_in, IsWritten, IsProofOf}
+use Rattle.plan_extract.proofs.Zips.{zip_push}
 use Rattle.plan_extract.specs.Trimmed.{IsShown}
 
 -- the exposed facts of a log
@@ -66,25 +67,6 @@ module _ (schema : SchemaParts) (proof : Proving) (is : IsProofOf schema proof) 
 
   pub few_exposed : length proof.exposed ≤ length proof.entries
   few_exposed = let few = few_shown proof.entries in let same = ap length is.exposed in omega arith
-
--- what stands at a place of the one list has its counterpart in the other
-pub zip_got : {A B : Type 0} (P : A → B → Type 0) (xs : List A) (ys : List B) (k : ℕ) (x : A) → AllZip P xs ys → slice_get xs k ≡ Some x → (y : B) × P x y
-zip_got P [] ys k x all got = absurd (cc)
-zip_got P (z ∷ xs) [] k x all got = absurd all
-zip_got P (z ∷ xs) (y ∷ ys) zero x all got = (y, subst (λ a. P a y) (some_injective z x got) all.0)
-zip_got P (z ∷ xs) (y ∷ ys) (suc k) x all got = zip_got P xs ys k x all.1 got
-
-pub zip_long : {A B : Type 0} (P : A → B → Type 0) (xs : List A) (ys : List B) → AllZip P xs ys → length ys ≡ length xs
-zip_long P [] [] all = refl
-zip_long P [] (y ∷ ys) all = absurd all
-zip_long P (x ∷ xs) [] all = absurd all
-zip_long P (x ∷ xs) (y ∷ ys) all = let rest = zip_long P xs ys all.1 in omega arith
-
-pub zip_push : {A B : Type 0} (P : A → B → Type 0) (xs : List A) (ys : List B) (x : A) (y : B) → AllZip P xs ys → P x y → AllZip P (xs ++ x ∷ []) (ys ++ y ∷ [])
-zip_push P [] [] x y all one = (one, tt)
-zip_push P [] (z ∷ ys) x y all one = absurd all
-zip_push P (z ∷ xs) [] x y all one = absurd all
-zip_push P (z ∷ xs) (w ∷ ys) x y all one = (all.0, zip_push P xs ys x y all.1 one)
 
 -- exposures of the same list are the same
 pub same_shown : (schema : SchemaParts) (exposed : List Exposed) (first second : List Exposure) → AllZip (IsShown schema) exposed first → AllZip (IsShown schema) exposed second → first ≡ second

@@ -1,18 +1,21 @@
 -- The two passes back over a proof: what is wanted of the copy facts, and which exposures are marked.
 use Rattle.std.specs.Prelude.{◌≡◌, ◌≤◌, ℕ, Bool, true, List, Contains, length, take, slice_get, Some, None}
+use Rattle.std.specs.List.{AllZip}
 use Rattle.std.specs.Ordering.{nat_cmp}
 use Rattle.std.specs.BTreeMap.{BTreeMap, get}
 use Rattle.meaning.specs.declared.types.SchemaParts.{SchemaParts}
 use Rattle.meaning.specs.declared.types.Rule.{Rule}
+use Rattle.meaning.specs.declared.types.Branch.{Branch}
 use Rattle.meaning.specs.declared.types.Ground.{Ground}
 use Rattle.meaning.specs.declared.types.Trigger.{Trigger}
 use Rattle.meaning.specs.declared.types.Val.{Val}
 use Rattle.meaning.specs.declared.types.Val.TheVariants.{Label}
 use Rattle.meaning.specs.Triggers.{State, IsFiringRun, bound}
 use Rattle.meaning.specs.Runs.{Proof, last_part}
-use Rattle.meaning.specs.Extract.{Exposure}
+use Rattle.meaning.specs.Extract.{Exposure, branch_of}
 use Rattle.accessible_copy.specs.Proving.{Proving, firings_of, exposed_in, IsWritten}
 use Rattle.plan_extract.specs.Resting.{RestsOnFact, IsFirstWith, RestsOn}
+use Rattle.plan_extract.specs.Trimmed.{IsShown, picked}
 
 -- From each state with the wanted facts among these, whose next label is not higher, some firings lead to all the goal facts.
 abbrev pub Serves : List Rule → ℕ → List Ground → List Ground → List Ground → Type 0
@@ -79,3 +82,13 @@ AreClosed exposures from marks =
 pub record AreMarked (exposures : List Exposure) (wanted : List Ground) (marks : List Bool) : Type 0 where
   pub held : HoldsWanted exposures wanted marks
   pub closed : AreClosed exposures 0 marks
+
+-- The branch is read off the proof's exposures of which those are kept that the two passes mark for the goal facts.
+pub record IsReadOff (schema : SchemaParts) (proof : Proving) (goals : List Ground) (head : List Val) (branch : Branch) : Type 0 where
+  pub exposures : List Exposure
+  pub shown : AllZip (IsShown schema) proof.exposed exposures
+  pub wanted : List Ground
+  pub are_wanted : AreWanted schema proof goals wanted
+  pub marks : List Bool
+  pub marked : AreMarked exposures wanted marks
+  pub branch_is : branch ≡ branch_of (picked exposures marks) head

@@ -1,12 +1,14 @@
 // The branch of a proof in which a query has a match.
 ghost use Rattle.std.specs.Prelude.{◌≡◌, ◌≤◌, ℕ, List, IfOk, Some, Contains, length, slice_get};
 ghost use Rattle.meaning.specs.declared.types.Query.{Query};
+ghost use Rattle.meaning.specs.declared.types.Ground.{Ground as TheGround};
 ghost use Rattle.meaning.specs.Fitting.{QueryFits};
 ghost use Rattle.access_schema.specs.Meaning.{meaning_of};
 ghost use Rattle.rule_pass.specs.declared.pass.TheConstants.{MOST_FIRINGS};
 ghost use Rattle.accessible_copy.specs.Goals.{IsGoal};
 ghost use Rattle.plan_extract.specs.Branches.{IsBranchFor, IsProofFor};
 ghost use Rattle.plan_extract.specs.Trimmed.{IsTrimmedBranch};
+ghost use Rattle.plan_extract.specs.Passes.{IsReadOff};
 
 use crate::branch::read_off;
 use crate::marking::{marked, picked};
@@ -16,7 +18,7 @@ use crate::wanting::wanted_facts;
 use access_schema::Schema;
 use accessible_copy::{Match, Proof};
 use lists::NoMemory;
-use meaning::types::{Branch, Queries, Vals};
+use meaning::types::{Branch, Ground, Queries, Vals};
 use std::alloc::Global;
 
 /// The branch of a proof of a query, with the frozen head, in whose copy facts one of the queries has this match.
@@ -47,6 +49,23 @@ pub fn extract(
     let query = &queries.as_slice()[found.select as usize];
     let values = found.assignment.vals.as_slice();
     let atoms = facts_at(alloc, query.atoms.as_slice(), values)?;
+    read_kept(alloc, proof, schema, head, atoms)
+}
+
+/// The branch of the exposures of a proof on which these copy facts rest.
+fn read_kept(
+    alloc: Global,
+    proof: &Proof,
+    schema: &Schema,
+    head: &Vals,
+    atoms: Vec<Ground>,
+) -> Result<Branch, NoMemory>
+    requires proof { (query : Query) × IsProofFor (meaning_of schema.now) proof.now head.now query }
+    requires few { length proof.now.entries ≤ MOST_FIRINGS }
+    requires known { (c : List ℕ) → Contains schema.now.constants c → Contains proof.now.constants c }
+    requires there { (fact : TheGround) → Contains atoms.items fact → Contains proof.now.end.copy fact }
+    ensures { IfOk result (IsReadOff (meaning_of schema.now) proof.now atoms.items head.now) }
+{
     let wanted = wanted_facts(alloc, schema, proof, atoms)?;
     let shown = shown(alloc, schema, proof)?;
     let marks = marked(alloc, shown.as_slice(), &wanted)?;

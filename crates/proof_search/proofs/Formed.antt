@@ -3,6 +3,7 @@ use Rattle.std.proofs.Common.{◌≡◌, ◌↔◌, ℕ, ◌+◌, ◌*◌, ◌<�
 use Rattle.std.specs.Prelude.{Contains, slice_get, IfOk}
 use Rattle.std.specs.List.{AllZip}
 use Rattle.std.proofs.lemmas.List.{length-append, length-map}
+use Rattle.std.proofs.lemmas.Slice.Zip.{AllZip-long}
 use Rattle.lists.proofs.Members.{contains_here, contains_there, contains_cases, contains_got}
 use Rattle.meaning.specs.declared.types.Atom.{Atom}
 use Rattle.meaning.specs.declared.types.Branch.{Branch}
@@ -59,7 +60,6 @@ use Rattle.proof_search.specs.Decisions.{IsRefutation, IsUndecided, IsDecision}
 use Rattle.proof_search.specs.Decisions.IsDecision.{plan as of_plan}
 use Rattle.no_plan_witness.proofs.Refuting.{witnesses_refute}
 use Rattle.proof_search.proofs.Turns.{only_is}
-use Rattle.plan_extract.proofs.Shown.{zip_long}
 use Rattle.plan_extract.proofs.Read.{schema_narrow}
 
 -- ---- the queries of a select
@@ -149,7 +149,7 @@ module _ (schema : Schema) (statement : Statement) (select : Select) (queries : 
       let variables = fits.variables in
       let terms : length (terms_of query.atoms) ≤ 64 * length query.atoms = terms_few query.atoms (λ atom there.
       let fit = fits.arity atom there in let wide = fit.width in let columns = schema_narrow schema fit.relation atom.rel fit.there in omega arith) in
-      let atoms : length query.atoms ≡ length select.froms = zip_long (IsAtomFor (meaning_of schema)) select.froms query.atoms form.atoms in
+      let atoms : length query.atoms ≡ length select.froms = AllZip-long (IsAtomFor (meaning_of schema)) select.froms query.atoms form.atoms in
       let order : terms_bound (terms_of query.atoms) ≤ 0 + length (terms_of query.atoms) = ordered_short 0 (terms_of query.atoms) (ordered_from (terms_of query.atoms) numbered.in_order) in
       let all = bound_is query.atoms in
       let count = numbered.variables in
@@ -207,7 +207,7 @@ module _ (schema : Schema) (statement : Statement) (select : Select) (queries : 
 
   pub short : (width : ℕ) (branches : List Branch) → AllZip (IsQueryBranch (meaning_of schema) (known_of schema statement) queries) queries branches → HasFewSteps (record { width = width; branches = branches })
   short width branches all = record {
-    branches = let long = zip_long (IsQueryBranch (meaning_of schema) (known_of schema statement) queries) queries branches all in let one_query = are.few in omega arith;
+    branches = let long = AllZip-long (IsQueryBranch (meaning_of schema) (known_of schema statement) queries) queries branches all in let one_query = are.few in omega arith;
     steps = λ branch among. few branches queries all branch among;
   }
 
@@ -305,7 +305,7 @@ module _ (schema : Schema) (statement : Statement) (select : Select) (queries : 
 
     -- the branches that are chosen have costs
     pub choice_few : (choices : List Choice) → AllZip (IsChoice (meaning_of schema) (known_of schema statement) queries firings search) queries choices → length choices ≤ 1
-    choice_few choices all = let long = zip_long (IsChoice (meaning_of schema) (known_of schema statement) queries firings search) queries choices all in let few = are.few in omega arith
+    choice_few choices all = let long = AllZip-long (IsChoice (meaning_of schema) (known_of schema statement) queries firings search) queries choices all in let few = are.few in omega arith
 
     pub choice_named : (choices : List Choice) → AllZip (IsChoice (meaning_of schema) (known_of schema statement) queries firings search) queries choices → (choice : Choice) → Contains choices choice → NamesMethods (meaning_of schema) choice.branch.steps
     choice_named choices all choice among =

@@ -30,7 +30,7 @@ use Rattle.proof_search.specs.Outcomes.{IsQueryOutcome, IsWithoutGoal, IsFirstSp
 use Rattle.proof_search.specs.declared.outcome.Choice.{Choice}
 use Rattle.proof_search.specs.declared.outcome.QueryOutcome.{QueryOutcome}
 use Rattle.proof_search.specs.declared.outcome.QueryOutcome.TheVariants as one
-use Rattle.plan_extract.proofs.Shown.{zip_push}
+use Rattle.plan_extract.proofs.Zips.{zip_push}
 
 module _ (schema : SchemaParts) (known : List Value) (queries : List Query) (firings units : ℕ) (query : Query) (proof : Proving) (search : IsSearch schema firings (opening query) known proof)
     (none : HasGoal queries proof.end (frozen_head query) → ⊥) where
