@@ -7,8 +7,8 @@ use Rattle.lists.proofs.Members.{contains_here, contains_there, contains_cases}
 use Rattle.meaning.specs.declared.types.Fact.{Fact}
 use Rattle.meaning.specs.declared.types.SchemaParts.{SchemaParts}
 use Rattle.meaning.specs.Access.{CanAccess, IsAccessPath, IsAccessible}
+use Rattle.homomorphism.proofs.Members.{contains_none}
 use Rattle.no_plan_witness.specs.Gathering.{Gathered}
-use Rattle.no_plan_witness.proofs.Turns.{contains_none}
 
 -- a list with the member at a place taken out
 apart : {X : Type 0} (xs : List X) (i : ℕ) (x : X) → i < length xs → x ≡ slice_index_or xs i x → xs ≡ take i xs ++ x ∷ drop (suc i) xs

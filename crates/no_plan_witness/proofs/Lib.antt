@@ -7,3 +7,4 @@ pub mod Refuting
 pub mod Turns
 pub mod Gathers
 pub mod Judging
+pub mod Literals

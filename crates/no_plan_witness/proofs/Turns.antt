@@ -1,20 +1,13 @@
 -- The turns of a loop over the members of a list.
-use Rattle.std.proofs.Common.{◌≡◌, ◌↔◌, ◌⊎◌, ℕ, ◌+◌, ◌<◌, ◌≤◌, true, false, IsTrue, List, [], ◌∷◌, ◌++◌, length, refl, sym, ap, ◌∙◌, subst, ⊎_elim, arith, Contains, take, slice_index_or, get_or}
-use Rattle.std.proofs.lemmas.List.{take_more, take_all, get_or_default}
+use Rattle.std.proofs.Common.{◌≡◌, ◌↔◌, ◌⊎◌, ℕ, ◌+◌, ◌<◌, ◌≤◌, true, false, IsTrue, List, [], length, refl, subst, ⊎_elim, Contains, take, slice_index_or, get_or}
+use Rattle.std.proofs.lemmas.List.{take_all, get_or_default}
 use Rattle.std.proofs.lemmas.List.Elements.{Contains-push_cases}
+use Rattle.homomorphism.proofs.Members.{contains_none}
+use Rattle.data_verify.proofs.KeySets.{turn}
 
 -- P holds of each member
 abbrev pub EachOf : {X : Type 0} → (X → Type 0) → List X → Type 0
 EachOf {X} P xs = (x : X) → Contains xs x → P x
-
-pub contains_none : {X : Type 0} (x : X) → Contains [] x → ⊥
-contains_none x c = omega arith
-
-pub is_among : {X : Type 0} (xs : List X) (i : ℕ) (x : X) → i < length xs → x ≡ slice_index_or xs i x → Contains xs x
-is_among xs i x l e = (i, l, sym e)
-
-pub turn : {X : Type 0} (xs : List X) (i : ℕ) (x : X) → i < length xs → x ≡ slice_index_or xs i x → take (i + 1) xs ≡ take i xs ++ x ∷ []
-turn xs i x l e = take_more xs i x l ∙ ap (λ y. take i xs ++ y ∷ []) (sym e)
 
 -- a number that a loop reads
 pub number_is : (xs : List ℕ) (i : ℕ) → i < length xs → get_or xs i 0 ≡ get_or xs i (get_or xs i 0)

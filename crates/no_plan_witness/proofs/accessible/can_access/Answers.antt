@@ -1,7 +1,8 @@
 use Rattle.std.proofs.Common.{◌≡◌, Contains}
 use Rattle.meaning.specs.declared.types.Method.{Method}
 use Rattle.no_plan_witness.specs.Gathering.{KnowsInputs}
-use Rattle.no_plan_witness.proofs.Turns.{each_more, each_all, is_among, is_true, is_false, true_says, false_says}
+use Rattle.homomorphism.proofs.AtomByAtom.{is_among}
+use Rattle.no_plan_witness.proofs.Turns.{each_more, each_all, is_true, is_false, true_says, false_says}
 use Rattle.no_plan_witness.proofs.accessible.can_access.Goals.{else-method-fact-via-then-method-fact+else-knows_inputs, else-method-fact-via-else-method-fact}
 use Rattle.no_plan_witness.proofs.accessible.can_access.Goals as goal
 

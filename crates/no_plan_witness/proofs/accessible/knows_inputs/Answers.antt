@@ -1,5 +1,6 @@
 use Rattle.no_plan_witness.specs.Gathering.{KnowsAt}
-use Rattle.no_plan_witness.proofs.Turns.{each_more, is_among, number_is, is_false, true_says, false_says}
+use Rattle.homomorphism.proofs.AtomByAtom.{is_among}
+use Rattle.no_plan_witness.proofs.Turns.{each_more, number_is, is_false, true_says, false_says}
 use Rattle.no_plan_witness.proofs.accessible.knows_inputs.Goals as goal
 
 pub returns-then-not-knows_at : goal.returns-then-not-knows_at
