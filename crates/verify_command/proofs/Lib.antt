@@ -2,6 +2,7 @@ pub mod Naming
 pub mod Missing
 pub mod Attaching
 pub mod Asking
+pub mod Picked
 pub mod Holding
 pub mod Alike
 pub mod Results
