@@ -7,8 +7,7 @@ use Rattle.command_io.specs.declared.stop.Stop.{Stop}
 use Rattle.command_io.specs.declared.outcome.Outcome.{Outcome}
 use Rattle.command_io.specs.FaultLines.{Names}
 use Rattle.command_io.specs.Moments.{Moment}
-use Rattle.check_command.specs.Ends.{TextsStop, JudgeEnds}
-use Rattle.check_command.specs.Ends.TextsStop.{no_schema, no_statement, no_plan}
+use Rattle.check_command.specs.Ends.{JudgeEnds}
 use Rattle.check_command.specs.Ends.JudgeEnds.{no_verdict, cut, judged}
 
 pub judged_with_files : (schema : Schema) (statement : Statement) (plan : Plan) (firings : ℕ) (names : Names) (before after : Moment) (result : Result Outcome Stop) →
@@ -19,12 +18,3 @@ pub judged_with_files : (schema : Schema) (statement : Statement) (plan : Plan) 
 judged_with_files schema statement plan firings names before after result (no_verdict end why out) = no_verdict end why out
 judged_with_files schema statement plan firings names before after result (cut found text end is shows part why) = cut found text end is shows part why
 judged_with_files schema statement plan firings names before after result (judged found text is shows all quiet) = judged found text is shows all quiet
-
-pub texts_with_out : (names : Names) (before after : Moment) (end : Stop) →
-    TextsStop names
-    (record { files = before.files; file_faults = before.file_faults; out = None; out_faults = 0; err = before.err; err_faults = before.err_faults })
-    (record { files = after.files; file_faults = after.file_faults; out = None; out_faults = 0; err = after.err; err_faults = after.err_faults }) end →
-    TextsStop names before after end
-texts_with_out names before after end (no_schema its why) = no_schema its why
-texts_with_out names before after end (no_statement schema its is why) = no_statement schema its is why
-texts_with_out names before after end (no_plan schema statement its is said why) = no_plan schema statement its is said why

@@ -12,7 +12,7 @@ use Rattle.command_io.specs.declared.stop.Stop.{Stop}
 use Rattle.command_io.specs.declared.stop.Stop.TheVariants as stop
 use Rattle.command_io.specs.declared.outcome.Outcome.{Outcome}
 use Rattle.command_io.specs.declared.outcome.Outcome.TheVariants as outcome
-use Rattle.command_io.specs.Inputs.{SchemaIsRead, QueryIsRead, PlanIsRead, SchemaStop, QueryStop, PlanStop}
+use Rattle.command_io.specs.Inputs.{SchemaIsRead, QueryIsRead, PlanIsRead, TextsStop, PlanStop}
 use Rattle.command_io.specs.Moments.{Moment, ResultStop}
 use Rattle.command_io.specs.Writing.{TookAll, TookPart}
 use Rattle.command_io.specs.FaultLines.{Names}
@@ -25,18 +25,6 @@ outcome_of (verdict.Illegal fault) = outcome.No
 outcome_of (verdict.Loses facts row) = outcome.No
 outcome_of (verdict.Adds facts row) = outcome.No
 outcome_of (verdict.Undecided tried log) = outcome.Undecided
-
--- The text of the schema, then that of the statement, or then that of the plan was refused, and the line of that was written.
-pub data TextsStop (names : Names) (before after : Moment) : Stop → Type 0 where
-  no_schema : (end : Stop) →
-      StopsFor (SchemaStop before.files names.schema (Rose before.file_faults after.file_faults)) names before.err after.err (Rose before.err_faults after.err_faults) end →
-      TextsStop names before after end
-  no_statement : (schema : Schema) (end : Stop) → SchemaIsRead before.files names.schema schema →
-      StopsFor (QueryStop before.files names.query schema (Rose before.file_faults after.file_faults)) names before.err after.err (Rose before.err_faults after.err_faults) end →
-      TextsStop names before after end
-  no_plan : (schema : Schema) (statement : Statement) (end : Stop) → SchemaIsRead before.files names.schema schema → QueryIsRead before.files names.query schema statement →
-      StopsFor (PlanStop before.files names.plan (Rose before.file_faults after.file_faults)) names before.err after.err (Rose before.err_faults after.err_faults) end →
-      TextsStop names before after end
 
 -- What became of a plan: nothing was found of it; or standard output took the text of a verdict that is right, whole or not.
 pub data JudgeEnds (schema : Schema) (statement : Statement) (plan : Plan) (firings : ℕ) (names : Names) (before after : Moment) : Result Outcome Stop → Type 0 where
@@ -52,10 +40,16 @@ pub data JudgeEnds (schema : Schema) (statement : Statement) (plan : Plan) (firi
   judged : (found : Verdict) (text : List ℕ) → IsVerdict schema statement plan firings found → IsVerdictText schema found text → TookAll before.out after.out text →
       after.err ≡ before.err → JudgeEnds schema statement plan firings names before after (Ok (outcome_of found))
 
--- How `check` ends: a text was refused, and nothing but the line was written; or the three were read, and the plan was judged. Nothing is
--- attached or asked, since the command has no sources.
+-- How `check` ends: the text of the schema, then that of the statement, or then that of the plan was refused, and nothing but the line was
+-- written; or the three were read, and the plan was judged. Nothing is attached or asked, since the command has no sources.
 pub data CheckEnds (schema_name query_name plan_name : List ℕ) (firings : ℕ) (before after : Moment) : Result Outcome Stop → Type 0 where
-  refused : (end : Stop) → TextsStop (record { schema = schema_name; query = query_name; plan = plan_name; relations = [] }) before after end →
+  refused : (end : Stop) →
+      StopsFor (TextsStop before.files schema_name query_name (Rose before.file_faults after.file_faults))
+      (record { schema = schema_name; query = query_name; plan = plan_name; relations = [] }) before.err after.err (Rose before.err_faults after.err_faults) end →
+      after.out ≡ before.out → CheckEnds schema_name query_name plan_name firings before after (Err end)
+  no_plan : (schema : Schema) (statement : Statement) (end : Stop) → SchemaIsRead before.files schema_name schema → QueryIsRead before.files query_name schema statement →
+      StopsFor (PlanStop before.files plan_name (Rose before.file_faults after.file_faults))
+      (record { schema = schema_name; query = query_name; plan = plan_name; relations = [] }) before.err after.err (Rose before.err_faults after.err_faults) end →
       after.out ≡ before.out → CheckEnds schema_name query_name plan_name firings before after (Err end)
   read : (schema : Schema) (statement : Statement) (plan : Plan) (result : Result Outcome Stop) →
       SchemaIsRead before.files schema_name schema → QueryIsRead before.files query_name schema statement → PlanIsRead before.files plan_name plan →

@@ -10,9 +10,8 @@ ghost use Rattle.explain.specs.Verdicts.{IsVerdictText};
 ghost use Rattle.command_io.specs.Moments.{Moment, Stays};
 ghost use Rattle.check_command.specs.Ends.{outcome_of, JudgeEnds, CheckEnds};
 
-use crate::texts::read_texts;
 use access_schema::Schema;
-use command_io::{FileNames, Outcome, Stop, print, tell};
+use command_io::{FileNames, Outcome, Stop, plan_of_file, print, read_texts, tell};
 use explain::verdict_text;
 use lists::{Bytes, Text};
 use meaning::types::{Plan, Statement};
@@ -46,12 +45,15 @@ pub fn check_plan<F: Files, O: Sink, E: Sink>(
         query: query_name,
         plan: plan_name,
     };
-    match read_texts(alloc, names, files, err) {
-        Ok((schema, statement, plan)) => {
-            show(alloc, names, &schema, &statement, &plan, firings, out, err)
-        }
-        Err(stop) => Err(stop),
-    }
+    let (schema, statement) = match read_texts(alloc, files, schema_name, query_name) {
+        Ok(both) => both,
+        Err(stop) => return Err(tell(alloc, err, stop, names, &[])),
+    };
+    let plan = match plan_of_file(alloc, files, plan_name) {
+        Ok(plan) => plan,
+        Err(stop) => return Err(tell(alloc, err, stop, names, &[])),
+    };
+    show(alloc, names, &schema, &statement, &plan, firings, out, err)
 }
 
 // Judges the plan, and writes the text of the verdict.

@@ -4,6 +4,5 @@
 #![tactic(auto)]
 
 mod check;
-mod texts;
 
 pub use check::check_plan;

@@ -1,6 +1,5 @@
--- A count that rose in a part of a call rose in the whole of it; so a cause and a line stay what they are.
-use Rattle.std.proofs.Common.{◌≡◌, ◌⊎◌, ◌≤◌, ℕ, List, Option, None, Some, Result, Ok, Err, inl, inr, arith}
-use Rattle.std.specs.Prelude.{IfErr}
+-- A count that rose in a part of a call rose in the whole of it; so a cause stays what it is.
+use Rattle.std.proofs.Common.{◌≡◌, ◌⊎◌, ◌≤◌, ℕ, List, Option, None, Some, inl, inr, arith}
 use Rattle.source_trait.specs.Causes.{Rose}
 use Rattle.source_trait.specs.declared.files.FileFault.{FileFault}
 use Rattle.source_trait.specs.declared.files.FileFault.TheVariants as file
@@ -8,16 +7,12 @@ use Rattle.access_schema.specs.declared.schema.Schema.{Schema}
 use Rattle.command_io.specs.declared.stop.Stop.{Stop}
 use Rattle.command_io.specs.declared.stop.Stop.TheVariants as stop
 use Rattle.command_io.specs.declared.stop.Input.{Input}
-use Rattle.command_io.specs.Inputs.{Contents, FileCause, FileStop, SchemaStop, QueryStop, PlanStop}
+use Rattle.command_io.specs.Inputs.{Contents, FileCause, FileStop, QueryStop, PlanStop}
 use Rattle.command_io.specs.Inputs.FileStop.{no_memory as file_memory, not_read}
-use Rattle.command_io.specs.Inputs.SchemaStop.{no_memory as schema_memory, no_file as no_schema_file, no_schema}
 use Rattle.command_io.specs.Inputs.QueryStop.{no_memory as query_memory, no_file as no_query_file, no_statement}
 use Rattle.command_io.specs.Inputs.PlanStop.{no_memory as plan_memory, no_file as no_plan_file, no_plan}
-use Rattle.command_io.specs.Moments.{ResultStop, DecisionStop}
-use Rattle.command_io.specs.Moments.ResultStop.{no_memory as result_memory, sink_failed as result_failed}
+use Rattle.command_io.specs.Moments.{DecisionStop}
 use Rattle.command_io.specs.Moments.DecisionStop.{no_memory as decision_memory, sink_failed as decision_failed}
-use Rattle.command_io.specs.FaultLines.{Names}
-use Rattle.command_io.specs.Telling.{Tells}
 
 pub rose_between : (a b c d : ℕ) → a ≤ b → c ≤ d → Rose b c → Rose a d
 rose_between a b c d first second rose = omega (arith, first, second, rose)
@@ -26,19 +21,6 @@ rose_between a b c d first second rose = omega (arith, first, second, rose)
 pub decision_stop : (rose : Type 0) (end : Stop) → (end ≡ stop.Memory) ⊎ ((end ≡ stop.DecisionWrite) × rose) → DecisionStop rose end
 decision_stop rose end (inl memory) = rw memory decision_memory
 decision_stop rose end (inr (failed, rises)) = rw failed (decision_failed rises)
-
-pub decision_stops : (rose : Type 0) (result : Result (Unit {0}) Stop) →
-    IfErr result (λ end. (end ≡ stop.Memory) ⊎ ((end ≡ stop.DecisionWrite) × rose)) → IfErr result (DecisionStop rose)
-decision_stops rose (Ok done) cause = tt
-decision_stops rose (Err end) cause = decision_stop rose end cause
-
-pub decision_later : (rose more : Type 0) (end : Stop) → (rose → more) → DecisionStop rose end → DecisionStop more end
-decision_later rose more end then decision_memory = decision_memory
-decision_later rose more end then (decision_failed h) = decision_failed (then h)
-
-pub result_later : (rose more : Type 0) (end : Stop) → (rose → more) → ResultStop rose end → ResultStop more end
-result_later rose more end then result_memory = result_memory
-result_later rose more end then (result_failed h) = result_failed (then h)
 
 cause_later : (fault : FileFault) (told : Option Contents) (name : List ℕ) (limit : ℕ) (rose more : Type 0) → (rose → more) →
     FileCause fault told name limit rose → FileCause fault told name limit more
@@ -54,12 +36,6 @@ file_later : (told : Option Contents) (name : List ℕ) (limit : ℕ) (rose more
 file_later told name limit rose more which end then file_memory = file_memory
 file_later told name limit rose more which end then (not_read fault cause) = not_read fault (cause_later fault told name limit rose more then cause)
 
-pub schema_later : (told : Option Contents) (name : List ℕ) (rose more : Type 0) (end : Stop) → (rose → more) →
-    SchemaStop told name rose end → SchemaStop told name more end
-schema_later told name rose more end then schema_memory = schema_memory
-schema_later told name rose more end then (no_schema_file its cause) = no_schema_file its (file_later told name _ rose more _ its then cause)
-schema_later told name rose more end then (no_schema fault other cause) = no_schema fault other cause
-
 pub query_later : (told : Option Contents) (name : List ℕ) (schema : Schema) (rose more : Type 0) (end : Stop) → (rose → more) →
     QueryStop told name schema rose end → QueryStop told name schema more end
 query_later told name schema rose more end then query_memory = query_memory
@@ -71,9 +47,3 @@ pub plan_later : (told : Option Contents) (name : List ℕ) (rose more : Type 0)
 plan_later told name rose more end then plan_memory = plan_memory
 plan_later told name rose more end then (no_plan_file its cause) = no_plan_file its (file_later told name _ rose more _ its then cause)
 plan_later told name rose more end then (no_plan fault other cause) = no_plan fault other cause
-
-pub tells_later : (old new : Option (List ℕ)) (rose more : Type 0) (names : Names) (given result : Stop) → (rose → more) →
-    Tells old new rose names given result → Tells old new more names given result
-tells_later old new rose more names given result then (inl (same, inl all)) = inl (same, inl all)
-tells_later old new rose more names given result then (inl (same, inr (rises, part))) = inl (same, inr (then rises, part))
-tells_later old new rose more names given result then (inr begun) = inr begun

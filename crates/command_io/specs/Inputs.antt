@@ -83,3 +83,9 @@ pub data PlanStop (told : Option Contents) (name : List ℕ) (rose : Type 0) : S
   no_memory : PlanStop told name rose stop.Memory
   no_file : (end : Stop) → FileStop told name PLAN_LIMIT rose input.Plan end → PlanStop told name rose end
   no_plan : (fault : PlanReadFault) → fault ≢ plan_fault.NoMemory → IsText told name PLAN_LIMIT (λ text. IsPlanReadFault text fault) → PlanStop told name rose (stop.Plan fault)
+
+-- Why no schema, or then no statement over it, is read from the files of these names.
+pub data TextsStop (told : Option Contents) (schema_name query_name : List ℕ) (rose : Type 0) : Stop → Type 0 where
+  no_schema : (end : Stop) → SchemaStop told schema_name rose end → TextsStop told schema_name query_name rose end
+  no_statement : (schema : Schema) (end : Stop) → SchemaIsRead told schema_name schema → QueryStop told query_name schema rose end →
+      TextsStop told schema_name query_name rose end

@@ -3,6 +3,7 @@ ghost use Rattle.std.specs.Prelude.{◌≡◌, ◌≤◌, IfOk, List, ℕ, lengt
 ghost use Rattle.meaning.specs.Plans.{IsLawful};
 ghost use Rattle.access_schema.specs.Meaning.{meaning_of};
 ghost use Rattle.source_trait.specs.Causes.{Rose};
+ghost use Rattle.source_trait.specs.Lanes.{LanesStay};
 ghost use Rattle.command_io.specs.Executing.{IsShort, Delivers, stop_of_run as stop_for};
 ghost use Rattle.command_io.specs.Reports.{IsReport};
 
@@ -43,6 +44,7 @@ pub fn deliver<R: Threads + Sync, S: Source + Send + Drop, O: Sink>(
     requires short { IsShort plan.now }
     requires lanes { length lanes.old ≤ 8 }
     ensures delivers { Delivers S.seen schema.now plan.now CALLS (IsReport report.entry) lanes.old lanes.new (O.taken out.old) (O.taken out.new) (Rose (O.faults out.old) (O.faults out.new)) result }
+    ensures lanes { LanesStay S.seen lanes.old lanes.new }
     ensures later { O.faults out.old ≤ O.faults out.new }
 {
     let executed = match execute(rt, alloc, plan, schema, lanes, CALLS) {

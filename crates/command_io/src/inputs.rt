@@ -2,7 +2,7 @@
 ghost use Rattle.std.specs.Prelude.{◌≡◌, ◌≤◌, Some, IfOk, IfErr, IfSome, length};
 ghost use Rattle.source_trait.specs.Causes.{Rose};
 ghost use Rattle.source_trait.specs.Outside.{bytes_of};
-ghost use Rattle.command_io.specs.Inputs.{has_mark, without_mark as text_behind, SchemaIsRead, QueryIsRead, PlanIsRead, SchemaStop, QueryStop, PlanStop, FileStop};
+ghost use Rattle.command_io.specs.Inputs.{has_mark, without_mark as text_behind, SchemaIsRead, QueryIsRead, PlanIsRead, SchemaStop, QueryStop, PlanStop, TextsStop, FileStop};
 ghost use Rattle.sql_select.specs.Statements.{StatementFits};
 ghost use Rattle.plan_form.specs.Fitting.{PlanFits};
 
@@ -85,6 +85,30 @@ pub fn statement_of<F: Files>(
             SqlFault::NoMemory => Err(Stop::Memory),
             other => Err(Stop::Query(other)),
         },
+    }
+}
+
+/// The schema, and the statement over it, that the texts of the two files are.
+pub fn read_texts<F: Files>(
+    alloc: Global,
+    files: &mut F,
+    schema_name: &Text,
+    query_name: &Text,
+) -> Result<(Schema, Statement), Stop>
+    ensures schema { IfOk result (λ both. SchemaIsRead (F.contents files.old) schema_name.now both.0) }
+    ensures statement { IfOk result (λ both. QueryIsRead (F.contents files.old) query_name.now both.0 both.1) }
+    ensures fits { IfOk result (λ both. StatementFits both.0 both.1) }
+    ensures cause { IfErr result (TextsStop (F.contents files.old) schema_name.now query_name.now (Rose (F.faults files.old) (F.faults files.new))) }
+    ensures later { F.faults files.old ≤ F.faults files.new }
+    ensures same { F.contents files.new ≡ F.contents files.old }
+{
+    let schema = match schema_of(alloc, files, schema_name) {
+        Ok(schema) => schema,
+        Err(stop) => return Err(stop),
+    };
+    match statement_of(alloc, files, query_name, &schema) {
+        Ok(statement) => Ok((schema, statement)),
+        Err(stop) => Err(stop),
     }
 }
 

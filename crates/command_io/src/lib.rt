@@ -20,7 +20,9 @@ mod write;
 
 pub use delivery::{CALLS, Report, deliver};
 pub use exit_status::Status;
-pub use inputs::{PLAN_LIMIT, QUERY_LIMIT, SCHEMA_LIMIT, plan_of_file, schema_of, statement_of};
+pub use inputs::{
+    PLAN_LIMIT, QUERY_LIMIT, SCHEMA_LIMIT, plan_of_file, read_texts, schema_of, statement_of,
+};
 pub use line::{FileNames, line_of};
 pub use outcome::Outcome;
 pub use stop::{Input, Stop, status};

@@ -1,5 +1,5 @@
 -- What a delivery makes of a lawful plan.
-use Rattle.std.proofs.Common.{◌≡◌, ℕ, List, Option, Result, Ok, Err, None, refl}
+use Rattle.std.proofs.Common.{◌≡◌, ℕ, List, Result, Ok, Err, None, refl}
 use Rattle.std.specs.Prelude.{Contains}
 use Rattle.meaning.specs.declared.types.Plan.{Plan}
 use Rattle.meaning.specs.Rows.{IsRow}
@@ -7,7 +7,6 @@ use Rattle.access_schema.specs.declared.schema.Schema.{Schema}
 use Rattle.access_schema.specs.Meaning.{meaning_of}
 use Rattle.source_trait.specs.Asking.{Seen}
 use Rattle.source_trait.specs.Causes.{Rose}
-use Rattle.source_trait.specs.Lanes.{LanesStay}
 use Rattle.source_trait.specs.declared.lanes.Lane.{Lane}
 use Rattle.row_text.specs.RowText.{IsRowText}
 use Rattle.row_text.proofs.Texts.{IsRowText-alike}
@@ -49,15 +48,6 @@ module _ {S : Type 0} (seen : S → Seen) (schema : Schema) (plan : Plan) (may :
     not_delivered given end (no_text_made run executes same) tells = no_text run end may executes (record { given = given; cause = refl; tells = tells }) same
     not_delivered given end (delivered_part run text its executes of_rows took why) tells =
         cut run text end may executes (result_of run text executes of_rows) took (record { given = given; cause = why; tells = tells })
-
--- the lanes stay in their order however the delivery ended
-pub lanes_stay : {S : Type 0} (seen : S → Seen) (schema : Schema) (plan : Plan) (IsText : Run → List ℕ → Type 0) (old new : List (Lane S))
-    (out_old out_new : Option (List ℕ)) (rose : Type 0) (result : Result (Unit {0}) Stop) →
-    Delivers seen schema plan CALLS IsText old new out_old out_new rose result → LanesStay seen old new
-lanes_stay seen schema plan IsText old new out_old out_new rose result (delivered_all run text executes of_rows took) = executes.stay
-lanes_stay seen schema plan IsText old new out_old out_new rose result (no_rows why executes same) = executes.stay
-lanes_stay seen schema plan IsText old new out_old out_new rose result (no_text_made run executes same) = executes.stay
-lanes_stay seen schema plan IsText old new out_old out_new rose result (delivered_part run text its executes of_rows took why) = executes.stay
 
 -- what became of a plan does not depend on the files
 pub with_files : {S : Type 0} (seen : S → Seen) (schema : Schema) (plan : Plan) (names : Names) (before after : Moment) (old new : List (Lane S))

@@ -28,7 +28,7 @@ use Rattle.command_io.specs.Moments.{Moment}
 use Rattle.command_io.specs.FaultLines.{Names}
 use Rattle.check_command.specs.Ends.{outcome_of, JudgeEnds, CheckEnds}
 use Rattle.check_command.specs.Ends.JudgeEnds.{no_verdict, cut, judged}
-use Rattle.check_command.specs.Ends.CheckEnds.{refused, read}
+use Rattle.check_command.specs.Ends.CheckEnds.{refused, no_plan, read}
 use Rattle.pdq_core.specs.Runs.{ended}
 use Rattle.pdq_core.specs.Statuses.{IsRight, IsWrong, IsTried, FiresOn, ReadWith, SaysOfPlan}
 use Rattle.pdq_core.proofs.Refusals.{IsRefusal, refusal_is}
@@ -98,5 +98,6 @@ module _ (told : Option Contents) (name query its : List ℕ) (firings : ℕ) wh
 pub checked_says : (name query its : List ℕ) (firings : ℕ) (before after : Moment) (result : Result Outcome Stop) → CheckEnds name query its firings before after result →
     SaysOfPlan (ended result) before.files name query its firings
 checked_says name query its firings before after result (refused end why quiet) = stop_says before.files name query its firings end
+checked_says name query its firings before after result (no_plan schema statement end is are why quiet) = stop_says before.files name query its firings end
 checked_says name query its firings before after result (read schema statement plan same is are said ends) =
     judged_says before.files name query its firings schema statement plan is are said (record { schema = name; query = query; plan = its; relations = schema.relations }) before after result ends

@@ -1,31 +1,19 @@
 -- The command `explain` is answered.
-use Rattle.std.proofs.Common.{ℕ, List, [], Result, subst}
+use Rattle.std.proofs.Common.{ℕ, List, [], Result}
 use Rattle.meaning.specs.declared.types.Statement.{Statement}
 use Rattle.access_schema.specs.declared.schema.Schema.{Schema}
 use Rattle.command_io.specs.declared.stop.Stop.{Stop}
 use Rattle.command_io.specs.declared.outcome.Outcome.{Outcome}
 use Rattle.command_io.specs.declared.outcome.Outcome.TheVariants as outcome
-use Rattle.command_io.specs.Status.{status_of}
 use Rattle.command_io.specs.Moments.{Moment}
 use Rattle.command_io.specs.FaultLines.{Names}
-use Rattle.run_command.specs.Texts.{TextsStop}
-use Rattle.run_command.specs.Texts.TextsStop.{no_schema, no_statement}
 use Rattle.run_command.specs.Explained.{DecisionEnds, ExplainEnds}
 use Rattle.run_command.specs.Explained.DecisionEnds.{no_decision, cut, shown}
 use Rattle.run_command.specs.Explained.ExplainEnds.{refused, read}
 use Rattle.pdq_core.specs.Runs.{ended}
 use Rattle.pdq_core.specs.Complete.{IsAnswered, NoneRose, SchemaIsGiven, QueryIsGiven}
 use Rattle.pdq_core.specs.Complete.IsAnswered.{done, no, undecided}
-use Rattle.pdq_core.proofs.CompleteTexts.{same_schema, schema_stop, query_stop, result_stop, stop_answered}
-
-module _ (names : Names) (before after : Moment) (calm : NoneRose before after) (schema : Schema) (statement : Statement) where
-  -- texts that are given are refused for want of memory alone
-  pub texts_answered : SchemaIsGiven before.files names.schema schema → QueryIsGiven before.files names.query schema statement → (end : Stop) → TextsStop names before after end → IsAnswered (status_of end)
-  texts_answered given query_given end (no_schema its why) = stop_answered its (schema_stop before.files names.schema _ calm.files schema given) why
-  texts_answered given query_given end (no_statement other its is why) =
-      let query : QueryIsGiven before.files names.query other statement =
-      subst (λ (s : Schema). QueryIsGiven before.files names.query s statement) (same_schema before.files names.schema schema other given is) query_given in
-      stop_answered its (query_stop before.files names.query _ calm.files other statement query) why
+use Rattle.pdq_core.proofs.CompleteTexts.{texts_stop, result_stop, stop_answered}
 
 decision_answered : (schema : Schema) (statement : Statement) (firings search : ℕ) (names : Names) (before after : Moment) (result : Result Outcome Stop) → NoneRose before after →
     DecisionEnds schema statement firings search names before after result → IsAnswered (ended result)
@@ -39,6 +27,6 @@ pub explain_answered : (name query : List ℕ) (firings search : ℕ) (before af
     (schema : Schema) (statement : Statement) → SchemaIsGiven before.files name schema → QueryIsGiven before.files query schema statement →
     ExplainEnds name query firings search before after result → IsAnswered (ended result)
 explain_answered name query firings search before after result calm schema statement given query_given (refused end why quiet) =
-    texts_answered (record { schema = name; query = query; plan = []; relations = [] }) before after calm schema statement given query_given end why
+    stop_answered end (texts_stop before.files name query _ calm.files schema statement given query_given) why
 explain_answered name query firings search before after result calm schema statement given query_given (read other its same_result is are ends) =
     decision_answered other its firings search (record { schema = name; query = query; plan = []; relations = other.relations }) before after result calm ends

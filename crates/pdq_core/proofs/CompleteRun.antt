@@ -25,9 +25,8 @@ use Rattle.run_command.specs.Ends.RunEnds.{refused, read}
 use Rattle.pdq_core.specs.Runs.{ended}
 use Rattle.pdq_core.specs.Complete.{IsAnswered, NoneRose, SchemaIsGiven, QueryIsGiven, CanExecute, IsPrinted}
 use Rattle.pdq_core.specs.Complete.IsAnswered.{done, no, undecided, no_memory}
-use Rattle.pdq_core.proofs.CompleteTexts.{same_schema, same_statement, decision_stop, result_stop, stop_answered}
+use Rattle.pdq_core.proofs.CompleteTexts.{same_schema, same_statement, texts_stop, decision_stop, result_stop, stop_answered}
 use Rattle.pdq_core.proofs.CompleteExecution.{execution_stop}
-use Rattle.pdq_core.proofs.CompleteExplain.{texts_answered}
 
 -- the plan was printed before the line of what stopped its execution
 printed : (plan : Plan) (entries : List Chosen) (before after : Moment) (middle : Option (List ℕ)) (rose : Type 0) (line : List ℕ) → (rose → ⊥) → TookAll before.err middle (planned_text entries plan) →
@@ -65,7 +64,7 @@ pub run_answered : {S : Type 0} (seen : S → Seen) (name query : List ℕ) (fir
     ((plan : Plan) (entries : List Chosen) → IsPlanned schema statement firings search plan entries → IsPrinted entries plan before after → CanExecute seen schema plan old new) →
     RunEnds seen name query firings search before after old new result → IsAnswered (ended result)
 run_answered seen name query firings search before after old new result calm schema statement given query_given can (refused end why quiet same) =
-    texts_answered (record { schema = name; query = query; plan = []; relations = [] }) before after calm schema statement given query_given end why
+    stop_answered end (texts_stop before.files name query _ calm.files schema statement given query_given) why
 run_answered {S = S} seen name query firings search before after old new result calm schema statement given query_given can (read other its same_result is are ends) =
     let schemas = same_schema before.files name schema other given is in
     let query_is : QueryIsGiven before.files query other statement = subst (λ (s : Schema). QueryIsGiven before.files query s statement) schemas query_given in

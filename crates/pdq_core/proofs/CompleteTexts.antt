@@ -17,11 +17,12 @@ use Rattle.command_io.specs.declared.stop.Input.{Input}
 use Rattle.command_io.specs.declared.stop.Stop.{Stop}
 use Rattle.command_io.specs.declared.stop.Stop.TheVariants as stop
 use Rattle.command_io.specs.Status.{status_of}
-use Rattle.command_io.specs.Inputs.{Contents, without_mark, IsText, SchemaIsRead, QueryIsRead, PlanIsRead, FileCause, FileStop, SchemaStop, QueryStop, PlanStop}
+use Rattle.command_io.specs.Inputs.{Contents, without_mark, IsText, SchemaIsRead, QueryIsRead, PlanIsRead, FileCause, FileStop, SchemaStop, QueryStop, PlanStop, TextsStop}
 use Rattle.command_io.specs.Inputs.FileStop.{no_memory as file_memory, not_read}
 use Rattle.command_io.specs.Inputs.SchemaStop.{no_memory as schema_memory, no_file as no_schema_file, no_schema}
 use Rattle.command_io.specs.Inputs.QueryStop.{no_memory as query_memory, no_file as no_query_file, no_statement}
 use Rattle.command_io.specs.Inputs.PlanStop.{no_memory as plan_memory, no_file as no_plan_file, no_plan}
+use Rattle.command_io.specs.Inputs.TextsStop.{no_schema as no_schema_of_both, no_statement as no_statement_of_both}
 use Rattle.command_io.specs.Moments.{ResultStop, DecisionStop}
 use Rattle.command_io.specs.Moments.ResultStop.{no_memory as result_memory, sink_failed as result_failed}
 use Rattle.command_io.specs.Moments.DecisionStop.{no_memory as decision_memory, sink_failed as decision_failed}
@@ -103,6 +104,13 @@ module _ (told : Option Contents) (name : List ℕ) (rose : Type 0) (calm : rose
   plan_stop plan given end (no_plan fault apart is) =
       let (text, a, b) = same_text told name _ given is in
       absurd (apart (plan_fault text plan fault a b))
+
+pub texts_stop : (told : Option Contents) (name query : List ℕ) (rose : Type 0) → (rose → ⊥) → (schema : Schema) (statement : Statement) → SchemaIsGiven told name schema →
+    QueryIsGiven told query schema statement → (end : Stop) → TextsStop told name query rose end → end ≡ stop.Memory
+texts_stop told name query rose calm schema statement given query_given end (no_schema_of_both its why) = schema_stop told name rose calm schema given its why
+texts_stop told name query rose calm schema statement given query_given end (no_statement_of_both other its is why) =
+    let schemas = same_schema told name schema other given is in
+    query_stop told query rose calm other statement (subst (λ (s : Schema). QueryIsGiven told query s statement) schemas query_given) its why
 
 pub result_stop : (rose : Type 0) → (rose → ⊥) → (end : Stop) → ResultStop rose end → end ≡ stop.Memory
 result_stop rose calm end result_memory = refl

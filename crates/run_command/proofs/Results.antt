@@ -11,7 +11,6 @@ use Rattle.access_schema.specs.declared.schema.Schema.{Schema}
 use Rattle.access_schema.specs.Meaning.{meaning_of}
 use Rattle.source_trait.specs.Asking.{Seen}
 use Rattle.source_trait.specs.Causes.{Rose}
-use Rattle.source_trait.specs.Lanes.{LanesStay}
 use Rattle.source_trait.specs.declared.lanes.Lane.{Lane}
 use Rattle.row_text.specs.RowText.{IsRowText}
 use Rattle.row_text.proofs.Texts.{IsRowText-alike}
@@ -43,8 +42,6 @@ use Rattle.proof_search.specs.Plans.{IsPlanFor}
 use Rattle.run_command.specs.Deciding.{IsPlanned, IsDecided, Written}
 use Rattle.run_command.specs.Deciding.IsDecided.{plan as right_plan, no_plan as right_pair, undecided as right_log}
 use Rattle.run_command.proofs.Decided.{planned, refuted as refutation_told}
-use Rattle.run_command.specs.Texts.{TextsStop}
-use Rattle.run_command.specs.Texts.TextsStop.{no_schema, no_statement}
 use Rattle.run_command.specs.Ends.{IsResult, StatementEnds}
 use Rattle.run_command.specs.World.{IsSummary}
 use Rattle.run_command.specs.Ends.StatementEnds.{no_decision, untold, refuted, undecided, stopped, no_text, cut, done}
@@ -131,15 +128,6 @@ module _ {S : Type 0} (seen : S → Seen) (schema : Schema) (statement : Stateme
             StatementEnds seen schema statement firings search IsText names before after old new (Ok outcome.Undecided)
         go (right_log one its for) told = undecided select log for (subst (TookAll before.err after.err) told.is told.took) out lanes
 
--- the lanes stay in their order however the delivery ended
-pub lanes_stay : {S : Type 0} (seen : S → Seen) (schema : Schema) (plan : Plan) (IsText : Run → List ℕ → Type 0) (old new : List (Lane S))
-    (out_old out_new : Option (List ℕ)) (rose : Type 0) (result : Result (Unit {0}) Stop) →
-    Delivers seen schema plan CALLS IsText old new out_old out_new rose result → LanesStay seen old new
-lanes_stay seen schema plan IsText old new out_old out_new rose result (delivered_all run text executes of_rows took) = executes.stay
-lanes_stay seen schema plan IsText old new out_old out_new rose result (no_rows why executes same) = executes.stay
-lanes_stay seen schema plan IsText old new out_old out_new rose result (no_text_made run executes same) = executes.stay
-lanes_stay seen schema plan IsText old new out_old out_new rose result (delivered_part run text its executes of_rows took why) = executes.stay
-
 -- what became of a statement does not depend on the files
 pub with_files : {S : Type 0} (seen : S → Seen) (schema : Schema) (statement : Statement) (firings search : ℕ) (IsText : Plan → Run → List ℕ → Type 0) (names : Names) (before after : Moment) (old new : List (Lane S))
     (result : Result Outcome Stop) →
@@ -180,12 +168,3 @@ pub shown_with_files : (schema : Schema) (statement : Statement) (firings search
 shown_with_files schema statement firings search names before after result (none_decided end why out) = none_decided end why out
 shown_with_files schema statement firings search names before after result (part_shown decision end is told why) = part_shown decision end is told why
 shown_with_files schema statement firings search names before after result (shown text outcome is told quiet) = shown text outcome is told quiet
-
--- why texts are not read depends on the files and standard error alone
-pub texts_with_out : (names : Names) (before after : Moment) (end : Stop) →
-    TextsStop names
-    (record { files = before.files; file_faults = before.file_faults; out = None; out_faults = 0; err = before.err; err_faults = before.err_faults })
-    (record { files = after.files; file_faults = after.file_faults; out = None; out_faults = 0; err = after.err; err_faults = after.err_faults }) end →
-    TextsStop names before after end
-texts_with_out names before after end (no_schema its why) = no_schema its why
-texts_with_out names before after end (no_statement schema its is why) = no_statement schema its is why

@@ -23,7 +23,7 @@ use Rattle.command_io.specs.declared.stop.Stop.TheVariants as stop
 use Rattle.command_io.specs.declared.outcome.Outcome.{Outcome}
 use Rattle.command_io.specs.declared.outcome.Outcome.TheVariants as outcome
 use Rattle.command_io.specs.declared.delivery.TheConstants.{CALLS}
-use Rattle.command_io.specs.Inputs.{SchemaIsRead, QueryIsRead}
+use Rattle.command_io.specs.Inputs.{SchemaIsRead, QueryIsRead, TextsStop}
 use Rattle.command_io.specs.Moments.{Moment, Between, ResultStop, DecisionStop}
 use Rattle.command_io.specs.Writing.{TookAll, TookPart}
 use Rattle.command_io.specs.FaultLines.{Names}
@@ -34,7 +34,6 @@ use Rattle.no_plan_witness.specs.declared.decision.Decision.{Decision}
 use Rattle.explain.specs.Printing.{IsDecisionText, planned_text, undecided_text}
 use Rattle.proof_search.specs.Decisions.{IsUndecided}
 use Rattle.run_command.specs.Deciding.{IsPlanned, IsDecided, IsRefuted, TookPartOf}
-use Rattle.run_command.specs.Texts.{TextsStop}
 
 -- The text is that of the rows that the execution gave. They are the plan's on whatever instance the sources of each lane hold, and so
 -- the statement's answers where the instance meets the rules.
@@ -90,7 +89,9 @@ pub data StatementEnds {S : Type 0} (seen : S → Seen) (schema : Schema) (state
 -- How `run` ends: a text was refused, and nothing but the line was written; or both were read, and the statement was decided.
 pub data RunEnds {S : Type 0} (seen : S → Seen) (schema_name query_name : List ℕ) (firings search : ℕ) (before after : Moment) (old new : List (Lane S)) :
     Result Outcome Stop → Type 0 where
-  refused : (end : Stop) → TextsStop (record { schema = schema_name; query = query_name; plan = []; relations = [] }) before after end →
+  refused : (end : Stop) →
+      StopsFor (TextsStop before.files schema_name query_name (Rose before.file_faults after.file_faults))
+      (record { schema = schema_name; query = query_name; plan = []; relations = [] }) before.err after.err (Rose before.err_faults after.err_faults) end →
       after.out ≡ before.out → new ≡ old → RunEnds seen schema_name query_name firings search before after old new (Err end)
   read : (schema : Schema) (statement : Statement) (result : Result Outcome Stop) →
       SchemaIsRead before.files schema_name schema → QueryIsRead before.files query_name schema statement →

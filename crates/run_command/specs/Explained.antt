@@ -6,7 +6,7 @@ use Rattle.source_trait.specs.Causes.{Rose}
 use Rattle.command_io.specs.declared.stop.Stop.{Stop}
 use Rattle.command_io.specs.declared.stop.Stop.TheVariants as stop
 use Rattle.command_io.specs.declared.outcome.Outcome.{Outcome}
-use Rattle.command_io.specs.Inputs.{SchemaIsRead, QueryIsRead}
+use Rattle.command_io.specs.Inputs.{SchemaIsRead, QueryIsRead, TextsStop}
 use Rattle.command_io.specs.Moments.{Moment, ResultStop}
 use Rattle.command_io.specs.Writing.{TookAll}
 use Rattle.command_io.specs.FaultLines.{Names}
@@ -14,7 +14,6 @@ use Rattle.command_io.specs.Telling.{StopsFor}
 use Rattle.no_plan_witness.specs.declared.decision.Decision.{Decision}
 use Rattle.explain.specs.Printing.{IsDecisionText}
 use Rattle.run_command.specs.Deciding.{IsDecided, Shows, TookPartOf}
-use Rattle.run_command.specs.Texts.{TextsStop}
 
 -- What became of a statement: nothing was decided; or standard output took the text of the decision, whole or not.
 pub data DecisionEnds (schema : Schema) (statement : Statement) (firings search : ℕ) (names : Names) (before after : Moment) : Result Outcome Stop → Type 0 where
@@ -34,7 +33,9 @@ pub data DecisionEnds (schema : Schema) (statement : Statement) (firings search 
 -- How `explain` ends: a text was refused, and nothing but the line was written; or both were read, and the statement was decided.
 -- Nothing is attached or asked, since the command has no sources.
 pub data ExplainEnds (schema_name query_name : List ℕ) (firings search : ℕ) (before after : Moment) : Result Outcome Stop → Type 0 where
-  refused : (end : Stop) → TextsStop (record { schema = schema_name; query = query_name; plan = []; relations = [] }) before after end →
+  refused : (end : Stop) →
+      StopsFor (TextsStop before.files schema_name query_name (Rose before.file_faults after.file_faults))
+      (record { schema = schema_name; query = query_name; plan = []; relations = [] }) before.err after.err (Rose before.err_faults after.err_faults) end →
       after.out ≡ before.out → ExplainEnds schema_name query_name firings search before after (Err end)
   read : (schema : Schema) (statement : Statement) (result : Result Outcome Stop) →
       SchemaIsRead before.files schema_name schema → QueryIsRead before.files query_name schema statement →

@@ -1,51 +1,20 @@
-// What both commands do: they read two texts, decide the statement and write the text of the decision.
-ghost use Rattle.std.specs.Prelude.{◌≡◌, ◌≤◌, ◌⊎◌, [], OnOk, OnErr, IfOk, IfErr, None};
+// What the commands do: they decide the statement and write the text of the decision.
+ghost use Rattle.std.specs.Prelude.{◌≡◌, ◌≤◌, ◌⊎◌, OnOk, OnErr, IfOk, IfErr};
 ghost use Rattle.source_trait.specs.Causes.{Rose};
 ghost use Rattle.sql_select.specs.Statements.{StatementFits};
 ghost use Rattle.rule_pass.specs.declared.pass.TheConstants.{MOST_FIRINGS};
 ghost use Rattle.proof_search.specs.declared.deciding.TheConstants.{MOST_UNITS};
-ghost use Rattle.command_io.specs.Moments.{Moment};
-ghost use Rattle.command_io.specs.Inputs.{SchemaIsRead, QueryIsRead};
 ghost use Rattle.explain.specs.Printing.{IsDecisionText};
 ghost use Rattle.run_command.specs.Deciding.{IsDecided, Written, TookPartOf, outcome_of};
-ghost use Rattle.run_command.specs.Texts.{TextsStop};
 
 use access_schema::Schema;
-use command_io::{FileNames, Outcome, Stop, print, schema_of, statement_of, tell};
+use command_io::{Outcome, Stop, print};
 use explain::decision_text;
 use meaning::types::Statement;
 use no_plan_witness::Decision;
 use proof_search::decide;
-use source_trait::{Files, Sink};
+use source_trait::Sink;
 use std::alloc::Global;
-
-/// The schema and the statement that the texts of the files are, or the stop whose line `err` took.
-pub fn read_texts<F: Files, E: Sink>(
-    alloc: Global,
-    names: FileNames<'_>,
-    files: &mut F,
-    err: &mut E,
-) -> Result<(Schema, Statement), Stop>
-    ensures schema { IfOk result (λ both. SchemaIsRead (F.contents files.old) names.entry.schema.now both.0) }
-    ensures statement { IfOk result (λ both. QueryIsRead (F.contents files.old) names.entry.query.now both.0 both.1) }
-    ensures fits { IfOk result (λ both. StatementFits both.0 both.1) }
-    ensures silent { OnOk result (err.new ≡ err.old) }
-    ensures stops { IfErr result (TextsStop (record { schema = names.entry.schema.now; query = names.entry.query.now; plan = names.entry.plan.now; relations = [] })
-        (record { files = F.contents files.old; file_faults = F.faults files.old; out = None; out_faults = 0; err = E.taken err.old; err_faults = E.faults err.old })
-        (record { files = F.contents files.new; file_faults = F.faults files.new; out = None; out_faults = 0; err = E.taken err.new; err_faults = E.faults err.new })) }
-    ensures later_files { F.faults files.old ≤ F.faults files.new }
-    ensures later_err { E.faults err.old ≤ E.faults err.new }
-    ensures same { F.contents files.new ≡ F.contents files.old }
-{
-    let schema = match schema_of(alloc, files, names.schema) {
-        Ok(schema) => schema,
-        Err(stop) => return Err(tell(alloc, err, stop, names, &[])),
-    };
-    match statement_of(alloc, files, names.query, &schema) {
-        Ok(statement) => Ok((schema, statement)),
-        Err(stop) => Err(tell(alloc, err, stop, names, &[])),
-    }
-}
 
 /// What is decided of the statement with a budget of `firings` for the proof of each select, and of `search` units for the search for a
 /// cheaper branch. `Stop::Memory` is the only refusal.

@@ -7,9 +7,9 @@ ghost use Rattle.proof_search.specs.declared.deciding.TheConstants.{MOST_UNITS};
 ghost use Rattle.command_io.specs.Moments.{Moment, Stays};
 ghost use Rattle.run_command.specs.Explained.{DecisionEnds, ExplainEnds};
 
-use crate::deciding::{decided, outcome, read_texts, write_decision};
+use crate::deciding::{decided, outcome, write_decision};
 use access_schema::Schema;
-use command_io::{FileNames, Outcome, Stop, tell};
+use command_io::{FileNames, Outcome, Stop, read_texts, tell};
 use lists::Text;
 use meaning::types::Statement;
 use source_trait::{Files, Sink};
@@ -43,11 +43,11 @@ pub fn explain_query<F: Files, O: Sink, E: Sink>(
         query: query_name,
         plan: &none,
     };
-    match read_texts(alloc, names, files, err) {
+    match read_texts(alloc, files, schema_name, query_name) {
         Ok((schema, statement)) => show(
             alloc, names, &schema, &statement, firings, search, out, err,
         ),
-        Err(stop) => Err(stop),
+        Err(stop) => Err(tell(alloc, err, stop, names, &[])),
     }
 }
 

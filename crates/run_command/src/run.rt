@@ -9,9 +9,9 @@ ghost use Rattle.command_io.specs.Moments.{Moment, Stays};
 ghost use Rattle.command_io.specs.Reports.{IsReport};
 ghost use Rattle.run_command.specs.Ends.{StatementEnds, RunEnds};
 
-use crate::deciding::{decided, read_texts, write_decision};
+use crate::deciding::{decided, write_decision};
 use access_schema::Schema;
-use command_io::{FileNames, Outcome, Report, Stop, deliver, tell};
+use command_io::{FileNames, Outcome, Report, Stop, deliver, read_texts, tell};
 use lists::Text;
 use meaning::types::Statement;
 use no_plan_witness::Decision;
@@ -54,14 +54,14 @@ pub fn run_query<R: Threads + Sync, F: Files, S: Source + Send + Drop, O: Sink, 
         query: query_name,
         plan: &none,
     };
-    match read_texts(alloc, names, files, err) {
+    match read_texts(alloc, files, schema_name, query_name) {
         Ok((schema, statement)) => {
             let report = Report::Rows(result_names(&statement));
             answer(
                 rt, alloc, names, &schema, &statement, firings, search, report, lanes, out, err,
             )
         }
-        Err(stop) => Err(stop),
+        Err(stop) => Err(tell(alloc, err, stop, names, &[])),
     }
 }
 

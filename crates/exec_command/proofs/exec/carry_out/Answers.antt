@@ -6,7 +6,7 @@ use Rattle.exec_command.specs.Known.{known_to}
 use Rattle.exec_command.specs.Ends.IdleStop.{no_memory}
 use Rattle.exec_command.specs.Ends.PlanEnds.{idle}
 use Rattle.command_io.proofs.Short.{short}
-use Rattle.exec_command.proofs.Results.{delivered, not_delivered, lanes_stay}
+use Rattle.exec_command.proofs.Results.{delivered, not_delivered}
 use Rattle.exec_command.proofs.exec.carry_out.Goals as goal
 
 pub returns-in-Err-clause-ends : goal.returns-in-Err-clause-ends
@@ -45,6 +45,3 @@ returns-clause-ends g c =
     not_delivered g.S.Source.seen c.args.schema.now c.args.plan.now c.in-Ok.ensures.lawful _ _ _ _ _
     c.in-Err-deliver.stop c.tell-in-Err-deliver.result (rw c.in-Ok-column_names.ensures at c.in-Err-deliver.ensures.delivers)
     (rw c.as_slice-relations.ensures at c.tell-in-Err-deliver.ensures.tells)
-
-pub returns-clause-lanes : goal.returns-clause-lanes
-returns-clause-lanes g c = lanes_stay g.S.Source.seen _ _ _ _ _ _ _ _ c.deliver.result c.deliver.ensures.delivers

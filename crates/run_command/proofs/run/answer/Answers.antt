@@ -5,7 +5,7 @@ use Rattle.command_io.proofs.Later.{decision_stop}
 use Rattle.command_io.proofs.Short.{short}
 use Rattle.proof_search.specs.Plans.{known_of}
 use Rattle.run_command.specs.Ends.StatementEnds.{no_decision, untold}
-use Rattle.run_command.proofs.Results.{plan_of, plan_told, none_told, log_told, delivered, not_delivered, lanes_stay}
+use Rattle.run_command.proofs.Results.{plan_of, plan_told, none_told, log_told, delivered, not_delivered}
 use Rattle.run_command.proofs.run.answer.Goals as goal
 
 pub returns-in-Err-clause-ends : goal.returns-in-Err-clause-ends
@@ -70,9 +70,3 @@ returns-clause-ends g c =
     (record { faults = g.E.Sink.faults c.write_decision.new.sink; begun = c.write_decision.ensures.later; ended = c.tell-in-Err-deliver.ensures.later })
     c.in-Err-deliver.stop c.tell-in-Err-deliver.result told.1 c.in-Err-deliver.ensures.delivers
     (rw c.as_slice-relations.ensures at c.tell-in-Err-deliver.ensures.tells)
-
-pub returns-clause-lanes : goal.returns-clause-lanes
-returns-clause-lanes g c = lanes_stay g.S.Source.seen _ _ _ _ _ _ _ _ c.deliver.result c.deliver.ensures.delivers
-
-pub returns-in-Ok-deliver-clause-lanes : goal.returns-in-Ok-deliver-clause-lanes
-returns-in-Ok-deliver-clause-lanes g c = lanes_stay g.S.Source.seen _ _ _ _ _ _ _ _ c.deliver.result c.deliver.ensures.delivers

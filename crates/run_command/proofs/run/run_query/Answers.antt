@@ -2,7 +2,7 @@
 use Rattle.std.proofs.Common.{refl, sym}
 use Rattle.source_trait.proofs.LaneSteps.{LanesStay-refl}
 use Rattle.run_command.specs.Ends.RunEnds.{refused, read}
-use Rattle.run_command.proofs.Results.{result_of, with_text, with_files, texts_with_out}
+use Rattle.run_command.proofs.Results.{result_of, with_text, with_files}
 use Rattle.run_command.proofs.run.run_query.Goals as goal
 
 pub returns-in-Ok-clause-ends : goal.returns-in-Ok-clause-ends
@@ -13,10 +13,14 @@ returns-in-Ok-clause-ends g c =
     result_of g.S.Source.seen c.in-Ok.schema c.in-Ok.statement c.args.firings c.args.search plan entries is c.result_names.result.now (sym c.result_names.ensures) _ _ run text executes given)
     c.answer.result
     (with_files g.S.Source.seen c.in-Ok.schema c.in-Ok.statement c.args.firings c.args.search _ _ _ _ _ _ c.answer.result
-    (rw (c.new-none.ensures, c.new.ensures.bytes, c.in-Ok.ensures.silent) at c.answer.ensures.ends)))
+    (rw (c.new-none.ensures, c.new.ensures.bytes) at c.answer.ensures.ends)))
 
 pub returns-clause-ends : goal.returns-clause-ends
-returns-clause-ends g c = refused c.in-Err.stop (texts_with_out _ _ _ c.in-Err.stop (rw (c.new-none.ensures, c.new.ensures.bytes) at c.in-Err.ensures.stops)) refl refl
+returns-clause-ends g c = refused c.tell.result (record {
+  given = c.in-Err.stop;
+  cause = c.in-Err.ensures.cause;
+  tells = rw (c.new-none.ensures, c.new.ensures.bytes) at c.tell.ensures.tells;
+}) refl refl
 
 pub returns-clause-lanes : goal.returns-clause-lanes
 returns-clause-lanes g c = LanesStay-refl g.S.Source.seen c.args.lanes.now
