@@ -13,7 +13,7 @@ use Rattle.command_io.specs.declared.stop.Stop.TheVariants as stop
 use Rattle.command_io.specs.declared.outcome.Outcome.{Outcome}
 use Rattle.command_io.specs.declared.outcome.Outcome.TheVariants as outcome
 use Rattle.command_io.specs.Inputs.{SchemaIsRead, QueryIsRead, PlanIsRead, TextsStop, PlanStop}
-use Rattle.command_io.specs.Moments.{Moment, ResultStop}
+use Rattle.command_io.specs.Moments.{Moment, Outputs, outputs_of, ResultStop}
 use Rattle.command_io.specs.Writing.{TookAll, TookPart}
 use Rattle.command_io.specs.FaultLines.{Names}
 use Rattle.command_io.specs.Telling.{StopsFor}
@@ -27,7 +27,7 @@ outcome_of (verdict.Adds facts row) = outcome.No
 outcome_of (verdict.Undecided tried log) = outcome.Undecided
 
 -- What became of a plan: nothing was found of it; or standard output took the text of a verdict that is right, whole or not.
-pub data JudgeEnds (schema : Schema) (statement : Statement) (plan : Plan) (firings : ℕ) (names : Names) (before after : Moment) : Result Outcome Stop → Type 0 where
+pub data JudgeEnds (schema : Schema) (statement : Statement) (plan : Plan) (firings : ℕ) (names : Names) (before after : Outputs) : Result Outcome Stop → Type 0 where
   -- memory was wanted for the verdict or its text, and nothing but the line was written
   no_verdict : (end : Stop) →
       StopsFor (λ given. given ≡ stop.Memory) names before.err after.err (Rose before.err_faults after.err_faults) end →
@@ -53,5 +53,5 @@ pub data CheckEnds (schema_name query_name plan_name : List ℕ) (firings : ℕ)
       after.out ≡ before.out → CheckEnds schema_name query_name plan_name firings before after (Err end)
   read : (schema : Schema) (statement : Statement) (plan : Plan) (result : Result Outcome Stop) →
       SchemaIsRead before.files schema_name schema → QueryIsRead before.files query_name schema statement → PlanIsRead before.files plan_name plan →
-      JudgeEnds schema statement plan firings (record { schema = schema_name; query = query_name; plan = plan_name; relations = schema.relations }) before after result →
+      JudgeEnds schema statement plan firings (record { schema = schema_name; query = query_name; plan = plan_name; relations = schema.relations }) (outputs_of before) (outputs_of after) result →
       CheckEnds schema_name query_name plan_name firings before after result

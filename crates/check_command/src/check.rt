@@ -1,5 +1,5 @@
 // A plan, from the texts of the files to the text of the verdict.
-ghost use Rattle.std.specs.Prelude.{◌≡◌, ◌≤◌, None, IfOk, IfErr};
+ghost use Rattle.std.specs.Prelude.{◌≡◌, ◌≤◌, IfOk, IfErr};
 ghost use Rattle.source_trait.specs.Causes.{Rose};
 ghost use Rattle.sql_select.specs.Statements.{StatementFits};
 ghost use Rattle.plan_form.specs.Fitting.{HasFewSteps};
@@ -7,7 +7,7 @@ ghost use Rattle.rule_pass.specs.declared.pass.TheConstants.{MOST_FIRINGS};
 ghost use Rattle.plan_check.specs.Forms.{HasFewColumns};
 ghost use Rattle.plan_check.specs.Verdicts.{IsVerdict};
 ghost use Rattle.explain.specs.Verdicts.{IsVerdictText};
-ghost use Rattle.command_io.specs.Moments.{Moment, Stays};
+ghost use Rattle.command_io.specs.Moments.{Moment, Outputs, Stays};
 ghost use Rattle.check_command.specs.Ends.{outcome_of, JudgeEnds, CheckEnds};
 
 use access_schema::Schema;
@@ -72,8 +72,8 @@ fn show<O: Sink, E: Sink>(
     requires columns { HasFewColumns plan.now }
     requires budget { firings ≤ MOST_FIRINGS }
     ensures ends { JudgeEnds schema.now statement.now plan.now firings (record { schema = names.entry.schema.now; query = names.entry.query.now; plan = names.entry.plan.now; relations = schema.now.relations })
-        (record { files = None; file_faults = 0; out = O.taken out.old; out_faults = O.faults out.old; err = E.taken err.old; err_faults = E.faults err.old })
-        (record { files = None; file_faults = 0; out = O.taken out.new; out_faults = O.faults out.new; err = E.taken err.new; err_faults = E.faults err.new })
+        (record { out = O.taken out.old; out_faults = O.faults out.old; err = E.taken err.old; err_faults = E.faults err.old })
+        (record { out = O.taken out.new; out_faults = O.faults out.new; err = E.taken err.new; err_faults = E.faults err.new })
         result }
     ensures later_out { O.faults out.old ≤ O.faults out.new }
     ensures later_err { E.faults err.old ≤ E.faults err.new }

@@ -28,14 +28,18 @@ stop_of_run (fault.Attach rel why) = stop.Run (fault.Attach rel why)
 stop_of_run (fault.CallFailed branch step) = stop.Run (fault.CallFailed branch step)
 stop_of_run (fault.OverCalls made wanted cap) = stop.Run (fault.OverCalls made wanted cap)
 
--- The plan was executed, and a sink took the text of that, as `IsText` says: whole, or a first part of it, or nothing where there are no rows.
+-- The plan was executed, and a sink took the text of that, as `IsText` says: whole, or a first part of it, or nothing where there is no text.
 pub data Delivers {S : Type 0} (seen : S → Seen) (schema : Schema) (plan : Plan) (cap : ℕ) (IsText : Run → List ℕ → Type 0) (old new : List (Lane S))
     (out_old out_new : Option (List ℕ)) (rose : Type 0) : Result (Unit {0}) Stop → Type 0 where
+  -- the text was taken whole
   done : (run : Run) (text : List ℕ) → Executes seen schema plan cap old new (Ok run) → IsText run text →
       TookAll out_old out_new text → Delivers seen schema plan cap IsText old new out_old out_new rose (Ok tt)
+  -- the execution stopped
   no_rows : (why : RunFault) → Executes seen schema plan cap old new (Err why) → out_new ≡ out_old →
       Delivers seen schema plan cap IsText old new out_old out_new rose (Err (stop_of_run why))
+  -- it came to its end, and there was no memory for the text
   no_text : (run : Run) → Executes seen schema plan cap old new (Ok run) → out_new ≡ out_old →
       Delivers seen schema plan cap IsText old new out_old out_new rose (Err stop.Memory)
+  -- the text was not taken whole
   cut : (run : Run) (text : List ℕ) (end : Stop) → Executes seen schema plan cap old new (Ok run) → IsText run text →
       TookPart out_old out_new text → ResultStop rose end → Delivers seen schema plan cap IsText old new out_old out_new rose (Err end)

@@ -16,6 +16,16 @@ pub record Moment : Type 0 where
   pub err : Option (List ℕ)
   pub err_faults : ℕ
 
+-- What the two outputs tell at one moment.
+pub record Outputs : Type 0 where
+  pub out : Option (List ℕ)
+  pub out_faults : ℕ
+  pub err : Option (List ℕ)
+  pub err_faults : ℕ
+
+abbrev pub outputs_of : Moment → Outputs
+outputs_of moment = record { out = moment.out; out_faults = moment.out_faults; err = moment.err; err_faults = moment.err_faults }
+
 -- The contents of the files stay, and no count falls.
 pub record Stays (before after : Moment) : Type 0 where
   pub files : after.files ≡ before.files

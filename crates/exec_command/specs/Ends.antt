@@ -13,20 +13,17 @@ use Rattle.source_trait.specs.Causes.{Rose}
 use Rattle.source_trait.specs.declared.lanes.Lane.{Lane}
 use Rattle.row_text.specs.RowText.{IsRowText}
 use Rattle.middleware.specs.declared.fault.Run.{Run}
-use Rattle.middleware.specs.declared.fault.RunFault.{RunFault}
 use Rattle.middleware.specs.LaneBranches.{LanesHoldPlan}
-use Rattle.middleware.specs.Executing.{Executes}
 use Rattle.command_io.specs.declared.stop.Stop.{Stop}
 use Rattle.command_io.specs.declared.outcome.Outcome.{Outcome}
 use Rattle.command_io.specs.declared.outcome.Outcome.TheVariants as outcome
 use Rattle.command_io.specs.declared.stop.Stop.TheVariants as stop
 use Rattle.command_io.specs.declared.delivery.TheConstants.{CALLS}
 use Rattle.command_io.specs.Inputs.{SchemaIsRead, PlanIsRead, SchemaStop, PlanStop}
-use Rattle.command_io.specs.Moments.{Moment, ResultStop}
-use Rattle.command_io.specs.Writing.{TookAll, TookPart}
+use Rattle.command_io.specs.Moments.{Moment, Outputs, outputs_of}
 use Rattle.command_io.specs.FaultLines.{Names}
 use Rattle.command_io.specs.Telling.{StopsFor}
-use Rattle.command_io.specs.Executing.{stop_of_run}
+use Rattle.command_io.specs.Executing.{Delivers}
 use Rattle.exec_command.specs.Known.{known_to, column_names}
 
 -- The plan is lawful over the schema, its constants and the plan's own.
@@ -44,36 +41,28 @@ pub data IdleStop (schema : Schema) (plan : Plan) : Stop → Type 0 where
   illegal : (fault : PlanFault) → MayNotRun schema plan fault → IdleStop schema plan (stop.Illegal fault)
 
 -- The text is that of the rows that the execution gave, which are the plan's on whatever instance the sources of each lane hold.
-pub record IsResult {S : Type 0} (seen : S → Seen) (schema : Schema) (plan : Plan) (run : Run) (lanes : List (Lane S)) (text : List ℕ) : Type 0 where
+pub record IsResult {S : Type 0} (seen : S → Seen) (schema : Schema) (plan : Plan) (lanes : List (Lane S)) (run : Run) (text : List ℕ) : Type 0 where
   pub given : IsRowText (column_names plan.width) (Contains run.rows) text
   pub rows : (instance : List Fact) → LanesHoldPlan seen schema plan lanes instance →
       IsRowText (column_names plan.width) (IsRow (meaning_of schema) plan instance) text
 
 -- What became of a plan: it was not executed; or it is lawful and was, and standard output took the text of its rows,
 -- whole or not.
-pub data PlanEnds {S : Type 0} (seen : S → Seen) (schema : Schema) (plan : Plan) (names : Names) (before after : Moment) (old new : List (Lane S)) :
+pub data PlanEnds {S : Type 0} (seen : S → Seen) (schema : Schema) (plan : Plan) (names : Names) (before after : Outputs) (old new : List (Lane S)) :
     Result Outcome Stop → Type 0 where
   -- it was not executed, and nothing but the line was written
   idle : (end : Stop) →
       StopsFor (IdleStop schema plan) names before.err after.err (Rose before.err_faults after.err_faults) end →
       after.out ≡ before.out → new ≡ old → PlanEnds seen schema plan names before after old new (Err end)
-  -- its execution stopped
-  stopped : (why : RunFault) (end : Stop) → MayRun schema plan → Executes seen schema plan CALLS old new (Err why) →
-      StopsFor (λ given. given ≡ stop_of_run why) names before.err after.err (Rose before.err_faults after.err_faults) end →
-      after.out ≡ before.out → PlanEnds seen schema plan names before after old new (Err end)
-  -- it was executed, and there was no memory for the text of its rows
-  no_text : (run : Run) (end : Stop) → MayRun schema plan → Executes seen schema plan CALLS old new (Ok run) →
-      StopsFor (λ given. given ≡ stop.Memory) names before.err after.err (Rose before.err_faults after.err_faults) end →
-      after.out ≡ before.out → PlanEnds seen schema plan names before after old new (Err end)
-  -- it was executed, and the text was not written whole
-  cut : (run : Run) (text : List ℕ) (end : Stop) → MayRun schema plan → Executes seen schema plan CALLS old new (Ok run) →
-      IsResult seen schema plan run new text → TookPart before.out after.out text →
-      StopsFor (ResultStop (Rose before.out_faults after.out_faults)) names before.err after.err (Rose before.err_faults after.err_faults) end →
+  -- its execution stopped, or the text of its rows was not written whole
+  stopped : (why end : Stop) → MayRun schema plan →
+      Delivers seen schema plan CALLS (IsResult seen schema plan new) old new before.out after.out (Rose before.out_faults after.out_faults) (Err why) →
+      StopsFor (λ given. given ≡ why) names before.err after.err (Rose before.err_faults after.err_faults) end →
       PlanEnds seen schema plan names before after old new (Err end)
   -- it was executed, the text was written whole, and nothing was written on standard error
-  done : (run : Run) (text : List ℕ) → MayRun schema plan → Executes seen schema plan CALLS old new (Ok run) →
-      IsResult seen schema plan run new text → TookAll before.out after.out text → after.err ≡ before.err →
-      PlanEnds seen schema plan names before after old new (Ok outcome.Done)
+  done : MayRun schema plan →
+      Delivers seen schema plan CALLS (IsResult seen schema plan new) old new before.out after.out (Rose before.out_faults after.out_faults) (Ok tt) →
+      after.err ≡ before.err → PlanEnds seen schema plan names before after old new (Ok outcome.Done)
 
 -- How `exec` ends: a text was refused, and nothing but the line was written; or both were read.
 pub data ExecEnds {S : Type 0} (seen : S → Seen) (schema_name plan_name : List ℕ) (before after : Moment) (old new : List (Lane S)) :
@@ -88,5 +77,5 @@ pub data ExecEnds {S : Type 0} (seen : S → Seen) (schema_name plan_name : List
       after.out ≡ before.out → new ≡ old → ExecEnds seen schema_name plan_name before after old new (Err end)
   read : (schema : Schema) (plan : Plan) (result : Result Outcome Stop) →
       SchemaIsRead before.files schema_name schema → PlanIsRead before.files plan_name plan →
-      PlanEnds seen schema plan (record { schema = schema_name; query = []; plan = plan_name; relations = schema.relations }) before after old new result →
+      PlanEnds seen schema plan (record { schema = schema_name; query = []; plan = plan_name; relations = schema.relations }) (outputs_of before) (outputs_of after) old new result →
       ExecEnds seen schema_name plan_name before after old new result

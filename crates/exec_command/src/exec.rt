@@ -1,9 +1,9 @@
 // A plan, from the texts of its files to its rows.
-ghost use Rattle.std.specs.Prelude.{◌≡◌, ◌≤◌, None, OnOk, IfErr, length};
+ghost use Rattle.std.specs.Prelude.{◌≡◌, ◌≤◌, OnOk, IfErr, length};
 ghost use Rattle.source_trait.specs.Causes.{Rose};
 ghost use Rattle.source_trait.specs.Lanes.{LanesStay};
 ghost use Rattle.plan_form.specs.Fitting.{PlanFits, HasFewSteps};
-ghost use Rattle.command_io.specs.Moments.{Moment, Stays};
+ghost use Rattle.command_io.specs.Moments.{Moment, Outputs, Stays};
 ghost use Rattle.exec_command.specs.Ends.{MayRun, IdleStop, PlanEnds, ExecEnds};
 
 use crate::known::{column_names, known};
@@ -72,8 +72,8 @@ fn carry_out<R: Threads + Sync, S: Source + Send + Drop, O: Sink, E: Sink>(
     requires fits { PlanFits plan.now }
     requires lanes { length lanes.old ≤ 8 }
     ensures ends { PlanEnds S.seen schema.now plan.now (record { schema = names.entry.schema.now; query = names.entry.query.now; plan = names.entry.plan.now; relations = schema.now.relations })
-        (record { files = None; file_faults = 0; out = O.taken out.old; out_faults = O.faults out.old; err = E.taken err.old; err_faults = E.faults err.old })
-        (record { files = None; file_faults = 0; out = O.taken out.new; out_faults = O.faults out.new; err = E.taken err.new; err_faults = E.faults err.new })
+        (record { out = O.taken out.old; out_faults = O.faults out.old; err = E.taken err.old; err_faults = E.faults err.old })
+        (record { out = O.taken out.new; out_faults = O.faults out.new; err = E.taken err.new; err_faults = E.faults err.new })
         lanes.old lanes.new result }
     ensures lanes { LanesStay S.seen lanes.old lanes.new }
     ensures later_out { O.faults out.old ≤ O.faults out.new }

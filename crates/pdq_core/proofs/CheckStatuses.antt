@@ -24,7 +24,7 @@ use Rattle.command_io.specs.declared.stop.Stop.{Stop}
 use Rattle.command_io.specs.declared.outcome.Outcome.{Outcome}
 use Rattle.command_io.specs.Status.{status_of}
 use Rattle.command_io.specs.Inputs.{Contents, SchemaIsRead, QueryIsRead, PlanIsRead}
-use Rattle.command_io.specs.Moments.{Moment}
+use Rattle.command_io.specs.Moments.{Moment, Outputs, outputs_of}
 use Rattle.command_io.specs.FaultLines.{Names}
 use Rattle.check_command.specs.Ends.{outcome_of, JudgeEnds, CheckEnds}
 use Rattle.check_command.specs.Ends.JudgeEnds.{no_verdict, cut, judged}
@@ -89,7 +89,7 @@ module _ (told : Option Contents) (name query its : List ℕ) (firings : ℕ) wh
   stop_says end = refused_says (status_of end) (refusal_is end)
 
   judged_says : (schema : Schema) (statement : Statement) (plan : Plan) → SchemaIsRead told name schema → QueryIsRead told query schema statement → PlanIsRead told its plan →
-      (names : Names) (before after : Moment) (result : Result Outcome Stop) → JudgeEnds schema statement plan firings names before after result → SaysOfPlan (ended result) told name query its firings
+      (names : Names) (before after : Outputs) (result : Result Outcome Stop) → JudgeEnds schema statement plan firings names before after result → SaysOfPlan (ended result) told name query its firings
   judged_says schema statement plan is are said names before after result (no_verdict end why quiet) = stop_says end
   judged_says schema statement plan is are said names before after result (cut found text end right shows part why) = stop_says end
   judged_says schema statement plan is are said names before after result (judged found text right shows all quiet) =
@@ -100,4 +100,4 @@ pub checked_says : (name query its : List ℕ) (firings : ℕ) (before after : M
 checked_says name query its firings before after result (refused end why quiet) = stop_says before.files name query its firings end
 checked_says name query its firings before after result (no_plan schema statement end is are why quiet) = stop_says before.files name query its firings end
 checked_says name query its firings before after result (read schema statement plan same is are said ends) =
-    judged_says before.files name query its firings schema statement plan is are said (record { schema = name; query = query; plan = its; relations = schema.relations }) before after result ends
+    judged_says before.files name query its firings schema statement plan is are said (record { schema = name; query = query; plan = its; relations = schema.relations }) (outputs_of before) (outputs_of after) result ends

@@ -1,5 +1,5 @@
 -- The command `check` is answered.
-use Rattle.std.proofs.Common.{ℕ, List, [], Result}
+use Rattle.std.proofs.Common.{ℕ, List, Result}
 use Rattle.meaning.specs.declared.types.Plan.{Plan}
 use Rattle.meaning.specs.declared.types.Statement.{Statement}
 use Rattle.access_schema.specs.declared.schema.Schema.{Schema}
@@ -7,7 +7,7 @@ use Rattle.plan_check.specs.declared.verdict.Verdict.{Verdict}
 use Rattle.plan_check.specs.declared.verdict.Verdict.TheVariants as verdict
 use Rattle.command_io.specs.declared.stop.Stop.{Stop}
 use Rattle.command_io.specs.declared.outcome.Outcome.{Outcome}
-use Rattle.command_io.specs.Moments.{Moment}
+use Rattle.command_io.specs.Moments.{Moment, outputs_of}
 use Rattle.command_io.specs.FaultLines.{Names}
 use Rattle.check_command.specs.Ends.{outcome_of, JudgeEnds, CheckEnds}
 use Rattle.check_command.specs.Ends.JudgeEnds.{no_verdict, cut, judged}
@@ -26,7 +26,7 @@ verdict_answered (verdict.Adds facts row) = no
 verdict_answered (verdict.Undecided tried log) = undecided
 
 judge_answered : (schema : Schema) (statement : Statement) (plan : Plan) (firings : ℕ) (names : Names) (before after : Moment) (result : Result Outcome Stop) → NoneRose before after →
-    JudgeEnds schema statement plan firings names before after result → IsAnswered (ended result)
+    JudgeEnds schema statement plan firings names (outputs_of before) (outputs_of after) result → IsAnswered (ended result)
 judge_answered schema statement plan firings names before after result calm (no_verdict end why quiet) = stop_answered end (λ given e. e) why
 judge_answered schema statement plan firings names before after result calm (cut found text end is shows part why) = stop_answered end (result_stop _ calm.out) why
 judge_answered schema statement plan firings names before after result calm (judged found text is shows all quiet) = verdict_answered found

@@ -7,17 +7,17 @@ use Rattle.source_trait.specs.declared.lanes.Lane.{Lane}
 use Rattle.command_io.specs.declared.stop.Stop.{Stop}
 use Rattle.command_io.specs.declared.stop.Stop.TheVariants as stop
 use Rattle.command_io.specs.declared.outcome.Outcome.{Outcome}
-use Rattle.command_io.specs.Moments.{Moment}
+use Rattle.command_io.specs.Moments.{Moment, outputs_of}
 use Rattle.command_io.specs.FaultLines.{Names}
 use Rattle.exec_command.specs.Ends.{MayRun, IdleStop, PlanEnds, ExecEnds}
 use Rattle.exec_command.specs.Ends.IdleStop.{no_memory as idle_memory, illegal}
-use Rattle.exec_command.specs.Ends.PlanEnds.{idle, stopped, no_text, cut, done as executed}
+use Rattle.exec_command.specs.Ends.PlanEnds.{idle, stopped, done as executed}
 use Rattle.exec_command.specs.Ends.ExecEnds.{no_schema, no_plan, read}
 use Rattle.pdq_core.specs.Runs.{ended}
 use Rattle.pdq_core.specs.Complete.{IsAnswered, NoneRose, SchemaIsGiven, PlanIsGiven, CanExecute}
 use Rattle.pdq_core.specs.Complete.IsAnswered.{done}
-use Rattle.pdq_core.proofs.CompleteTexts.{same_schema, same_plan, schema_stop, plan_stop, result_stop, stop_answered}
-use Rattle.pdq_core.proofs.CompleteExecution.{execution_stop}
+use Rattle.pdq_core.proofs.CompleteTexts.{same_schema, same_plan, schema_stop, plan_stop, stop_answered}
+use Rattle.pdq_core.proofs.CompleteExecution.{delivery_stop}
 
 idle_stop : (schema : Schema) (plan : Plan) → MayRun schema plan → (end : Stop) → IdleStop schema plan end → end ≡ stop.Memory
 idle_stop schema plan may end idle_memory = refl
@@ -25,13 +25,11 @@ idle_stop schema plan may end (illegal fault not) = absurd (not.unlawful may)
 
 module _ {S : Type 0} (seen : S → Seen) where
   plan_answered : (schema : Schema) (plan : Plan) (names : Names) (before after : Moment) (old new : List (Lane S)) (result : Result Outcome Stop) → NoneRose before after →
-      MayRun schema plan → CanExecute seen schema plan old new → PlanEnds seen schema plan names before after old new result → IsAnswered (ended result)
+      MayRun schema plan → CanExecute seen schema plan old new → PlanEnds seen schema plan names (outputs_of before) (outputs_of after) old new result → IsAnswered (ended result)
   plan_answered schema plan names before after old new result calm may can (idle end why quiet same) = stop_answered end (idle_stop schema plan may) why
-  plan_answered schema plan names before after old new result calm may can (stopped why end its executes told quiet) =
-      stop_answered end (λ given e. e ∙ execution_stop seen schema plan old new can why executes) told
-  plan_answered schema plan names before after old new result calm may can (no_text run end its executes told quiet) = stop_answered end (λ given e. e) told
-  plan_answered schema plan names before after old new result calm may can (cut run text end its executes is took told) = stop_answered end (result_stop _ calm.out) told
-  plan_answered schema plan names before after old new result calm may can (executed run text its executes is took quiet) = done
+  plan_answered schema plan names before after old new result calm may can (stopped why end its delivery told) =
+      stop_answered end (λ given e. e ∙ delivery_stop seen schema plan old new can _ _ _ _ calm.out why delivery) told
+  plan_answered schema plan names before after old new result calm may can (executed its delivery quiet) = done
 
   pub exec_answered : (name its : List ℕ) (before after : Moment) (old new : List (Lane S)) (result : Result Outcome Stop) → NoneRose before after →
       (schema : Schema) (plan : Plan) → SchemaIsGiven before.files name schema → PlanIsGiven before.files its plan → MayRun schema plan → CanExecute seen schema plan old new →

@@ -1,4 +1,4 @@
--- An execution is stopped by nothing but want of memory, where the sources of each lane serve and the cap is kept.
+-- An execution, or a delivery, is stopped by nothing but want of memory, where the sources of each lane serve and the cap is kept.
 use Rattle.std.proofs.Common.{◌≡◌, ◌<◌, ℕ, zero, suc, List, [], ◌∷◌, map, length, Option, None, Some, Err, refl, sym, ap, subst, inl, inr, arith}
 use Rattle.std.specs.Prelude.{◌↔◌, Contains, IsSome, slice_get}
 use Rattle.std.specs.List.Sorted.{IsStrictlyIncreasing}
@@ -11,6 +11,7 @@ use Rattle.source_trait.specs.declared.source.AttachFault.{AttachFault}
 use Rattle.source_trait.specs.declared.lanes.Kind.{Kind}
 use Rattle.source_trait.specs.declared.lanes.Lane.{Lane}
 use Rattle.source_trait.proofs.LaneSteps.{LanesStay-trans}
+use Rattle.middleware.specs.declared.fault.Run.{Run}
 use Rattle.middleware.specs.declared.fault.RunFault.{RunFault}
 use Rattle.middleware.specs.declared.fault.RunFault.TheVariants as fault
 use Rattle.middleware.specs.PlanSources.{line_for, IsAccessed}
@@ -27,9 +28,12 @@ use Rattle.middleware.proofs.LaneBranching.{each_asked}
 use Rattle.middleware.proofs.LanePlanning.{plan_held_earlier}
 use Rattle.middleware.proofs.LaneFinished.{started_stay, asked_stay, attach_stay}
 use Rattle.command_io.specs.declared.delivery.TheConstants.{CALLS}
+use Rattle.command_io.specs.declared.stop.Stop.{Stop}
 use Rattle.command_io.specs.declared.stop.Stop.TheVariants as stop
-use Rattle.command_io.specs.Executing.{stop_of_run}
+use Rattle.command_io.specs.Executing.{stop_of_run, Delivers}
+use Rattle.command_io.specs.Executing.Delivers.{no_rows, no_text, cut}
 use Rattle.pdq_core.specs.Complete.{OnLanes, Serve, HoldWithin, CanExecute}
+use Rattle.pdq_core.proofs.CompleteTexts.{result_stop}
 use Rattle.pdq_core.proofs.CompleteSources.{in_first, rises_take, none_rose, none_refused}
 
 none_some : {X : Type 0} (o : Option X) → o ≡ None → IsSome o → ⊥
@@ -154,3 +158,10 @@ module _ {S : Type 0} (seen : S → Seen) (schema : Schema) (plan : Plan) where
 
     pub execution_stop : (why : RunFault) → Executes seen schema plan CALLS old new (Err why) → stop_of_run why ≡ stop.Memory
     execution_stop why executes = stop_for why executes.found executes.does
+
+    -- And so with a delivery, where the output does not fail.
+    pub delivery_stop : (IsText : Run → List ℕ → Type 0) (out_old out_new : Option (List ℕ)) (rose : Type 0) → (rose → ⊥) → (why : Stop) →
+        Delivers seen schema plan CALLS IsText old new out_old out_new rose (Err why) → why ≡ stop.Memory
+    delivery_stop IsText out_old out_new rose calm why (no_rows fault executes same) = execution_stop fault executes
+    delivery_stop IsText out_old out_new rose calm why (no_text run executes same) = refl
+    delivery_stop IsText out_old out_new rose calm why (cut run text end executes is part cause) = result_stop rose calm why cause

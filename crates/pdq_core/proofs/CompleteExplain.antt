@@ -5,7 +5,7 @@ use Rattle.access_schema.specs.declared.schema.Schema.{Schema}
 use Rattle.command_io.specs.declared.stop.Stop.{Stop}
 use Rattle.command_io.specs.declared.outcome.Outcome.{Outcome}
 use Rattle.command_io.specs.declared.outcome.Outcome.TheVariants as outcome
-use Rattle.command_io.specs.Moments.{Moment}
+use Rattle.command_io.specs.Moments.{Moment, outputs_of}
 use Rattle.command_io.specs.FaultLines.{Names}
 use Rattle.run_command.specs.Explained.{DecisionEnds, ExplainEnds}
 use Rattle.run_command.specs.Explained.DecisionEnds.{no_decision, cut, shown}
@@ -16,7 +16,7 @@ use Rattle.pdq_core.specs.Complete.IsAnswered.{done, no, undecided}
 use Rattle.pdq_core.proofs.CompleteTexts.{texts_stop, result_stop, stop_answered}
 
 decision_answered : (schema : Schema) (statement : Statement) (firings search : ℕ) (names : Names) (before after : Moment) (result : Result Outcome Stop) → NoneRose before after →
-    DecisionEnds schema statement firings search names before after result → IsAnswered (ended result)
+    DecisionEnds schema statement firings search names (outputs_of before) (outputs_of after) result → IsAnswered (ended result)
 decision_answered schema statement firings search names before after result calm (no_decision end why quiet) = stop_answered end (λ given e. e) why
 decision_answered schema statement firings search names before after result calm (cut decision end is took why) = stop_answered end (result_stop _ calm.out) why
 decision_answered schema statement firings search names before after result calm (shown text outcome.Done shows took quiet) = done

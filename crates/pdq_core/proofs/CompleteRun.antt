@@ -12,7 +12,7 @@ use Rattle.command_io.specs.declared.stop.Stop.{Stop}
 use Rattle.command_io.specs.declared.stop.Stop.TheVariants as stop
 use Rattle.command_io.specs.declared.outcome.Outcome.{Outcome}
 use Rattle.command_io.specs.Status.{status_of}
-use Rattle.command_io.specs.Moments.{Moment}
+use Rattle.command_io.specs.Moments.{Moment, outputs_of}
 use Rattle.command_io.specs.Writing.{TookAll}
 use Rattle.command_io.specs.FaultLines.{Names, fault_line}
 use Rattle.command_io.specs.Telling.{TookLine, StopsFor}
@@ -20,13 +20,13 @@ use Rattle.command_io.proofs.Later.{rose_between}
 use Rattle.command_io.proofs.SinkTakes.{goes_on}
 use Rattle.run_command.specs.Deciding.{IsPlanned}
 use Rattle.run_command.specs.Ends.{IsResult, StatementEnds, RunEnds}
-use Rattle.run_command.specs.Ends.StatementEnds.{no_decision, untold, refuted, undecided as spent, stopped, no_text, cut, done as executed}
+use Rattle.run_command.specs.Ends.StatementEnds.{no_decision, untold, refuted, undecided as spent, stopped, done as executed}
 use Rattle.run_command.specs.Ends.RunEnds.{refused, read}
 use Rattle.pdq_core.specs.Runs.{ended}
 use Rattle.pdq_core.specs.Complete.{IsAnswered, NoneRose, SchemaIsGiven, QueryIsGiven, CanExecute, IsPrinted}
 use Rattle.pdq_core.specs.Complete.IsAnswered.{done, no, undecided, no_memory}
-use Rattle.pdq_core.proofs.CompleteTexts.{same_schema, same_statement, texts_stop, decision_stop, result_stop, stop_answered}
-use Rattle.pdq_core.proofs.CompleteExecution.{execution_stop}
+use Rattle.pdq_core.proofs.CompleteTexts.{same_schema, same_statement, texts_stop, decision_stop, stop_answered}
+use Rattle.pdq_core.proofs.CompleteExecution.{delivery_stop}
 
 -- the plan was printed before the line of what stopped its execution
 printed : (plan : Plan) (entries : List Chosen) (before after : Moment) (middle : Option (List ℕ)) (rose : Type 0) (line : List ℕ) → (rose → ⊥) → TookAll before.err middle (planned_text entries plan) →
@@ -46,18 +46,16 @@ module _ {S : Type 0} (seen : S → Seen) (schema : Schema) (statement : Stateme
       ] in
       subst (λ (s : Stop). IsAnswered (status_of s)) (sym is) no_memory
 
-  pub statement_answered : (result : Result Outcome Stop) → StatementEnds seen schema statement firings search IsText names before after old new result → IsAnswered (ended result)
+  pub statement_answered : (result : Result Outcome Stop) → StatementEnds seen schema statement firings search IsText names (outputs_of before) (outputs_of after) old new result → IsAnswered (ended result)
   statement_answered result (no_decision end why quiet same) = stop_answered end (λ given e. e) why
   statement_answered result (untold decision middle count end is took why quiet same) =
       stop_answered end (decision_stop _ (λ h. calm.err (rose_between before.err_faults before.err_faults count.faults after.err_faults (omega arith) count.ended h))) why
   statement_answered result (refuted text is took quiet same) = no
   statement_answered result (spent select log is took quiet same) = undecided
-  statement_answered result (stopped plan entries middle count why end planned took executes told quiet) =
-      stopped_answered plan entries middle _ _ end (λ h. calm.err (rose_between before.err_faults count.faults after.err_faults after.err_faults count.begun (omega arith) h)) took
-      (λ able. execution_stop seen schema plan old new able why executes) planned told
-  statement_answered result (no_text plan entries middle count run end planned took executes told quiet) = stop_answered end (λ given e. e) told
-  statement_answered result (cut plan entries middle count run text end planned took executes is part told) = stop_answered end (result_stop _ calm.out) told
-  statement_answered result (executed plan entries run text planned took executes is whole) = done
+  statement_answered result (stopped plan entries middle count why end planned took delivery told) =
+      stopped_answered plan entries middle _ why end (λ h. calm.err (rose_between before.err_faults count.faults after.err_faults after.err_faults count.begun (omega arith) h)) took
+      (λ able. delivery_stop seen schema plan old new able _ _ _ _ calm.out why delivery) planned told
+  statement_answered result (executed plan entries planned took delivery) = done
 
 pub run_answered : {S : Type 0} (seen : S → Seen) (name query : List ℕ) (firings search : ℕ) (before after : Moment) (old new : List (Lane S)) (result : Result Outcome Stop) → NoneRose before after →
     (schema : Schema) (statement : Statement) → SchemaIsGiven before.files name schema → QueryIsGiven before.files query schema statement →

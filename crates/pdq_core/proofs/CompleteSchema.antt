@@ -3,7 +3,7 @@ use Rattle.std.proofs.Common.{ℕ, List, Result}
 use Rattle.access_schema.specs.declared.schema.Schema.{Schema}
 use Rattle.command_io.specs.declared.stop.Stop.{Stop}
 use Rattle.command_io.specs.declared.outcome.Outcome.{Outcome}
-use Rattle.command_io.specs.Moments.{Moment}
+use Rattle.command_io.specs.Moments.{Moment, outputs_of}
 use Rattle.schema_command.specs.Ends.{SchemaEnds}
 use Rattle.schema_command.specs.Ends.SchemaEnds.{printed as schema_printed, refused, cut as schema_cut}
 use Rattle.pdq_core.specs.Help.{HelpEnds}
@@ -13,7 +13,7 @@ use Rattle.pdq_core.specs.Complete.{IsAnswered, NoneRose, SchemaIsGiven}
 use Rattle.pdq_core.specs.Complete.IsAnswered.{done}
 use Rattle.pdq_core.proofs.CompleteTexts.{schema_stop, result_stop, stop_answered}
 
-pub help_answered : (before after : Moment) (result : Result Outcome Stop) → NoneRose before after → HelpEnds before after result → IsAnswered (ended result)
+pub help_answered : (before after : Moment) (result : Result Outcome Stop) → NoneRose before after → HelpEnds (outputs_of before) (outputs_of after) result → IsAnswered (ended result)
 help_answered before after result calm (printed took quiet) = done
 help_answered before after result calm (cut end took why) = stop_answered end (result_stop _ calm.out) why
 

@@ -12,7 +12,7 @@ use Rattle.source_trait.specs.declared.lanes.Lane.{Lane}
 use Rattle.command_io.specs.declared.stop.Stop.{Stop}
 use Rattle.command_io.specs.declared.stop.Stop.TheVariants as stop
 use Rattle.command_io.specs.declared.outcome.Outcome.{Outcome}
-use Rattle.command_io.specs.Moments.{Moment}
+use Rattle.command_io.specs.Moments.{Moment, outputs_of}
 use Rattle.command_io.specs.FaultLines.{Names}
 use Rattle.world_source.specs.Texts.{schema_text, query_text}
 use Rattle.run_command.specs.Deciding.{IsPlanned}
@@ -36,7 +36,7 @@ module _ {S : Type 0} (seen : S → Seen) (size : ℕ) (before after : Moment) (
       let statement_is = subst (λ (s : Schema). IsStatementText s query_text given.statement) schemas given.statement_is in
       absurd (apart (query_fault other query_text given.statement fault statement_is why))
 
-  pub world_answered : (result : Result Outcome Stop) → WorldEnds seen size before after old new result → IsAnswered (ended result)
+  pub world_answered : (result : Result Outcome Stop) → WorldEnds seen size (outputs_of before) (outputs_of after) old new result → IsAnswered (ended result)
   world_answered result (refused end why quiet same) = stop_answered end world_stop why
   world_answered result (read other its same_result is are ends) =
       let schemas = one_schema (schema_text size) given.schema other given.schema_is is in

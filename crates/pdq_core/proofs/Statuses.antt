@@ -17,7 +17,7 @@ use Rattle.command_io.specs.declared.stop.Stop.{Stop}
 use Rattle.command_io.specs.declared.outcome.Outcome.{Outcome}
 use Rattle.command_io.specs.Status.{status_of}
 use Rattle.command_io.specs.Inputs.{Contents, SchemaIsRead, QueryIsRead}
-use Rattle.command_io.specs.Moments.{Moment}
+use Rattle.command_io.specs.Moments.{Moment, Outputs, outputs_of}
 use Rattle.command_io.specs.FaultLines.{Names}
 use Rattle.command_words.specs.Words.{Command, IsCommand}
 use Rattle.command_words.specs.Words.Command.{Help, Schema as Print, Explain, Run, Exec, Check, Verify, World}
@@ -27,7 +27,7 @@ use Rattle.run_command.specs.Explained.{DecisionEnds}
 use Rattle.run_command.specs.Explained.DecisionEnds.{no_decision as nothing_shown, cut as shown_part, shown}
 use Rattle.run_command.specs.Explained.ExplainEnds.{refused as not_explained, read as explained}
 use Rattle.run_command.specs.Ends.{StatementEnds}
-use Rattle.run_command.specs.Ends.StatementEnds.{no_decision, untold, refuted, undecided, stopped, no_text, cut, done}
+use Rattle.run_command.specs.Ends.StatementEnds.{no_decision, untold, refuted, undecided, stopped, done}
 use Rattle.run_command.specs.Ends.RunEnds.{refused, read}
 use Rattle.pdq_core.specs.Runs.{Runs, ended}
 use Rattle.pdq_core.specs.Runs.Runs.{no_command, help, schema as print_schema, explain, run, exec, check, verify, world}
@@ -75,7 +75,7 @@ module _ (told : Option Contents) (name query : List ℕ) (firings : ℕ) where
     read_as : (P : Schema → Statement → Type 0) → P schema statement → ReadAs told name query P
     read_as P so = record { schema = schema; statement = statement; schema_is = is; statement_is = are; so = so }
 
-    explained_says : (search : ℕ) (names : Names) (before after : Moment) (result : Result Outcome Stop) → DecisionEnds schema statement firings search names before after result →
+    explained_says : (search : ℕ) (names : Names) (before after : Outputs) (result : Result Outcome Stop) → DecisionEnds schema statement firings search names before after result →
         Says (ended result) told name query firings
     explained_says search names before after result (nothing_shown end why quiet) = stop_says end
     explained_says search names before after result (shown_part decision end decided took why) = stop_says end
@@ -84,16 +84,14 @@ module _ (told : Option Contents) (name query : List ℕ) (firings : ℕ) where
     explained_says search names before after result (shown text outcome (shows_log select log spent text_is) took quiet) =
         read_as (RunsOn firings) (longer schema statement firings select log spent)
 
-    run_says : {S : Type 0} (seen : S → Seen) (search : ℕ) (IsText : Plan → Run_of → List ℕ → Type 0) (names : Names) (before after : Moment) (old new : List (Lane S)) (result : Result Outcome Stop) →
+    run_says : {S : Type 0} (seen : S → Seen) (search : ℕ) (IsText : Plan → Run_of → List ℕ → Type 0) (names : Names) (before after : Outputs) (old new : List (Lane S)) (result : Result Outcome Stop) →
         StatementEnds seen schema statement firings search IsText names before after old new result → Says (ended result) told name query firings
     run_says seen search IsText names before after old new result (no_decision end why quiet same) = stop_says end
     run_says seen search IsText names before after old new result (untold decision middle count end decided took why quiet same) = stop_says end
     run_says seen search IsText names before after old new result (refuted text refutes took quiet same) = read_as HasNoPlan refutes.refutes.none
     run_says seen search IsText names before after old new result (undecided select log spent took quiet same) = read_as (RunsOn firings) (longer schema statement firings select log spent)
-    run_says seen search IsText names before after old new result (stopped plan entries middle count why end planned took executes line quiet) = stop_says end
-    run_says seen search IsText names before after old new result (no_text plan entries middle count given end planned took executes line quiet) = stop_says end
-    run_says seen search IsText names before after old new result (cut plan entries middle count given text end planned took executes result_is part line) = stop_says end
-    run_says seen search IsText names before after old new result (done plan entries given text planned took executes result_is whole) = read_as HasPlan (has_plan schema statement firings search plan entries planned)
+    run_says seen search IsText names before after old new result (stopped plan entries middle count why end planned took delivery line) = stop_says end
+    run_says seen search IsText names before after old new result (done plan entries planned took delivery) = read_as HasPlan (has_plan schema statement firings search plan entries planned)
 
 module _ {S : Type 0} (seen : S → Seen) (words : List (List ℕ)) (command : Command) (before after : Moment) (old new : List (Lane S)) (one : (other : Command) → IsCommand words command → IsCommand words other → command ≡ other) (is : IsCommand words command) where
   its : (other : Command) (status : Status) → IsCommand words other → SaysOf other before.files status → SaysOf command before.files status
@@ -106,11 +104,11 @@ module _ {S : Type 0} (seen : S → Seen) (words : List (List ℕ)) (command : C
   says status (explain name query firings search result also (not_explained end why quiet) same) = its (Explain name query firings search) (status_of end) also (stop_says before.files name query firings end)
   says status (explain name query firings search result also (explained schema statement same_result schema_is statement_is ends) same) =
       its (Explain name query firings search) (ended result) also
-      (explained_says before.files name query firings schema statement schema_is statement_is search (record { schema = name; query = query; plan = []; relations = schema.relations }) before after result ends)
+      (explained_says before.files name query firings schema statement schema_is statement_is search (record { schema = name; query = query; plan = []; relations = schema.relations }) (outputs_of before) (outputs_of after) result ends)
   says status (run name query firings search workers result also (refused end why quiet same) behind) = its (Run name query firings search workers) (status_of end) also (stop_says before.files name query firings end)
   says status (run name query firings search workers result also (read schema statement same_result schema_is statement_is ends) behind) =
       its (Run name query firings search workers) (ended result) also
-      (run_says before.files name query firings schema statement schema_is statement_is seen search _ (record { schema = name; query = query; plan = []; relations = schema.relations }) before after (take workers old) (take workers new) result ends)
+      (run_says before.files name query firings schema statement schema_is statement_is seen search _ (record { schema = name; query = query; plan = []; relations = schema.relations }) (outputs_of before) (outputs_of after) (take workers old) (take workers new) result ends)
   says status (exec name plan workers result also ends behind) = its (Exec name plan workers) (ended result) also tt
   says status (check name query plan firings result also ends same) = its (Check name query plan firings) (ended result) also (checked_says name query plan firings before after result ends)
   says status (verify name result also ends) = its (Verify name) (ended result) also tt

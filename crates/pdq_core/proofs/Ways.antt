@@ -1,7 +1,5 @@
--- What the words of a command set, and what its ends rest on.
-use Rattle.std.proofs.Common.{◌≤◌, ℕ, List, None, Result, arith}
-use Rattle.source_trait.specs.Asking.{Seen}
-use Rattle.source_trait.specs.declared.lanes.Lane.{Lane}
+-- What the words of a command set.
+use Rattle.std.proofs.Common.{◌≤◌, ℕ, List, arith}
 use Rattle.rule_pass.specs.declared.pass.TheConstants.{MOST_FIRINGS}
 use Rattle.proof_search.specs.declared.deciding.TheConstants.{MOST_UNITS}
 use Rattle.command_words.specs.Splits.{Item, IsSet}
@@ -9,14 +7,6 @@ use Rattle.command_words.specs.Splits.IsSet.{Once, Absent}
 use Rattle.command_words.specs.declared.table.OptionName.TheVariants.{Firings, Search, Workers}
 use Rattle.command_words.specs.Words.{IsCommand}
 use Rattle.command_words.specs.Words.Command.{Explain, Run, Exec, Check, World}
-use Rattle.command_io.specs.declared.stop.Stop.{Stop}
-use Rattle.command_io.specs.declared.outcome.Outcome.{Outcome}
-use Rattle.command_io.specs.Moments.{Moment}
-use Rattle.run_command.specs.World.{WorldEnds}
-use Rattle.run_command.specs.World.WorldEnds.{refused, read}
-use Rattle.run_command.proofs.Results.{with_files}
-use Rattle.pdq_core.specs.Help.{HelpEnds}
-use Rattle.pdq_core.specs.Help.HelpEnds.{printed, cut}
 
 -- a number of firings is within its range, given or not
 in_range : (items : List Item) (n : ℕ) → IsSet Firings items n → n ≤ MOST_FIRINGS
@@ -59,21 +49,3 @@ few_checked words schema query plan n is = in_range is.items n is.are_set.0
 
 pub small_world : (words : List (List ℕ)) (size workers : ℕ) → IsCommand words (World size workers) → size ≤ 10000
 small_world words size workers is = is.2
-
--- the ends of `help` rest on the two outputs alone
-pub help_with_files : (before after : Moment) (result : Result Outcome Stop) →
-    HelpEnds
-    (record { files = None; file_faults = 0; out = before.out; out_faults = before.out_faults; err = before.err; err_faults = before.err_faults })
-    (record { files = None; file_faults = 0; out = after.out; out_faults = after.out_faults; err = after.err; err_faults = after.err_faults }) result →
-    HelpEnds before after result
-help_with_files before after result (printed took quiet) = printed took quiet
-help_with_files before after result (cut end took why) = cut end took why
-
--- and so do those of `world`
-pub world_with_files : {S : Type 0} (seen : S → Seen) (size : ℕ) (before after : Moment) (old new : List (Lane S)) (result : Result Outcome Stop) →
-    WorldEnds seen size
-    (record { files = None; file_faults = 0; out = before.out; out_faults = before.out_faults; err = before.err; err_faults = before.err_faults })
-    (record { files = None; file_faults = 0; out = after.out; out_faults = after.out_faults; err = after.err; err_faults = after.err_faults }) old new result →
-    WorldEnds seen size before after old new result
-world_with_files seen size before after old new result (refused end why out lanes) = refused end why out lanes
-world_with_files seen size before after old new result (read schema statement its is are ends) = read schema statement its is are (with_files seen schema statement _ _ _ _ before after old new its ends)

@@ -10,7 +10,7 @@ use Rattle.command_io.specs.declared.stop.Stop.TheVariants as stop
 use Rattle.command_io.specs.declared.outcome.Outcome.{Outcome}
 use Rattle.command_io.specs.declared.outcome.Outcome.TheVariants as outcome
 use Rattle.command_io.specs.Status.{status_of}
-use Rattle.command_io.specs.Moments.{Moment}
+use Rattle.command_io.specs.Moments.{Moment, outputs_of}
 use Rattle.command_io.specs.Telling.{StopsFor}
 use Rattle.schema_command.specs.Ends.{SchemaEnds}
 use Rattle.run_command.specs.Ends.{RunEnds}
@@ -39,7 +39,7 @@ pub data Runs {S : Type 0} (seen : S → Seen) (words : List (List ℕ)) (before
       after.out ≡ before.out → new ≡ old → Runs seen words before after old new (status_of end)
   -- the words are `help`
   help : (result : Result Outcome Stop) → IsCommand words Help →
-      HelpEnds before after result → new ≡ old → Runs seen words before after old new (ended result)
+      HelpEnds (outputs_of before) (outputs_of after) result → new ≡ old → Runs seen words before after old new (ended result)
   -- the words are `schema SCHEMA`
   schema : (name : List ℕ) (result : Result Outcome Stop) → IsCommand words (Schema name) →
       SchemaEnds name before after result → new ≡ old → Runs seen words before after old new (ended result)
@@ -60,4 +60,4 @@ pub data Runs {S : Type 0} (seen : S → Seen) (words : List (List ℕ)) (before
       VerifyEnds seen name before after old new result → Runs seen words before after old new (ended result)
   -- the words are `world N`, with a number of workers
   world : (size workers : ℕ) (result : Result Outcome Stop) → IsCommand words (World size workers) →
-      WorldEnds seen size before after (take workers old) (take workers new) result → drop workers new ≡ drop workers old → Runs seen words before after old new (ended result)
+      WorldEnds seen size (outputs_of before) (outputs_of after) (take workers old) (take workers new) result → drop workers new ≡ drop workers old → Runs seen words before after old new (ended result)

@@ -1,10 +1,10 @@
 // The commands that execute a plan, on the first lanes: as many as there are workers, or all where there are fewer.
-ghost use Rattle.std.specs.Prelude.{◌≡◌, ◌≤◌, ◌++◌, None, take, drop};
+ghost use Rattle.std.specs.Prelude.{◌≡◌, ◌≤◌, ◌++◌, take, drop};
 ghost use Rattle.std.specs.Borrow.{sem, LendsBoth, Array};
 ghost use Rattle.source_trait.specs.Lanes.{LanesStay};
 ghost use Rattle.rule_pass.specs.declared.pass.TheConstants.{MOST_FIRINGS};
 ghost use Rattle.proof_search.specs.declared.deciding.TheConstants.{MOST_UNITS};
-ghost use Rattle.command_io.specs.Moments.{Moment, Stays};
+ghost use Rattle.command_io.specs.Moments.{Moment, Outputs, Stays};
 ghost use Rattle.run_command.specs.Ends.{RunEnds};
 ghost use Rattle.run_command.specs.World.{WorldEnds};
 ghost use Rattle.exec_command.specs.Ends.{ExecEnds};
@@ -90,8 +90,8 @@ pub fn world_on_first<R: Threads + Sync, S: Source + Send + Drop, O: Sink, E: Si
     requires small { size ≤ 10000 }
     requires workers { workers ≤ 8 }
     ensures ends { WorldEnds S.seen size
-        (record { files = None; file_faults = 0; out = O.taken out.old; out_faults = O.faults out.old; err = E.taken err.old; err_faults = E.faults err.old })
-        (record { files = None; file_faults = 0; out = O.taken out.new; out_faults = O.faults out.new; err = E.taken err.new; err_faults = E.faults err.new })
+        (record { out = O.taken out.old; out_faults = O.faults out.old; err = E.taken err.old; err_faults = E.faults err.old })
+        (record { out = O.taken out.new; out_faults = O.faults out.new; err = E.taken err.new; err_faults = E.faults err.new })
         (take workers lanes.old.items) (take workers lanes.new.items) result }
     ensures behind { drop workers lanes.new.items ≡ drop workers lanes.old.items }
     ensures lanes { LanesStay S.seen lanes.old.items lanes.new.items }

@@ -1,7 +1,7 @@
 // The command `help`.
-ghost use Rattle.std.specs.Prelude.{◌≤◌, None};
+ghost use Rattle.std.specs.Prelude.{◌≤◌};
 ghost use Rattle.source_trait.specs.Causes.{Rose};
-ghost use Rattle.command_io.specs.Moments.{Moment};
+ghost use Rattle.command_io.specs.Moments.{Outputs};
 ghost use Rattle.pdq_core.specs.Help.{HelpEnds};
 
 use command_io::{FileNames, Outcome, Stop, print, tell};
@@ -17,8 +17,8 @@ pub fn print_usage<O: Sink, E: Sink>(
     err: &mut E,
 ) -> Result<Outcome, Stop>
     ensures ends { HelpEnds
-        (record { files = None; file_faults = 0; out = O.taken out.old; out_faults = O.faults out.old; err = E.taken err.old; err_faults = E.faults err.old })
-        (record { files = None; file_faults = 0; out = O.taken out.new; out_faults = O.faults out.new; err = E.taken err.new; err_faults = E.faults err.new })
+        (record { out = O.taken out.old; out_faults = O.faults out.old; err = E.taken err.old; err_faults = E.faults err.old })
+        (record { out = O.taken out.new; out_faults = O.faults out.new; err = E.taken err.new; err_faults = E.faults err.new })
         result }
     ensures later_out { O.faults out.old ≤ O.faults out.new }
     ensures later_err { E.faults err.old ≤ E.faults err.new }

@@ -1,5 +1,5 @@
--- What a delivery of a plan makes of its statement.
-use Rattle.std.proofs.Common.{◌≡◌, ℕ, List, Option, Result, Ok, Err, None, refl, subst}
+-- What was decided of a statement, and what the text of an execution says of it.
+use Rattle.std.proofs.Common.{◌≡◌, ℕ, List, Option, Result, Ok, Err, subst}
 use Rattle.std.specs.Prelude.{Contains}
 use Rattle.meaning.specs.declared.types.Fact.{Fact}
 use Rattle.meaning.specs.declared.types.Statement.{Statement}
@@ -20,12 +20,11 @@ use Rattle.middleware.specs.Executing.{Executes}
 use Rattle.command_io.specs.declared.stop.Stop.{Stop}
 use Rattle.command_io.specs.declared.delivery.TheConstants.{CALLS}
 use Rattle.command_io.specs.FaultLines.{Names}
-use Rattle.command_io.specs.Moments.{Moment, Between}
+use Rattle.command_io.specs.Moments.{Outputs}
 use Rattle.command_io.specs.Writing.{TookAll}
-use Rattle.command_io.specs.Telling.{Tells}
 use Rattle.command_io.specs.Executing.{Delivers}
+use Rattle.command_io.proofs.Delivering.{delivers_as}
 use Rattle.command_io.specs.Reports.{summary}
-use Rattle.command_io.specs.Executing.Delivers.{done as delivered_all, no_rows, no_text as no_text_made, cut as delivered_part}
 use Rattle.sql_select.specs.Statements.{result_names}
 use Rattle.command_io.specs.declared.outcome.Outcome.{Outcome}
 use Rattle.command_io.specs.declared.outcome.Outcome.TheVariants as outcome
@@ -44,9 +43,7 @@ use Rattle.run_command.specs.Deciding.IsDecided.{plan as right_plan, no_plan as 
 use Rattle.run_command.proofs.Decided.{planned, refuted as refutation_told}
 use Rattle.run_command.specs.Ends.{IsResult, StatementEnds}
 use Rattle.run_command.specs.World.{IsSummary}
-use Rattle.run_command.specs.Ends.StatementEnds.{no_decision, untold, refuted, undecided, stopped, no_text, cut, done}
-use Rattle.run_command.specs.Explained.{DecisionEnds}
-use Rattle.run_command.specs.Explained.DecisionEnds.{no_decision as none_decided, cut as part_shown, shown}
+use Rattle.run_command.specs.Ends.StatementEnds.{no_decision, untold, refuted, undecided, stopped, done}
 
 module _ {S : Type 0} (seen : S → Seen) (schema : Schema) (statement : Statement) (firings search : ℕ) (plan : Plan) (entries : List Chosen) (is : IsPlanned schema statement firings search plan entries)
     (columns : List (List ℕ)) (named : result_names statement.selects ≡ columns) (old new : List (Lane S)) where
@@ -73,23 +70,6 @@ summary_of seen schema statement firings search plan entries is size old new run
       (λ among. is.is.equivalent.sound instance row model (same.0 among), λ answer. same.1 (is.is.equivalent.complete instance row model answer));
 }
 
--- what a delivery makes of the statement
-module _ {S : Type 0} (seen : S → Seen) (schema : Schema) (statement : Statement) (firings search : ℕ) (plan : Plan) (entries : List Chosen) (is : IsPlanned schema statement firings search plan entries)
-    (IsText : Run → List ℕ → Type 0) (names : Names) (before after : Moment) (old new : List (Lane S)) where
-  pub delivered : TookAll before.err after.err (planned_text entries plan) →
-      Delivers seen schema plan CALLS IsText old new before.out after.out (Rose before.out_faults after.out_faults) (Ok tt) →
-      StatementEnds seen schema statement firings search (λ plan. IsText) names before after old new (Ok outcome.Done)
-  delivered told (delivered_all run text executes says took) = done plan entries run text is told executes says took
-
-  pub not_delivered : (middle : Option (List ℕ)) (count : Between before.err_faults after.err_faults) (given end : Stop) → TookAll before.err middle (planned_text entries plan) →
-      Delivers seen schema plan CALLS IsText old new before.out after.out (Rose before.out_faults after.out_faults) (Err given) →
-      Tells middle after.err (Rose count.faults after.err_faults) names given end →
-      StatementEnds seen schema statement firings search (λ plan. IsText) names before after old new (Err end)
-  not_delivered middle count given end told (no_rows why executes same) tells = stopped plan entries middle count why end is told executes (record { given = given; cause = refl; tells = tells }) same
-  not_delivered middle count given end told (no_text_made run executes same) tells = no_text plan entries middle count run end is told executes (record { given = given; cause = refl; tells = tells }) same
-  not_delivered middle count given end told (delivered_part run text its executes says took why) tells =
-      cut plan entries middle count run text end is told executes says took (record { given = given; cause = why; tells = tells })
-
 -- where the decision was written whole, what it shows was
 module _ {S : Type 0} (seen : S → Seen) (schema : Schema) (statement : Statement) (firings search : ℕ) (fits : StatementFits schema statement) (decision : Decision)
     (right : IsDecided schema statement firings search decision) where
@@ -109,7 +89,7 @@ module _ {S : Type 0} (seen : S → Seen) (schema : Schema) (statement : Stateme
           IsPlanned schema statement firings search plan entries × TookAll old new (planned_text entries plan)
       go (right_plan of its for can chosen) told = (planned schema statement firings search plan entries for can chosen (subst IsUtf8 told.is told.utf8), subst (TookAll old new) told.is told.took)
 
-  module _ (IsText : Plan → Run → List ℕ → Type 0) (names : Names) (before after : Moment) (old new : List (Lane S)) (out : after.out ≡ before.out) (lanes : new ≡ old) where
+  module _ (IsText : Plan → Run → List ℕ → Type 0) (names : Names) (before after : Outputs) (old new : List (Lane S)) (out : after.out ≡ before.out) (lanes : new ≡ old) where
     -- a refutation
     pub none_told : (pair : Witness) → decision ≡ NoPlan pair → Written schema decision before.err after.err →
         StatementEnds seen schema statement firings search IsText names before after old new (Ok outcome.No)
@@ -128,43 +108,19 @@ module _ {S : Type 0} (seen : S → Seen) (schema : Schema) (statement : Stateme
             StatementEnds seen schema statement firings search IsText names before after old new (Ok outcome.Undecided)
         go (right_log one its for) told = undecided select log for (subst (TookAll before.err after.err) told.is told.took) out lanes
 
--- what became of a statement does not depend on the files
-pub with_files : {S : Type 0} (seen : S → Seen) (schema : Schema) (statement : Statement) (firings search : ℕ) (IsText : Plan → Run → List ℕ → Type 0) (names : Names) (before after : Moment) (old new : List (Lane S))
-    (result : Result Outcome Stop) →
-    StatementEnds seen schema statement firings search IsText names
-    (record { files = None; file_faults = 0; out = before.out; out_faults = before.out_faults; err = before.err; err_faults = before.err_faults })
-    (record { files = None; file_faults = 0; out = after.out; out_faults = after.out_faults; err = after.err; err_faults = after.err_faults }) old new result →
-    StatementEnds seen schema statement firings search IsText names before after old new result
-with_files seen schema statement firings search IsText names before after old new result (no_decision end why out lanes) = no_decision end why out lanes
-with_files seen schema statement firings search IsText names before after old new result (untold decision middle count end is told why out lanes) = untold decision middle count end is told why out lanes
-with_files seen schema statement firings search IsText names before after old new result (refuted text is told out lanes) = refuted text is told out lanes
-with_files seen schema statement firings search IsText names before after old new result (undecided select log is told out lanes) = undecided select log is told out lanes
-with_files seen schema statement firings search IsText names before after old new result (stopped plan entries middle count fault end is told executes why out) = stopped plan entries middle count fault end is told executes why out
-with_files seen schema statement firings search IsText names before after old new result (no_text plan entries middle count run end is told executes why out) = no_text plan entries middle count run end is told executes why out
-with_files seen schema statement firings search IsText names before after old new result (cut plan entries middle count run text end is told executes of_rows took why) = cut plan entries middle count run text end is told executes of_rows took why
-with_files seen schema statement firings search IsText names before after old new result (done plan entries run text is told executes of_rows took) = done plan entries run text is told executes of_rows took
-
 -- what the text of an execution says, its result says
-module _ {S : Type 0} (seen : S → Seen) (schema : Schema) (statement : Statement) (firings search : ℕ) (IsText IsRight : Plan → Run → List ℕ → Type 0) (names : Names) (before after : Moment) (old new : List (Lane S))
+module _ {S : Type 0} (seen : S → Seen) (schema : Schema) (statement : Statement) (firings search : ℕ) (IsText IsRight : Plan → Run → List ℕ → Type 0) (names : Names) (before after : Outputs) (old new : List (Lane S))
     (says : (plan : Plan) (entries : List Chosen) (run : Run) (text : List ℕ) → IsPlanned schema statement firings search plan entries → Executes seen schema plan CALLS old new (Ok run) → IsText plan run text → IsRight plan run text) where
+  delivers : (plan : Plan) (entries : List Chosen) → IsPlanned schema statement firings search plan entries → (result : Result (Unit {0}) Stop) →
+      Delivers seen schema plan CALLS (IsText plan) old new before.out after.out (Rose before.out_faults after.out_faults) result →
+      Delivers seen schema plan CALLS (IsRight plan) old new before.out after.out (Rose before.out_faults after.out_faults) result
+  delivers plan entries is = delivers_as seen schema plan CALLS (IsText plan) (IsRight plan) old new before.out after.out (Rose before.out_faults after.out_faults) (λ run text executes given. says plan entries run text is executes given)
+
   pub with_text : (result : Result Outcome Stop) → StatementEnds seen schema statement firings search IsText names before after old new result →
       StatementEnds seen schema statement firings search IsRight names before after old new result
   with_text result (no_decision end why out lanes) = no_decision end why out lanes
   with_text result (untold decision middle count end is told why out lanes) = untold decision middle count end is told why out lanes
   with_text result (refuted text is told out lanes) = refuted text is told out lanes
   with_text result (undecided select log is told out lanes) = undecided select log is told out lanes
-  with_text result (stopped plan entries middle count fault end is told executes why out) = stopped plan entries middle count fault end is told executes why out
-  with_text result (no_text plan entries middle count run end is told executes why out) = no_text plan entries middle count run end is told executes why out
-  with_text result (cut plan entries middle count run text end is told executes given took why) =
-      cut plan entries middle count run text end is told executes (says plan entries run text is executes given) took why
-  with_text result (done plan entries run text is told executes given took) = done plan entries run text is told executes (says plan entries run text is executes given) took
-
--- nor do the ends of a decision
-pub shown_with_files : (schema : Schema) (statement : Statement) (firings search : ℕ) (names : Names) (before after : Moment) (result : Result Outcome Stop) →
-    DecisionEnds schema statement firings search names
-    (record { files = None; file_faults = 0; out = before.out; out_faults = before.out_faults; err = before.err; err_faults = before.err_faults })
-    (record { files = None; file_faults = 0; out = after.out; out_faults = after.out_faults; err = after.err; err_faults = after.err_faults }) result →
-    DecisionEnds schema statement firings search names before after result
-shown_with_files schema statement firings search names before after result (none_decided end why out) = none_decided end why out
-shown_with_files schema statement firings search names before after result (part_shown decision end is told why) = part_shown decision end is told why
-shown_with_files schema statement firings search names before after result (shown text outcome is told quiet) = shown text outcome is told quiet
+  with_text result (stopped plan entries middle count why end is told delivery line) = stopped plan entries middle count why end is told (delivers plan entries is (Err why) delivery) line
+  with_text result (done plan entries is told delivery) = done plan entries is told (delivers plan entries is (Ok tt) delivery)

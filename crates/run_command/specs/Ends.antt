@@ -15,20 +15,18 @@ use Rattle.source_trait.specs.Causes.{Rose}
 use Rattle.source_trait.specs.declared.lanes.Lane.{Lane}
 use Rattle.row_text.specs.RowText.{IsRowText}
 use Rattle.middleware.specs.declared.fault.Run.{Run}
-use Rattle.middleware.specs.declared.fault.RunFault.{RunFault}
 use Rattle.middleware.specs.LaneBranches.{LanesHoldPlan}
-use Rattle.middleware.specs.Executing.{Executes}
 use Rattle.command_io.specs.declared.stop.Stop.{Stop}
 use Rattle.command_io.specs.declared.stop.Stop.TheVariants as stop
 use Rattle.command_io.specs.declared.outcome.Outcome.{Outcome}
 use Rattle.command_io.specs.declared.outcome.Outcome.TheVariants as outcome
 use Rattle.command_io.specs.declared.delivery.TheConstants.{CALLS}
 use Rattle.command_io.specs.Inputs.{SchemaIsRead, QueryIsRead, TextsStop}
-use Rattle.command_io.specs.Moments.{Moment, Between, ResultStop, DecisionStop}
-use Rattle.command_io.specs.Writing.{TookAll, TookPart}
+use Rattle.command_io.specs.Moments.{Moment, Outputs, outputs_of, Between, DecisionStop}
+use Rattle.command_io.specs.Writing.{TookAll}
 use Rattle.command_io.specs.FaultLines.{Names}
 use Rattle.command_io.specs.Telling.{StopsFor}
-use Rattle.command_io.specs.Executing.{stop_of_run}
+use Rattle.command_io.specs.Executing.{Delivers}
 use Rattle.no_plan_witness.specs.declared.decision.Chosen.{Chosen}
 use Rattle.no_plan_witness.specs.declared.decision.Decision.{Decision}
 use Rattle.explain.specs.Printing.{IsDecisionText, planned_text, undecided_text}
@@ -47,7 +45,7 @@ pub record IsResult {S : Type 0} (seen : S → Seen) (schema : Schema) (statemen
 -- What became of a statement: nothing was decided; or standard error took the text of a decision, whole or not; and where that was a
 -- plan and was taken whole, the plan was executed, and standard output took the text of the result, whole or not. `IsText` says which text
 -- that is.
-pub data StatementEnds {S : Type 0} (seen : S → Seen) (schema : Schema) (statement : Statement) (firings search : ℕ) (IsText : Plan → Run → List ℕ → Type 0) (names : Names) (before after : Moment)
+pub data StatementEnds {S : Type 0} (seen : S → Seen) (schema : Schema) (statement : Statement) (firings search : ℕ) (IsText : Plan → Run → List ℕ → Type 0) (names : Names) (before after : Outputs)
     (old new : List (Lane S)) : Result Outcome Stop → Type 0 where
   -- memory was wanted for a decision, and nothing but the line was written
   no_decision : (end : Stop) →
@@ -65,25 +63,15 @@ pub data StatementEnds {S : Type 0} (seen : S → Seen) (schema : Schema) (state
   undecided : (select : ℕ) (log : List Firing) → IsUndecided schema statement firings select log →
       TookAll before.err after.err (undecided_text schema select log) →
       after.out ≡ before.out → new ≡ old → StatementEnds seen schema statement firings search IsText names before after old new (Ok outcome.Undecided)
-  -- the plan was written whole, and its execution stopped
-  stopped : (plan : Plan) (entries : List Chosen) (middle : Option (List ℕ)) (count : Between before.err_faults after.err_faults) (why : RunFault) (end : Stop) →
-      IsPlanned schema statement firings search plan entries → TookAll before.err middle (planned_text entries plan) → Executes seen schema plan CALLS old new (Err why) →
-      StopsFor (λ given. given ≡ stop_of_run why) names middle after.err (Rose count.faults after.err_faults) end →
-      after.out ≡ before.out → StatementEnds seen schema statement firings search IsText names before after old new (Err end)
-  -- it was executed, and there was no memory for the text of the result
-  no_text : (plan : Plan) (entries : List Chosen) (middle : Option (List ℕ)) (count : Between before.err_faults after.err_faults) (run : Run) (end : Stop) →
-      IsPlanned schema statement firings search plan entries → TookAll before.err middle (planned_text entries plan) → Executes seen schema plan CALLS old new (Ok run) →
-      StopsFor (λ given. given ≡ stop.Memory) names middle after.err (Rose count.faults after.err_faults) end →
-      after.out ≡ before.out → StatementEnds seen schema statement firings search IsText names before after old new (Err end)
-  -- it was executed, and the result was not written whole
-  cut : (plan : Plan) (entries : List Chosen) (middle : Option (List ℕ)) (count : Between before.err_faults after.err_faults) (run : Run) (text : List ℕ) (end : Stop) →
-      IsPlanned schema statement firings search plan entries → TookAll before.err middle (planned_text entries plan) → Executes seen schema plan CALLS old new (Ok run) →
-      IsText plan run text → TookPart before.out after.out text →
-      StopsFor (ResultStop (Rose before.out_faults after.out_faults)) names middle after.err (Rose count.faults after.err_faults) end →
+  -- the plan was written whole, and its execution stopped, or the text of the result was not written whole
+  stopped : (plan : Plan) (entries : List Chosen) (middle : Option (List ℕ)) (count : Between before.err_faults after.err_faults) (why end : Stop) →
+      IsPlanned schema statement firings search plan entries → TookAll before.err middle (planned_text entries plan) →
+      Delivers seen schema plan CALLS (IsText plan) old new before.out after.out (Rose before.out_faults after.out_faults) (Err why) →
+      StopsFor (λ given. given ≡ why) names middle after.err (Rose count.faults after.err_faults) end →
       StatementEnds seen schema statement firings search IsText names before after old new (Err end)
   -- it was executed, and the result was written whole
-  done : (plan : Plan) (entries : List Chosen) (run : Run) (text : List ℕ) → IsPlanned schema statement firings search plan entries → TookAll before.err after.err (planned_text entries plan) →
-      Executes seen schema plan CALLS old new (Ok run) → IsText plan run text → TookAll before.out after.out text →
+  done : (plan : Plan) (entries : List Chosen) → IsPlanned schema statement firings search plan entries → TookAll before.err after.err (planned_text entries plan) →
+      Delivers seen schema plan CALLS (IsText plan) old new before.out after.out (Rose before.out_faults after.out_faults) (Ok tt) →
       StatementEnds seen schema statement firings search IsText names before after old new (Ok outcome.Done)
 
 -- How `run` ends: a text was refused, and nothing but the line was written; or both were read, and the statement was decided.
@@ -95,5 +83,5 @@ pub data RunEnds {S : Type 0} (seen : S → Seen) (schema_name query_name : List
       after.out ≡ before.out → new ≡ old → RunEnds seen schema_name query_name firings search before after old new (Err end)
   read : (schema : Schema) (statement : Statement) (result : Result Outcome Stop) →
       SchemaIsRead before.files schema_name schema → QueryIsRead before.files query_name schema statement →
-      StatementEnds seen schema statement firings search (IsResult seen schema statement new) (record { schema = schema_name; query = query_name; plan = []; relations = schema.relations }) before after old new result →
+      StatementEnds seen schema statement firings search (IsResult seen schema statement new) (record { schema = schema_name; query = query_name; plan = []; relations = schema.relations }) (outputs_of before) (outputs_of after) old new result →
       RunEnds seen schema_name query_name firings search before after old new result

@@ -7,7 +7,7 @@ use Rattle.command_io.specs.declared.stop.Stop.{Stop}
 use Rattle.command_io.specs.declared.stop.Stop.TheVariants as stop
 use Rattle.command_io.specs.declared.outcome.Outcome.{Outcome}
 use Rattle.command_io.specs.Inputs.{SchemaIsRead, QueryIsRead, TextsStop}
-use Rattle.command_io.specs.Moments.{Moment, ResultStop}
+use Rattle.command_io.specs.Moments.{Moment, Outputs, outputs_of, ResultStop}
 use Rattle.command_io.specs.Writing.{TookAll}
 use Rattle.command_io.specs.FaultLines.{Names}
 use Rattle.command_io.specs.Telling.{StopsFor}
@@ -16,7 +16,7 @@ use Rattle.explain.specs.Printing.{IsDecisionText}
 use Rattle.run_command.specs.Deciding.{IsDecided, Shows, TookPartOf}
 
 -- What became of a statement: nothing was decided; or standard output took the text of the decision, whole or not.
-pub data DecisionEnds (schema : Schema) (statement : Statement) (firings search : ℕ) (names : Names) (before after : Moment) : Result Outcome Stop → Type 0 where
+pub data DecisionEnds (schema : Schema) (statement : Statement) (firings search : ℕ) (names : Names) (before after : Outputs) : Result Outcome Stop → Type 0 where
   -- memory was wanted for a decision, and nothing but the line was written
   no_decision : (end : Stop) →
       StopsFor (λ given. given ≡ stop.Memory) names before.err after.err (Rose before.err_faults after.err_faults) end →
@@ -39,5 +39,5 @@ pub data ExplainEnds (schema_name query_name : List ℕ) (firings search : ℕ) 
       after.out ≡ before.out → ExplainEnds schema_name query_name firings search before after (Err end)
   read : (schema : Schema) (statement : Statement) (result : Result Outcome Stop) →
       SchemaIsRead before.files schema_name schema → QueryIsRead before.files query_name schema statement →
-      DecisionEnds schema statement firings search (record { schema = schema_name; query = query_name; plan = []; relations = schema.relations }) before after result →
+      DecisionEnds schema statement firings search (record { schema = schema_name; query = query_name; plan = []; relations = schema.relations }) (outputs_of before) (outputs_of after) result →
       ExplainEnds schema_name query_name firings search before after result

@@ -22,7 +22,7 @@ use Rattle.middleware.specs.LaneBranches.{LanesHoldPlan}
 use Rattle.command_io.specs.declared.stop.Stop.{Stop}
 use Rattle.command_io.specs.declared.stop.Stop.TheVariants as stop
 use Rattle.command_io.specs.declared.outcome.Outcome.{Outcome}
-use Rattle.command_io.specs.Moments.{Moment}
+use Rattle.command_io.specs.Moments.{Outputs}
 use Rattle.command_io.specs.Telling.{StopsFor}
 use Rattle.command_io.specs.Reports.{summary}
 use Rattle.world_source.specs.Texts.{schema_text, query_text}
@@ -50,7 +50,7 @@ pub data WorldStop (size : ℕ) : Stop → Type 0 where
 
 -- How `world` ends: its texts were not read, and nothing but the line was written; or both were read, and the statement was decided with the
 -- default budgets and executed as by `run`, but that standard output took the summary.
-pub data WorldEnds {S : Type 0} (seen : S → Seen) (size : ℕ) (before after : Moment) (old new : List (Lane S)) : Result Outcome Stop → Type 0 where
+pub data WorldEnds {S : Type 0} (seen : S → Seen) (size : ℕ) (before after : Outputs) (old new : List (Lane S)) : Result Outcome Stop → Type 0 where
   refused : (end : Stop) → StopsFor (WorldStop size) (record { schema = []; query = []; plan = []; relations = [] }) before.err after.err (Rose before.err_faults after.err_faults) end →
       after.out ≡ before.out → new ≡ old → WorldEnds seen size before after old new (Err end)
   read : (schema : Schema) (statement : Statement) (result : Result Outcome Stop) → IsSchemaText (schema_text size) schema → IsStatementText schema query_text statement →

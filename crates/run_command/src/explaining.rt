@@ -1,10 +1,10 @@
 // A query, from the texts of its files to the text of what is decided.
-ghost use Rattle.std.specs.Prelude.{◌≡◌, ◌≤◌, None};
+ghost use Rattle.std.specs.Prelude.{◌≡◌, ◌≤◌};
 ghost use Rattle.source_trait.specs.Causes.{Rose};
 ghost use Rattle.sql_select.specs.Statements.{StatementFits};
 ghost use Rattle.rule_pass.specs.declared.pass.TheConstants.{MOST_FIRINGS};
 ghost use Rattle.proof_search.specs.declared.deciding.TheConstants.{MOST_UNITS};
-ghost use Rattle.command_io.specs.Moments.{Moment, Stays};
+ghost use Rattle.command_io.specs.Moments.{Moment, Outputs, Stays};
 ghost use Rattle.run_command.specs.Explained.{DecisionEnds, ExplainEnds};
 
 use crate::deciding::{decided, outcome, write_decision};
@@ -66,8 +66,8 @@ fn show<O: Sink, E: Sink>(
     requires budget { firings ≤ MOST_FIRINGS }
     requires units { search ≤ MOST_UNITS }
     ensures ends { DecisionEnds schema.now statement.now firings search (record { schema = names.entry.schema.now; query = names.entry.query.now; plan = names.entry.plan.now; relations = schema.now.relations })
-        (record { files = None; file_faults = 0; out = O.taken out.old; out_faults = O.faults out.old; err = E.taken err.old; err_faults = E.faults err.old })
-        (record { files = None; file_faults = 0; out = O.taken out.new; out_faults = O.faults out.new; err = E.taken err.new; err_faults = E.faults err.new })
+        (record { out = O.taken out.old; out_faults = O.faults out.old; err = E.taken err.old; err_faults = E.faults err.old })
+        (record { out = O.taken out.new; out_faults = O.faults out.new; err = E.taken err.new; err_faults = E.faults err.new })
         result }
     ensures later_out { O.faults out.old ≤ O.faults out.new }
     ensures later_err { E.faults err.old ≤ E.faults err.new }

@@ -1,11 +1,11 @@
 // A query, from the texts of its files to its answer.
-ghost use Rattle.std.specs.Prelude.{◌≡◌, ◌≤◌, None, length};
+ghost use Rattle.std.specs.Prelude.{◌≡◌, ◌≤◌, length};
 ghost use Rattle.source_trait.specs.Causes.{Rose};
 ghost use Rattle.source_trait.specs.Lanes.{LanesStay};
 ghost use Rattle.sql_select.specs.Statements.{StatementFits};
 ghost use Rattle.rule_pass.specs.declared.pass.TheConstants.{MOST_FIRINGS};
 ghost use Rattle.proof_search.specs.declared.deciding.TheConstants.{MOST_UNITS};
-ghost use Rattle.command_io.specs.Moments.{Moment, Stays};
+ghost use Rattle.command_io.specs.Moments.{Moment, Outputs, Stays};
 ghost use Rattle.command_io.specs.Reports.{IsReport};
 ghost use Rattle.run_command.specs.Ends.{StatementEnds, RunEnds};
 
@@ -84,8 +84,8 @@ pub fn answer<R: Threads + Sync, S: Source + Send + Drop, O: Sink, E: Sink>(
     requires units { search ≤ MOST_UNITS }
     requires lanes { length lanes.old ≤ 8 }
     ensures ends { StatementEnds S.seen schema.now statement.now firings search (λ plan. IsReport report.entry) (record { schema = names.entry.schema.now; query = names.entry.query.now; plan = names.entry.plan.now; relations = schema.now.relations })
-        (record { files = None; file_faults = 0; out = O.taken out.old; out_faults = O.faults out.old; err = E.taken err.old; err_faults = E.faults err.old })
-        (record { files = None; file_faults = 0; out = O.taken out.new; out_faults = O.faults out.new; err = E.taken err.new; err_faults = E.faults err.new })
+        (record { out = O.taken out.old; out_faults = O.faults out.old; err = E.taken err.old; err_faults = E.faults err.old })
+        (record { out = O.taken out.new; out_faults = O.faults out.new; err = E.taken err.new; err_faults = E.faults err.new })
         lanes.old lanes.new result }
     ensures lanes { LanesStay S.seen lanes.old lanes.new }
     ensures later_out { O.faults out.old ≤ O.faults out.new }

@@ -1,9 +1,9 @@
 // The world of a size, from its texts to the summary of its execution.
-ghost use Rattle.std.specs.Prelude.{◌≡◌, ◌≤◌, IfErr, IfOk, None, length};
+ghost use Rattle.std.specs.Prelude.{◌≡◌, ◌≤◌, IfErr, IfOk, length};
 ghost use Rattle.source_trait.specs.Lanes.{LanesStay};
 ghost use Rattle.tgd_reader.specs.SchemaText.{IsSchemaText};
 ghost use Rattle.sql_select.specs.Statements.{IsStatementText, StatementFits};
-ghost use Rattle.command_io.specs.Moments.{Moment};
+ghost use Rattle.command_io.specs.Moments.{Outputs};
 ghost use Rattle.world_source.specs.Texts.{query_text, schema_text};
 ghost use Rattle.run_command.specs.World.{WorldEnds, WorldStop};
 
@@ -40,8 +40,8 @@ pub fn run_world<R: Threads + Sync, S: Source + Send + Drop, O: Sink, E: Sink>(
     requires small { size ≤ 10000 }
     requires lanes { length lanes.old ≤ 8 }
     ensures ends { WorldEnds S.seen size
-        (record { files = None; file_faults = 0; out = O.taken out.old; out_faults = O.faults out.old; err = E.taken err.old; err_faults = E.faults err.old })
-        (record { files = None; file_faults = 0; out = O.taken out.new; out_faults = O.faults out.new; err = E.taken err.new; err_faults = E.faults err.new })
+        (record { out = O.taken out.old; out_faults = O.faults out.old; err = E.taken err.old; err_faults = E.faults err.old })
+        (record { out = O.taken out.new; out_faults = O.faults out.new; err = E.taken err.new; err_faults = E.faults err.new })
         lanes.old lanes.new result }
     ensures lanes { LanesStay S.seen lanes.old lanes.new }
     ensures later_out { O.faults out.old ≤ O.faults out.new }

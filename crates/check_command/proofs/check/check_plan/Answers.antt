@@ -3,7 +3,6 @@ use Rattle.std.proofs.Common.{◌≤◌, refl, arith}
 use Rattle.command_io.proofs.Later.{rose_between, plan_later}
 use Rattle.check_command.specs.Ends.CheckEnds.{refused, no_plan, read}
 use Rattle.check_command.proofs.Short.{read_columns}
-use Rattle.check_command.proofs.Results.{judged_with_files}
 use Rattle.check_command.proofs.check.check_plan.Goals as goal
 
 pub returns-in-Err-clause-ends : goal.returns-in-Err-clause-ends
@@ -28,5 +27,4 @@ show-requires-clause-columns g c = read_columns _ _ c.in-Ok-plan_of_file.plan c.
 pub returns-clause-ends : goal.returns-clause-ends
 returns-clause-ends g c =
     read c.in-Ok.both.0 c.in-Ok.both.1 c.in-Ok-plan_of_file.plan c.show.result c.in-Ok.ensures.schema c.in-Ok.ensures.statement
-    (rw c.read_texts.ensures.same at c.in-Ok-plan_of_file.ensures.read)
-    (judged_with_files c.in-Ok.both.0 c.in-Ok.both.1 c.in-Ok-plan_of_file.plan c.args.firings _ _ _ c.show.result c.show.ensures.ends)
+    (rw c.read_texts.ensures.same at c.in-Ok-plan_of_file.ensures.read) c.show.ensures.ends

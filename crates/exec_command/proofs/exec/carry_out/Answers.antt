@@ -1,12 +1,12 @@
 -- The ways of a plan, by where the function returns.
-use Rattle.std.proofs.Common.{refl}
+use Rattle.std.proofs.Common.{Ok, Err, refl}
 use Rattle.source_trait.proofs.LaneSteps.{LanesStay-refl}
 use Rattle.command_io.specs.declared.stop.Stop.TheVariants as stop
 use Rattle.exec_command.specs.Known.{known_to}
 use Rattle.exec_command.specs.Ends.IdleStop.{no_memory}
-use Rattle.exec_command.specs.Ends.PlanEnds.{idle}
+use Rattle.exec_command.specs.Ends.PlanEnds.{idle, stopped, done}
 use Rattle.command_io.proofs.Short.{short}
-use Rattle.exec_command.proofs.Results.{delivered, not_delivered}
+use Rattle.exec_command.proofs.Results.{delivered}
 use Rattle.exec_command.proofs.exec.carry_out.Goals as goal
 
 pub returns-in-Err-clause-ends : goal.returns-in-Err-clause-ends
@@ -37,11 +37,14 @@ deliver-requires-clause-short g c κs within = short c.args.plan.now c.requires.
 
 pub returns-in-Ok-deliver-clause-ends : goal.returns-in-Ok-deliver-clause-ends
 returns-in-Ok-deliver-clause-ends g c =
-    delivered g.S.Source.seen c.args.schema.now c.args.plan.now c.in-Ok.ensures.lawful _ _ _ _ _ refl
-    (rw c.in-Ok-column_names.ensures at c.in-Ok-deliver.ensures.delivers)
+    done c.in-Ok.ensures.lawful
+    (delivered g.S.Source.seen c.args.schema.now c.args.plan.now _ _ _ _ _ (Ok tt) (rw c.in-Ok-column_names.ensures at c.in-Ok-deliver.ensures.delivers)) refl
 
 pub returns-clause-ends : goal.returns-clause-ends
 returns-clause-ends g c =
-    not_delivered g.S.Source.seen c.args.schema.now c.args.plan.now c.in-Ok.ensures.lawful _ _ _ _ _
-    c.in-Err-deliver.stop c.tell-in-Err-deliver.result (rw c.in-Ok-column_names.ensures at c.in-Err-deliver.ensures.delivers)
-    (rw c.as_slice-relations.ensures at c.tell-in-Err-deliver.ensures.tells)
+    stopped c.in-Err-deliver.stop c.tell-in-Err-deliver.result c.in-Ok.ensures.lawful
+    (delivered g.S.Source.seen c.args.schema.now c.args.plan.now _ _ _ _ _ (Err c.in-Err-deliver.stop) (rw c.in-Ok-column_names.ensures at c.in-Err-deliver.ensures.delivers)) (record {
+      given = c.in-Err-deliver.stop;
+      cause = refl;
+      tells = rw c.as_slice-relations.ensures at c.tell-in-Err-deliver.ensures.tells;
+    })

@@ -3,7 +3,6 @@ use Rattle.std.proofs.Common.{◌≤◌, refl, arith}
 use Rattle.source_trait.proofs.LaneSteps.{LanesStay-refl}
 use Rattle.command_io.proofs.Later.{rose_between, plan_later}
 use Rattle.exec_command.specs.Ends.ExecEnds.{no_schema, no_plan, read}
-use Rattle.exec_command.proofs.Results.{with_files}
 use Rattle.exec_command.proofs.exec.exec_plan.Goals as goal
 
 pub returns-in-Err-clause-ends : goal.returns-in-Err-clause-ends
@@ -31,4 +30,4 @@ returns-in-Err-plan_of_file-clause-lanes g c = LanesStay-refl g.S.Source.seen c.
 pub returns-clause-ends : goal.returns-clause-ends
 returns-clause-ends g c =
     read c.in-Ok.schema c.in-Ok-plan_of_file.plan c.carry_out.result c.in-Ok.ensures.read (rw c.schema_of.ensures.same at c.in-Ok-plan_of_file.ensures.read)
-    (with_files g.S.Source.seen c.in-Ok.schema c.in-Ok-plan_of_file.plan _ _ _ _ _ c.carry_out.result (rw (c.new-none.ensures, c.new.ensures.bytes) at c.carry_out.ensures.ends))
+    (rw (c.new-none.ensures, c.new.ensures.bytes) at c.carry_out.ensures.ends)

@@ -6,7 +6,7 @@ use Rattle.command_io.proofs.Lines.{said_tells}
 use Rattle.command_words.specs.Words.{IsCommand}
 use Rattle.command_words.specs.Words.Command.{Help, Schema, Explain, Run, Exec, Check, Verify, World}
 use Rattle.pdq_core.specs.Runs.Runs.{no_command, help, schema, explain, run, exec, check, verify, world}
-use Rattle.pdq_core.proofs.Ways.{few_explained, few_run, few_checked, units_explained, units_run, workers_run, workers_exec, workers_world, small_world, help_with_files, world_with_files}
+use Rattle.pdq_core.proofs.Ways.{few_explained, few_run, few_checked, units_explained, units_run, workers_run, workers_exec, workers_world, small_world}
 use Rattle.pdq_core.proofs.top.run_words.Goals as goal
 
 pub returns-in-None-clause-run : goal.returns-in-None-clause-run
@@ -22,7 +22,7 @@ returns-in-None-clause-lanes g c = LanesStay-refl g.S.Source.seen c.args.lanes.n
 pub returns-in-Some-Help-clause-run : goal.returns-in-Some-Help-clause-run
 returns-in-Some-Help-clause-run g c =
     let is : IsCommand c.args.words.now Help = rw c.in-Some-Help.field-0-is at c.in-Some-Help.ensures.some in
-    rw c.ended.ensures (help c.print_usage.result is (help_with_files _ _ c.print_usage.result c.print_usage.ensures.ends) refl)
+    rw c.ended.ensures (help c.print_usage.result is c.print_usage.ensures.ends refl)
 
 pub returns-in-Some-Help-clause-lanes : goal.returns-in-Some-Help-clause-lanes
 returns-in-Some-Help-clause-lanes g c = LanesStay-refl g.S.Source.seen c.args.lanes.now.items
@@ -126,8 +126,7 @@ pub returns-in-Some-World-clause-run : goal.returns-in-Some-World-clause-run
 returns-in-Some-World-clause-run g c =
     let is : IsCommand c.args.words.now (World c.in-Some-World.size c.in-Some-World.workers) = rw c.in-Some-World.field-0-is at c.in-Some-World.ensures.some in
     rw c.ended-in-Some-World.ensures
-    (world c.in-Some-World.size c.in-Some-World.workers c.world_on_first.result is
-    (world_with_files g.S.Source.seen c.in-Some-World.size _ _ _ _ c.world_on_first.result c.world_on_first.ensures.ends) c.world_on_first.ensures.behind)
+    (world c.in-Some-World.size c.in-Some-World.workers c.world_on_first.result is c.world_on_first.ensures.ends c.world_on_first.ensures.behind)
 
 pub returns-in-Some-World-clause-lanes : goal.returns-in-Some-World-clause-lanes
 returns-in-Some-World-clause-lanes g c = c.world_on_first.ensures.lanes

@@ -1,14 +1,12 @@
 -- A text is refused, or the statement is decided.
 use Rattle.std.proofs.Common.{refl}
 use Rattle.run_command.specs.Explained.ExplainEnds.{refused, read}
-use Rattle.run_command.proofs.Results.{shown_with_files}
 use Rattle.run_command.proofs.explaining.explain_query.Goals as goal
 
 pub returns-in-Ok-clause-ends : goal.returns-in-Ok-clause-ends
 returns-in-Ok-clause-ends g c =
     read c.in-Ok.schema c.in-Ok.statement c.show.result c.in-Ok.ensures.schema c.in-Ok.ensures.statement
-    (shown_with_files c.in-Ok.schema c.in-Ok.statement c.args.firings c.args.search _ _ _ c.show.result
-    (rw (c.new-none.ensures, c.new.ensures.bytes) at c.show.ensures.ends))
+    (rw (c.new-none.ensures, c.new.ensures.bytes) at c.show.ensures.ends)
 
 pub returns-clause-ends : goal.returns-clause-ends
 returns-clause-ends g c = refused c.tell.result (record {

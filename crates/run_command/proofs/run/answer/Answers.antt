@@ -4,8 +4,8 @@ use Rattle.source_trait.proofs.LaneSteps.{LanesStay-refl}
 use Rattle.command_io.proofs.Later.{decision_stop}
 use Rattle.command_io.proofs.Short.{short}
 use Rattle.proof_search.specs.Plans.{known_of}
-use Rattle.run_command.specs.Ends.StatementEnds.{no_decision, untold}
-use Rattle.run_command.proofs.Results.{plan_of, plan_told, none_told, log_told, delivered, not_delivered}
+use Rattle.run_command.specs.Ends.StatementEnds.{no_decision, untold, stopped, done}
+use Rattle.run_command.proofs.Results.{plan_of, plan_told, none_told, log_told}
 use Rattle.run_command.proofs.run.answer.Goals as goal
 
 pub returns-in-Err-clause-ends : goal.returns-in-Err-clause-ends
@@ -60,13 +60,15 @@ deliver-requires-clause-short g c κs within =
 pub returns-in-Ok-deliver-clause-ends : goal.returns-in-Ok-deliver-clause-ends
 returns-in-Ok-deliver-clause-ends g c =
     let told = plan_told g.S.Source.seen c.args.schema.now c.args.statement.now c.args.firings c.args.search c.requires.fits c.in-Ok.decision c.in-Ok.ensures.decided c.in-Plan.plan c.in-Plan.selects _ _ c.in-Plan.is c.in-Ok-write_decision.ensures.whole in
-    delivered g.S.Source.seen c.args.schema.now c.args.statement.now c.args.firings c.args.search c.in-Plan.plan c.in-Plan.selects told.0 _ _ _ _ _ _ told.1 c.in-Ok-deliver.ensures.delivers
+    done c.in-Plan.plan c.in-Plan.selects told.0 told.1 c.in-Ok-deliver.ensures.delivers
 
 pub returns-clause-ends : goal.returns-clause-ends
 returns-clause-ends g c =
     let told = plan_told g.S.Source.seen c.args.schema.now c.args.statement.now c.args.firings c.args.search c.requires.fits c.in-Ok.decision c.in-Ok.ensures.decided c.in-Plan.plan c.in-Plan.selects _ _ c.in-Plan.is c.in-Ok-write_decision.ensures.whole in
-    not_delivered g.S.Source.seen c.args.schema.now c.args.statement.now c.args.firings c.args.search c.in-Plan.plan c.in-Plan.selects told.0 _ _ _ _ _ _
-    (g.E.Sink.taken c.write_decision.new.sink)
+    stopped c.in-Plan.plan c.in-Plan.selects (g.E.Sink.taken c.write_decision.new.sink)
     (record { faults = g.E.Sink.faults c.write_decision.new.sink; begun = c.write_decision.ensures.later; ended = c.tell-in-Err-deliver.ensures.later })
-    c.in-Err-deliver.stop c.tell-in-Err-deliver.result told.1 c.in-Err-deliver.ensures.delivers
-    (rw c.as_slice-relations.ensures at c.tell-in-Err-deliver.ensures.tells)
+    c.in-Err-deliver.stop c.tell-in-Err-deliver.result told.0 told.1 c.in-Err-deliver.ensures.delivers (record {
+      given = c.in-Err-deliver.stop;
+      cause = refl;
+      tells = rw c.as_slice-relations.ensures at c.tell-in-Err-deliver.ensures.tells;
+    })

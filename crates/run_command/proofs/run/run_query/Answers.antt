@@ -2,7 +2,7 @@
 use Rattle.std.proofs.Common.{refl, sym}
 use Rattle.source_trait.proofs.LaneSteps.{LanesStay-refl}
 use Rattle.run_command.specs.Ends.RunEnds.{refused, read}
-use Rattle.run_command.proofs.Results.{result_of, with_text, with_files}
+use Rattle.run_command.proofs.Results.{result_of, with_text}
 use Rattle.run_command.proofs.run.run_query.Goals as goal
 
 pub returns-in-Ok-clause-ends : goal.returns-in-Ok-clause-ends
@@ -11,9 +11,7 @@ returns-in-Ok-clause-ends g c =
     (with_text g.S.Source.seen c.in-Ok.schema c.in-Ok.statement c.args.firings c.args.search _ _ _ _ _ _ _
     (λ plan entries run text is executes given.
     result_of g.S.Source.seen c.in-Ok.schema c.in-Ok.statement c.args.firings c.args.search plan entries is c.result_names.result.now (sym c.result_names.ensures) _ _ run text executes given)
-    c.answer.result
-    (with_files g.S.Source.seen c.in-Ok.schema c.in-Ok.statement c.args.firings c.args.search _ _ _ _ _ _ c.answer.result
-    (rw (c.new-none.ensures, c.new.ensures.bytes) at c.answer.ensures.ends)))
+    c.answer.result (rw (c.new-none.ensures, c.new.ensures.bytes) at c.answer.ensures.ends))
 
 pub returns-clause-ends : goal.returns-clause-ends
 returns-clause-ends g c = refused c.tell.result (record {
