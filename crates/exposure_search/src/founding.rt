@@ -11,15 +11,18 @@ ghost use Rattle.exposure_search.specs.Exploring.{IsRunBeyond};
 use access_schema::Schema;
 use accessible_copy::{Proof, Round, settle};
 use lists::{NoMemory, Texts};
-use meaning::types::Query;
+use meaning::types::{Queries, Query};
 use std::alloc::Global;
 
 /// The proof of the query's base firings alone, after which no base trigger is active. None comes only where some run has more
 /// firings than the budget.
+///
+/// Its copy is made for matches of the goals.
 pub fn base_proof(
     alloc: Global,
     schema: &Schema,
     query: &Query,
+    goals: &Queries,
     known: &Texts,
     budget: u32,
 ) -> Result<Option<Proof>, NoMemory>
@@ -31,7 +34,7 @@ pub fn base_proof(
     ensures constants { IfOk result (λ made. IfSome made (λ proof. proof.constants ≡ known.now)) }
     ensures none { IfOk result (λ made. IfNone made (IsRunBeyond (meaning_of schema.now) known.now (opening query.now) budget)) }
 {
-    let mut proof = Proof::start(alloc, schema, query, known)?;
+    let mut proof = Proof::start(alloc, schema, query, goals, known)?;
     let quiet = fire_base(alloc, &mut proof, schema, budget)?;
     Ok(quiet.then_some(proof))
 }

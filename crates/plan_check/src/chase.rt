@@ -1,18 +1,15 @@
 // The chase of a frozen query, and the instance that its end is.
-ghost use Rattle.std.specs.Prelude.{◌≡◌, ◌≤◌, IfOk, map};
+ghost use Rattle.std.specs.Prelude.{◌≡◌, ◌≤◌, IfOk};
 ghost use Rattle.meaning.specs.Homomorphisms.{image, renamed};
-ghost use Rattle.meaning.specs.Triggers.{bound};
-ghost use Rattle.meaning.specs.Runs.{opening_state};
 ghost use Rattle.access_schema.specs.Meaning.{meaning_of};
 ghost use Rattle.rule_pass.specs.declared.pass.TheConstants.{MOST_FIRINGS, HIGHEST_FIRST_LABEL};
 ghost use Rattle.plan_check.specs.Trials.{IsChase, IsNamedEnd};
 
 use access_schema::Schema;
-use homomorphism::Store;
-use lists::{Copies, NoMemory, Row, Seq, Texts};
+use homomorphism::{Positions, Store};
+use lists::{Copies, NoMemory, Row, Texts};
 use meaning::types::{Ground, Instance, Query, Triggers, Val};
 use no_plan_witness::Naming;
-use plan_extract::frozen_facts;
 use rule_pass::laws::schema_rules_are_orderly;
 use rule_pass::{State, Stopped, run_rules};
 use std::alloc::Global;
@@ -25,13 +22,19 @@ pub struct Chase {
     pub stopped: Stopped,
 }
 
-/// The frozen query: the state in which its chase begins.
-pub fn frozen_query(alloc: Global, query: &Query) -> Result<State, NoMemory>
-    requires counted { bound query.now.atoms ≤ query.now.variables }
-    ensures { IfOk result (λ state. state ≡ opening_state query.now) }
-{
-    let facts = Seq::from_vec(frozen_facts(alloc, query.atoms.as_slice())?);
-    Ok(State::start(alloc, &facts, query.variables)?)
+/// The positions that the rules look for, and all of the atoms of these queries.
+pub fn looked_for(
+    alloc: Global,
+    schema: &Schema,
+    forms: &[Option<Query>],
+) -> Result<Positions, NoMemory> {
+    let mut positions = Positions::of_rules(alloc, schema.rules.as_slice())?;
+    for form in forms {
+        if let Some(query) = form {
+            positions.add_atoms(query.atoms.as_slice())?;
+        }
+    }
+    Ok(positions)
 }
 
 /// Fires the rules from the state on, with a budget.

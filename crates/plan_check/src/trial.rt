@@ -5,9 +5,10 @@ ghost use Rattle.rule_pass.specs.declared.pass.TheConstants.{MOST_FIRINGS};
 ghost use Rattle.meaning.specs.Runs.{frozen_head, opening_state};
 ghost use Rattle.plan_check.specs.Trials.{IsTriable, AreTriable, FormIsTriable, AreCounted, SomeHas, IsChase, IsOutcome, FormOutcome, AreTried, or_spent, and_outcome};
 
-use crate::chase::{Chase, chase_from, frozen_query, named_end};
+use crate::chase::{Chase, chase_from, looked_for, named_end};
 use crate::rows::some_has;
 use access_schema::Schema;
+use accessible_copy::opening_state;
 use homomorphism::Store;
 use lists::{NoMemory, Row, Texts};
 use meaning::types::{Instance, Query, Triggers};
@@ -117,7 +118,8 @@ fn try_query(
     requires firings { firings ≤ MOST_FIRINGS }
     ensures { IfOk result (IsOutcome (meaning_of schema.now) others.now firings query.now) }
 {
-    let start = frozen_query(alloc, query)?;
+    let positions = looked_for(alloc, schema, others)?;
+    let start = opening_state(alloc, query, positions)?;
     let found = has_head_soon(alloc, query, others, start.store())?;
     if found {
         return Ok(Outcome::Contained);

@@ -73,7 +73,7 @@ fn branch_for(
     requires firings { firings ≤ MOST_FIRINGS }
     ensures { IfOk result (IsQueryOutcome (meaning_of schema.now) known.now queries.now firings search query.now) }
 {
-    let (proof, quiet) = prove(alloc, schema, query, known, firings, Turn::All)?;
+    let (proof, quiet) = prove(alloc, schema, query, queries, known, firings, Turn::All)?;
     outcome_of(
         alloc, schema, query, queries, known, &proof, quiet, firings, search,
     )

@@ -49,7 +49,7 @@ pub fn choose(
     requires first { IsQueryBranch (meaning_of schema.now) known.now queries.now query.now first }
     ensures { IfOk result (IsChoice (meaning_of schema.now) known.now queries.now firings search query.now) }
 {
-    match base_proof(alloc, schema, query, known, firings)? {
+    match base_proof(alloc, schema, query, queries, known, firings)? {
         Some(base) => choose_over(
             alloc, schema, query, queries, known, head, first, base, firings, search,
         ),

@@ -13,15 +13,18 @@ use crate::exposing::{Turn, expose_all};
 use access_schema::Schema;
 use accessible_copy::{Proof, Round, settle};
 use lists::{NoMemory, Texts};
-use meaning::types::Query;
+use meaning::types::{Queries, Query};
 use std::alloc::Global;
 
 /// The proof of a query: base firings, exposures and copy firings, those of each kind while they are active and the log has
 /// fewer than `firings`, and exposures in turns of this kind. Whether nothing is active at the end.
+///
+/// Its copy is made for matches of the goals.
 pub fn prove(
     alloc: Global,
     schema: &Schema,
     query: &Query,
+    goals: &Queries,
     known: &Texts,
     firings: u32,
     turn: Turn,
@@ -32,7 +35,7 @@ pub fn prove(
     ensures quiet { IfOk result (λ made. made.1 ≡ true → IsAllQuiet (meaning_of schema.now) made.0) }
     ensures spent { IfOk result (λ made. made.1 ≡ false → (firings ≤ length made.0.entries) × GoesOn (meaning_of schema.now) made.0) }
 {
-    let mut proof = Proof::start(alloc, schema, query, known)?;
+    let mut proof = Proof::start(alloc, schema, query, goals, known)?;
     let quiet = fire_all(alloc, &mut proof, schema, firings, turn)?;
     Ok((proof, quiet))
 }

@@ -74,6 +74,14 @@ fn spared(
     requires firings { firings ≤ MOST_FIRINGS }
     ensures { IfOk result (λ found. IfSome found (IsQueryBranch (meaning_of schema.now) known.now queries.now query.now)) }
 {
-    let (proof, _) = prove(alloc, schema, query, known, firings, Turn::Cheapest)?;
+    let (proof, _) = prove(
+        alloc,
+        schema,
+        query,
+        queries,
+        known,
+        firings,
+        Turn::Cheapest,
+    )?;
     branch_in(alloc, schema, query, queries, known, head, &proof, firings)
 }

@@ -4,13 +4,13 @@ ghost use Rattle.meaning.specs.Runs.{IsBaseQuiet};
 ghost use Rattle.access_schema.specs.Meaning.{meaning_of};
 ghost use Rattle.accessible_copy.specs.Proving.{IsProofOf, IsOrdered};
 
-use super::queries::query;
+use super::queries::{counted, query};
 use super::schemas::words;
 use access_schema::Schema;
 use accessible_copy::{Mark, Proof, Round, expose, exposures, mark, round, settle, undo};
 use homomorphism::variables_width;
 use lists::{NoMemory, Texts};
-use meaning::types::{Firing, Query};
+use meaning::types::{Firing, Queries, Query};
 use rule_pass::{HIGHEST_FIRST_LABEL, MOST_FIRINGS};
 use std::alloc::Global;
 use std::test::Fail;
@@ -26,7 +26,13 @@ pub(crate) enum Call {
 }
 
 /// The proof of the empty log.
-fn opened(alloc: Global, schema: &Schema, query: &Query, known: &Texts) -> Result<Proof, NoMemory>
+fn opened(
+    alloc: Global,
+    schema: &Schema,
+    query: &Query,
+    goals: &Queries,
+    known: &Texts,
+) -> Result<Proof, NoMemory>
     ensures run { IfOk result (λ proof. IsProofOf (meaning_of schema.now) proof) }
     ensures ordered { IfOk result (λ proof. IsOrdered (meaning_of schema.now) proof) }
 {
@@ -34,19 +40,24 @@ fn opened(alloc: Global, schema: &Schema, query: &Query, known: &Texts) -> Resul
     if width > query.variables as usize || query.variables > HIGHEST_FIRST_LABEL {
         return Err(NoMemory);
     }
-    Proof::start(alloc, schema, query, known)
+    Proof::start(alloc, schema, query, goals, known)
 }
 
 /// The proof of the empty log of the query, where the constant k is known.
-fn start_of(alloc: Global, schema: &Schema, query: &Query) -> Result<Proof, NoMemory>
+fn start_of(
+    alloc: Global,
+    schema: &Schema,
+    query: &Query,
+    goals: &Queries,
+) -> Result<Proof, NoMemory>
     ensures run { IfOk result (λ proof. IsProofOf (meaning_of schema.now) proof) }
     ensures ordered { IfOk result (λ proof. IsOrdered (meaning_of schema.now) proof) }
 {
     let known = words(alloc, "k")?;
-    opened(alloc, schema, query, &known)
+    opened(alloc, schema, query, goals, &known)
 }
 
-/// The proof of the empty log, from these atoms.
+/// The proof of the empty log, from these atoms, with a copy made for their matches.
 pub(crate) fn start(
     alloc: Global,
     schema: &Schema,
@@ -55,8 +66,9 @@ pub(crate) fn start(
     ensures run { IfOk result (λ proof. IsProofOf (meaning_of schema.now) proof) }
     ensures ordered { IfOk result (λ proof. IsOrdered (meaning_of schema.now) proof) }
 {
+    let goals = counted(alloc, query(alloc, atoms)?)?;
     let query = query(alloc, atoms)?;
-    start_of(alloc, schema, &query)
+    start_of(alloc, schema, &query, &goals)
 }
 
 /// Fails where a base trigger is active: with no firing to spend, a pass makes none.
