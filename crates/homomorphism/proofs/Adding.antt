@@ -1,6 +1,5 @@
 -- Facts added one after another.
-use Rattle.std.proofs.Common.{◌≡◌, ◌↔◌, Bool, true, false, ℕ, zero, suc, ◌-◌, ◌<◌, ◌≤◌, List, [], ◌∷◌, ◌++◌, length, refl, sym, ap, ◌∙◌, subst, arith, Contains, take}
-use Rattle.std.specs.Prelude.{IsTrue}
+use Rattle.std.proofs.Common.{◌≡◌, ℕ, zero, suc, ◌-◌, ◌<◌, ◌≤◌, List, [], ◌∷◌, ◌++◌, length, refl, sym, ap, ◌∙◌, subst, arith, Contains, take}
 use Rattle.std.proofs.lemmas.List.Sums.{fold-append}
 use Rattle.meaning.specs.declared.types.Ground.{Ground}
 use Rattle.meaning.specs.Search.{AreDistinct}
@@ -42,17 +41,11 @@ take_again xs count l = by (length xs - 1) xs count (omega arith)
     by (suc n) (x ∷ xs) (suc count) l = ap (λ z. x ∷ z) (by n xs count (omega arith))
 
 -- a fact that was indexed, and then not pushed
-pub undone : (facts now : List Ground) (fact back : Ground) (number : ℕ) (was mid after : FactIndex) → now ≡ facts → back ≡ fact → number ≡ length facts → AreDistinct facts × IsIndexOf facts was → (Contains facts fact → ⊥) →
-    ((some : List Ground) → IsIndexOf some was → number ≡ length some → IsIndexOf (some ++ fact ∷ []) mid) →
+pub undone : (facts now : List Ground) (fact back : Ground) (number : ℕ) (was mid after : FactIndex) → now ≡ facts → back ≡ fact → number ≡ length facts → AreDistinct facts × IsIndexOf facts was →
+    (IsIndexOf facts was → (Contains facts fact → ⊥) × IsIndexOf (facts ++ fact ∷ []) mid) →
     ((some : List Ground) → IsIndexOf (some ++ back ∷ []) mid → number ≡ length some → (Contains some back → ⊥) → IsIndexOf some after) → AreDistinct now × IsIndexOf now after
-undone facts now fact back number was mid after stay same is (once, r) new add remove = (
+undone facts now fact back number was mid after stay same is (once, r) add remove = (
   subst AreDistinct (sym stay) once,
   subst (λ fs. IsIndexOf fs after) (sym stay)
-      (remove facts (subst (λ f. IsIndexOf (facts ++ f ∷ []) mid) (sym same) (add facts r is)) is (λ c. new (subst (Contains facts) same c))),
+      (remove facts (subst (λ f. IsIndexOf (facts ++ f ∷ []) mid) (sym same) (add r).1) is (λ c. (add r).0 (subst (Contains facts) same c))),
 )
-
-pub not_there : (facts : List Ground) (fact : Ground) (found : Bool) → IsTrue found ↔ Contains facts fact → found ≡ false → Contains facts fact → ⊥
-not_there facts fact found is none c = clash (sym none ∙ is.1 c)
-  where
-    clash : false ≡ true → ⊥
-    clash e = cc

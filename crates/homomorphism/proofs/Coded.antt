@@ -9,10 +9,10 @@ use Rattle.std.specs.declared.cmp.Ordering.TheVariants.{Less, Equal, Greater}
 use Rattle.std.proofs.lemmas.Bool.{cases_eq}
 use Rattle.std.proofs.lemmas.Cmp.{tied_itself}
 use Rattle.homomorphism.specs.Codes.{key_code}
-use Rattle.homomorphism.specs.Listed.{key_cmp, own_list, coded_list, listed}
+use Rattle.homomorphism.specs.Listed.{key_cmp, own_list, coded_list, found_at}
 use Rattle.homomorphism.specs.declared.key.Key.{Key}
-use Rattle.homomorphism.specs.declared.key_lists.KeyList.{KeyList}
-use Rattle.homomorphism.specs.declared.key_lists.KeyLists.{KeyLists}
+use Rattle.homomorphism.specs.declared.coded_lists.KeyList.{KeyList}
+use Rattle.homomorphism.specs.declared.coded_lists.CodedLists.{CodedLists}
 use Rattle.homomorphism.proofs.Exact.{key_exact, key_apart, key_total, key_cases}
 use Rattle.homomorphism.proofs.Present.{number_apart}
 
@@ -95,19 +95,35 @@ module _ (key : Key) (code : ℕ) (was now : BTreeMap ℕ KeyList) (old new : Ke
       (λ unlike. ap (own_list other) (rest (key_code other) (number_apart code (key_code other) unlike))) (cases_eq code (key_code other))
 
 -- the first list at a code
-module _ (key : Key) (code number : ℕ) (numbers : List ℕ) (was now : BTreeMap ℕ KeyList) (is : code ≡ key_code key) (only : numbers ≡ number ∷ []) (absent : None ≡ get nat_cmp was code)
-    (here : get nat_cmp now code ≡ Some (record { key = key; numbers = numbers })) (rest : (other : ℕ) → is_at (nat_cmp code) other ≡ false → get nat_cmp now other ≡ get nat_cmp was other) where
-  pub first_noted : coded_list now key ≡ coded_list was key ++ number ∷ []
-  unfolding coded_list
-  first_noted = ap (own_list key) (ap (get nat_cmp now) (sym is) ∙ here) ∙ own_is key (record { key = key; numbers = numbers }) (ap is_eq (tied_itself key_total key)) ∙ only
-      ∙ ap (λ l. l ++ number ∷ []) (sym (own_none key) ∙ ap (own_list key) (absent ∙ ap (get nat_cmp was) is))
+module _ (key : Key) (first : KeyList) (was now : Option KeyList) (same : first.key ≡ key) (absent : was ≡ None) (here : now ≡ Some first) where
+  all_first : own_list key now ≡ first.numbers
+  all_first = ap (own_list key) here ∙ own_is key first (ap (λ k. is_at (key_cmp key) k) same ∙ ap is_eq (tied_itself key_total key))
 
-  pub first_apart : (other : Key) → (other ≡ key → ⊥) → coded_list now other ≡ coded_list was other
-  unfolding coded_list
+  none_before : (other : Key) → own_list other was ≡ []
+  none_before other = ap (own_list other) absent ∙ own_none other
+
+  pub first_noted : (number : ℕ) → first.numbers ≡ number ∷ [] → own_list key now ≡ own_list key was ++ number ∷ []
+  unfolding all_first none_before
+  first_noted number only = all_first ∙ only ∙ ap (λ l. l ++ number ∷ []) (sym (none_before key))
+
+  pub first_empty : first.numbers ≡ [] → own_list key now ≡ own_list key was
+  unfolding all_first none_before
+  first_empty none = all_first ∙ none ∙ sym (none_before key)
+
+  pub first_apart : (other : Key) → (other ≡ key → ⊥) → own_list other now ≡ own_list other was
+  unfolding none_before
   first_apart other differ =
-      ⊎_elim (λ e. ap (own_list other) (ap (get nat_cmp now) (sym e) ∙ here) ∙ own_not other (record { key = key; numbers = numbers }) (key_apart other key (λ same. differ (sym same)))
-      ∙ sym (own_none other) ∙ ap (own_list other) (absent ∙ ap (get nat_cmp was) e))
-      (λ unlike. ap (own_list other) (rest (key_code other) (number_apart code (key_code other) unlike))) (cases_eq code (key_code other))
+      ap (own_list other) here ∙ own_not other first (ap (λ k. is_at (key_cmp other) k) same ∙ key_apart other key (λ e. differ (sym e)))
+      ∙ sym (none_before other)
+
+-- the list at one code is changed, and for a key it is as before
+pub coded_others : (code : ℕ) (was now : BTreeMap ℕ KeyList) (other : Key) →
+    own_list other (get nat_cmp now code) ≡ own_list other (get nat_cmp was code) →
+    ((n : ℕ) → is_at (nat_cmp code) n ≡ false → get nat_cmp now n ≡ get nat_cmp was n) → coded_list now other ≡ coded_list was other
+unfolding coded_list
+coded_others code was now other same rest =
+    ⊎_elim (λ e. subst (λ n. own_list other (get nat_cmp now n) ≡ own_list other (get nat_cmp was n)) e same)
+    (λ unlike. ap (own_list other) (rest (key_code other) (number_apart code (key_code other) unlike))) (cases_eq code (key_code other))
 
 -- a list is read
 pub coded_found : (key : Key) (code : ℕ) (coded : BTreeMap ℕ KeyList) (list : KeyList) (numbers : List ℕ) → code ≡ key_code key → Some list ≡ get nat_cmp coded code → numbers ≡ own_list key (Some list) → numbers ≡ coded_list coded key
@@ -118,21 +134,17 @@ pub coded_none : (key : Key) (code : ℕ) (coded : BTreeMap ℕ KeyList) → cod
 unfolding coded_list
 coded_none key code coded is at = sym (own_none key) ∙ ap (own_list key) (at ∙ ap (get nat_cmp coded) is)
 
-pub listed_other : (key : Key) (lists : KeyLists) (numbers : List ℕ) → Some numbers ≡ get key_cmp lists.others key → numbers ≡ listed lists key
-unfolding listed
+pub listed_other : (key : Key) (lists : CodedLists) (numbers : List ℕ) → Some numbers ≡ get key_cmp lists.others key → numbers ≡ found_at lists key
+unfolding found_at
 listed_other key lists numbers at = ap (λ o. unwrap_or o (coded_list lists.coded key)) at
 
-pub listed_coded : (key : Key) (lists : KeyLists) (numbers : List ℕ) → None ≡ get key_cmp lists.others key → numbers ≡ coded_list lists.coded key → numbers ≡ listed lists key
-unfolding listed
+pub listed_coded : (key : Key) (lists : CodedLists) (numbers : List ℕ) → None ≡ get key_cmp lists.others key → numbers ≡ coded_list lists.coded key → numbers ≡ found_at lists key
+unfolding found_at
 listed_coded key lists numbers at e = e ∙ ap (λ o. unwrap_or o (coded_list lists.coded key)) at
 
 -- what holds of a key and of the others holds of all
 pub coded_all : (key : Key) (was now : BTreeMap ℕ KeyList) → coded_list now key ≡ coded_list was key → ((other : Key) → (other ≡ key → ⊥) → coded_list now other ≡ coded_list was other) → (other : Key) → coded_list now other ≡ coded_list was other
 coded_all key was now here apart other = ⊎_elim (λ e. subst (λ k. coded_list now k ≡ coded_list was k) (sym e) here) (λ differ. apart other differ) (key_cases key other)
-
-pub coded_same : (was now : BTreeMap ℕ KeyList) (key : Key) → now.entries ≡ was.entries → coded_list now key ≡ coded_list was key
-unfolding coded_list
-coded_same was now key e = ap (λ es. own_list key (lookup (is_at (nat_cmp (key_code key))) es)) e
 
 -- the list of a key among the others, and the one at its code
 unwrap_some : {X : Type 0} (o : Option X) (d e : X) → is_some o ≡ true → unwrap_or o d ≡ unwrap_or o e
@@ -143,36 +155,36 @@ unwrap_none : {X : Type 0} (o : Option X) (d : X) → is_some o ≡ false → un
 unwrap_none None d t = refl
 unwrap_none (Some x) d t = absurd (cc)
 
-pub listed_is : (lists : KeyLists) (key : Key) → listed lists key ≡ unwrap_or (get key_cmp lists.others key) (coded_list lists.coded key)
-unfolding listed
+pub listed_is : (lists : CodedLists) (key : Key) → found_at lists key ≡ unwrap_or (get key_cmp lists.others key) (coded_list lists.coded key)
+unfolding found_at
 listed_is lists key = refl
 
 -- lists that stay
-pub listed_same : (was now : KeyLists) (other : Key) → get key_cmp now.others other ≡ get key_cmp was.others other → coded_list now.coded other ≡ coded_list was.coded other → listed now other ≡ listed was other
-unfolding listed
+pub listed_same : (was now : CodedLists) (other : Key) → get key_cmp now.others other ≡ get key_cmp was.others other → coded_list now.coded other ≡ coded_list was.coded other → found_at now other ≡ found_at was other
+unfolding found_at
 listed_same was now other same coded = ap (λ o. unwrap_or o (coded_list now.coded other)) same ∙ ap (λ l. unwrap_or (get key_cmp was.others other) l) coded
 
-module _ (key : Key) (number : ℕ) (was now : KeyLists) where
+module _ (key : Key) (number : ℕ) (was now : CodedLists) where
   -- the number is added to the key's list
-  pub noted_other : is_some (get key_cmp was.others key) ≡ true → get key_cmp now.others key ≡ Some (unwrap_or (get key_cmp was.others key) [] ++ number ∷ []) → listed now key ≡ listed was key ++ number ∷ []
-  unfolding listed
+  pub noted_other : is_some (get key_cmp was.others key) ≡ true → get key_cmp now.others key ≡ Some (unwrap_or (get key_cmp was.others key) [] ++ number ∷ []) → found_at now key ≡ found_at was key ++ number ∷ []
+  unfolding found_at
   noted_other there here = ap (λ o. unwrap_or o (coded_list now.coded key)) here ∙ ap (λ l. l ++ number ∷ []) (unwrap_some (get key_cmp was.others key) [] (coded_list was.coded key) there)
 
-  pub noted_coded : is_some (get key_cmp was.others key) ≡ false → now.others ≡ was.others → coded_list now.coded key ≡ coded_list was.coded key ++ number ∷ [] → listed now key ≡ listed was key ++ number ∷ []
-  unfolding listed
+  pub noted_coded : is_some (get key_cmp was.others key) ≡ false → now.others ≡ was.others → coded_list now.coded key ≡ coded_list was.coded key ++ number ∷ [] → found_at now key ≡ found_at was key ++ number ∷ []
+  unfolding found_at
   noted_coded none same here = ap (λ m. unwrap_or (get key_cmp m key) (coded_list now.coded key)) same ∙ unwrap_none (get key_cmp was.others key) (coded_list now.coded key) none ∙ here
       ∙ ap (λ l. l ++ number ∷ []) (sym (unwrap_none (get key_cmp was.others key) (coded_list was.coded key) none))
 
-  pub noted_taken : (mid : KeyLists) (same : Key) → same ≡ key → is_some (get key_cmp was.others key) ≡ false → mid.others ≡ was.others → coded_list was.coded key ≡ [] →
-      get key_cmp now.others same ≡ Some (unwrap_or (get key_cmp mid.others same) [] ++ number ∷ []) → listed now key ≡ listed was key ++ number ∷ []
-  unfolding listed
+  pub noted_taken : (mid : CodedLists) (same : Key) → same ≡ key → is_some (get key_cmp was.others key) ≡ false → mid.others ≡ was.others → coded_list was.coded key ≡ [] →
+      get key_cmp now.others same ≡ Some (unwrap_or (get key_cmp mid.others same) [] ++ number ∷ []) → found_at now key ≡ found_at was key ++ number ∷ []
+  unfolding found_at
   noted_taken mid same is none stay empty here = ap (λ o. unwrap_or o (coded_list now.coded key)) (subst (λ k. get key_cmp now.others k ≡ Some (unwrap_or (get key_cmp mid.others k) [] ++ number ∷ [])) is here)
       ∙ ap (λ l. l ++ number ∷ []) (ap (λ m. unwrap_or (get key_cmp m key) []) stay ∙ unwrap_none (get key_cmp was.others key) [] none ∙ sym (unwrap_none (get key_cmp was.others key) (coded_list was.coded key) none ∙ empty))
 
   -- the number is taken from the end
   pub struck_other : is_some (get key_cmp was.others key) ≡ true → ((before : List ℕ) → get key_cmp was.others key ≡ Some (before ++ number ∷ []) → get key_cmp now.others key ≡ Some before) →
-      (before : List ℕ) → listed was key ≡ before ++ number ∷ [] → listed now key ≡ before
-  unfolding listed
+      (before : List ℕ) → found_at was key ≡ before ++ number ∷ [] → found_at now key ≡ before
+  unfolding found_at
   struck_other there taken before e = ap (λ o. unwrap_or o (coded_list now.coded key)) (taken before (by (get key_cmp was.others key) there e))
     where
       by : (o : Option (List ℕ)) → is_some o ≡ true → unwrap_or o (coded_list was.coded key) ≡ before ++ number ∷ [] → o ≡ Some (before ++ number ∷ [])
@@ -180,8 +192,8 @@ module _ (key : Key) (number : ℕ) (was now : KeyLists) where
       by (Some l) t f = ap Some f
 
   pub kept_other : is_some (get key_cmp was.others key) ≡ true → ((list : List ℕ) → get key_cmp was.others key ≡ Some list → (Contains list number → ⊥) → get key_cmp now.others key ≡ Some list) →
-      (Contains (listed was key) number → ⊥) → listed now key ≡ listed was key
-  unfolding listed
+      (Contains (found_at was key) number → ⊥) → found_at now key ≡ found_at was key
+  unfolding found_at
   kept_other there taken none = ap (λ o. unwrap_or o (coded_list now.coded key)) (taken (unwrap_or (get key_cmp was.others key) (coded_list was.coded key)) (by (get key_cmp was.others key) there) none)
     where
       by : (o : Option (List ℕ)) → is_some o ≡ true → o ≡ Some (unwrap_or o (coded_list was.coded key))
@@ -189,19 +201,19 @@ module _ (key : Key) (number : ℕ) (was now : KeyLists) where
       by (Some l) t = refl
 
   pub struck_coded : is_some (get key_cmp was.others key) ≡ false → now.others ≡ was.others → ((before : List ℕ) → coded_list was.coded key ≡ before ++ number ∷ [] → coded_list now.coded key ≡ before) →
-      (before : List ℕ) → listed was key ≡ before ++ number ∷ [] → listed now key ≡ before
-  unfolding listed
+      (before : List ℕ) → found_at was key ≡ before ++ number ∷ [] → found_at now key ≡ before
+  unfolding found_at
   struck_coded none same taken before e = ap (λ m. unwrap_or (get key_cmp m key) (coded_list now.coded key)) same ∙ unwrap_none (get key_cmp was.others key) (coded_list now.coded key) none
       ∙ taken before (sym (unwrap_none (get key_cmp was.others key) (coded_list was.coded key) none) ∙ e)
 
   pub kept_coded : is_some (get key_cmp was.others key) ≡ false → now.others ≡ was.others → ((Contains (coded_list was.coded key) number → ⊥) → coded_list now.coded key ≡ coded_list was.coded key) →
-      (Contains (listed was key) number → ⊥) → listed now key ≡ listed was key
-  unfolding listed
+      (Contains (found_at was key) number → ⊥) → found_at now key ≡ found_at was key
+  unfolding found_at
   kept_coded none same taken absent = ap (λ m. unwrap_or (get key_cmp m key) (coded_list now.coded key)) same ∙ unwrap_none (get key_cmp was.others key) (coded_list now.coded key) none
       ∙ taken (λ c. absent (subst (λ l. Contains l number) (sym (unwrap_none (get key_cmp was.others key) (coded_list was.coded key) none)) c))
       ∙ sym (unwrap_none (get key_cmp was.others key) (coded_list was.coded key) none)
 
-pub new_lists : (lists : KeyLists) → lists.coded.entries ≡ [] → lists.others.entries ≡ [] → (key : Key) → listed lists key ≡ []
-unfolding listed coded_list
+pub new_lists : (lists : CodedLists) → lists.coded.entries ≡ [] → lists.others.entries ≡ [] → (key : Key) → found_at lists key ≡ []
+unfolding found_at coded_list
 new_lists lists coded others key = ap (λ es. unwrap_or (lookup (is_at (key_cmp key)) es) (coded_list lists.coded key)) others
     ∙ ap (λ es. own_list key (lookup (is_at (nat_cmp (key_code key))) es)) coded ∙ own_none key

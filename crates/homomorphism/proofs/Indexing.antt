@@ -167,6 +167,13 @@ module _ (facts : List Ground) (fact : Ground) (number : ℕ) (is : number ≡ l
     lists = λ key found. struck key (numbers_from 0 key facts) (sought key found) (not_numbered key facts number is) (subst (λ l. MayEndIn (Contains (keys_of fact) key) number l (listed mid key)) (r.lists key (sought key found)) (part key));
   }
 
+  -- only what tells which facts there are has changed
+  pub index_kept : now.lists ≡ was.lists → IsPresence facts now.present → IsIndexOf facts was → IsIndexOf facts now
+  index_kept lists present r = record {
+    members = present;
+    lists = λ key found. ap (λ l. listed l key) lists ∙ r.lists key (sought key found);
+  }
+
   -- the last fact is taken out
   pub index_removed : ((key : Key) (before : List ℕ) → is_found_by was.positions key ≡ true → (Contains before number → ⊥) → MayEndIn (Contains (keys_of fact) key) number before (listed was.lists key) → listed now.lists key ≡ before) →
       IsPresence facts now.present → IsIndexOf (facts ++ fact ∷ []) was → IsIndexOf facts now

@@ -11,6 +11,7 @@ pub mod Exact
 pub mod Present
 pub mod Refused
 pub mod Coded
+pub mod Relations
 pub mod Noting
 pub mod Indexing
 pub mod Choosing

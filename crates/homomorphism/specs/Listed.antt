@@ -14,7 +14,8 @@ use Rattle.homomorphism.specs.Codes.{place_code, key_code}
 use Rattle.homomorphism.specs.Present.{IsPresence}
 use Rattle.homomorphism.specs.declared.key.Key.{Key}
 use Rattle.homomorphism.specs.declared.key.Key.TheVariants.{Relation, Value}
-use Rattle.homomorphism.specs.declared.key_lists.KeyList.{KeyList}
+use Rattle.homomorphism.specs.declared.coded_lists.KeyList.{KeyList}
+use Rattle.homomorphism.specs.declared.coded_lists.CodedLists.{CodedLists}
 use Rattle.homomorphism.specs.declared.key_lists.KeyLists.{KeyLists}
 use Rattle.homomorphism.specs.declared.positions.Positions.{Positions}
 use Rattle.homomorphism.specs.declared.fact_index.FactIndex.{FactIndex}
@@ -66,9 +67,22 @@ own_list key (Some list) = if is_at (key_cmp key) list.key then list.numbers els
 unfoldable pub coded_list : BTreeMap ℕ KeyList → Key → List ℕ
 coded_list coded key = own_list key (get nat_cmp coded (key_code key))
 
--- The list of a key: the one that it has among the others, or else the one at its code.
+-- The list of a key by its code: the one that it has among the others, or else the one at its code.
+unfoldable pub found_at : CodedLists → Key → List ℕ
+found_at lists key = unwrap_or (get key_cmp lists.others key) (coded_list lists.coded key)
+
+-- The list of a relation.
+unfoldable pub of_relation : BTreeMap ℕ (List ℕ) → ℕ → List ℕ
+of_relation relations rel = unwrap_or (get nat_cmp relations rel) []
+
+-- The list of a key: that of the relation, or the one by the key's code.
 unfoldable pub listed : KeyLists → Key → List ℕ
-listed lists key = unwrap_or (get key_cmp lists.others key) (coded_list lists.coded key)
+listed lists (Relation rel) = of_relation lists.relations rel
+listed lists (Value rel position val) = found_at lists.values (Value rel position val)
+
+-- The key is a value at a position.
+abbrev pub IsValue : Key → Type 0
+IsValue key = (rel : ℕ) × (position : ℕ) × (val : Val) × (key ≡ Value rel position val)
 
 -- An index of facts tells which facts there are, and has for each key that facts are found by exactly the numbers of the
 -- facts that have it.

@@ -1,5 +1,5 @@
 // Which facts there are, and which of them have a key, found in the logarithm of the number of facts.
-ghost use Rattle.std.specs.Prelude.{◌≡◌, ◌↔◌, ◌≤◌, ℕ, IsTrue, true, [], ◌∷◌, ◌++◌, length, List, Contains, IfOk, IfSome, OnErr, OnOk};
+ghost use Rattle.std.specs.Prelude.{◌≡◌, ◌↔◌, ◌≤◌, ℕ, IsTrue, true, [], ◌∷◌, ◌++◌, length, List, Contains, IfOk, IfNone, IfSome, OnErr};
 ghost use Rattle.meaning.specs.declared.types.Ground.{Ground as TheGround};
 ghost use Rattle.meaning.specs.declared.types.Val.{Val as TheVal};
 ghost use Rattle.meaning.specs.declared.types.Val.TheVariants.{Const};
@@ -48,23 +48,27 @@ impl FactIndex {
         self.present.contains(facts, fact)
     }
 
-    /// Adds a fact behind those that are there, and hands it back. Where memory is refused, the index is still one of the
-    /// facts before.
-    pub fn add(&mut self, alloc: Global, fact: Ground, number: usize) -> Result<Ground, NoMemory>
-        ensures back { IfOk result (λ same. same ≡ fact) }
-        ensures added { OnOk result ((facts : List TheGround) → IsIndexOf facts self.old → number ≡ length facts → IsIndexOf (facts ++ fact ∷ []) self.new) }
-        ensures refused { OnErr result ((facts : List TheGround) → IsIndexOf facts self.old → number ≡ length facts → IsIndexOf facts self.new) }
+    /// Adds a fact behind these, if it is not one of them, and hands it back. Where memory is refused, the index is still one
+    /// of the facts before.
+    pub fn add(
+        &mut self,
+        alloc: Global,
+        facts: &[Ground],
+        fact: Ground,
+    ) -> Result<Option<Ground>, NoMemory>
+        ensures none { IfOk result (λ back. IfNone back (IsIndexOf facts.now self.old → Contains facts.now fact × IsIndexOf facts.now self.new)) }
+        ensures some { IfOk result (λ back. IfSome back (λ same. (same ≡ fact) × (IsIndexOf facts.now self.old → (Contains facts.now fact → ⊥) × IsIndexOf (facts.now ++ fact ∷ []) self.new))) }
+        ensures refused { OnErr result (IsIndexOf facts.now self.old → IsIndexOf facts.now self.new) }
     {
-        match self.lists.note_all(alloc, &self.positions, &fact, number) {
-            Ok(()) => {}
-            Err(fault) => {
-                self.lists.strike_all(&self.positions, fact, number);
-                return Err(fault);
-            }
+        let number = facts.len();
+        let is_new = self.present.add(alloc, facts, &fact, number)?;
+        if !is_new {
+            return Ok(None);
         }
-        match self.present.add(alloc, &fact, number) {
-            Ok(()) => Ok(fact),
+        match self.lists.note_all(alloc, &self.positions, &fact, number) {
+            Ok(()) => Ok(Some(fact)),
             Err(fault) => {
+                self.present.remove(&fact, number);
                 self.lists.strike_all(&self.positions, fact, number);
                 Err(fault)
             }

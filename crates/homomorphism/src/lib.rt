@@ -8,6 +8,7 @@ mod arrange;
 mod assignment;
 mod bind;
 mod code;
+mod coded_lists;
 mod conditions;
 mod extend;
 mod fact_index;

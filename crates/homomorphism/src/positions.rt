@@ -85,11 +85,10 @@ fn mark_body(marked: &mut BTreeSet<u64>, body: &[Atom]) -> Result<(), NoMemory> 
 
 /// Marks where an atom of the head has a value once the body and the other atoms are facts.
 fn mark_head(marked: &mut BTreeSet<u64>, body: &[Atom], head: &[Atom]) -> Result<(), NoMemory> {
-    for atom in head {
+    for (number, atom) in head.iter().enumerate() {
         mark_known(marked, body, atom)?;
-        if head.len() > 1 {
-            mark_known(marked, head, atom)?;
-        }
+        mark_known(marked, &head[..number], atom)?;
+        mark_known(marked, &head[number + 1..], atom)?;
     }
     Ok(())
 }

@@ -1,5 +1,5 @@
 // Which facts there are, by their codes.
-ghost use Rattle.std.specs.Prelude.{◌≡◌, ◌↔◌, ◌<◌, ℕ, IsTrue, [], ◌∷◌, ◌++◌, length, List, Contains, Some, None, true, false, IfOk, OnErr, OnOk};
+ghost use Rattle.std.specs.Prelude.{◌≡◌, ◌↔◌, ◌<◌, ℕ, IsTrue, [], ◌∷◌, ◌++◌, length, List, Contains, Some, None, true, false, slice_get, IfOk, IfNone, IfSome, OnErr, OnOk};
 ghost use Rattle.std.specs.BTreeMap.{get, is_at};
 ghost use Rattle.std.specs.Ordering.{nat_cmp};
 ghost use Rattle.meaning.specs.declared.types.Ground.{Ground as TheGround};
@@ -39,17 +39,34 @@ impl Presence {
         self.is_first(facts, fact) || self.others.contains(fact)
     }
 
-    /// Adds a fact that gets this number. Where memory is refused, nothing changes.
-    pub fn add(&mut self, alloc: Global, fact: &Ground, number: usize) -> Result<(), NoMemory>
-        ensures added { OnOk result ((facts : List TheGround) → IsPresence facts self.old → number ≡ length facts → IsPresence (facts ++ fact.now ∷ []) self.new) }
-        ensures refused { OnErr result ((facts : List TheGround) → IsPresence facts self.old → IsPresence facts self.new) }
+    /// Adds the fact, which gets this number, where it is not one of these, and says whether it did. Where memory is refused,
+    /// nothing changes.
+    pub fn add(
+        &mut self,
+        alloc: Global,
+        facts: &[Ground],
+        fact: &Ground,
+        number: usize,
+    ) -> Result<bool, NoMemory>
+        ensures there { IfOk result (λ added. IsPresence facts.now self.old → (added ≡ false) ↔ Contains facts.now fact.now) }
+        ensures added { IfOk result (λ added. added ≡ true → IsPresence facts.now self.old → number ≡ length facts.now → IsPresence (facts.now ++ fact.now ∷ []) self.new) }
+        ensures same { IfOk result (λ added. added ≡ false → IsPresence facts.now self.old → IsPresence facts.now self.new) }
+        ensures refused { OnErr result (IsPresence facts.now self.old → IsPresence facts.now self.new) }
     {
-        let is_first = take_code(&mut self.firsts, fact_code(fact), number)?;
-        if is_first {
-            return Ok(());
+        if self.others.contains(fact) {
+            return Ok(false);
         }
-        self.others.insert(fact.copy(alloc)?)?;
-        Ok(())
+        let first = take_code(&mut self.firsts, fact_code(fact), number)?;
+        match first {
+            None => Ok(true),
+            Some(first) => {
+                if is_numbered(facts, first, fact) {
+                    return Ok(false);
+                }
+                self.others.insert(fact.copy(alloc)?)?;
+                Ok(true)
+            }
+        }
     }
 
     /// Takes out the last fact, which has this number. Takes no memory.
@@ -65,10 +82,7 @@ impl Presence {
         ensures { IsTrue result ↔ IsFirst facts.now self.now fact.now }
     {
         match self.firsts.get(&fact_code(fact)) {
-            Some(number) => match facts.get(*number) {
-                Some(first) => first.same(fact),
-                None => false,
-            },
+            Some(number) => is_numbered(facts, *number, fact),
             None => false,
         }
     }
@@ -86,18 +100,32 @@ impl Presence {
     }
 }
 
-/// Gives the code this number, if it has none, and says whether it did.
-fn take_code(firsts: &mut BTreeMap<u64, usize>, code: u64, number: usize) -> Result<bool, NoMemory>
-    ensures new { IfOk result (λ is_first. is_first ≡ true → (get nat_cmp firsts.old code ≡ None) × (get nat_cmp firsts.new code ≡ Some number)) }
+/// Whether the fact has this number. Takes no memory.
+fn is_numbered(facts: &[Ground], number: usize, fact: &Ground) -> bool
+    ensures { IsTrue result ↔ (slice_get facts.now number ≡ Some fact.now) }
+{
+    match facts.get(number) {
+        Some(first) => first.same(fact),
+        None => false,
+    }
+}
+
+/// The number of the code's first fact; where it has none, the code is given this number.
+fn take_code(
+    firsts: &mut BTreeMap<u64, usize>,
+    code: u64,
+    number: usize,
+) -> Result<Option<usize>, NoMemory>
+    ensures new { IfOk result (λ first. IfNone first ((get nat_cmp firsts.old code ≡ None) × (get nat_cmp firsts.new code ≡ Some number))) }
     ensures apart { OnOk result ((other : ℕ) → is_at (nat_cmp code) other ≡ false → get nat_cmp firsts.new other ≡ get nat_cmp firsts.old other) }
-    ensures taken { IfOk result (λ is_first. is_first ≡ false → firsts.new.entries ≡ firsts.old.entries) }
+    ensures taken { IfOk result (λ first. IfSome first (λ first. (get nat_cmp firsts.old code ≡ Some first) × (firsts.new.entries ≡ firsts.old.entries))) }
     ensures refused { OnErr result (firsts.new.entries ≡ firsts.old.entries) }
 {
     match firsts.entry(code)? {
-        Entry::Occupied(_) => Ok(false),
+        Entry::Occupied(entry) => Ok(Some(*entry.get())),
         Entry::Vacant(entry) => {
             entry.insert(number);
-            Ok(true)
+            Ok(None)
         }
     }
 }

@@ -77,7 +77,7 @@ impl Store {
     {
         let mut store = Store::found_by(alloc, positions);
         for fact in facts {
-            store.push(alloc, fact)?;
+            store.insert(alloc, fact)?;
         }
         Ok(store)
     }
@@ -112,30 +112,18 @@ impl Store {
 
     /// Adds the fact as the last one where it is not there yet, and says whether it did. Where memory is refused,
     /// nothing changes.
-    #[tactic(auto, using(crate::proofs::Adding::stays, crate::proofs::Adding::pushed))]
+    #[tactic(auto, using(crate::proofs::Adding::stays, crate::proofs::Adding::pushed, crate::proofs::Members::distinct_push))]
     pub fn insert(&mut self, alloc: Global, fact: Ground) -> Result<bool, NoMemory>
         ensures there { IfOk result (λ added. (added ≡ false) ↔ Contains self.old fact) }
         ensures kept { OnOk result (self.new ≡ with_fact self.old fact) }
         ensures refused { OnErr result (self.new ≡ self.old) }
     {
-        if self.contains(&fact) {
-            return Ok(false);
-        }
-        self.push(alloc, fact)?;
-        Ok(true)
-    }
-
-    /// Adds a fact that is not there as the last one. Where memory is refused, nothing changes.
-    #[tactic(auto, using(crate::proofs::Members::distinct_push))]
-    fn push(&mut self, alloc: Global, fact: Ground) -> Result<(), NoMemory>
-        requires { Contains self.old fact → ⊥ }
-        ensures pushed { OnOk result (self.new ≡ self.old ++ fact ∷ []) }
-        ensures refused { OnErr result (self.new ≡ self.old) }
-    {
         let number = self.facts.len();
-        let fact = self.index.add(alloc, fact, number)?;
+        let Some(fact) = self.index.add(alloc, self.facts.as_slice(), fact)? else {
+            return Ok(false);
+        };
         match self.facts.push(fact) {
-            Ok(()) => Ok(()),
+            Ok(()) => Ok(true),
             Err(refused) => {
                 self.index.remove(refused.value, number);
                 Err(NoMemory)

@@ -1,9 +1,10 @@
-use Rattle.std.proofs.Common.{◌∙◌}
-use Rattle.homomorphism.proofs.Coded.{listed_other, listed_coded}
+use Rattle.std.proofs.Common.{ap, sym, ◌∙◌}
+use Rattle.homomorphism.specs.Listed.{listed}
+use Rattle.homomorphism.proofs.Relations.{listed_relation, listed_value}
 use Rattle.homomorphism.proofs.key_lists.KeyLists.numbers.Goals as goal
 
-pub returns-in-Some : goal.returns-in-Some
-returns-in-Some c = c.as_slice.ensures ∙ listed_other c.args.key.now c.args.self.now c.in-Some.numbers.now c.in-Some.ensures.value
+pub returns-in-Relation : goal.returns-in-Relation
+returns-in-Relation c = c.of_relation.ensures ∙ sym (listed_relation c.args.self.now c.in-Relation.rel) ∙ ap (listed c.args.self.now) (sym c.in-Relation.is)
 
-pub returns-in-None : goal.returns-in-None
-returns-in-None c = listed_coded c.args.key.now c.args.self.now c.coded_numbers.result.now c.in-None.ensures.value c.coded_numbers.ensures
+pub returns-in-Value : goal.returns-in-Value
+returns-in-Value c = c.numbers.ensures ∙ sym (listed_value c.args.self.now c.args.key.now (c.in-Value.rel, c.in-Value.position, c.in-Value.val, c.in-Value.is))

@@ -4,16 +4,16 @@ use Rattle.homomorphism.proofs.Noting.{Striking, striking_start, striking_more, 
 use Rattle.homomorphism.proofs.key_lists.KeyLists.strike_all.Goals as goal
 
 pub loop-val-init : goal.loop-val-init
-loop-val-init c = subst (λ vals. Striking c.args.positions.now c.args.fact vals c.args.number c.args.self.now c.strike.new.self) (sym c.into_vec-vals.ensures)
-    (striking_start c.args.positions.now c.args.fact c.args.number c.args.self.now c.args.self.now c.strike.new.self c.strike.ensures.there c.strike.ensures.not_there c.strike.ensures.others)
+loop-val-init c = subst (λ vals. Striking c.args.positions.now c.args.fact vals c.args.number c.args.self.now c.strike_relation.new.self) (sym c.into_vec-vals.ensures)
+    (striking_start c.args.positions.now c.args.fact c.args.number c.args.self.now c.args.self.now c.strike_relation.new.self c.strike_relation.ensures.there c.strike_relation.ensures.not_there c.strike_relation.ensures.others)
 
 pub loop-val-preserved-then-has : goal.loop-val-preserved-then-has
 loop-val-preserved-then-has c = striking_more c.args.positions.now c.args.fact c.args.number c.args.self.now c.loop-val.self c.loop-val.vals.items c.pop.new.self.items c.in-Some.val c.len-position.result c.in-Some.ensures.items (omega arith) c.loop-val.invariant
-    c.strike-then-has.new.self c.strike-then-has.ensures.there c.strike-then-has.ensures.not_there c.strike-then-has.ensures.others
+    c.strike_value.new.self c.strike_value.ensures.there c.strike_value.ensures.not_there c.strike_value.ensures.others
 
 pub loop-val-preserved-then-has-2 : goal.loop-val-preserved-then-has-2
 loop-val-preserved-then-has-2 c = striking_more c.args.positions.now c.args.fact c.args.number c.args.self.now c.loop-val.self c.loop-val.vals.items c.pop.new.self.items c.in-Some.val c.len-position.result c.in-Some.ensures.items (omega arith) c.loop-val.invariant
-    c.strike-then-has.new.self c.strike-then-has.ensures.there c.strike-then-has.ensures.not_there c.strike-then-has.ensures.others
+    c.strike_value.new.self c.strike_value.ensures.there c.strike_value.ensures.not_there c.strike_value.ensures.others
 
 pub loop-val-preserved-else-has : goal.loop-val-preserved-else-has
 loop-val-preserved-else-has c = striking_skip c.args.positions.now c.args.fact c.args.number c.args.self.now c.loop-val.self c.loop-val.vals.items c.pop.new.self.items c.in-Some.val c.len-position.result c.in-Some.ensures.items (omega arith) c.loop-val.invariant

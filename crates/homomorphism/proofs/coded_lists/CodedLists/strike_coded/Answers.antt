@@ -1,6 +1,6 @@
 use Rattle.std.proofs.Common.{sym, ◌∙◌, subst, rules, Contains}
 use Rattle.homomorphism.proofs.Coded.{coded_before, coded_after, coded_apart, coded_none, empty_ends}
-use Rattle.homomorphism.proofs.key_lists.KeyLists.strike_coded.Goals as goal
+use Rattle.homomorphism.proofs.coded_lists.CodedLists.strike_coded.Goals as goal
 
 pub returns-in-Some-clause-there : goal.returns-in-Some-clause-there
 returns-in-Some-clause-there c = λ before e. coded_after c.args.key.now c.key_code.result c.args.self.now.coded (c.get_mut.follows.lender c.strike.new.self) c.in-Some.list.now c.strike.new.self c.key_code.ensures c.in-Some.ensures.value

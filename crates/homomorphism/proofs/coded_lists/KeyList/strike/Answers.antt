@@ -1,6 +1,6 @@
 use Rattle.std.proofs.Common.{refl, sym, ◌∙◌}
 use Rattle.homomorphism.proofs.Coded.{own_not, own_struck, own_absent, own_apart, empty_ends}
-use Rattle.homomorphism.proofs.key_lists.KeyList.strike.Goals as goal
+use Rattle.homomorphism.proofs.coded_lists.KeyList.strike.Goals as goal
 
 pub returns-then-is_of-clause-there : goal.returns-then-is_of-clause-there
 returns-then-is_of-clause-there c = own_struck c.args.key.now c.args.number c.args.self.now (record { key = c.args.self.now.key; numbers = c.drop_last_if.new.numbers }) c.is_of.result c.is_of.ensures refl c.if-is_of.true c.drop_last_if.ensures.there

@@ -1,5 +1,5 @@
 use Rattle.homomorphism.proofs.Coded.{numbers_own, numbers_not}
-use Rattle.homomorphism.proofs.key_lists.KeyList.numbers_of.Goals as goal
+use Rattle.homomorphism.proofs.coded_lists.KeyList.numbers_of.Goals as goal
 
 pub returns-then-is_of : goal.returns-then-is_of
 returns-then-is_of c = numbers_own c.args.key.now c.args.self.now c.as_slice.result.now c.is_of.result c.is_of.ensures c.if-is_of.true c.as_slice.ensures

@@ -1,6 +1,6 @@
 use Rattle.std.proofs.Common.{refl, sym, ◌∙◌}
 use Rattle.homomorphism.proofs.Coded.{own_not, own_noted, own_apart}
-use Rattle.homomorphism.proofs.key_lists.KeyList.note.Goals as goal
+use Rattle.homomorphism.proofs.coded_lists.KeyList.note.Goals as goal
 
 pub returns-then-not-is_of-clause-taken : goal.returns-then-not-is_of-clause-taken
 returns-then-not-is_of-clause-taken c = λ e. (

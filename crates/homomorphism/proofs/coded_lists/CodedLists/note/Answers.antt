@@ -4,7 +4,7 @@ use Rattle.std.proofs.lemmas.Result.{on_ok_weaker, on_err_weaker}
 use Rattle.homomorphism.specs.Listed.{key_cmp, coded_list}
 use Rattle.homomorphism.proofs.Coded.{noted_other, noted_coded, noted_taken, listed_same, coded_all}
 use Rattle.homomorphism.proofs.Refused.{on_err}
-use Rattle.homomorphism.proofs.key_lists.KeyLists.note.Goals as goal
+use Rattle.homomorphism.proofs.coded_lists.CodedLists.note.Goals as goal
 
 pub returns-then-contains_key-clause-here : goal.returns-then-contains_key-clause-here
 returns-then-contains_key-clause-here c = on_ok_weaker c.note_other.result (λ h. noted_other c.args.key c.args.number c.args.self.now c.note_other.new.self (sym c.contains_key.ensures ∙ c.if-contains_key.true) h) c.note_other.ensures.here

@@ -2,7 +2,7 @@ use Rattle.std.proofs.Common.{sym, ap, ◌∙◌}
 use Rattle.std.specs.BTreeMap.{get}
 use Rattle.homomorphism.specs.Listed.{key_cmp, coded_list}
 use Rattle.homomorphism.proofs.Coded.{struck_other, kept_other, struck_coded, kept_coded, listed_same}
-use Rattle.homomorphism.proofs.key_lists.KeyLists.strike.Goals as goal
+use Rattle.homomorphism.proofs.coded_lists.CodedLists.strike.Goals as goal
 
 pub returns-then-contains_key-clause-there : goal.returns-then-contains_key-clause-there
 returns-then-contains_key-clause-there c = struck_other c.args.key.now c.args.number c.args.self.now c.strike_other.new.self (sym c.contains_key.ensures ∙ c.if-contains_key.true) c.strike_other.ensures.there

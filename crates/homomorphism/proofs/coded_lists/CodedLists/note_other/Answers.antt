@@ -5,7 +5,7 @@ use Rattle.std.proofs.lemmas.Map.Steps.{set_value_same}
 use Rattle.homomorphism.specs.Listed.{key_cmp}
 use Rattle.homomorphism.proofs.Exact.{key_apart}
 use Rattle.homomorphism.proofs.Refused.{on_err}
-use Rattle.homomorphism.proofs.key_lists.KeyLists.note_other.Goals as goal
+use Rattle.homomorphism.proofs.coded_lists.CodedLists.note_other.Goals as goal
 
 pub returns-in_err-push-in-Some-clause-refused : goal.returns-in_err-push-in-Some-clause-refused
 returns-in_err-push-in-Some-clause-refused c =
