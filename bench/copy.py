@@ -69,7 +69,7 @@ def main():
         if len(words) > 3 and words[0] == "test" and words[3] == "ok":
             times[words[1].rsplit(":", 1)[1]] = now - before
         before = now
-    if run.wait() or set(times) != set(UNITS):
+    if run.wait() or not set(UNITS) <= set(times):
         sys.exit("a measurement did not end well")
     print("| measurement | CPU s | ms each | exponent |\n| --- | --- | --- | --- |")
     last = None
