@@ -1,83 +1,91 @@
 #!/usr/bin/env python3
 """How the calls of accessible_copy grow: a tree of rules, a chain of relations, and a star whose sets are exposed and undone.
 
-usage: bench/copy.py [SCRATCH]
+usage: bench/copy.py [--scratch FOLDER] [--program FILE]
 
-Copies the crates to a scratch folder, puts bench/copy_speed.tests beside the helpers of planner_cases' tests there, and runs the
-measurements by `rt try --test`, which needs no proof. That interprets the code, some hundred times as slowly as the built program
-runs it: the growth is what counts here, and the times of one series beside one another. Prints the CPU time of each measurement.
+Copies the crates that it needs to a scratch folder, adds the program of bench/copy_speed.main with the helpers of planner_cases' tests, and
+proves and builds it by `rt run`: most of that is the proof of the libraries below. Then counts the instructions of each measurement by
+`valgrind --tool=callgrind`, which a busy machine does not move, and reads its CPU time. --program is one that was built before.
 """
-import glob, math, os, shutil, subprocess, sys, tempfile
+import argparse, glob, math, os, re, resource, shutil, subprocess, sys, tempfile
 
 TOP = os.path.realpath(f"{os.path.dirname(os.path.realpath(__file__))}/..")
-CRATES = ["lists", "meaning", "meaning_laws", "access_schema", "homomorphism", "rule_pass", "accessible_copy", "least_search", "planner_cases"]
+NAME = "copy_speed"
+USES = ["lists", "meaning", "access_schema", "homomorphism", "rule_pass", "accessible_copy"]
+CRATES = USES + ["meaning_laws"]
 # The files of planner_cases' tests that the measurements use.
-HELPERS = ["calls", "looks", "queries", "schemas", "texts"]
-# The measurements, and how many units of work each makes: firings made, relations, or sets exposed.
-UNITS = {
-    "tree_250": 374, "tree_500": 746, "tree_1000": 1490, "tree_2000": 2978,
-    "chain_12": 12, "chain_25": 25, "chain_50": 50, "chain_100": 100,
-    "star_4": 16, "star_6": 64, "star_8": 256, "star_10": 1024,
-}
+HELPERS = ["calls", "queries", "schemas"]
+# Each measurement, and how many units of work its sizes are: firings, relations, or sets.
+MEASURED = [("tree", [3750, 7500, 15000, 30000]), ("chain", [25, 50, 100, 200]), ("sets", [128, 512, 2048, 8190])]
+# The loops of the program that keep a proof: their invariants are that of the helpers' loop over calls.
+LOOPS = {"all_rounds": "loop", "expose_sets": "loop"}
 
 
-def scratch(folder):
-    """The crates, of which planner_cases has the measurements in place of its tests."""
+def built(folder):
+    """The program, built in the scratch folder."""
     for name in CRATES:
-        shutil.copytree(f"{TOP}/crates/{name}", f"{folder}/crates/{name}", ignore=shutil.ignore_patterns("incremental"))
+        shutil.copytree(f"{TOP}/crates/{name}", f"{folder}/crates/{name}", dirs_exist_ok=True, ignore=shutil.ignore_patterns("must-fail", "out"))
     shutil.copy2(f"{TOP}/HANDLES", folder)
-    with open(f"{folder}/crates.txt", "w") as out:
-        out.writelines(row for row in open(f"{TOP}/crates.txt") if row.split(":")[0] in CRATES)
-    crate = f"{folder}/crates/planner_cases"
-    shutil.copy2(f"{TOP}/bench/copy_speed.tests", f"{crate}/src/of_proofs/speed.rt")
-    for path in glob.glob(f"{crate}/src/of_proofs/*.rt"):
-        if os.path.basename(path)[:-3] not in HELPERS + ["speed"]:
-            os.remove(path)
-    with open(f"{crate}/src/of_proofs.rt", "w") as out:
-        out.writelines(f"mod {name};\n" for name in HELPERS + ["speed"])
-    return crate
+    with open(f"{TOP}/crates.txt") as known, open(f"{folder}/crates.txt", "w") as out:
+        out.writelines(row for row in known if row.split(":")[0] in CRATES)
+        out.write(f"{NAME}: {' '.join(USES)}\n")
+    crate, tests = f"{folder}/crates/{NAME}", f"{TOP}/crates/planner_cases"
+    os.makedirs(f"{crate}/src", exist_ok=True)
+    shutil.copy2(f"{TOP}/bench/copy_speed.main", f"{crate}/src/main.rt")
+    for name in HELPERS:
+        shutil.copy2(f"{tests}/src/of_proofs/{name}.rt", f"{crate}/src")
+    for path in glob.glob(f"{tests}/proofs/of_proofs/**/*.antt", recursive=True):
+        of = os.path.relpath(path, f"{tests}/proofs/of_proofs")
+        write(f"{crate}/proofs/{of}", open(path).read().replace("planner_cases.proofs.of_proofs", f"{NAME}.proofs"))
+    kept = open(f"{tests}/proofs/of_proofs/calls/make_all/Invariants.antt").read()
+    for function, loop in LOOPS.items():
+        said = kept.replace("planner_cases.proofs.of_proofs.calls.make_all", f"{NAME}.proofs.{function}").replace("invariant-loop-call", f"invariant-{loop}")
+        write(f"{crate}/proofs/{function}/Invariants.antt", said)
+    subprocess.run(["rt", "run"], cwd=crate, stdin=subprocess.DEVNULL)
+    return f"{crate}/out/{NAME}"
 
 
-def cpu_below(root):
-    """The CPU seconds of a process and of all below it, those that ended too."""
-    used, below = {}, {}
-    for path in glob.glob("/proc/[0-9]*/stat"):
-        try:
-            said = open(path).read()
-        except OSError:
-            continue
-        fields = said.rsplit(")", 1)[1].split()
-        number = int(path.split("/")[2])
-        used[number] = sum(map(int, fields[11:15]))
-        below.setdefault(int(fields[1]), []).append(number)
-    total, left = 0, [root]
-    while left:
-        number = left.pop()
-        total += used.get(number, 0)
-        left += below.get(number, [])
-    return total / os.sysconf("SC_CLK_TCK")
+def write(path, text):
+    os.makedirs(os.path.dirname(path), exist_ok=True)
+    with open(path, "w") as out:
+        out.write(text)
+
+
+def instructions(command):
+    """How many instructions the command takes."""
+    ran = subprocess.run(["valgrind", "--tool=callgrind", "--callgrind-out-file=/dev/null"] + command, capture_output=True, text=True)
+    found = re.search(r"Collected : (\d+)", ran.stderr)
+    if ran.returncode or not found:
+        sys.exit(f"{' '.join(command)} was not counted: {ran.stderr[-300:]}")
+    return int(found[1])
+
+
+def used(command):
+    """CPU seconds."""
+    before = resource.getrusage(resource.RUSAGE_CHILDREN)
+    subprocess.run(command, check=True)
+    after = resource.getrusage(resource.RUSAGE_CHILDREN)
+    return after.ru_utime + after.ru_stime - before.ru_utime - before.ru_stime
 
 
 def main():
-    folder = sys.argv[1] if len(sys.argv) > 1 else tempfile.mkdtemp(prefix="copy_speed")
-    crate = scratch(folder)
-    run = subprocess.Popen(["rt", "try", "--test", "--seconds", "60"], cwd=crate, stdout=subprocess.PIPE, text=True)
-    before, times = 0.0, {}
-    for line in run.stdout:
-        now = cpu_below(run.pid)
-        words = line.split()
-        if len(words) > 3 and words[0] == "test" and words[3] == "ok":
-            times[words[1].rsplit(":", 1)[1]] = now - before
-        before = now
-    if run.wait() or not set(UNITS) <= set(times):
-        sys.exit("a measurement did not end well")
-    print("| measurement | CPU s | ms each | exponent |\n| --- | --- | --- | --- |")
-    last = None
-    for name, units in UNITS.items():
-        cpu, kind = times[name], name.split("_")[0]
-        grows = math.log(cpu / last[1]) / math.log(units / last[2]) if last and last[0] == kind else None
-        print(f"| {name} | {cpu:.2f} | {cpu * 1000 / units:.2f} | {'' if grows is None else f'{grows:.2f}'} |")
-        last = (kind, cpu, units)
+    asked = argparse.ArgumentParser()
+    asked.add_argument("--scratch")
+    asked.add_argument("--program")
+    asked = asked.parse_args()
+    if not shutil.which("valgrind"):
+        sys.exit("valgrind is not there")
+    program = os.path.abspath(asked.program or built(asked.scratch or tempfile.mkdtemp(prefix=NAME)))
+    print("| measurement | size | million instructions | exponent | CPU s |\n| --- | --- | --- | --- | --- |")
+    for name, sizes in MEASURED:
+        last = None
+        for size in sizes:
+            command = [program, name, str(size)]
+            cpu = used(command)
+            count = instructions(command)
+            grows = "" if last is None else f"{math.log(count / last[1]) / math.log(size / last[0]):.2f}"
+            print(f"| {name} | {size} | {count / 1e6:.1f} | {grows} | {cpu:.2f} |", flush=True)
+            last = (size, count)
 
 
 main()
