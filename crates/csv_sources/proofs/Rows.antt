@@ -77,12 +77,6 @@ pub offer_bad : (columns header : List (List ℕ)) (rows all : RowList) (fault :
 offer_bad columns header rows all fault e h =
     sym (ap (offer_of columns) e ∙ ap (λ o. unless (first_of o (first_fault (length header) 1 rows)) (map (fields_under header columns) rows)) (sym h))
 
-pub offer_bad_row : (columns header : List (List ℕ)) (rows all : RowList) (fault : AttachFault) → all ≡ header ∷ rows → None ≡ header_fault header columns → Some fault ≡ first_fault (length header) 1 rows → Err fault ≡ offer_of columns all
-offer_bad_row columns header rows all fault e h bad =
-    sym (ap (offer_of columns) e
-    ∙ ap (λ o. unless (first_of o (first_fault (length header) 1 rows)) (map (fields_under header columns) rows)) (sym h)
-    ∙ ap (λ o. unless o (map (fields_under header columns) rows)) (sym bad))
-
 pub offer_rows : (columns header : List (List ℕ)) (rows all : RowList) (places : List ℕ) (offer : Result RowList AttachFault) → all ≡ header ∷ rows → None ≡ header_fault header columns → places ≡ map (place_in header) columns
     → offer ≡ unless (first_fault (length header) 1 rows) (map (λ row. map (λ p. get_or row p []) places) rows) → offer ≡ offer_of columns all
 offer_rows columns header rows all places offer e h at is =
@@ -107,11 +101,3 @@ arity_push arity (first ∷ rows) row all one = (all.0, arity_push arity rows ro
 
 pub arity_more : (places : List ℕ) (done more : RowList) (text : List (List ℕ)) → HaveArity (length places) done → more ≡ done ++ map (λ p. get_or text p []) places ∷ [] → HaveArity (length places) more
 arity_more places done more text all added = rw added (arity_push (length places) done (map (λ p. get_or text p []) places) all (length-map places (λ p. get_or text p [])))
-
--- a record without a fault leaves the first fault to what follows it
-pub fault_step : (width n : ℕ) (old left : RowList) (row : List (List ℕ)) → old ≡ row ∷ left → row_fault width n row ≡ None → first_fault width n old ≡ first_fault width (n + 1) left
-fault_step width n old left row taken good = ap (first_fault width n) taken ∙ ap (λ o. first_of o (first_fault width (n + 1) left)) good
-
--- a record with a fault has the first one
-pub fault_here : (width n : ℕ) (old left : RowList) (row : List (List ℕ)) (fault : AttachFault) → old ≡ row ∷ left → row_fault width n row ≡ Some fault → Some fault ≡ first_fault width n old
-fault_here width n old left row fault taken bad = sym (ap (first_fault width n) taken ∙ ap (λ o. first_of o (first_fault width (n + 1) left)) bad)

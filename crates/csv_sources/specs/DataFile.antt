@@ -1,7 +1,7 @@
 -- What the bytes of a data file offer to a relation with these columns: CSV (RFC 4180), whose first record is a header.
-use Rattle.std.specs.Prelude.{ℕ, ◌+◌, Bool, List, [], ◌∷◌, length, map, Option, None, Some, option_map, nat_eq, nat_lt, if◌then◌else◌, count_by, slice_index_or, Result, Ok, Err}
+use Rattle.std.specs.Prelude.{◌≡◌, ℕ, ◌+◌, Bool, true, List, [], ◌∷◌, length, map, Option, None, Some, option_map, nat_eq, nat_lt, if◌then◌else◌, count_by, slice_index_or, Result, Ok, Err}
 use Rattle.std.specs.Cmp.Lexicographic.{pointwise}
-use Rattle.std.specs.List.{list_all}
+use Rattle.std.specs.List.{AllByRecursion, list_all}
 use Rattle.std.specs.Str.{is_utf8}
 use Rattle.csv.specs.Reading.{default_config, is_bom, records}
 use Rattle.source_trait.specs.Asking.{RowList}
@@ -19,6 +19,10 @@ after_marks (a ∷ b ∷ c ∷ rest) = if is_bom a b c then after_marks rest els
 -- whether each field is text
 abbrev pub all_text : List (List ℕ) → Bool
 all_text fields = list_all is_utf8 fields
+
+-- each field of each row is text
+abbrev pub AreText : RowList → Type 0
+AreText rows = AllByRecursion (λ row. all_text row ≡ true) rows
 
 -- how often a name stands in a header, as equal bytes
 abbrev pub times_in : List (List ℕ) → List ℕ → ℕ

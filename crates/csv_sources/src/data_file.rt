@@ -1,14 +1,15 @@
 // The rows of a data file.
-ghost use Rattle.std.specs.Prelude.{◌≡◌, ◌≤◌, ◌<◌, ◌+◌, ◌^◌, length, map, slice_index_or, IfOk, IfErr, IfSome, OnOk, [], ◌∷◌, List, ℕ, Ok, None, Some};
-ghost use Rattle.csv.specs.Reading.{default_config, records, strip_bom};
-ghost use Rattle.csv.specs.Records.{fields_of};
+ghost use Rattle.std.specs.Prelude.{◌≡◌, ◌≤◌, ◌<◌, ◌+◌, ◌++◌, ◌^◌, length, map, slice_index_or, IfOk, IfErr, OnOk, [], ◌∷◌, List, ℕ, Ok, None, Some};
+ghost use Rattle.std.specs.List.{AllByRecursion};
+ghost use Rattle.csv.specs.Records.{AllText, fields_of, partial_of};
+ghost use Rattle.row_text.specs.Packed.{values_of};
 ghost use Rattle.source_trait.specs.Asking.{HaveArity};
 ghost use Rattle.csv_sources.specs.Records.{IsReading, records_left};
-ghost use Rattle.csv_sources.specs.DataFile.{after_marks, file_offer, first_fault, row_fault, unless};
+ghost use Rattle.csv_sources.specs.DataFile.{AreText, after_marks, file_offer, first_fault, row_fault, unless};
 
 use crate::folder::FILE_LIMIT;
 use crate::header::{header_fault, places_of};
-use crate::records::{next_record, next_text, open};
+use crate::records::{next_record, open};
 use csv::{ByteRecord, Reader, StringRecord};
 use lists::{NoMemory, Texts};
 use row_text::PackedRows;
@@ -16,13 +17,12 @@ use source_trait::AttachFault;
 use std::alloc::Global;
 
 /// What the bytes of a file offer to a relation with these columns: its rows, or what is wrong with the bytes.
-///
-/// The rows are read as text at once. Where that fails, the records are read again, for the first fault.
 pub(crate) fn read_offer(
     alloc: Global,
     bytes: &[u8],
     columns: &Texts,
 ) -> Result<Result<PackedRows, AttachFault>, NoMemory>
+    requires some { 1 ≤ length columns.now }
     requires few { length columns.now ≤ 64 }
     requires small { length bytes.now ≤ FILE_LIMIT }
     ensures offer { IfOk result (λ offer. offer ≡ file_offer bytes.now columns.now) }
@@ -38,13 +38,13 @@ pub(crate) fn read_offer(
         Some(fault) => Ok(Err(fault)),
         None => {
             let places = places_of(alloc, &header, columns.as_slice())?;
-            match text_rows(alloc, &mut reader, header.len(), places.as_slice()) {
-                Some(rows) => Ok(Ok(rows)),
-                None => match fault_of_rows(alloc, text, header.len())? {
-                    Some(fault) => Ok(Err(fault)),
-                    None => Err(NoMemory),
-                },
+            let places = places.as_slice();
+            if text.is_ascii() {
+                let values = ByteRecord::with_capacity(alloc, text.len(), 0)?;
+                return ascii_rows(alloc, &mut reader, header.len(), places, values);
             }
+            let values = StringRecord::with_capacity(alloc, text.len(), 0)?;
+            text_rows(alloc, &mut reader, header.len(), places, values)
         }
     }
 }
@@ -63,66 +63,67 @@ fn behind_marks(bytes: &[u8]) -> &[u8]
     left
 }
 
-// The fields at the places of every record that is left, in order, where each record is a row of this width and of text. There is no
-// answer where one is not, or for want of memory.
+// The fields at the places of every record that is left, in order, or what is wrong with the first that is no row of this width. The
+// fields are text, as those of a file of ASCII are; they are gathered in `values`, which has none, one row after another.
+fn ascii_rows(
+    alloc: Global,
+    reader: &mut Reader<&[u8]>,
+    width: usize,
+    places: &[usize],
+    values: ByteRecord,
+) -> Result<Result<PackedRows, AttachFault>, NoMemory>
+    requires reading { IsReading reader.old }
+    requires few { length (records_left reader.old) < 2 ^ 32 }
+    requires text { AreText (records_left reader.old) }
+    requires some { 1 ≤ length places.now }
+    requires none { fields_of values ≡ [] }
+    requires fresh { partial_of values ≡ [] }
+    ensures offer { IfOk result (λ offer. offer ≡ unless (first_fault width 1 (records_left reader.old)) (map (λ row. map (λ p. slice_index_or row p []) places.now) (records_left reader.old))) }
+    ensures fit { IfOk result (λ offer. IfOk offer (HaveArity (length places.now))) }
+{
+    let mut values = values;
+    let mut record = ByteRecord::new(alloc);
+    let mut number: u32 = 0;
+    while next_record(reader, &mut record)? {
+        number += 1;
+        if record.len() != width {
+            return Ok(Err(AttachFault::BadRow { number }));
+        }
+        push_fields(&mut values, &record, places)?;
+    }
+    let rows = packed(alloc, values, places.len())?;
+    Ok(Ok(rows))
+}
+
+// The same of records that may be no text.
 fn text_rows(
     alloc: Global,
     reader: &mut Reader<&[u8]>,
     width: usize,
     places: &[usize],
-) -> Option<PackedRows>
-    requires { IsReading reader.old }
-    ensures offer { IfSome result (λ rows. Ok rows ≡ unless (first_fault width 1 (records_left reader.old)) (map (λ row. map (λ p. slice_index_or row p []) places.now) (records_left reader.old))) }
-    ensures fit { IfSome result (HaveArity (length places.now)) }
-{
-    let mut record = StringRecord::new(alloc);
-    let mut rows = PackedRows::new(alloc);
-    while next_text(reader, &mut record)? {
-        if record.len() != width {
-            return None;
-        }
-        rows = match rows.with_fields(&record, places) {
-            Ok(more) => more,
-            Err(_) => return None,
-        };
-    }
-    Some(rows)
-}
-
-// What is wrong with the first record of the text behind the first one that is no row of this width or no text, if there is one.
-fn fault_of_rows(alloc: Global, text: &[u8], width: usize) -> Result<Option<AttachFault>, NoMemory>
-    requires few { length (records default_config (strip_bom text.now)) < 2 ^ 32 }
-    ensures { (header : List (List ℕ)) (rows : List (List (List ℕ))) → records default_config (strip_bom text.now) ≡ header ∷ rows
-        → IfOk result (λ fault. fault ≡ first_fault width 1 rows) }
-{
-    let mut reader = open(alloc, text);
-    let mut header = ByteRecord::new(alloc);
-    if !next_record(&mut reader, &mut header)? {
-        return Err(NoMemory);
-    }
-    first_fault(alloc, &mut reader, width)
-}
-
-// What is wrong with the first record that is left that is no row of this width or no text, if there is one.
-fn first_fault(
-    alloc: Global,
-    reader: &mut Reader<&[u8]>,
-    width: usize,
-) -> Result<Option<AttachFault>, NoMemory>
+    values: StringRecord,
+) -> Result<Result<PackedRows, AttachFault>, NoMemory>
     requires reading { IsReading reader.old }
     requires few { length (records_left reader.old) < 2 ^ 32 }
-    ensures { IfOk result (λ fault. fault ≡ first_fault width 1 (records_left reader.old)) }
+    requires some { 1 ≤ length places.now }
+    requires none { fields_of values ≡ [] }
+    ensures offer { IfOk result (λ offer. offer ≡ unless (first_fault width 1 (records_left reader.old)) (map (λ row. map (λ p. slice_index_or row p []) places.now) (records_left reader.old))) }
+    ensures fit { IfOk result (λ offer. IfOk offer (HaveArity (length places.now))) }
 {
+    let mut values = values;
     let mut record = ByteRecord::new(alloc);
     let mut number: u32 = 0;
     while next_record(reader, &mut record)? {
         number += 1;
-        record = match text_row(record, width, number) {
-            Ok(row) => row.into_byte_record(),
-            Err(fault) => return Ok(Some(fault)),
+        let row = match text_row(record, width, number) {
+            Ok(row) => row,
+            Err(fault) => return Ok(Err(fault)),
         };
+        push_texts(&mut values, &row, places)?;
+        record = row.into_byte_record();
     }
-    Ok(None)
+    let rows = PackedRows::of_width(alloc, values, places.len())?;
+    Ok(Ok(rows))
 }
 
 // The row of this number as text, or what is wrong with it. Takes no memory.
@@ -137,5 +138,61 @@ fn text_row(row: ByteRecord, width: usize, number: u32) -> Result<StringRecord, 
     match StringRecord::from_byte_record(row) {
         Ok(text) => Ok(text),
         Err(_) => Err(AttachFault::NotUtf8 { number }),
+    }
+}
+
+// Adds the fields of a row at the places behind the values that are there; a field that is not there is empty.
+fn push_fields(values: &mut ByteRecord, row: &ByteRecord, places: &[usize]) -> Result<(), NoMemory>
+    requires { partial_of values.old ≡ [] }
+    ensures fields { OnOk result (fields_of values.new ≡ fields_of values.old ++ map (λ p. slice_index_or (fields_of row.now) p []) places.now) }
+    ensures whole { OnOk result (partial_of values.new ≡ []) }
+{
+    for place in places {
+        values.push_field(field_at(row, *place))?;
+    }
+    Ok(())
+}
+
+fn field_at(row: &ByteRecord, place: usize) -> &[u8]
+    ensures { result.now ≡ slice_index_or (fields_of row.now) place [] }
+{
+    match row.get(place) {
+        Some(field) => field,
+        None => b"",
+    }
+}
+
+// The same of texts.
+fn push_texts(
+    values: &mut StringRecord,
+    row: &StringRecord,
+    places: &[usize],
+) -> Result<(), NoMemory>
+    ensures { OnOk result (fields_of values.new ≡ fields_of values.old ++ map (λ p. slice_index_or (fields_of row.now) p []) places.now) }
+{
+    for place in places {
+        values.push_field(text_at(row, *place))?;
+    }
+    Ok(())
+}
+
+fn text_at(row: &StringRecord, place: usize) -> &str
+    ensures { result.now ≡ slice_index_or (fields_of row.now) place [] }
+{
+    match row.get(place) {
+        Some(field) => field,
+        None => "",
+    }
+}
+
+// The rows of so many values each, of which these are the values.
+fn packed(alloc: Global, values: ByteRecord, width: usize) -> Result<PackedRows, NoMemory>
+    requires some { 1 ≤ width }
+    requires text { AllText (fields_of values) }
+    ensures { (rows : List (List (List ℕ))) → values_of rows ≡ fields_of values → HaveArity width rows → IfOk result (λ packed. packed ≡ rows) }
+{
+    match StringRecord::from_byte_record(values) {
+        Ok(values) => PackedRows::of_width(alloc, values, width),
+        Err(_) => unreachable!(),
     }
 }

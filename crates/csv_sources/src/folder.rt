@@ -190,6 +190,7 @@ fn offer_within(
     bytes: &[u8],
     columns: &Texts,
 ) -> Result<Result<PackedRows, AttachFault>, NoMemory>
+    requires some { 1 ≤ length columns.now }
     requires few { length columns.now ≤ 64 }
     requires small { length bytes.now ≤ FILE_LIMIT }
     ensures offer { IfOk result (λ offer. offer ≡ (if passes_beside (sum (sizes_of holding.now)) (Some bytes.now) then Err AttachFault.TooLarge else file_offer bytes.now columns.now)) }

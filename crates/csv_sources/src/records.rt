@@ -1,10 +1,10 @@
 // The records of a text, one after the other.
-ghost use Rattle.std.specs.Prelude.{◌≡◌, ◌∷◌, [], IfOk, IfSome, OnOk, true, false};
+ghost use Rattle.std.specs.Prelude.{◌≡◌, ◌∷◌, [], IfOk, OnOk, true, false};
 ghost use Rattle.csv.specs.Reading.{default_config, records, strip_bom};
-ghost use Rattle.csv.specs.Records.{AllText, fields_of};
+ghost use Rattle.csv.specs.Records.{fields_of};
 ghost use Rattle.csv_sources.specs.Records.{IsReading, records_left};
 
-use csv::{ByteRecord, Reader, ReaderBuilder, StringRecord};
+use csv::{ByteRecord, Reader, ReaderBuilder};
 use lists::NoMemory;
 use std::alloc::Global;
 
@@ -21,6 +21,9 @@ pub(crate) fn open(alloc: Global, text: &[u8]) -> Reader<&[u8]>
 
 /// Takes the next record into `row`, and says whether there was one. Each fault of the reader is taken for want of
 /// memory, since a text in memory has no other.
+///
+/// It is not inlined, so that the reader's own read, which it alone calls, is inlined here.
+#[inline(never)]
 pub(crate) fn next_record(
     reader: &mut Reader<&[u8]>,
     row: &mut ByteRecord,
@@ -33,20 +36,5 @@ pub(crate) fn next_record(
     match reader.read_byte_record(row) {
         Ok(found) => Ok(found),
         Err(_) => Err(NoMemory),
-    }
-}
-
-/// Takes the next record into `row` as text, and says whether there was one. There is no answer where it is no text, or for want of
-/// memory; the reader is then of no more use.
-pub(crate) fn next_text(reader: &mut Reader<&[u8]>, row: &mut StringRecord) -> Option<bool>
-    requires { IsReading reader.old }
-    ensures reading { IfSome result (λ _. IsReading reader.new) }
-    ensures text { IfSome result (λ _. AllText (fields_of row.new)) }
-    ensures taken { IfSome result (λ found. found ≡ true → records_left reader.old ≡ fields_of row.new ∷ records_left reader.new) }
-    ensures end { IfSome result (λ found. found ≡ false → records_left reader.old ≡ []) }
-{
-    match reader.read_record(row) {
-        Ok(found) => Some(found),
-        Err(_) => None,
     }
 }

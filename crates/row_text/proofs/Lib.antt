@@ -5,3 +5,4 @@ pub mod Orders
 pub mod Packing
 pub mod Starts
 pub mod Texts
+pub mod Widths

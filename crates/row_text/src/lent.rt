@@ -151,8 +151,8 @@ fn compare(left: &LentRow<'_>, right: &LentRow<'_>) -> Ordering
     count.cmp(&right.len())
 }
 
-/// The field at a place; the empty text where there is none.
-pub(crate) fn text_at(values: &StringRecord, place: usize) -> &str
+// The field at a place; the empty text where there is none.
+fn text_at(values: &StringRecord, place: usize) -> &str
     ensures { result.now ≡ slice_index_or (fields_of values.now) place [] }
 {
     match values.get(place) {

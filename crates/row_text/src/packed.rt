@@ -1,8 +1,10 @@
 // Rows that hold their values one after another in one buffer.
-ghost use Rattle.std.specs.Prelude.{◌≡◌, ◌<◌, ◌++◌, ◌∷◌, [], length, map, slice_get, slice_index, slice_index_or, IfOk, OnOk};
+ghost use Rattle.std.specs.Prelude.{◌≡◌, ◌<◌, ◌++◌, ◌∷◌, [], List, ℕ, length, map, slice_get, slice_index, slice_index_or, IfOk, OnOk};
 ghost use Rattle.csv.specs.Records.{fields_of, prev};
+ghost use Rattle.std.specs.List.{AllByRecursion};
+ghost use Rattle.row_text.specs.Packed.{values_of};
 
-use crate::lent::{LentRow, text_at};
+use crate::lent::LentRow;
 use csv::StringRecord;
 use lists::{Row, Text};
 use std::alloc::{AllocError, Global};
@@ -52,6 +54,26 @@ impl PackedRows {
         Ok(packed)
     }
 
+    /// Rows of so many values each, of which these are the values, one row after another.
+    pub fn of_width(
+        alloc: Global,
+        values: StringRecord,
+        width: usize,
+    ) -> Result<PackedRows, AllocError>
+        requires { 0 < width }
+        ensures { (rows : List (List (List ℕ))) → values_of rows ≡ fields_of values → AllByRecursion (λ row. length row ≡ width) rows
+            → IfOk result (λ packed. packed ≡ rows) }
+    {
+        let count = values.len();
+        let mut ends = Vec::with_capacity(alloc, count / width)?;
+        let mut end = 0;
+        while end < count {
+            end += width.min(count - end);
+            ends.push(end)?;
+        }
+        Ok(PackedRows { values, ends })
+    }
+
     /// The rows and one more, of these values.
     pub fn with_row(self, row: &[Text]) -> Result<PackedRows, AllocError>
         ensures { IfOk result (λ more. more ≡ self ++ row.now ∷ []) }
@@ -74,23 +96,6 @@ impl PackedRows {
             mut ends,
         } = self;
         push_texts(&mut values, texts)?;
-        ends.push(values.len())?;
-        Ok(PackedRows { values, ends })
-    }
-
-    /// The rows and one more, of the fields at these places; a field that is not there is the empty text.
-    pub fn with_fields(
-        self,
-        fields: &StringRecord,
-        places: &[usize],
-    ) -> Result<PackedRows, AllocError>
-        ensures { IfOk result (λ more. more ≡ self ++ map (λ p. slice_index_or (fields_of fields.now) p []) places.now ∷ []) }
-    {
-        let PackedRows {
-            mut values,
-            mut ends,
-        } = self;
-        push_fields(&mut values, fields, places)?;
         ends.push(values.len())?;
         Ok(PackedRows { values, ends })
     }
@@ -162,20 +167,6 @@ fn push_texts(values: &mut StringRecord, texts: &[&str]) -> Result<(), AllocErro
 {
     for text in texts {
         values.push_field(text)?;
-    }
-    Ok(())
-}
-
-// Adds the fields at these places behind the values that are there.
-fn push_fields(
-    values: &mut StringRecord,
-    fields: &StringRecord,
-    places: &[usize],
-) -> Result<(), AllocError>
-    ensures { OnOk result (fields_of values.new ≡ fields_of values.old ++ map (λ p. slice_index_or (fields_of fields.now) p []) places.now) }
-{
-    for place in places {
-        values.push_field(text_at(fields, *place))?;
     }
     Ok(())
 }

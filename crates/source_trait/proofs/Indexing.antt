@@ -213,6 +213,21 @@ chains_step codes count number heads next v some all made at =
     subst (λ m. ChainsFrom codes count (number - 1) (set heads (get_or codes (number - 1) 0) (number - 1)) (set next (number - 1) m)) (sym read)
     (chains_more codes count (number - 1) heads next (subst (λ m. ChainsFrom codes count m heads next) whole made) small)
 
+-- the places before the number have their codes
+abbrev pub KeepCodes : List ℕ → ℕ → List ℕ → Type 0
+KeepCodes codes number next = (k : ℕ) → k < number → get_or next k 0 ≡ get_or codes k 0
+
+-- a step where what stands behind a place takes the place of its code
+pub chains_in_place : (codes : List ℕ) (count number : ℕ) (heads next : List ℕ) (code v : ℕ) → 0 < number → AllByRecursion (λ code. code < count) codes → ChainsFrom codes count number heads next
+    → KeepCodes codes number next → code ≡ get_or next (number - 1) code → v ≡ get_or heads code v → ChainsFrom codes count (number - 1) (set heads code (number - 1)) (set next (number - 1) v)
+chains_in_place codes count number heads next code v some all made kept at read =
+    let is : code ≡ get_or codes (number - 1) 0 = read_at next (number - 1) code 0 (omega (arith, some, made.next_long, made.within)) at ∙ kept (number - 1) (omega (arith, some)) in
+    let same : v ≡ get_or heads (get_or codes (number - 1) 0) v = read ∙ ap (λ m. get_or heads m v) is in
+    subst (λ m. ChainsFrom codes count (number - 1) (set heads m (number - 1)) (set next (number - 1) v)) (sym is) (chains_step codes count number heads next v some all made same)
+
+pub codes_kept : (codes next : List ℕ) (number v : ℕ) → KeepCodes codes number next → KeepCodes codes (number - 1) (set next (number - 1) v)
+codes_kept codes next number v kept = λ k low. get_or-set_other next (number - 1) k v 0 (λ e. absurd (omega (arith, e, low))) ∙ kept k (omega (arith, low))
+
 -- the indexes of attached relations
 pub indexes_without : (rel : ℕ) (list : List Attachment) (xs : List Index) → AreIndexes list xs → AreIndexes (others_than rel list) (filter (λ x. not (nat_eq x.rel rel)) xs)
 indexes_without rel list [] h = tt

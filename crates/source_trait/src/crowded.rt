@@ -143,8 +143,11 @@ fn own_chains(
     requires { length codes.now ≡ length rows.now }
     ensures { IfOk result (λ chains. AreChainsBelow (length rows.now + length rows.now) chains) }
 {
-    let mut last = vec![in alloc; codes.len(); crowded.len()]?;
     let mut chains = BTreeMap::new(alloc);
+    if crowded.is_empty() {
+        return Ok(chains);
+    }
+    let mut last = vec![in alloc; codes.len(); crowded.len()]?;
     for number in 0..codes.len() {
         if is_crowded(crowded, codes[number])
             && twin(positions, rows, codes, &mut last, number) == number

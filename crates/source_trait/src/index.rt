@@ -127,7 +127,7 @@ fn row_chains(
 {
     let chain_count = crowded.chain_count(codes.as_slice(), count);
     let chosen = chosen(alloc, positions, rows, codes, count, crowded)?;
-    chains(alloc, &chosen, chain_count)
+    chains(alloc, chosen, chain_count)
 }
 
 // The chain of each row.
@@ -175,22 +175,22 @@ fn chosen_of(
     Ok(chains)
 }
 
-// The chains of the codes, by their heads and by what stands behind each place.
+// The chains of the codes, by their heads and by what stands behind each place, which takes the place of its code.
 fn chains(
     alloc: Global,
-    codes: &[usize],
+    codes: Vec<usize>,
     count: usize,
 ) -> Result<(Vec<usize>, Vec<usize>), AllocError>
-    requires { AllByRecursion (λ code. code < count) codes.now }
+    requires { AllByRecursion (λ code. code < count) codes.items }
     ensures heads { IfOk result (λ made. length made.0.items ≡ count) }
-    ensures chains { IfOk result (λ made. AreChains codes.now made.0.items made.1.items) }
+    ensures chains { IfOk result (λ made. AreChains codes.items made.0.items made.1.items) }
 {
     let mut heads = vec![in alloc; codes.len(); count]?;
-    let mut next = vec![in alloc; codes.len(); codes.len()]?;
-    let mut number = codes.len();
+    let mut next = codes;
+    let mut number = next.len();
     while number > 0 {
         number -= 1;
-        let code = codes[number];
+        let code = next[number];
         next[number] = heads[code];
         heads[code] = number;
     }

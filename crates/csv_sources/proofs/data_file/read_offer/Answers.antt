@@ -1,10 +1,16 @@
-use Rattle.std.proofs.Common.{◌≡◌, ◌<◌, ◌≤◌, ◌∷◌, Some, None, ◌∙◌, sym, ap, arith, length, false, true, map, rules, List, ℕ}
-use Rattle.std.specs.Prelude.{Ok}
+use Rattle.std.proofs.Common.{◌≡◌, ◌+◌, ◌<◌, ◌≤◌, ◌∷◌, Some, None, ◌∙◌, sym, ap, arith, length, false, true, map, get_or, [], rules, subst, List, ℕ}
+use Rattle.std.specs.Prelude.{Ok, Err, Result, IfOk}
+use Rattle.std.specs.declared.alloc.AllocError.{AllocError}
+use Rattle.std.specs.Str.{IsAscii}
 use Rattle.csv.specs.Reading.{default_config, records, strip_bom}
 use Rattle.csv.specs.Records.{fields_of}
-use Rattle.csv_sources.specs.DataFile.{after_marks, first_fault, header_fault, place_in}
+use Rattle.csv.specs.declared.parser.State.TheVariants as st
+use Rattle.source_trait.specs.Asking.{RowList}
+use Rattle.source_trait.specs.declared.source.AttachFault.{AttachFault}
+use Rattle.csv_sources.specs.DataFile.{AreText, after_marks, offer_of, first_fault, header_fault, place_in, unless}
 use Rattle.csv_sources.specs.Records.{records_left}
-use Rattle.csv_sources.proofs.Rows.{few_records, marks_shorten, no_mark_left, offer_bad, offer_bad_row, offer_none, offer_rows}
+use Rattle.csv_sources.proofs.Ascii.{records_text}
+use Rattle.csv_sources.proofs.Rows.{few_records, marks_shorten, no_mark_left, offer_bad, offer_none, offer_rows}
 use Rattle.csv_sources.proofs.data_file.read_offer.Goals as goal
 
 -- the records of a text behind its marks
@@ -29,33 +35,59 @@ returns-in-Some-clause-offer c =
     let bad : Some c.in-Some.fault ≡ header_fault (fields_of c.next_record.new.row) c.args.columns.now = search rules in
     offer_bad c.args.columns.now (fields_of c.next_record.new.row) (records_left c.next_record.new.reader) (records default_config (after_marks c.args.bytes.now)) c.in-Some.fault first bad
 
-pub fault_of_rows-requires : goal.fault_of_rows-requires
-fault_of_rows-requires c =
-    let all : records_left c.open-reader.result ≡ records default_config (after_marks c.args.bytes.now) = all_of (records_left c.open-reader.result) c.behind_marks-text.result.now c.args.bytes.now c.open-reader.ensures.records c.behind_marks-text.ensures in
-    record { few = few_of (records default_config (strip_bom c.behind_marks-text.result.now)) c.args.bytes.now (sym c.open-reader.ensures.records ∙ all) c.requires.small }
-
-pub returns-in-Some-text_rows-clause-offer : goal.returns-in-Some-text_rows-clause-offer
-returns-in-Some-text_rows-clause-offer c =
+pub ascii_rows-requires-clause-few : goal.ascii_rows-requires-clause-few
+ascii_rows-requires-clause-few c =
     let all : records_left c.open-reader.result ≡ records default_config (after_marks c.args.bytes.now) = all_of (records_left c.open-reader.result) c.behind_marks-text.result.now c.args.bytes.now c.open-reader.ensures.records c.behind_marks-text.ensures in
     let found : c.in_ok-next_record.field-0 ≡ true = search rules in
-    let first : records default_config (after_marks c.args.bytes.now) ≡ fields_of c.next_record.new.row ∷ records_left c.next_record.new.reader = sym all ∙ c.in_ok-next_record.ensures.taken found in
-    let good : None ≡ header_fault (fields_of c.next_record.new.row) c.args.columns.now = search rules in
-    let at : c.in_ok-places-in-None.places.items ≡ map (place_in (fields_of c.next_record.new.row)) c.args.columns.now = search rules in
-    let width : c.len.result ≡ length (fields_of c.next_record.new.row) = search rules in
-    let places : c.as_slice-in-None-2.result.now ≡ c.in_ok-places-in-None.places.items = c.as_slice-in-None-2.ensures.value in
-    offer_rows c.args.columns.now (fields_of c.next_record.new.row) (records_left c.next_record.new.reader) (records default_config (after_marks c.args.bytes.now)) c.in_ok-places-in-None.places.items (Ok c.in-Some-text_rows.rows) first good at
-    (rw (← width, ← places) c.in-Some-text_rows.ensures.offer)
+    let taken : records_left c.open-reader.result ≡ fields_of c.next_record.new.row ∷ records_left c.next_record.new.reader = c.in_ok-next_record.ensures.taken found in
+    omega (arith, few_of (records_left c.open-reader.result) c.args.bytes.now all c.requires.small, ap (λ (l : List (List (List ℕ))). length l) taken)
 
-pub returns-in-Some-2-clause-offer : goal.returns-in-Some-2-clause-offer
-returns-in-Some-2-clause-offer c =
+pub ascii_rows-requires-clause-text : goal.ascii_rows-requires-clause-text
+ascii_rows-requires-clause-text c =
+    let all : records_left c.open-reader.result ≡ records default_config (after_marks c.args.bytes.now) = all_of (records_left c.open-reader.result) c.behind_marks-text.result.now c.args.bytes.now c.open-reader.ensures.records c.behind_marks-text.ensures in
+    let found : c.in_ok-next_record.field-0 ≡ true = search rules in
+    let taken : records_left c.open-reader.result ≡ fields_of c.next_record.new.row ∷ records_left c.next_record.new.reader = c.in_ok-next_record.ensures.taken found in
+    let ascii : IsAscii c.behind_marks-text.result.now = rw c.if-is_ascii.true at c.is_ascii.ensures.cases in
+    let text : IsAscii (after_marks c.args.bytes.now) = subst IsAscii c.behind_marks-text.ensures ascii in
+    (subst AreText (sym all ∙ taken) (records_text default_config (length (after_marks c.args.bytes.now) + 1) st.StartRecord (after_marks c.args.bytes.now) text)).1
+
+pub text_rows-requires-clause-few : goal.text_rows-requires-clause-few
+text_rows-requires-clause-few c =
+    let all : records_left c.open-reader.result ≡ records default_config (after_marks c.args.bytes.now) = all_of (records_left c.open-reader.result) c.behind_marks-text.result.now c.args.bytes.now c.open-reader.ensures.records c.behind_marks-text.ensures in
+    let found : c.in_ok-next_record.field-0 ≡ true = search rules in
+    let taken : records_left c.open-reader.result ≡ fields_of c.next_record.new.row ∷ records_left c.next_record.new.reader = c.in_ok-next_record.ensures.taken found in
+    omega (arith, few_of (records_left c.open-reader.result) c.args.bytes.now all c.requires.small, ap (λ (l : List (List (List ℕ))). length l) taken)
+
+-- what the rows under a good header offer
+under : (columns header : List (List ℕ)) (rows all : RowList) (places : List ℕ) (width : ℕ) (result : Result (Result RowList AttachFault) AllocError) → all ≡ header ∷ rows → None ≡ header_fault header columns
+    → places ≡ map (place_in header) columns → width ≡ length header
+    → IfOk result (λ offer. offer ≡ unless (first_fault width 1 rows) (map (λ row. map (λ p. get_or row p []) places) rows)) → IfOk result (λ offer. offer ≡ offer_of columns all)
+under columns header rows all places width (Ok offer) first good at wide is =
+    offer_rows columns header rows all places offer first good at (is ∙ ap (λ n. unless (first_fault n 1 rows) (map (λ row. map (λ p. get_or row p []) places) rows)) wide)
+under columns header rows all places width (Err e) first good at wide is = tt
+
+pub returns-then-is_ascii-clause-offer : goal.returns-then-is_ascii-clause-offer
+returns-then-is_ascii-clause-offer c =
     let all : records_left c.open-reader.result ≡ records default_config (after_marks c.args.bytes.now) = all_of (records_left c.open-reader.result) c.behind_marks-text.result.now c.args.bytes.now c.open-reader.ensures.records c.behind_marks-text.ensures in
     let found : c.in_ok-next_record.field-0 ≡ true = search rules in
     let header = fields_of c.next_record.new.row in
     let rows = records_left c.next_record.new.reader in
-    let taken : records_left c.open-reader.result ≡ header ∷ rows = c.in_ok-next_record.ensures.taken found in
-    let again : records default_config (strip_bom c.behind_marks-text.result.now) ≡ header ∷ rows = sym c.open-reader.ensures.records ∙ taken in
+    let first : records default_config (after_marks c.args.bytes.now) ≡ header ∷ rows = sym all ∙ c.in_ok-next_record.ensures.taken found in
     let good : None ≡ header_fault header c.args.columns.now = search rules in
-    let width : c.len-in-None-text_rows.result ≡ length header = search rules in
-    let bad : Some c.in-Some-2.fault ≡ first_fault (length header) 1 rows =
-    sym c.in-Some-2.is ∙ c.in_ok-fault-in-None-text_rows.ensures header rows again ∙ ap (λ n. first_fault n 1 rows) width in
-    offer_bad_row c.args.columns.now header rows (records default_config (after_marks c.args.bytes.now)) c.in-Some-2.fault (sym all ∙ taken) good bad
+    let at : c.in_ok-places-in-None.places.items ≡ map (place_in header) c.args.columns.now = search rules in
+    let places : c.as_slice-places.result.now ≡ map (place_in header) c.args.columns.now = c.as_slice-places.ensures.value ∙ at in
+    let width : c.len.result ≡ length header = search rules in
+    under c.args.columns.now header rows (records default_config (after_marks c.args.bytes.now)) c.as_slice-places.result.now c.len.result c.ascii_rows.result first good places width c.ascii_rows.ensures.offer
+
+pub returns-clause-offer : goal.returns-clause-offer
+returns-clause-offer c =
+    let all : records_left c.open-reader.result ≡ records default_config (after_marks c.args.bytes.now) = all_of (records_left c.open-reader.result) c.behind_marks-text.result.now c.args.bytes.now c.open-reader.ensures.records c.behind_marks-text.ensures in
+    let found : c.in_ok-next_record.field-0 ≡ true = search rules in
+    let header = fields_of c.next_record.new.row in
+    let rows = records_left c.next_record.new.reader in
+    let first : records default_config (after_marks c.args.bytes.now) ≡ header ∷ rows = sym all ∙ c.in_ok-next_record.ensures.taken found in
+    let good : None ≡ header_fault header c.args.columns.now = search rules in
+    let at : c.in_ok-places-in-None.places.items ≡ map (place_in header) c.args.columns.now = search rules in
+    let places : c.as_slice-places.result.now ≡ map (place_in header) c.args.columns.now = c.as_slice-places.ensures.value ∙ at in
+    let width : c.len-in-None.result ≡ length header = search rules in
+    under c.args.columns.now header rows (records default_config (after_marks c.args.bytes.now)) c.as_slice-places.result.now c.len-in-None.result c.text_rows.result first good places width c.text_rows.ensures.offer

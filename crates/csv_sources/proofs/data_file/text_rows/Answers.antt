@@ -1,31 +1,30 @@
-use Rattle.std.proofs.Common.{◌≡◌, ◌+◌, ◌∷◌, ◌∙◌, arith, length, nat_eq, refl, true, None, rules}
-use Rattle.std.proofs.lemmas.Bool.Decides.{nat_tests}
+use Rattle.std.proofs.Common.{◌≡◌, ◌+◌, ◌∷◌, ◌∙◌, ap, arith, length, map, get_or, [], ◌++◌, true, None, rules, List, ℕ}
 use Rattle.csv.specs.Records.{fields_of}
-use Rattle.csv_sources.specs.DataFile.{all_text, row_fault}
+use Rattle.source_trait.specs.Asking.{RowList}
+use Rattle.csv_sources.specs.DataFile.{row_fault}
 use Rattle.csv_sources.specs.Records.{records_left}
-use Rattle.csv_sources.proofs.Fields.{all_text-true}
-use Rattle.csv_sources.proofs.Rows.{arity_more, rows_step}
+use Rattle.csv_sources.proofs.Gathered.{gathered_more, gathered_none}
 use Rattle.csv_sources.proofs.data_file.text_rows.Goals as goal
 
-pub loop-rows-init : goal.loop-rows-init
-loop-rows-init c = record {
-  reading = c.requires;
-  same = (1, rw c.new-rows.ensures refl);
-  fit = rw c.new-rows.ensures tt;
+pub loop-record-init : goal.loop-record-init
+loop-record-init c = record {
+  reading = c.requires.reading;
+  count = omega arith;
+  rows = gathered_none c.args.width c.args.places.now (fields_of c.args.values) (records_left c.args.reader.now) c.requires.none;
 }
 
-pub loop-rows-preserved : goal.loop-rows-preserved
-loop-rows-preserved c =
-    let found : c.in_ok-next_text.field-0 ≡ true = search rules in
-    let row = fields_of c.next_text.new.row in
-    let left = records_left c.next_text.new.reader in
-    let taken : records_left c.loop-rows.reader ≡ row ∷ left = c.in_ok-next_text.ensures.taken found in
-    let n = c.loop-rows.invariant.same.0 in
-    let width : nat_eq (length row) c.args.width ≡ true = grind (arith, nat_tests, c.if-len-width.false, c.len.ensures) in
-    let text : all_text row ≡ true = all_text-true row c.in_ok-next_text.ensures.text in
-    let whole : row_fault c.args.width n row ≡ None = rw (width, text) refl in
+pub loop-record-preserved : goal.loop-record-preserved
+loop-record-preserved c =
+    let found : c.in_ok-next_record.field-0 ≡ true = search rules in
+    let row = fields_of c.next_record.new.row in
+    let left = records_left c.next_record.new.reader in
+    let taken : records_left c.loop-record.reader ≡ row ∷ left = c.in_ok-next_record.ensures.taken found in
+    let whole : row_fault c.args.width (c.loop-record.number + 1) row ≡ None = c.in-Ok.ensures.whole in
+    let added : fields_of c.push_texts.new.values ≡ fields_of c.loop-record.values ++ map (λ p. get_or row p []) c.args.places.now =
+    c.in_ok-push_texts.ensures ∙ ap (λ (l : List (List ℕ)). fields_of c.loop-record.values ++ map (λ p. get_or l p []) c.args.places.now) c.in-Ok.ensures.same in
     record {
-      reading = c.in_ok-next_text.ensures.reading;
-      same = (n + 1, c.loop-rows.invariant.same.1 ∙ rows_step c.args.width n c.args.places.now c.loop-rows.rows c.in-Ok.more (records_left c.loop-rows.reader) left row row taken whole refl c.in-Ok.ensures);
-      fit = arity_more c.args.places.now c.loop-rows.rows c.in-Ok.more row c.loop-rows.invariant.fit c.in-Ok.ensures;
+      reading = c.in_ok-next_record.ensures.reading;
+      count = omega (arith, c.loop-record.invariant.count, ap (λ (l : RowList). length l) taken);
+      rows = gathered_more c.args.width c.args.places.now (c.loop-record.number + 1) (fields_of c.loop-record.values) (fields_of c.push_texts.new.values) (records_left c.args.reader.now)
+          (records_left c.loop-record.reader) left row taken whole added c.loop-record.invariant.rows;
     }

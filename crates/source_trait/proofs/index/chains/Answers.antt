@@ -1,6 +1,11 @@
-use Rattle.source_trait.proofs.Indexing.{chains_step}
+use Rattle.source_trait.proofs.Indexing.{chains_in_place, codes_kept}
 use Rattle.source_trait.proofs.index.chains.Goals as goal
 
 pub loop-number-preserved : goal.loop-number-preserved
 loop-number-preserved c =
-    chains_step c.args.codes.now c.args.count c.loop-number.number c.loop-number.heads.items c.loop-number.next.items c.index.result.now c.loop-number-test.true c.requires c.loop-number.invariant c.index.ensures
+    let loop = c.loop-number in
+    record {
+      made = chains_in_place c.args.codes.items c.args.count loop.number loop.heads.items loop.next.items c.index-code.result.now c.index.result.now
+          c.loop-number-test.true c.requires loop.invariant.made loop.invariant.kept c.index-code.ensures c.index.ensures;
+      kept = codes_kept c.args.codes.items loop.next.items loop.number c.index.result.now loop.invariant.kept;
+    }

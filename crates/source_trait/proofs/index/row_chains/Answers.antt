@@ -7,7 +7,7 @@ use Rattle.source_trait.proofs.index.row_chains.Goals as goal
 pub chains-requires : goal.chains-requires
 chains-requires c =
     let some : 0 < c.args.count = omega (arith, c.requires.count) in
-    rw (c.deref.ensures.value, c.in_ok-chosen.ensures) (chains_small c.args.positions.now c.args.count c.chain_count-chain_count.result c.args.crowded.now c.args.rows.now some c.chain_count-chain_count.ensures)
+    rw c.in_ok-chosen.ensures (chains_small c.args.positions.now c.args.count c.chain_count-chain_count.result c.args.crowded.now c.args.rows.now some c.chain_count-chain_count.ensures)
 
 pub returns-clause-heads : goal.returns-clause-heads
 returns-clause-heads c =
