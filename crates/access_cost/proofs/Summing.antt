@@ -1,20 +1,18 @@
 -- Sums of the costs of methods.
-use Rattle.std.proofs.Common.{Bor, true, false, ◌≡◌, ◌⊎◌, inl, inr, ◌∙◌, refl, sym, ap, subst, ℕ, suc, ◌+◌, ◌-◌, ◌*◌, ◌<◌, ◌≤◌, List, [], ◌∷◌, None, Some, arith, length, get_or, take, drop}
+use Rattle.std.proofs.Common.{Bor, true, false, ◌≡◌, ◌∙◌, refl, sym, ap, subst, ⊎_elim, ℕ, suc, ◌+◌, ◌-◌, ◌*◌, ◌<◌, ◌≤◌, List, [], ◌∷◌, None, Some, arith, length, get_or, take, drop}
 use Rattle.std.proofs.lemmas.List.{take_rest}
 use Rattle.std.specs.Prelude.{Contains, slice_get, Option, IsSome, is_some, option_copied}
 use Rattle.lists.proofs.Members.{contains_here, contains_there, contains_cases, contains_got, got_mapped, map_got, some_injective}
+use Rattle.lists.proofs.Places.{got_contained}
 use Rattle.meaning.specs.declared.types.Method.{Method}
-use Rattle.meaning.specs.declared.types.Out.{Out}
 use Rattle.meaning.specs.declared.types.SchemaParts.{SchemaParts}
 use Rattle.meaning.specs.declared.types.Step.{Step}
 use Rattle.meaning.specs.Costs.{IsStepsCost}
-use Rattle.meaning.specs.Plans.{IsMethod, IsWellFormed, AreLawfulFrom, made}
-use Rattle.meaning.specs.Values.{Value}
+use Rattle.meaning.specs.Plans.{IsMethod, NamesMethods}
+use Rattle.meaning.proofs.Steps.{cost_once}
 use Rattle.access_schema.specs.declared.schema.Schema.{Schema}
 use Rattle.access_schema.specs.Meaning.{meaning_of}
 use Rattle.access_schema.specs.Names.{method_names, Finds}
-use Rattle.access_schema.proofs.Texts.{got_contained}
-use Rattle.access_cost.specs.Named.{NamesMethods}
 
 -- a front that is longer by a step
 pub summed_more : (schema : SchemaParts) (steps rest : List Step) (step : Step) (method : Method) (sum : ℕ) → IsMethod schema step.method method →
@@ -28,26 +26,6 @@ pub named_rest : (schema : SchemaParts) (step : Step) (rest : List Step) → Nam
 named_rest schema step rest named other there = named other (contains_there step rest other there)
 
 -- a first step, and those behind it
-of_first : (schema : SchemaParts) (first step : Step) (steps : List Step) (method : Method) → IsMethod schema first.method method → NamesMethods schema steps →
-    (first ≡ step) ⊎ Contains steps step → (its : Method) × IsMethod schema step.method its
-of_first schema first step steps method named later (inl same) = (method, subst (λ (s : Step). IsMethod schema s.method method) same named)
-of_first schema first step steps method named later (inr there) = later step there
-
--- the steps of a lawful branch
-pub lawful_named : (schema : SchemaParts) (constants : List Value) (columns : ℕ) (steps : List Step) (output : List Out) → AreLawfulFrom schema constants columns steps output → NamesMethods schema steps
-lawful_named schema constants columns [] output lawful = λ step there. absurd (omega (arith, there.1))
-lawful_named schema constants columns (first ∷ steps) output lawful =
-    let later = lawful_named schema constants (made columns first.places) steps output lawful.2 in
-    λ step there. of_first schema first step steps lawful.0 lawful.1.named later (contains_cases first steps step there)
-
--- steps have one cost
-pub one_cost : (schema : SchemaParts) → IsWellFormed schema → (steps : List Step) (cost other : ℕ) → IsStepsCost schema steps cost → IsStepsCost schema steps other → cost ≡ other
-one_cost schema well [] cost other here there = here ∙ sym there
-one_cost schema well (step ∷ steps) cost other (method, rest, named, costs, is) (method', rest', named', costs', is') =
-    let same = well.once method method' named.0 named'.0 (named.1 ∙ sym named'.1) in
-    let later = one_cost schema well steps rest rest' costs costs' in
-    cc
-
 -- a name that is a method's is found
 pub found_some : (methods : List Method) (name : List ℕ) (r : Option ℕ) → Finds (method_names methods) name r → (method : Method) → Contains methods method × (method.name ≡ name) → IsSome r
 found_some methods name None none method named =
@@ -156,7 +134,8 @@ left_more schema steps left step r some is finds there are =
     let same = first_and_rest left step some is in
     let (method, of, its) = there_is schema.methods step.method r finds there in
     record {
-      all = λ named. are.all (subst (NamesMethods (meaning_of schema)) (sym same) (λ other in_all. of_first (meaning_of schema) step other rest method (of, its) named (contains_cases step rest other in_all)));
+      all = λ named. are.all (subst (NamesMethods (meaning_of schema)) (sym same) (λ other in_all.
+          ⊎_elim (λ first. (method, subst (λ (s : Step). IsMethod (meaning_of schema) s.method method) first (of, its))) (named other) (contains_cases step rest other in_all)));
       left_too = λ named. named_rest (meaning_of schema) step rest (subst (NamesMethods (meaning_of schema)) same (are.left_too named));
     }
 

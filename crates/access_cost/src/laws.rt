@@ -2,11 +2,10 @@
 ghost use Rattle.std.specs.Prelude.{◌≡◌, ℕ, List};
 ghost use Rattle.meaning.specs.declared.types.Branch.{Branch};
 ghost use Rattle.meaning.specs.Costs.{IsCost};
-ghost use Rattle.meaning.specs.Plans.{IsLawfulBranch};
+ghost use Rattle.meaning.specs.Plans.{IsLawfulBranch, NamesMethods};
 ghost use Rattle.meaning.specs.Values.{Value};
 ghost use Rattle.access_schema.specs.declared.schema.Schema.{Schema};
 ghost use Rattle.access_schema.specs.Meaning.{meaning_of};
-ghost use Rattle.access_cost.specs.Named.{NamesMethods};
 
 /// The steps of a lawful branch name methods of the schema, so it has a cost.
 pub fn lawful_branches_name_methods()

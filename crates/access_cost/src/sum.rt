@@ -2,10 +2,9 @@
 ghost use Rattle.std.specs.Prelude.{◌≡◌, ◌↔◌, ◌≤◌, IsTrue, length};
 ghost use Rattle.meaning.specs.declared.types.Method.{Method};
 ghost use Rattle.meaning.specs.Costs.{IsCost};
-ghost use Rattle.meaning.specs.Plans.{IsMethod};
+ghost use Rattle.meaning.specs.Plans.{IsMethod, NamesMethods};
 ghost use Rattle.access_schema.specs.Meaning.{meaning_of};
 ghost use Rattle.access_schema.specs.declared.limits.TheConstants.{MOST_COST};
-ghost use Rattle.access_cost.specs.Named.{NamesMethods};
 
 use access_schema::Schema;
 use lists::Text;

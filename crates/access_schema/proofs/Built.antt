@@ -19,7 +19,10 @@ use Rattle.std.specs.Cmp.Lexicographic.{pointwise}
 use Rattle.access_schema.specs.Invariant.{AreColumns, AreRelations, AreMethods, AreSources}
 use Rattle.access_schema.specs.Faults.{is_relation, is_method, is_relation_named, is_method_named, is_source_of, is_outside, is_unknown, repeats_name, AreFaultless, AreNamed}
 use Rattle.lists.proofs.Members.{contains_got, some_injective}
-use Rattle.access_schema.proofs.Texts.{text_is, text_same, neither, none_at, place_holds, find_place, differ_from_repeats, got_contained}
+use Rattle.lists.proofs.Booleans.{both_false}
+use Rattle.lists.proofs.Orders.{text_is}
+use Rattle.lists.proofs.Places.{got_contained}
+use Rattle.access_schema.proofs.Texts.{text_same, none_at, place_holds, find_place, differ_from_repeats}
 use Rattle.access_schema.proofs.Prefixes.{given_by, differ_all, few_all, given_mapped}
 use Rattle.access_schema.proofs.LeastFault.{number_within}
 use Rattle.access_schema.proofs.Clean.{clean_at}
@@ -103,7 +106,7 @@ named_method relations (SourcePart relation kind locator) name is = absurd (cc)
 
 method_declared : (relations : List Relation) (earlier : List Part) (part : Part) (name : List ℕ) → option_map (λ (m : Method). m.name) (method_of relations part) ≡ Some name → repeats_name earlier part ≡ false → list_any (is_method_named name) earlier ≡ false
 method_declared relations earlier (RelationPart other columns) name is none = absurd (cc)
-method_declared relations earlier (MethodPart other relation inputs cost) name is none = let same : other ≡ name = some_injective other name is in subst (λ n. list_any (is_method_named n) earlier ≡ false) same (neither _ _ none).0
+method_declared relations earlier (MethodPart other relation inputs cost) name is none = let same : other ≡ name = some_injective other name is in subst (λ n. list_any (is_method_named n) earlier ≡ false) same (both_false _ _ none).0
 method_declared relations earlier (RulePart line body head) name is none = absurd (cc)
 method_declared relations earlier (KeyPart line relation columns target target_columns) name is none = absurd (cc)
 method_declared relations earlier (ConstantPart text) name is none = absurd (cc)
@@ -210,7 +213,7 @@ two_none false false x y is = (refl, refl)
 
 pub inside : (most count : ℕ) → is_outside most count ≡ false → (1 ≤ count) × (count ≤ most)
 inside most zero is = absurd (cc)
-inside most (suc count) is = (omega arith, not_more most (suc count) (neither _ _ is).1)
+inside most (suc count) is = (omega arith, not_more most (suc count) (both_false _ _ is).1)
 
 module _ (parts : List Part) (faultless : AreFaultless parts) (named : AreNamed parts) where
   -- a relation and the part that declares it
@@ -226,7 +229,7 @@ module _ (parts : List Part) (faultless : AreFaultless parts) (named : AreNamed 
       record {
         some = some;
         few = few;
-        differ = differ_from_repeats relation.columns (neither _ _ clean.names).1;
+        differ = differ_from_repeats relation.columns (both_false _ _ clean.names).1;
         named = (named (RelationPart relation.name relation.columns) (contains_got parts k _ at)).1;
       }
 
@@ -236,7 +239,7 @@ module _ (parts : List Part) (faultless : AreFaultless parts) (named : AreNamed 
       let (j, other, at_j, gives) = given_by (λ p. option_map (λ (r : Relation). r.name) (relation_of p)) (take k parts) name there in
       let (others, same_other) = named_relation other name gives in
       let clean = clean_at parts faultless k (RelationPart name columns) (at ∙ ap Some same) in
-      let free : list_any (is_relation_named name) (take k parts) ≡ false = (neither _ _ clean.names).0 in
+      let free : list_any (is_relation_named name) (take k parts) ≡ false = (both_false _ _ clean.names).0 in
       let fails : is_relation_named name (RelationPart name others) ≡ false = none_at (is_relation_named name) (take k parts) (RelationPart name others) free (contains_got (take k parts) j (RelationPart name others) (at_j ∙ ap Some same_other)) in
       let holds = text_same name in cc
 

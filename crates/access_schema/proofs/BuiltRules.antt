@@ -26,8 +26,10 @@ use Rattle.access_schema.specs.Invariant.{AtomFits, terms_of, AreInOrder, IsRule
 use Rattle.access_schema.specs.Feeding.{AreNonRecursive}
 use Rattle.access_schema.specs.Fits.{IsWithin, AreWithin}
 use Rattle.access_schema.specs.Faults.{is_rule, is_unknown, is_misfit, has_many_constants, constant_count, AreFaultless}
-use Rattle.lists.proofs.Members.{contains_here, contains_there, contains_cases, contains_got, contains_mapped, some_injective}
-use Rattle.access_schema.proofs.Texts.{text_same, neither, none_at, once_differ, once_taken, once_from, length_le, contains_among, among_contains, got_contained}
+use Rattle.lists.proofs.Members.{contains_here, contains_there, contains_cases, contains_got, contains_mapped, some_injective, contains_joined, joined_from}
+use Rattle.lists.proofs.Places.{got_member}
+use Rattle.lists.proofs.Booleans.{both_false}
+use Rattle.access_schema.proofs.Texts.{text_same, none_at, once_differ, once_taken, once_from, length_le, contains_among, among_contains}
 use Rattle.access_schema.proofs.Prefixes.{prefix_all, given_by, few_all}
 use Rattle.access_schema.proofs.LeastFault.{number_within, rule_within, none_many, constants_push, mapped_push}
 use Rattle.access_schema.proofs.Numbering.{place_among}
@@ -60,7 +62,7 @@ place_kept known (other ∷ texts) text among = ⊎_elim
 place_new : (known : List (List ℕ)) (text : List ℕ) → is_among known text ≡ false → place_of (known ++ text ∷ []) text ≡ length known
 place_new [] text none = let same = text_same text in rw same refl
 place_new (first ∷ known) text none =
-    let both = neither (pointwise nat_eq first text) (is_among known text) none in
+    let both = both_false (pointwise nat_eq first text) (is_among known text) none in
     let apart : pointwise nat_eq first text ≡ false = both.0 in
     let rest : place_of (known ++ text ∷ []) text ≡ length known = place_new known text both.1 in
     rw apart (omega arith)
@@ -118,7 +120,7 @@ terms_are relations variables (atom ∷ atoms) =
 
 either_list : {X : Type 0} (p : X → Bool) (xs ys : List X) → (list_any p xs || list_any p ys) ≡ false → (x : X) → Contains (xs ++ ys) x → p x ≡ false
 either_list p xs ys none x there =
-    let both = neither (list_any p xs) (list_any p ys) none in
+    let both = both_false (list_any p xs) (list_any p ys) none in
     ⊎_elim (λ first. none_at p xs x both.0 first) (λ second. none_at p ys x both.1 second) (Contains-append_cases xs ys x there)
 
 equal_lengths : (a b : ℕ) → not (a == b) ≡ false → a ≡ b
@@ -267,21 +269,6 @@ key_is_rule relations constants line relation columns target targets known known
           (Contains-append_cases body.terms (head.terms ++ []) (Const c) there);
     }
 
--- members of lists that parts give
-given_somewhere : {X A : Type 0} (f : X → List A) (xs : List X) (a : A) → Contains (flat_map f xs) a → (x : X) × Contains xs x × Contains (f x) a
-given_somewhere f [] a there = absurd (omega arith)
-given_somewhere f (x ∷ xs) a there = ⊎_elim
-    (λ here. (x, contains_here x xs, here))
-    (λ later. let (y, among, has) = given_somewhere f xs a later in (y, contains_there x xs y among, has))
-    (Contains-append_cases (f x) (flat_map f xs) a there)
-
-pub given_of : {X A : Type 0} (f : X → List A) (xs : List X) (x : X) (a : A) → Contains xs x → Contains (f x) a → Contains (flat_map f xs) a
-given_of f [] x a among has = absurd (omega arith)
-given_of {X} {A} f (y ∷ xs) x a among has = ⊎_elim
-    (λ same. Contains-append_left (f y) (flat_map f xs) a (subst (λ (z : X). Contains (f z) a) (sym same) has))
-    (λ later. Contains-append_right (f y) (flat_map f xs) a (given_of f xs x a later has))
-    (contains_cases y xs x among)
-
 declared_is_constant : (part : Part) (c : List ℕ) → Contains (declared_constants part) c → Contains (part_constants part) c
 declared_is_constant (RelationPart name columns) c there = absurd (omega arith)
 declared_is_constant (MethodPart name relation inputs cost) c there = absurd (omega arith)
@@ -305,15 +292,15 @@ each_within : (parts : List Part) (c : List ℕ) → Contains (constants_of part
 each_within parts c there = ⊎_elim
     (λ none. absurd (omega arith))
     (λ among. once_taken [] (flat_map part_constants parts) c (⊎_elim
-    (λ declared. let (part, of, has) = given_somewhere declared_constants parts c declared in given_of part_constants parts part c of (declared_is_constant part c has))
-    (λ used. let (part, of, has) = given_somewhere rule_constants parts c used in given_of part_constants parts part c of (rule_is_constant part c has))
+    (λ declared. let (part, of, has) = joined_from declared_constants parts c declared in contains_joined part_constants parts part c of (declared_is_constant part c has))
+    (λ used. let (part, of, has) = joined_from rule_constants parts c used in contains_joined part_constants parts part c of (rule_is_constant part c has))
     (Contains-append_cases (flat_map declared_constants parts) (flat_map rule_constants parts) c among)))
     (once_from [] (flat_map declared_constants parts ++ flat_map rule_constants parts) c there)
 
 rule_constant_there : (parts : List Part) (line : ℕ) (body head : List NamedAtom) (c : List ℕ) → Contains parts (RulePart line body head) → Contains (filter_map constant_of (named_terms (body ++ head))) c → is_among (constants_of parts) c ≡ true
 rule_constant_there parts line body head c of has =
     contains_among (constants_of parts) c (once_taken [] (flat_map declared_constants parts ++ flat_map rule_constants parts) c
-    (Contains-append_right (flat_map declared_constants parts) (flat_map rule_constants parts) c (given_of rule_constants parts (RulePart line body head) c of has)))
+    (Contains-append_right (flat_map declared_constants parts) (flat_map rule_constants parts) c (contains_joined rule_constants parts (RulePart line body head) c of has)))
 
 pub rule_agrees : (relations : List Relation) (part : Part) → ((rule_of relations part ≡ None) × (is_rule part ≡ false)) ⊎ ((y : Rule) × (rule_of relations part ≡ Some y) × (is_rule part ≡ true))
 rule_agrees relations (RelationPart name columns) = inl (refl, refl)
@@ -337,9 +324,6 @@ if_none false x is = refl
 all_within : (parts : List Part) → ((part : Part) → Contains parts part → IsWithin part) → AreWithin parts
 all_within [] within = tt
 all_within (part ∷ parts) within = (within part (contains_here part parts), all_within parts (λ p there. within p (contains_there part parts p there)))
-
-got_there : {X : Type 0} (xs : List X) (x : X) → Contains xs x → (k : ℕ) × (slice_get xs k ≡ Some x)
-got_there xs x there = (there.0, got_contained xs x there)
 
 module _ (parts : List Part) (faultless : AreFaultless parts) where
   pub constants_few : length (constants_of parts) ≤ MOST_CONSTANTS
@@ -369,7 +353,7 @@ module _ (parts : List Part) (faultless : AreFaultless parts) where
   rule_part small k (RulePart line body head) rule at is = subst (IsRule (relations_of parts) (constants_of parts)) (some_injective _ rule is) (rule_there k line body head at)
   rule_part small k (KeyPart line relation columns target target_columns) rule at is =
       let clean = clean_at parts faultless k (KeyPart line relation columns target target_columns) at in
-      let both = neither (is_unknown (relations_of parts) relation) (is_unknown (relations_of parts) target) clean.known in
+      let both = both_false (is_unknown (relations_of parts) relation) (is_unknown (relations_of parts) target) clean.known in
       subst (IsRule (relations_of parts) (constants_of parts)) (some_injective _ rule is)
       (key_is_rule (relations_of parts) (constants_of parts) line relation columns target target_columns both.0 both.1 (small relation) (small target))
   rule_part small k (ConstantPart text) rule at is = absurd (cc)
@@ -415,4 +399,4 @@ module _ (parts : List Part) (faultless : AreFaultless parts) where
   part_within k (SourcePart relation kind locator) at = tt
 
   pub parts_within : AreWithin parts
-  parts_within = all_within parts (λ part there. let (k, at) = got_there parts part there in part_within k part at)
+  parts_within = all_within parts (λ part there. let (k, at) = got_member parts part there in part_within k part at)

@@ -11,6 +11,7 @@ use Rattle.access_schema.specs.Feeding.{IsChain}
 use Rattle.access_schema.specs.Links.{Joins, LeadRound, IsBelow, AreBelow, IsMarked, Reaches, Spreads}
 use Rattle.access_schema.specs.Marks.{any_marked, all_marked, with_marks, is_open}
 use Rattle.lists.proofs.Members.{contains_here, contains_there, contains_cases}
+use Rattle.lists.proofs.Booleans.{both_true, not_true}
 
 -- a chain that goes one step on
 pub chain_on : (Step : ℕ → ℕ → Type 0) (source : ℕ) (between : List ℕ) (middle target : ℕ) → IsChain Step source between middle → Step middle target → IsChain Step source (between ++ middle ∷ []) target
@@ -212,14 +213,6 @@ none_open p (first ∷ links) is link among = elim (p first) as (λ b. p first �
 pub below_found : (count : ℕ) (links : List Link) (link : Link) → AreBelow count links → Contains links link → IsBelow count link
 below_found count [] link below among = absurd (omega arith)
 below_found count (first ∷ links) link below among = ⊎_elim (λ same. subst (λ (l : Link). IsBelow count l) same below.0) (λ later. below_found count links link below.1 later) (contains_cases first links link among)
-
-both_true : (a b : Bool) → (a && b) ≡ true → (a ≡ true) × (b ≡ true)
-both_true true b is = (refl, is)
-both_true false b is = absurd (cc)
-
-not_true : (a : Bool) → not a ≡ true → a ≡ false
-not_true true is = absurd (cc)
-not_true false is = refl
 
 -- marking the head of an open link goes on from the marks
 pub spread_more : (links : List Link) (old new : List Bool) (link : Link) → AreBelow (length new) links → find (is_open new) links ≡ Some link → SpreadsSoFar links old new → SpreadsSoFar links old (with_marks new link.head)

@@ -1,5 +1,6 @@
 -- What a part without faults keeps.
-use Rattle.std.proofs.Common.{◌≡◌, ℕ, List, [], ◌∷◌, ◌++◌, Bool, true, false, Option, Some, None, take, slice_get, refl}
+use Rattle.std.proofs.Common.{◌≡◌, ℕ, List, [], ◌∷◌, ◌++◌, true, false, Option, Some, None, take, slice_get, refl}
+use Rattle.lists.proofs.Booleans.{never_true}
 use Rattle.meaning.specs.declared.types.Relation.{Relation}
 use Rattle.access_schema.specs.declared.part.Part.{Part}
 use Rattle.access_schema.specs.declared.fault.SchemaFault.{SchemaFault}
@@ -17,10 +18,6 @@ pub record IsClean (relations : List Relation) (earlier : List Part) (part : Par
   pub limit : passed_limit earlier part ≡ None
   pub straight : is_rule part ≡ true → AreNonRecursive (rules_of relations (earlier ++ part ∷ []))
 
-fails : (b : Bool) → (b ≡ true → ⊥) → b ≡ false
-fails true free = absurd (free refl)
-fails false free = refl
-
 nothing : {X : Type 0} (o : Option X) → ((x : X) → o ≡ Some x → ⊥) → o ≡ None
 nothing None free = refl
 nothing (Some x) free = absurd (free x refl)
@@ -29,10 +26,10 @@ pub clean_at : (parts : List Part) → AreFaultless parts → (k : ℕ) (part : 
 clean_at parts faultless k part at =
     let free : (fault : SchemaFault) → IsFaultOf (relations_of parts) (take k parts) part fault → ⊥ = λ fault has. faultless k fault (part, at, has) in
     record {
-      names = fails _ (free DuplicateName);
-      known = fails _ (free UnknownRelation);
-      arity = fails _ (free WrongArity);
-      columns = fails _ (free UnknownColumn);
+      names = never_true _ (free DuplicateName);
+      known = never_true _ (free UnknownRelation);
+      arity = never_true _ (free WrongArity);
+      columns = never_true _ (free UnknownColumn);
       limit = nothing _ (λ limit is. free (OverLimit limit) is);
       straight = λ rule recursive. free Recursive (rule, recursive);
     }

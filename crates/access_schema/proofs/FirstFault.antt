@@ -1,9 +1,8 @@
 -- The first faulty part: no part before it has a fault.
-use Rattle.std.proofs.Common.{◌≡◌, ◌+◌, ◌<◌, ◌≤◌, ◌∙◌, sym, ap, subst, ℕ, List, [], ◌∷◌, ◌++◌, Option, Some, None, length, slice_get, take, refl, arith, ⊎_elim}
+use Rattle.std.proofs.Common.{◌≡◌, ◌+◌, ◌<◌, ◌≤◌, ◌∙◌, sym, ap, subst, ℕ, List, [], ◌∷◌, Option, Some, None, length, slice_get, take, refl, arith, ⊎_elim}
 use Rattle.std.specs.List.{filter_map, cons_option}
 use Rattle.std.proofs.lemmas.Bool.{cases_eq}
-use Rattle.std.proofs.lemmas.List.{take_more}
-use Rattle.std.proofs.lemmas.Option.{slice_get_within, get_or_from_slice_get}
+use Rattle.std.proofs.lemmas.Option.{slice_get_within}
 use Rattle.meaning.specs.declared.types.Relation.{Relation}
 use Rattle.access_schema.specs.declared.part.Part.{Part}
 use Rattle.access_schema.specs.declared.fault.SchemaFault.{SchemaFault}
@@ -13,6 +12,7 @@ use Rattle.access_schema.specs.Faults.{IsFaultOf, IsLeastFault, IsFaultless, Has
 use Rattle.access_schema.specs.Links.{Joins}
 use Rattle.access_schema.specs.Progress.{StandsFor}
 use Rattle.lists.proofs.Members.{some_injective}
+use Rattle.lists.proofs.Places.{take_got}
 
 -- no part before the index has a fault
 abbrev pub FaultlessBelow : List Part → ℕ → Type 0
@@ -57,7 +57,3 @@ mapped_few h (x ∷ xs) = cons_few (h x) x (filter_map h xs) xs (mapped_few h xs
 
 pub relations_few : (parts : List Part) → length (relations_of parts) ≤ length parts
 relations_few parts = mapped_few relation_of parts
-
--- one part more is taken
-pub taken_on : {X : Type 0} (xs : List X) (i : ℕ) (x : X) → slice_get xs i ≡ Some x → take (i + 1) xs ≡ take i xs ++ x ∷ []
-taken_on xs i x at = let lt = slice_get_within xs i x at in take_more xs i x lt ∙ ap (λ y. take i xs ++ y ∷ []) (get_or_from_slice_get xs i x x at)

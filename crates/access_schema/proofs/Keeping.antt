@@ -11,10 +11,10 @@ use Rattle.meaning.specs.Plans.{IsWellFormed}
 use Rattle.meaning.specs.Fitting.{HaveConstants, RulesFit}
 use Rattle.access_schema.specs.declared.schema.Schema.{Schema}
 use Rattle.access_schema.specs.Meaning.{meaning_of}
-use Rattle.lists.proofs.Members.{got_below, some_injective, map_got}
-use Rattle.access_schema.proofs.Texts.{among_contains, got_contained}
+use Rattle.lists.proofs.Members.{got_below, some_injective, map_got, contains_joined}
+use Rattle.lists.proofs.Places.{got_contained}
+use Rattle.access_schema.proofs.Texts.{among_contains}
 use Rattle.access_schema.proofs.Ordered.{numbered}
-use Rattle.access_schema.proofs.BuiltRules.{given_of}
 
 pub well_formed : (schema : Schema) → IsWellFormed (meaning_of schema)
 well_formed schema = record {
@@ -36,7 +36,7 @@ atom_fits schema rule atom of_rules of_rule =
 
 constants_there : (schema : Schema) (rule : Rule) → Contains schema.rules rule → HaveConstants schema.constants (rule.body ++ rule.head)
 constants_there schema rule of_rules atom c of_rule has =
-    among_contains schema.constants c ((schema.valid.rules_are.fit rule of_rules).constants_are c (given_of (λ (a : Atom). a.terms) (rule.body ++ rule.head) atom (Const c) of_rule has))
+    among_contains schema.constants c ((schema.valid.rules_are.fit rule of_rules).constants_are c (contains_joined (λ (a : Atom). a.terms) (rule.body ++ rule.head) atom (Const c) of_rule has))
 
 pub body_fits : (schema : Schema) (rule : Rule) (atom : Atom) → Contains schema.rules rule → Contains rule.body atom → FitsRelation (meaning_of schema) atom.rel atom.terms
 body_fits schema rule atom of_rules of_body = atom_fits schema rule atom of_rules (Contains-append_left rule.body rule.head atom of_body)

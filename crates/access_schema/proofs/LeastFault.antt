@@ -1,5 +1,5 @@
 -- The least fault of a part, and what stands for the parts after it.
-use Rattle.std.proofs.Common.{◌≡◌, ◌⊎◌, ◌<◌, ◌≤◌, ◌∙◌, sym, ap, subst, ℕ, List, [], ◌∷◌, ◌++◌, Bool, true, false, not, ◌||◌, Option, Some, None, length, refl, arith, nat_lt, nat_le, inl, inr, ⊎_elim, map}
+use Rattle.std.proofs.Common.{◌≡◌, ◌⊎◌, ◌<◌, ◌≤◌, ◌∙◌, sym, ap, subst, ℕ, List, [], ◌∷◌, ◌++◌, Bool, true, false, not, Option, Some, None, length, refl, arith, nat_lt, nat_le, inl, inr, ⊎_elim, map}
 use Rattle.std.specs.Prelude.{Contains, All, filter, filter_map, flat_map, option_map, option_to_list, if◌then◌else◌}
 use Rattle.std.specs.List.{cons_option, list_any, position_or_len}
 use Rattle.std.proofs.lemmas.Bool.{cases_Bool}
@@ -28,6 +28,7 @@ use Rattle.access_schema.specs.Links.{link_of, links_of, Joins, IsBelow, AreBelo
 use Rattle.access_schema.specs.Progress.{StandsFor}
 use Rattle.access_schema.proofs.Circles.{chain_along}
 use Rattle.lists.proofs.Members.{contains_map, contains_mapped}
+use Rattle.lists.proofs.Booleans.{not_false, both_false}
 use Rattle.access_schema.proofs.Collected.{once_on}
 
 -- the first of five cases
@@ -122,14 +123,6 @@ module _ (relations : List Relation) (earlier : List Part) (part : Part) where
       (λ (a, b, c, d, (l, limit, same)). subst Least (sym same) (record { has = limit; least = least_5 a b c d })))))
       (chain_cases _ _ _ _ _ fault is)
 
-or_false : (a b : Bool) → (a || b) ≡ false → (a ≡ false) × (b ≡ false)
-or_false true b is = absurd (cc)
-or_false false b is = (refl, is)
-
-not_false : (a : Bool) → not a ≡ false → a ≡ true
-not_false true is = refl
-not_false false is = absurd (cc)
-
 -- the first place of a test that something passes is within
 pub place_within : {X : Type 0} (p : X → Bool) (xs : List X) → list_any p xs ≡ true → position_or_len p xs < length xs
 place_within p [] any = absurd (cc)
@@ -144,7 +137,7 @@ number_within relations name declared = place_within (is_named name) relations (
 numbers_within : (relations : List Relation) (atoms : List NamedAtom) → list_any (λ atom. is_unknown relations atom.relation) atoms ≡ false → All (λ number. number < length relations) (map (λ (atom : NamedAtom). number_of relations atom.relation) atoms)
 numbers_within relations [] none = All-nil (λ number. number < length relations)
 numbers_within relations (atom ∷ atoms) none =
-    let (here, rest) = or_false _ _ none in
+    let (here, rest) = both_false _ _ none in
     All-cons (λ number. number < length relations) (number_of relations atom.relation) (map (λ (a : NamedAtom). number_of relations a.relation) atoms) (number_within relations atom.relation here) (numbers_within relations atoms rest)
 
 -- the numbers of a link are below, where its relations are declared
@@ -152,12 +145,12 @@ pub link_below : (relations : List Relation) (part : Part) (link : Link) → use
 link_below relations (RelationPart name columns) link known is = absurd (cc)
 link_below relations (MethodPart name relation inputs cost) link known is = absurd (cc)
 link_below relations (RulePart line body head) link known is =
-    let (in_body, in_head) = or_false _ _ known in
+    let (in_body, in_head) = both_false _ _ known in
     let made : Link = record { body = map (λ (atom : NamedAtom). number_of relations atom.relation) body; head = map (λ (atom : NamedAtom). number_of relations atom.relation) head } in
     let same : made ≡ link = cc in
     subst (IsBelow (length relations)) same (record { body = numbers_within relations body in_body; head = numbers_within relations head in_head })
 link_below relations (KeyPart line relation columns target target_columns) link known is =
-    let (in_body, in_head) = or_false _ _ known in
+    let (in_body, in_head) = both_false _ _ known in
     let made : Link = record { body = number_of relations relation ∷ []; head = number_of relations target ∷ [] } in
     let same : made ≡ link = cc in
     subst (IsBelow (length relations)) same (record { body = All-cons (λ number. number < length relations) (number_of relations relation) [] (number_within relations relation in_body) (All-nil (λ number. number < length relations)); head = All-cons (λ number. number < length relations) (number_of relations target) [] (number_within relations target in_head) (All-nil (λ number. number < length relations)) })

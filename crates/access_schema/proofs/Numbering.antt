@@ -1,7 +1,8 @@
 -- Numbers of names: places within, distinct variables, and lists of constants that go on.
-use Rattle.std.proofs.Common.{◌≡◌, ◌+◌, ◌<◌, ◌≤◌, ◌∙◌, sym, ap, ℕ, zero, suc, List, [], ◌∷◌, ◌++◌, true, length, arith, map, append_assoc}
+use Rattle.std.proofs.Common.{◌≡◌, ◌+◌, ◌<◌, ◌≤◌, ◌∙◌, sym, ap, ℕ, suc, List, [], ◌∷◌, ◌++◌, true, length, arith, map, append_assoc}
 use Rattle.std.proofs.lemmas.List.{map-append}
 use Rattle.std.specs.List.{range_with_len}
+use Rattle.lists.proofs.Places.{range_push}
 use Rattle.meaning.specs.declared.types.Term.{Term}
 use Rattle.meaning.specs.declared.types.Term.TheVariants.{Var}
 use Rattle.access_schema.specs.Lists.{is_among, place_of, once_after}
@@ -12,13 +13,6 @@ use Rattle.access_schema.proofs.Collected.{once_on, once_grows}
 -- a text that is among the list has a place within
 pub place_among : (texts : List (List ℕ)) (text : List ℕ) → is_among texts text ≡ true → place_of texts text < length texts
 place_among texts text among = place_within _ texts among
-
-range_push : (from count : ℕ) → range_with_len from (suc count) ≡ range_with_len from count ++ (from + count) ∷ []
-range_push from zero = let e : from ≡ from + 0 = omega arith in ap (λ n. n ∷ []) e
-range_push from (suc count) =
-    let rest : range_with_len (from + 1) (suc count) ≡ range_with_len (from + 1) count ++ (from + 1 + count) ∷ [] = range_push (from + 1) count in
-    let e : from + 1 + count ≡ from + suc count = omega arith in
-    ap (λ ns. from ∷ ns) (rest ∙ ap (λ n. range_with_len (from + 1) count ++ n ∷ []) e)
 
 -- one distinct variable more
 pub variables_push : (count : ℕ) → map Var (range_with_len 0 (count + 1)) ≡ map Var (range_with_len 0 count) ++ Var count ∷ []

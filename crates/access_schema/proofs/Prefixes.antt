@@ -6,8 +6,8 @@ use Rattle.std.proofs.Math.Seq.{take-length}
 use Rattle.std.proofs.lemmas.List.{append-nil, length-append}
 use Rattle.access_schema.specs.Names.{AllDiffer}
 use Rattle.lists.proofs.Members.{contains_here, contains_there, contains_cases, got_below}
+use Rattle.lists.proofs.Places.{take_got}
 use Rattle.access_schema.proofs.LeastFault.{mapped_push}
-use Rattle.access_schema.proofs.FirstFault.{taken_on}
 use Rattle.access_schema.proofs.Texts.{differ_push}
 
 -- what holds of no part, and goes on from part to part, holds of all
@@ -17,7 +17,7 @@ module _ {X : Type 0} (P : List X → Type 0) (xs : List X) (none : P []) (more 
   upto (suc k) le =
       let (x, at) = got_below xs k (omega arith) in
       let e : suc k ≡ k + 1 = omega arith in
-      subst P (sym (ap (λ n. take n xs) e ∙ taken_on xs k x at)) (more k x at (upto k (omega arith)))
+      subst P (sym (ap (λ n. take n xs) e ∙ take_got xs k x at)) (more k x at (upto k (omega arith)))
 
   pub prefix_all : P xs
   prefix_all = subst P (take-length xs) (upto (length xs) (omega arith))

@@ -8,16 +8,14 @@ use Rattle.std.specs.Cmp.Lexicographic.{pointwise, slice_cmp, nat_list_eq_equiv}
 use Rattle.std.proofs.lemmas.Bool.{cases_Bool}
 use Rattle.std.proofs.lemmas.List.Folds.{list_any-append}
 use Rattle.std.proofs.lemmas.Map.Text.{is_eq-slice_cmp}
+use Rattle.lists.proofs.Booleans.{or_false, both_false}
+use Rattle.lists.proofs.Places.{got_contained}
 use Rattle.access_schema.specs.Lists.{is_among, repeats}
-use Rattle.access_schema.proofs.Texts.{neither, among_contains, differ_from_repeats, got_contained}
+use Rattle.access_schema.proofs.Texts.{among_contains, differ_from_repeats}
 
 swapped : (a b c : Bool) → (a || (b || c)) ≡ ((a || b) || c)
 swapped true b c = refl
 swapped false b c = refl
-
-or_none : (a : Bool) → (a || false) ≡ a
-or_none true = refl
-or_none false = refl
 
 turned : (a b : Bool) → (a || b) ≡ (b || a)
 turned true true = refl
@@ -35,7 +33,7 @@ is_new fresh false is told = refl
 
 -- the keys with a new one at its place
 any_insert : {K : Type 0} (cmp : K → K → Ordering) (p : K → Bool) (keys : List K) (key : K) → list_any (is_at (cmp key)) keys ≡ false → list_any p (insert_key cmp keys key) ≡ (list_any p keys || p key)
-any_insert cmp p [] key free = or_none (p key)
+any_insert cmp p [] key free = or_false (p key)
 any_insert cmp p (first ∷ keys) key free = at (cmp key first) refl (λ rest. any_insert cmp p keys key rest) where
   at : (order : Ordering) → cmp key first ≡ order → (list_any (is_at (cmp key)) keys ≡ false → list_any p (insert_key cmp keys key) ≡ (list_any p keys || p key)) → list_any p (insert_key cmp (first ∷ keys) key) ≡ (list_any p (first ∷ keys) || p key)
   at Less is later = rw is (turned (p key) (list_any p (first ∷ keys)))
@@ -44,14 +42,14 @@ any_insert cmp p (first ∷ keys) key free = at (cmp key first) refl (λ rest. a
       rw is (ap (λ (b : Bool). p first || b) (later rest) ∙ swapped (p first) (list_any p keys) (p key))
 
 among_push : (texts : List (List ℕ)) (text other : List ℕ) → is_among (texts ++ text ∷ []) other ≡ (is_among texts other || pointwise nat_eq text other)
-among_push texts text other = list_any-append (λ each. pointwise nat_eq each other) texts (text ∷ []) ∙ ap (λ (b : Bool). is_among texts other || b) (or_none (pointwise nat_eq text other))
+among_push texts text other = list_any-append (λ each. pointwise nat_eq each other) texts (text ∷ []) ∙ ap (λ (b : Bool). is_among texts other || b) (or_false (pointwise nat_eq text other))
 
 -- a list without repetition and a new text behind it
 pub once_push : (texts : List (List ℕ)) (text : List ℕ) → repeats texts ≡ false → is_among texts text ≡ false → repeats (texts ++ text ∷ []) ≡ false
 once_push [] text once new = refl
 once_push (first ∷ texts) text once new =
-    let (free, rest) = neither (is_among texts first) (repeats texts) once in
-    let (apart, other) = neither (pointwise nat_eq first text) (is_among texts text) new in
+    let (free, rest) = both_false (is_among texts first) (repeats texts) once in
+    let (apart, other) = both_false (pointwise nat_eq first text) (is_among texts text) new in
     let turn : pointwise nat_eq text first ≡ false = nat_list_eq_equiv.symm text first ∙ apart in
     let unlike : is_among (texts ++ text ∷ []) first ≡ false = among_push texts text first ∙ (rw (free, turn) refl) in
     rw unlike (once_push texts text rest other)

@@ -5,26 +5,17 @@ use Rattle.std.specs.List.{list_any, position_or_len, find}
 use Rattle.std.specs.Cmp.Lexicographic.{pointwise, bytes_decides, nat_list_eq_equiv}
 use Rattle.std.specs.List.{IsDistinct, AllByRecursion}
 use Rattle.std.proofs.lemmas.Bool.{cases_Bool}
-use Rattle.std.proofs.lemmas.Option.{slice_get_read}
 use Rattle.std.proofs.lemmas.Map.Made.{length-le_from_is_member}
 use Rattle.std.proofs.lemmas.List.Elements.{Contains-push, Contains-push_cases, Contains-append_left}
 use Rattle.access_schema.specs.Names.{AllDiffer}
 use Rattle.access_schema.specs.Lists.{is_among, repeats, once_after}
 use Rattle.lists.proofs.Members.{contains_here, contains_there, contains_cases, contains_got}
-
-pub text_is : (a b : List ℕ) → pointwise nat_eq a b ≡ true → a ≡ b
-text_is a b same = (bytes_decides a b).0 same
+use Rattle.lists.proofs.Booleans.{both_false, one_true}
+use Rattle.lists.proofs.Orders.{text_is}
+use Rattle.lists.proofs.Places.{got_contained}
 
 pub text_same : (a : List ℕ) → pointwise nat_eq a a ≡ true
 text_same a = (bytes_decides a a).1 refl
-
-pub either : (a b : Bool) → (a || b) ≡ true → (a ≡ true) ⊎ (b ≡ true)
-either true b is = inl refl
-either false b is = inr is
-
-pub neither : (a b : Bool) → (a || b) ≡ false → (a ≡ false) × (b ≡ false)
-neither true b is = absurd (cc)
-neither false b is = (refl, is)
 
 module _ {X : Type 0} (p : X → Bool) where
   pub any_found : (xs : List X) → list_any p xs ≡ true → (x : X) × Contains xs x × (p x ≡ true)
@@ -32,7 +23,7 @@ module _ {X : Type 0} (p : X → Bool) where
   any_found (x ∷ xs) any = ⊎_elim
       (λ here. (x, contains_here x xs, here))
       (λ later. let (y, among, holds) = any_found xs later in (y, contains_there x xs y among, holds))
-      (either (p x) (list_any p xs) any)
+      (one_true (p x) (list_any p xs) any)
 
   pub any_at : (xs : List X) (x : X) → Contains xs x → p x ≡ true → list_any p xs ≡ true
   any_at [] x among holds = absurd (omega arith)
@@ -85,15 +76,15 @@ pub differ_from_repeats : (texts : List (List ℕ)) → repeats texts ≡ false 
 differ_from_repeats [] none i j member at_i at_j = absurd (cc)
 differ_from_repeats (text ∷ texts) none zero zero member at_i at_j = refl
 differ_from_repeats (text ∷ texts) none zero (suc j) member at_i at_j =
-    let (free, rest) = neither _ _ none in
+    let (free, rest) = both_false _ _ none in
     let same : text ≡ member = cc in
     absurd (not_among texts text free (subst (Contains texts) (sym same) (contains_got texts j member at_j)))
 differ_from_repeats (text ∷ texts) none (suc i) zero member at_i at_j =
-    let (free, rest) = neither _ _ none in
+    let (free, rest) = both_false _ _ none in
     let same : text ≡ member = cc in
     absurd (not_among texts text free (subst (Contains texts) (sym same) (contains_got texts i member at_i)))
 differ_from_repeats (text ∷ texts) none (suc i) (suc j) member at_i at_j =
-    let (free, rest) = neither _ _ none in
+    let (free, rest) = both_false _ _ none in
     let same = differ_from_repeats texts rest i j member at_i at_j in omega arith
 
 got_push_cases : {X : Type 0} (xs : List X) (x member : X) (i : ℕ) → slice_get (xs ++ x ∷ []) i ≡ Some member → (slice_get xs i ≡ Some member) ⊎ ((i ≡ length xs) × (x ≡ member))
@@ -124,9 +115,6 @@ once_differ known (text ∷ texts) differ = ⊎_elim
     (cases_Bool (is_among known text))
 
 -- a text is kept from the known ones, and taken from the others
-pub got_contained : {X : Type 0} (xs : List X) (x : X) (there : Contains xs x) → slice_get xs there.0 ≡ Some x
-got_contained xs x (k, lt, is) = slice_get_read xs (length xs) k x refl lt (sym is)
-
 pub once_known : (known texts : List (List ℕ)) (text : List ℕ) → Contains known text → Contains (once_after known texts) text
 once_known known [] text there = there
 once_known known (other ∷ texts) text there = ⊎_elim
@@ -160,13 +148,13 @@ once_from known (other ∷ texts) text there = ⊎_elim
     (once_from (known ++ other ∷ []) texts text (rw new at there)))
     (cases_Bool (is_among known other))
 
-not_first : {X : Type 0} (x : X) (xs : List X) → AllDiffer (x ∷ xs) → Contains xs x → ⊥
-not_first x xs differ there = let at = got_contained xs x there in let e = differ 0 (suc there.0) x refl at in omega arith
+pub first_apart : {X : Type 0} (x : X) (xs : List X) → AllDiffer (x ∷ xs) → Contains xs x → ⊥
+first_apart x xs differ there = let at = got_contained xs x there in let e = differ 0 (suc there.0) x refl at in omega arith
 
 distinct_from_differ : (texts : List (List ℕ)) → AllDiffer texts → IsDistinct (pointwise nat_eq) texts
 unfolding IsDistinct
 distinct_from_differ [] differ = tt
-distinct_from_differ (text ∷ texts) differ = (apart texts (λ other there same. not_first text texts differ (subst (Contains texts) (sym same) there)), distinct_from_differ texts (λ i j member at_i at_j. let e = differ (suc i) (suc j) member at_i at_j in omega arith)) where
+distinct_from_differ (text ∷ texts) differ = (apart texts (λ other there same. first_apart text texts differ (subst (Contains texts) (sym same) there)), distinct_from_differ texts (λ i j member at_i at_j. let e = differ (suc i) (suc j) member at_i at_j in omega arith)) where
   apart : (others : List (List ℕ)) → ((other : List ℕ) → Contains others other → text ≡ other → ⊥) → AllByRecursion (λ other. pointwise nat_eq text other ≡ false) others
   apart [] free = tt
   apart (other ∷ others) free = (⊎_elim (λ same. absurd (free other (contains_here other others) (text_is text other same))) (λ differs. differs) (cases_Bool (pointwise nat_eq text other)), apart others (λ o there. free o (contains_there other others o there)))
@@ -176,3 +164,6 @@ pub length_le : (texts others : List (List ℕ)) → AllDiffer texts → ((text 
 length_le texts others differ within = length-le_from_is_member nat_list_eq_equiv texts others (distinct_from_differ texts differ)
     (λ text among. let (member, there, same) = any_found (pointwise nat_eq text) texts among in
     any_at (pointwise nat_eq text) others text (subst (Contains others) (sym (text_is text member same)) (within member there)) (text_same text))
+
+pub none_among : (texts : List (List ℕ)) (text : List ℕ) → (Contains texts text → ⊥) → is_among texts text ≡ false
+none_among texts text none = ⊎_elim (λ (yes : is_among texts text ≡ true). absurd (none (among_contains texts text yes))) (λ no. no) (cases_Bool (is_among texts text))

@@ -2,6 +2,7 @@
 use Rattle.std.proofs.Common.{◌≡◌, ℕ, zero, suc, ◌+◌, List, [], length, take, replicate, refl, sym, ap, ◌∙◌, subst, ⊎_elim, arith}
 use Rattle.std.specs.Prelude.{Contains, Some, None, Option, slice_get}
 use Rattle.std.proofs.lemmas.List.Elements.{Contains-push_cases}
+use Rattle.lists.proofs.Places.{take_got}
 use Rattle.meaning.specs.declared.types.Query.{Query}
 use Rattle.meaning.specs.declared.types.Ground.{Ground}
 use Rattle.meaning.specs.declared.types.Val.{Val}
@@ -12,7 +13,6 @@ use Rattle.homomorphism.specs.Bindings.{Agrees, at}
 use Rattle.homomorphism.specs.Narrowing.{Narrows, Differs}
 use Rattle.homomorphism.specs.Matches.{IsMatch, NoMatch}
 use Rattle.accessible_copy.specs.Goals.{IsHeadMatch}
-use Rattle.accessible_copy.proofs.Listed.{take_got}
 
 none_given : (n x : ℕ) (v : Val) → slice_get {X = Option Val} (replicate n None) x ≡ Some (Some v) → ⊥
 none_given zero x v e = cc

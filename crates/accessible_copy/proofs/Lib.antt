@@ -16,3 +16,4 @@ pub mod BaseStaysMet
 pub mod Labelled
 pub mod Pushing
 pub mod Rounding
+pub mod Shown

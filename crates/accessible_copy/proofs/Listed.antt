@@ -1,8 +1,8 @@
 -- Lists of active exposures, exposure by exposure.
-use Rattle.std.proofs.Common.{◌≡◌, ◌↔◌, ℕ, zero, suc, ◌+◌, ◌<◌, List, [], ◌∷◌, ◌++◌, length, map, take, slice_index_or, IsTrue, refl, sym, ap, ◌∙◌, subst, inl, inr, ⊎_elim, arith}
+use Rattle.std.proofs.Common.{◌≡◌, ◌↔◌, ℕ, zero, suc, ◌+◌, ◌<◌, List, [], ◌∷◌, ◌++◌, length, map, take, IsTrue, refl, sym, ◌∙◌, subst, inl, inr, ⊎_elim, arith}
 use Rattle.std.specs.Prelude.{Contains, Some, slice_index, slice_get, flat_map, Decides, Bool, true, false, if◌then◌else◌}
 use Rattle.std.proofs.lemmas.List.Elements.{Contains-append_left, Contains-append_right, Contains-append_cases, Contains-push, Contains-push_cases}
-use Rattle.lists.proofs.Members.{contains_here, contains_there, contains_cases, contains_map, contains_mapped, some_injective}
+use Rattle.lists.proofs.Members.{contains_here, contains_there, contains_cases, contains_map, contains_mapped, some_injective, contains_none}
 use Rattle.meaning.specs.declared.types.SchemaParts.{SchemaParts}
 use Rattle.meaning.specs.declared.types.Method.{Method}
 use Rattle.meaning.specs.declared.types.Ground.{Ground}
@@ -16,9 +16,9 @@ use Rattle.std.specs.List.{list_any}
 use Rattle.meaning.specs.Triggers.{ground, assigned}
 use Rattle.meaning.specs.Search.{AreDistinct}
 use Rattle.meaning.specs.Runs.{Proof, Fires, part_of, IsKnownValue}
-use Rattle.std.proofs.lemmas.Option.{slice_get-get_or}
 use Rattle.std.proofs.lemmas.List.{take_more}
-use Rattle.homomorphism.proofs.Members.{distinct_append, distinct_push, distinct_take, contains_none}
+use Rattle.lists.proofs.Places.{take_got, got_indexed}
+use Rattle.homomorphism.proofs.Members.{distinct_append, distinct_push, distinct_take}
 use Rattle.accessible_copy.specs.declared.entry.Entry.{Entry}
 use Rattle.accessible_copy.specs.Known.{known_values}
 use Rattle.accessible_copy.specs.Proving.{Proving, IsWritten, IsProofOf}
@@ -100,11 +100,6 @@ module _ (schema : SchemaParts) (proof : Proving) (fact : Ground) where
 distinct_last : {X : Type 0} (xs : List X) (x : X) → AreDistinct (xs ++ x ∷ []) → Contains xs x → ⊥
 distinct_last [] x are c = contains_none x c
 distinct_last (y ∷ xs) x (new, are) c = ⊎_elim (λ same. new (subst (Contains (xs ++ x ∷ [])) (sym same) (Contains-push xs x))) (λ h. distinct_last xs x are h) (contains_cases y xs x c)
-
-pub take_got : {X : Type 0} (xs : List X) (n : ℕ) (x : X) → slice_get xs n ≡ Some x → take (n + 1) xs ≡ take n xs ++ x ∷ []
-take_got [] n x e = absurd (cc)
-take_got (y ∷ xs) zero x e = ap (λ z. z ∷ []) (some_injective y x e)
-take_got (y ∷ xs) (suc n) x e = let s : suc n + 1 ≡ suc (n + 1) = omega arith in rw s (ap (λ z. y ∷ z) (take_got xs n x e))
 
 -- one of distinct members does not stand before itself
 pub not_before : (xs : List ℕ) (k x : ℕ) → AreDistinct xs → slice_get xs k ≡ Some x → Contains (take k xs) x → ⊥
@@ -197,9 +192,6 @@ at_got (x ∷ xs) (suc n) l = at_got xs n (omega arith)
 pub inputs_more : (values vals : List Val) (inputs : List ℕ) (n : ℕ) → n < length inputs → AreInputs values (take n inputs) vals → IsInput values vals (slice_index inputs n) → AreInputs values (take (n + 1) inputs) vals
 inputs_more values vals inputs n l before is q among =
     ⊎_elim (λ h. before q h) (λ same. subst (IsInput values vals) same is) (Contains-push_cases (take n inputs) (slice_index inputs n) q (subst (λ z. Contains z q) (take_more inputs n 0 l) among))
-
-pub got_here : {X : Type 0} (xs : List X) (n : ℕ) (x : X) → n < length xs → x ≡ slice_index_or xs n x → slice_get xs n ≡ Some x
-got_here xs n x l e = slice_get-get_or xs n x l ∙ ap (λ z. Some z) (sym e)
 
 -- the index has each method by which the fact can be exposed
 pub fire_listed : (schema : SchemaParts) (index : List (List ℕ)) (proof : Proving) (number : ℕ) (fact : Ground) → IsMethodIndex schema.methods index → CanFire schema proof number fact → Contains (methods_of index fact.rel) number

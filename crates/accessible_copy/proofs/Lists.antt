@@ -1,10 +1,11 @@
 -- Fronts of lists.
 use Rattle.std.proofs.Common.{◌≡◌, ℕ, zero, suc, List, [], ◌∷◌, ◌++◌, length, map, take, refl, sym, ap, subst, inl, inr, ⊎_elim, ◌∙◌, append_assoc, arith}
-use Rattle.std.specs.Prelude.{◌⊎◌, flat_map, Some, None, slice_get, ◌≤◌, Contains}
+use Rattle.std.specs.Prelude.{◌⊎◌, flat_map, Some, slice_get, Contains}
 use Rattle.std.proofs.lemmas.Bool.{cases_lt}
 use Rattle.std.proofs.lemmas.Option.{slice_get_within}
 use Rattle.std.proofs.lemmas.List.{append-nil, map-append, length_push}
 use Rattle.lists.proofs.Members.{got_push, got_before, some_injective}
+use Rattle.lists.proofs.Places.{got_none}
 use Rattle.meaning.specs.Added.{with_facts}
 use Rattle.meaning_laws.proofs.Added.{with_new}
 use Rattle.meaning.specs.declared.types.Val.{Val}
@@ -50,11 +51,6 @@ pub facts_cut : (shown : List Exposed) (count : ℕ) → take count (facts_of sh
 facts_cut shown zero = refl
 facts_cut [] (suc count) = refl
 facts_cut (one ∷ shown) (suc count) = ap (λ z. one.fact ∷ z) (facts_cut shown count)
-
-pub none_beyond : {X : Type 0} (xs : List X) (n : ℕ) → slice_get xs n ≡ None → length xs ≤ n
-none_beyond [] n e = omega arith
-none_beyond (x ∷ xs) zero e = absurd (cc)
-none_beyond (x ∷ xs) (suc n) e = let l = none_beyond xs n e in omega arith
 
 -- one member more, by its place
 pub got_cases : {X : Type 0} (xs : List X) (x : X) (k : ℕ) (y : X) → slice_get (xs ++ x ∷ []) k ≡ Some y → (slice_get xs k ≡ Some y) ⊎ ((k ≡ length xs) × (x ≡ y))

@@ -5,8 +5,8 @@ use Rattle.std.proofs.lemmas.Bool.{cases_eq, cases_lt}
 use Rattle.std.proofs.lemmas.Option.{slice_get_within}
 use Rattle.std.proofs.lemmas.List.{length_push}
 use Rattle.std.proofs.lemmas.List.Elements.{Contains-append_left, Contains-push, Contains-push_cases}
-use Rattle.lists.proofs.Members.{got_push, got_before, some_injective}
-use Rattle.homomorphism.proofs.Members.{contains_none, distinct_push}
+use Rattle.lists.proofs.Members.{got_push, got_before, some_injective, contains_none}
+use Rattle.homomorphism.proofs.Members.{distinct_push}
 use Rattle.meaning.specs.declared.types.Method.{Method}
 use Rattle.meaning.specs.Search.{AreDistinct}
 use Rattle.accessible_copy.specs.Methods.{methods_of, IsMethodIndex}

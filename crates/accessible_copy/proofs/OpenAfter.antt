@@ -2,8 +2,9 @@
 use Rattle.std.proofs.Common.{◌≡◌, ℕ, zero, suc, ◌+◌, ◌<◌, ◌≤◌, List, [], ◌∷◌, ◌++◌, length, take, drop, Some, None, refl, sym, ap, ◌∙◌, subst, ⊎_elim, arith}
 use Rattle.std.specs.Prelude.{◌⊎◌, Contains, slice_get, Option, IfSome}
 use Rattle.std.proofs.lemmas.Option.{slice_get_within}
-use Rattle.std.proofs.lemmas.List.{take_all, take-take, take-append-le, drop-append-le, length-take-le, length_push, length-append, map-append}
+use Rattle.std.proofs.lemmas.List.{take_all, take-take, take-append-le, drop-append-le, length-take-le, length_push, length-append}
 use Rattle.std.proofs.lemmas.List.Elements.{Contains-append_left, Contains-append_right}
+use Rattle.lists.proofs.Places.{got_none}
 use Rattle.meaning.specs.declared.types.Ground.{Ground}
 use Rattle.accessible_copy.specs.declared.entry.Exposed.{Exposed}
 use Rattle.accessible_copy.specs.declared.open_facts.Reached.{Reached}
@@ -13,7 +14,8 @@ use Rattle.accessible_copy.specs.Proving.{Proving}
 use Rattle.accessible_copy.specs.Exposing.{with_exposure}
 use Rattle.accessible_copy.specs.Ways.{IsWayIndex}
 use Rattle.accessible_copy.specs.OpenFacts.{AreHolders, IsOpen, HasOpen, AreOpenFacts}
-use Rattle.accessible_copy.proofs.Lists.{take_front, got_cases, known_push, none_beyond}
+use Rattle.accessible_copy.proofs.Lists.{take_front, got_cases, known_push}
+use Rattle.accessible_copy.proofs.ExposureEntries.{facts_push}
 
 -- entries of lists
 got_front : {X : Type 0} (n : ℕ) (xs : List X) (k : ℕ) (x : X) → slice_get (take n xs) k ≡ Some x → (k < n) × (slice_get xs k ≡ Some x)
@@ -21,9 +23,6 @@ got_front zero xs k x e = absurd (cc)
 got_front (suc n) [] k x e = absurd (cc)
 got_front (suc n) (y ∷ xs) zero x e = (omega arith, e)
 got_front (suc n) (y ∷ xs) (suc k) x e = let (low, got) = got_front n xs k x e in (omega arith, got)
-
-facts_push : (exposed : List Exposed) (one : Exposed) → facts_of (exposed ++ one ∷ []) ≡ facts_of exposed ++ one.fact ∷ []
-facts_push exposed one = map-append (λ (x : Exposed). x.fact) exposed (one ∷ [])
 
 -- nothing is exposed yet
 pub kept_from_none : (facts : List Ground) (constants : List (List ℕ)) (exposed : List Exposed) (kept : OpenFacts) → exposed ≡ [] → kept.before.items ≡ [] → kept.passed ≡ 0
@@ -113,7 +112,7 @@ module _ (facts : List Ground) (constants : List (List ℕ)) (exposed : List Exp
 module _ (facts : List Ground) (constants : List (List ℕ)) (exposed : List Exposed) (old new : OpenFacts) (count : ℕ) (is : AreOpenFacts facts constants exposed old) where
   pub kept_whole : slice_get old.before.items count ≡ None → AreOpenFacts facts constants (take count exposed) old
   kept_whole none =
-      let beyond = none_beyond old.before.items count none in
+      let beyond = got_none old.before.items count none in
       let same = is.count in
       subst (λ l. AreOpenFacts facts constants l old) (sym (take_all count exposed (omega arith))) is
 

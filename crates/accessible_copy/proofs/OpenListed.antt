@@ -3,8 +3,9 @@ use Rattle.std.proofs.Common.{◌≡◌, ℕ, zero, suc, ◌<◌, List, [], ◌�
 use Rattle.std.specs.Prelude.{Contains, slice_get, slice_index_or}
 use Rattle.std.specs.List.{AllPairs}
 use Rattle.std.proofs.lemmas.List.Elements.{Contains-append_left, Contains-push, Contains-push_cases}
-use Rattle.lists.proofs.Members.{contains_cases, contains_got, some_injective}
-use Rattle.homomorphism.proofs.Members.{contains_none, distinct_push}
+use Rattle.lists.proofs.Members.{contains_got, some_injective, contains_none}
+use Rattle.lists.proofs.Places.{got_member}
+use Rattle.homomorphism.proofs.Members.{distinct_push}
 use Rattle.meaning.specs.declared.types.SchemaParts.{SchemaParts}
 use Rattle.meaning.specs.declared.types.Ground.{Ground}
 use Rattle.meaning.specs.declared.types.Firing.{Firing}
@@ -14,10 +15,6 @@ use Rattle.accessible_copy.specs.Listing.{CanFire, AreExposures, AreExposuresOf}
 use Rattle.accessible_copy.proofs.Listed.{from_none, from_more}
 
 -- places of members
-pub place_of : {X : Type 0} (xs : List X) (x : X) → Contains xs x → (n : ℕ) × (slice_get xs n ≡ Some x)
-place_of [] x c = absurd (contains_none x c)
-place_of (y ∷ xs) x c = ⊎_elim (λ same. (0, ap (λ z. Some z) same)) (λ h. let (n, got) = place_of xs x h in (suc n, got)) (contains_cases y xs x c)
-
 -- distinct members have one place each
 one_place : {X : Type 0} (xs : List X) (a b : ℕ) (x : X) → AreDistinct xs → slice_get xs a ≡ Some x → slice_get xs b ≡ Some x → a ≡ b
 one_place [] a b x are at there = absurd (cc)
@@ -85,6 +82,6 @@ module _ (schema : SchemaParts) (proof : Proving) where
     each = λ firing c.
         let (number, fact, e, among, can) = is.are.each firing c in
         let (n, listed, got) = is.numbered fact among in (number, fact, e, contains_got proof.end.base n fact got, can);
-    all = λ number fact c can. let (n, got) = place_of proof.end.base fact c in is.are.all number fact (is.listed n fact (all n number fact got can) got) can;
+    all = λ number fact c can. let (n, got) = got_member proof.end.base fact c in is.are.all number fact (is.listed n fact (all n number fact got can) got) can;
     once = is.are.once;
   }

@@ -1,9 +1,8 @@
 -- The ways of methods, and inputs that become known.
-use Rattle.std.proofs.Common.{◌≡◌, ℕ, List, [], ◌∷◌, ◌++◌, take, drop, Some, None, Bool, IsTrue, ◌↔◌, sym, ap, ◌∙◌, subst, inl, inr, ⊎_elim}
+use Rattle.std.proofs.Common.{◌≡◌, ℕ, List, [], ◌∷◌, ◌++◌, Some, None, Bool, IsTrue, ◌↔◌, sym, ap, ◌∙◌, subst, inl, inr, ⊎_elim}
 use Rattle.std.specs.Prelude.{◌⊎◌, Contains, slice_get}
-use Rattle.std.proofs.lemmas.List.{take-append-drop}
-use Rattle.std.proofs.lemmas.List.Elements.{Contains-append_left, Contains-push_cases}
-use Rattle.lists.proofs.Members.{contains_here, contains_there, contains_cases, contains_got, some_injective, got_mapped, map_got}
+use Rattle.std.proofs.lemmas.List.Elements.{Contains-push_cases}
+use Rattle.lists.proofs.Members.{contains_here, contains_there, contains_cases, contains_got, some_injective, got_mapped, map_got, contains_take}
 use Rattle.meaning.specs.declared.types.SchemaParts.{SchemaParts}
 use Rattle.meaning.specs.declared.types.Method.{Method}
 use Rattle.meaning.specs.declared.types.Ground.{Ground}
@@ -74,9 +73,6 @@ pub open_split : (ways : List Way) (facts : List Ground) (values : List Val) (va
     → IsOpen ways facts values exposed n ⊎ ((fact : Ground) × (slice_get facts n ≡ Some fact) × Contains fact.vals val)
 open_split ways facts values val exposed n (fact, got, new, (number, way, at, rel, are)) =
     ⊎_elim (λ old. inl (fact, got, new, (number, way, at, rel, old))) (λ holds. inr (fact, got, holds)) (inputs_split values val way.inputs fact.vals are)
-
-pub of_front : {X : Type 0} (n : ℕ) (xs : List X) (x : X) → Contains (take n xs) x → Contains xs x
-of_front n xs x c = subst (λ l. Contains l x) (take-append-drop n xs) (Contains-append_left (take n xs) (drop n xs) x c)
 
 -- one value more that was there already
 pub open_same : (ways : List Way) (facts : List Ground) (values : List Val) (val : Val) (exposed : List Ground) (n : ℕ) → Contains values val → IsOpen ways facts (values ++ val ∷ []) exposed n → IsOpen ways facts values exposed n

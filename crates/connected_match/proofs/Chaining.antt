@@ -1,11 +1,11 @@
 -- Links, from the last atom to the first.
-use Rattle.std.proofs.Common.{◌≡◌, ◌⊎◌, ℕ, zero, suc, ◌+◌, ◌<◌, ◌≤◌, List, [], ◌∷◌, ◌++◌, Bool, true, false, length, refl, sym, ap, ◌∙◌, subst, inl, inr, ⊎_elim, arith, append_assoc, append-nil, reverse}
+use Rattle.std.proofs.Common.{◌≡◌, ◌⊎◌, ℕ, zero, suc, ◌+◌, ◌<◌, ◌≤◌, List, [], ◌∷◌, ◌++◌, true, length, refl, sym, ap, ◌∙◌, subst, inl, inr, ⊎_elim, arith, append_assoc, append-nil, reverse}
 use Rattle.std.specs.Prelude.{Contains, Option, Some, None, slice_get, nat_lt, filter}
-use Rattle.std.proofs.lemmas.Bool.{cases_lt, cases_Bool, lt-ltb, ltb-true, and_parts, and_from}
+use Rattle.std.proofs.lemmas.Bool.{cases_lt, lt-ltb, ltb-true, and_parts, and_from}
 use Rattle.std.proofs.lemmas.List.{length-append, reverse-append}
 use Rattle.std.proofs.lemmas.Option.{get_or_from_slice_get}
 use Rattle.std.proofs.lemmas.List.Elements.{Contains-append_left, Contains-append_cases, Contains-push}
-use Rattle.lists.proofs.Members.{contains_here, contains_there, contains_cases, contains_got, got_push, got_before, some_injective}
+use Rattle.lists.proofs.Members.{contains_here, contains_cases, contains_got, got_push, got_before, some_injective, contains_none, filter_from, contains_filter}
 use Rattle.meaning.specs.declared.types.Term.{Term}
 use Rattle.meaning.specs.declared.types.Term.TheVariants.{Var}
 use Rattle.meaning.specs.declared.types.Atom.{Atom}
@@ -14,25 +14,10 @@ use Rattle.meaning.specs.Matching.{OccursIn}
 use Rattle.meaning.specs.Triggers.{bound, terms_bound}
 use Rattle.meaning_laws.proofs.Carrying.{occurs_below}
 use Rattle.homomorphism.specs.Bindings.{IsBound}
-use Rattle.homomorphism.proofs.Members.{contains_none, to_filter}
 use Rattle.connected_match.specs.declared.chain.Link.{Link}
 use Rattle.connected_match.specs.Chains.{given_at, first_of, is_none, comes_before, row_before, AreFirsts, IsLink, IsCarried, IsChain}
 use Rattle.connected_match.proofs.Naming.{Naming, naming}
 use Rattle.connected_match.proofs.Bounds.{member_bound}
-
--- ---- filters
-
-kept_is : {X : Type 0} (test : X → Bool) (xs : List X) (x : X) → Contains (filter test xs) x → Contains xs x × (test x ≡ true)
-kept_is test [] x among = absurd (omega (arith, among.1))
-kept_is test (y ∷ xs) x among = ⊎_elim
-    (λ (kept : test y ≡ true).
-    let all : Contains (y ∷ filter test xs) x = rw kept at among in
-    ⊎_elim (λ same. (subst (Contains (y ∷ xs)) same (contains_here y xs), subst (λ z. test z ≡ true) same kept))
-    (λ there. let (inside, passes) = kept_is test xs x there in (contains_there y xs x inside, passes)) (contains_cases y (filter test xs) x all))
-    (λ (left : test y ≡ false).
-    let all : Contains (filter test xs) x = rw left at among in
-    let (inside, passes) = kept_is test xs x all in (contains_there y xs x inside, passes))
-    (cases_Bool (test y))
 
 -- ---- given values
 
@@ -64,19 +49,19 @@ module _ (given : List (Option Val)) (firsts : List ℕ) (place : ℕ) (next : L
   in_row : (x : ℕ) → Contains (row_before firsts place given next terms) x →
       (first_of firsts x < place) × (Contains next x ⊎ ((IsBound given x → ⊥) × Contains terms (Var x)))
   in_row x among = ⊎_elim
-      (λ i. let (inside, passes) = kept_is (λ y. nat_lt (first_of firsts y) place) next x i in (ltb-true (first_of firsts x) place passes, inl inside))
-      (λ i. let (inside, passes) = kept_is (comes_before firsts place given) terms (Var x) (before.from x i) in
+      (λ i. let (inside, passes) = filter_from (λ y. nat_lt (first_of firsts y) place) next x i in (ltb-true (first_of firsts x) place passes, inl inside))
+      (λ i. let (inside, passes) = filter_from (comes_before firsts place given) terms (Var x) (before.from x i) in
       let (low, none) = and_parts (nat_lt (first_of firsts x) place) (is_none (given_at given x)) passes in
       (ltb-true (first_of firsts x) place low, inr (none_given given x none, inside)))
       (Contains-append_cases earlier before.more x (subst (λ l. Contains l x) before.is among))
 
   row_next : (x : ℕ) → Contains next x → first_of firsts x < place → Contains (row_before firsts place given next terms) x
   row_next x among low = subst (λ l. Contains l x) (sym before.is)
-      (Contains-append_left earlier before.more x (to_filter (λ y. nat_lt (first_of firsts y) place) next x among (lt-ltb (first_of firsts x) place low)))
+      (Contains-append_left earlier before.more x (contains_filter (λ y. nat_lt (first_of firsts y) place) next x among (lt-ltb (first_of firsts x) place low)))
 
   row_own : (x : ℕ) → Contains terms (Var x) → first_of firsts x < place → is_none (given_at given x) ≡ true → Contains (row_before firsts place given next terms) x
   row_own x among low none = before.own x
-      (to_filter (comes_before firsts place given) terms (Var x) among (and_from (nat_lt (first_of firsts x) place) (is_none (given_at given x)) (lt-ltb (first_of firsts x) place low) none))
+      (contains_filter (comes_before firsts place given) terms (Var x) among (and_from (nat_lt (first_of firsts x) place) (is_none (given_at given x)) (lt-ltb (first_of firsts x) place low) none))
 
 -- ---- from the last atom to the first
 

@@ -6,13 +6,13 @@ use Rattle.std.proofs.lemmas.Option.{slice_get_within}
 use Rattle.std.proofs.lemmas.List.{get_or-set_same, get_or-set_other, length-set, length-append, length-replicate, length-take-le, take_more, get_or-replicate}
 use Rattle.std.proofs.lemmas.List.Elements.{Contains-append_left, Contains-push, Contains-push_cases}
 use Rattle.lists.proofs.Members.{got_push, got_before, some_injective}
+use Rattle.lists.proofs.Places.{got_indexed}
 use Rattle.meaning.specs.declared.types.Term.{Term}
 use Rattle.meaning.specs.declared.types.Term.TheVariants.{Var, Const as Said}
 use Rattle.meaning.specs.declared.types.Atom.{Atom}
 use Rattle.meaning.specs.Triggers.{terms_bound}
+use Rattle.homomorphism.proofs.Binding.{var_is}
 use Rattle.connected_match.specs.Chains.{first_of, AreFirsts, AreNoted}
-use Rattle.connected_match.proofs.Places.{standing}
-use Rattle.connected_match.proofs.Naming.{same_variable}
 
 pub noted_none : (place : ℕ) (firsts : List ℕ) → AreNoted [] place firsts firsts
 noted_none place firsts = record {
@@ -48,7 +48,7 @@ module _ (terms : List Term) (y place : ℕ) (before now : List ℕ) (low : y < 
     late = λ x among. ⊎_elim
         (λ w. let e = w.1 in omega arith)
         (λ e. ⊎_elim (λ there. let late = r.late x there in omega (arith, e, late))
-        (λ same. let f = get_or-set_same now y (min (first_of now y) place) 0 low in let g = same_variable y x same in
+        (λ same. let f = get_or-set_same now y (min (first_of now y) place) 0 low in let g = var_is y x same in
         let h : first_of (slice_set now y (min (first_of now y) place)) x ≡ min (first_of now y) place = subst (λ z. first_of (slice_set now y (min (first_of now y) place)) z ≡ min (first_of now y) place) g f in omega arith)
         (Contains-push_cases terms (Var y) (Var x) among))
         (value x);
@@ -102,7 +102,7 @@ terms_low (Said c ∷ terms) (suc k) x n got few = terms_low terms k x n got few
 pub variable_below : (terms : List Term) (k : ℕ) (term : Term) (x : ℕ) (before now : List ℕ) → k < length terms → term ≡ slice_index_or terms k term → term ≡ Var x →
     terms_bound terms ≤ length before → length now ≡ length before → x < length now
 variable_below terms k term x before now low is var few same =
-    let below = terms_low terms k x (length before) (standing terms k term low is ∙ ap Some var) few in omega (arith, below, same)
+    let below = terms_low terms k x (length before) (got_indexed terms k term low is ∙ ap Some var) few in omega (arith, below, same)
 
 pub firsts_next : (atoms : List Atom) (k : ℕ) (atom : Atom) (terms : List Term) (end width : ℕ) (before after : List ℕ) → k < length atoms → atom ≡ slice_index_or atoms k atom → terms ≡ atom.terms →
     AreFirsts (take k atoms) end width before → AreNoted terms k before after → AreFirsts (take (k + 1) atoms) end width after

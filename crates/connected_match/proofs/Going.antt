@@ -5,7 +5,8 @@ use Rattle.std.proofs.lemmas.Bool.{cases_lt, lt-ltb, le-ltb}
 use Rattle.std.proofs.lemmas.List.{length-append, length-map}
 use Rattle.std.proofs.lemmas.Option.{get_or_from_slice_get}
 use Rattle.std.proofs.lemmas.List.Elements.{Contains-append_left, Contains-append_cases}
-use Rattle.lists.proofs.Members.{contains_here, contains_there, contains_cases, contains_got, got_before, got_below, got_mapped, map_got, map_same, contains_mapped, some_injective}
+use Rattle.lists.proofs.Members.{contains_here, contains_there, contains_cases, contains_got, got_before, got_below, got_mapped, map_got, map_same, contains_mapped, some_injective, contains_none}
+use Rattle.lists.proofs.Places.{got_after}
 use Rattle.meaning.specs.declared.types.Term.{Term}
 use Rattle.meaning.specs.declared.types.Term.TheVariants.{Var, Const as Said}
 use Rattle.meaning.specs.declared.types.Atom.{Atom}
@@ -15,16 +16,11 @@ use Rattle.meaning.specs.declared.types.Ground.{Ground}
 use Rattle.meaning.specs.Matching.{value_of, AreFacts, OccursIn, GroundsOf}
 use Rattle.meaning.specs.Triggers.{bound, terms_bound}
 use Rattle.homomorphism.specs.Bindings.{Agrees, IsBound}
-use Rattle.homomorphism.proofs.Members.{contains_none}
 use Rattle.connected_match.specs.declared.chain.Link.{Link}
 use Rattle.connected_match.specs.Chains.{Completes, LinkFits, FitFrom, place_in, local_in, given_at, IsLink, IsCarried, IsChain}
 use Rattle.connected_match.proofs.Places.{among_or_not, at_place, place_low, place_before}
 
 -- ---- lists
-
-got_behind : {X : Type 0} (xs ys : List X) (j : ℕ) → slice_get (xs ++ ys) (length xs + j) ≡ slice_get ys j
-got_behind [] ys j = let e : 0 + j ≡ j = omega arith in ap (slice_get ys) e
-got_behind (x ∷ xs) ys j = let e : length (x ∷ xs) + j ≡ suc (length xs + j) = omega arith in ap (slice_get (x ∷ xs ++ ys)) e ∙ got_behind xs ys j
 
 -- the terms of a link under one assignment have the values of those of its atom under another
 values_same : (names : List ℕ) (a b : ℕ → Val) (terms : List Term) → ((x : ℕ) → Contains terms (Var x) → b (place_in names x) ≡ a x) →
@@ -78,11 +74,11 @@ module _ (given : List (Option Val)) (row : List ℕ) (atom : Atom) (next : List
         (λ past.
         let j : ℕ = place_in (row ++ is.others) x - length row in
         let e : place_in (row ++ is.others) x ≡ length row + j = omega (arith, past) in
-        let other : slice_get is.others j ≡ Some x = sym (got_behind row is.others j) ∙ ap (slice_get (row ++ is.others)) (sym e) ∙ at in
+        let other : slice_get is.others j ≡ Some x = sym (got_after row is.others j) ∙ ap (slice_get (row ++ is.others)) (sym e) ∙ at in
         let value : slice_get link.values j ≡ Some (Some v) =
         ap (λ l. slice_get l j) is.values_are ∙ map_got (given_at given) is.others j x other ∙ ap Some (get_or_from_slice_get given x (Some v) None got) in
         let f : length row + j ≡ length (map Some vals) + j = ap (λ n. n + j) (sym some_wide) in
-        agrees (place_in (row ++ is.others) x) v (ap (slice_get (map Some vals ++ link.values)) (e ∙ f) ∙ got_behind (map Some vals) link.values j ∙ value))
+        agrees (place_in (row ++ is.others) x) v (ap (slice_get (map Some vals ++ link.values)) (e ∙ f) ∙ got_after (map Some vals) link.values j ∙ value))
         (cases_lt (place_in (row ++ is.others) x) (length row))
 
     of_next : (after : List Val) (a : ℕ → Val) (x : ℕ) → after ≡ map b link.kept → HasRow a next after → Contains next x → a x ≡ b (place_in (row ++ is.others) x)
@@ -115,9 +111,9 @@ module _ (given : List (Option Val)) (row : List ℕ) (atom : Atom) (next : List
         (λ past.
         let j : ℕ = k - length row in
         let e : k ≡ length row + j = omega (arith, past) in
-        let value : slice_get link.values j ≡ Some (Some v) = sym (got_behind (map Some (map a row)) link.values j) ∙ ap (slice_get (map Some (map a row) ++ link.values)) (ap (λ n. n + j) wide ∙ sym e) ∙ got in
+        let value : slice_get link.values j ≡ Some (Some v) = sym (got_after (map Some (map a row)) link.values j) ∙ ap (slice_get (map Some (map a row) ++ link.values)) (ap (λ n. n + j) wide ∙ sym e) ∙ got in
         let (x, there, f) = got_mapped (given_at given) is.others j (Some v) (sym (ap (λ l. slice_get l j) is.values_are) ∙ value) in
-        local_at k x (ap (slice_get (row ++ is.others)) e ∙ got_behind row is.others j ∙ there) ∙ agrees x v (given_got given x v f))
+        local_at k x (ap (slice_get (row ++ is.others)) e ∙ got_after row is.others j ∙ there) ∙ agrees x v (given_got given x v f))
         (cases_lt k (length row))
       where
         wide : length (map Some (map a row)) ≡ length row

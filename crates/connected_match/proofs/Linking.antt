@@ -10,14 +10,15 @@ use Rattle.meaning.specs.declared.types.Term.TheVariants.{Var, Const as Said}
 use Rattle.meaning.specs.declared.types.Atom.{Atom}
 use Rattle.meaning.specs.declared.types.Val.{Val}
 use Rattle.meaning.specs.Triggers.{terms_bound}
+use Rattle.homomorphism.proofs.Binding.{var_is}
 use Rattle.connected_match.specs.declared.chain.Link.{Link}
 use Rattle.connected_match.specs.Chains.{place_in, local_in, with_term, given_at, AreBelow, IsLink}
-use Rattle.connected_match.proofs.Naming.{Naming, naming, same_variable, said_is_none}
+use Rattle.connected_match.proofs.Naming.{Naming, naming, said_is_none}
 
 pub term_low : (terms : List Term) (x n : ℕ) → Contains terms (Var x) → terms_bound terms ≤ n → x < n
 term_low [] x n among few = absurd (omega (arith, among.1))
 term_low (Var y ∷ terms) x n among few = ⊎_elim
-    (λ same. let e : y ≡ x = same_variable y x same in omega (arith, few, e))
+    (λ same. let e : y ≡ x = var_is y x same in omega (arith, few, e))
     (λ there. term_low terms x n there (omega (arith, few)))
     (contains_cases (Var y) terms (Var x) among)
 term_low (Said c ∷ terms) x n among few = ⊎_elim (λ same. absurd (said_is_none c x same)) (λ there. term_low terms x n there few) (contains_cases (Said c) terms (Var x) among)

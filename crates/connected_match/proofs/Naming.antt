@@ -7,6 +7,7 @@ use Rattle.std.proofs.lemmas.List.Elements.{Contains-append_left, Contains-appen
 use Rattle.lists.proofs.Members.{contains_here, contains_there, contains_cases}
 use Rattle.meaning.specs.declared.types.Term.{Term}
 use Rattle.meaning.specs.declared.types.Term.TheVariants.{Var, Const as Said}
+use Rattle.homomorphism.proofs.Binding.{var_is}
 use Rattle.connected_match.specs.Chains.{place_in, local_in, with_term}
 use Rattle.connected_match.proofs.Places.{among_or_not, place_added}
 
@@ -17,9 +18,6 @@ pub record Naming (names : List ℕ) (terms : List Term) (all : List ℕ) : Type
   pub from : (x : ℕ) → Contains more x → Contains terms (Var x)
   pub own : (x : ℕ) → Contains terms (Var x) → Contains all x
   pub numbered : (k : ℕ) → length names ≤ k → k < length names + length more → Contains (map (local_in all) terms) (Var k)
-
-pub same_variable : (x y : ℕ) → Var x ≡ Var y → x ≡ y
-same_variable x y e = cc
 
 pub said_is_none : (c : List ℕ) (x : ℕ) → Said c ≡ Var x → ⊥
 said_is_none c x e = cc
@@ -37,7 +35,7 @@ naming_added y terms names absent rest =
       is = is;
       from = λ x among. ⊎_elim (λ same. subst (λ z. Contains (Var y ∷ terms) (Var z)) same (contains_here (Var y) terms))
           (λ there. contains_there (Var y) terms (Var x) (rest.from x there)) (contains_cases y rest.more x among);
-      own = λ x among. ⊎_elim (λ same. subst (Contains all) (same_variable y x same) (subst (λ l. Contains l y) (sym is) (Contains-append_right names (y ∷ rest.more) y (contains_here y rest.more))))
+      own = λ x among. ⊎_elim (λ same. subst (Contains all) (var_is y x same) (subst (λ l. Contains l y) (sym is) (Contains-append_right names (y ∷ rest.more) y (contains_here y rest.more))))
           (rest.own x) (contains_cases (Var y) terms (Var x) among);
       numbered = λ k low high. ⊎_elim
           (λ less. contains_there (local_in all (Var y)) (map (local_in all) terms) (Var k) (rest.numbered k (omega (arith, less, long)) (omega (arith, high, long))))
@@ -53,7 +51,7 @@ naming_there y terms names among rest =
       more = rest.more;
       is = rest.is;
       from = λ x i. contains_there (Var y) terms (Var x) (rest.from x i);
-      own = λ x i. ⊎_elim (λ same. subst (Contains all) (same_variable y x same) (subst (λ l. Contains l y) (sym rest.is) (Contains-append_left names rest.more y among)))
+      own = λ x i. ⊎_elim (λ same. subst (Contains all) (var_is y x same) (subst (λ l. Contains l y) (sym rest.is) (Contains-append_left names rest.more y among)))
           (rest.own x) (contains_cases (Var y) terms (Var x) i);
       numbered = λ k low high. contains_there (local_in all (Var y)) (map (local_in all) terms) (Var k) (rest.numbered k low high);
     }

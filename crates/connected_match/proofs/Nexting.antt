@@ -5,7 +5,7 @@ use Rattle.std.proofs.lemmas.Bool.{cases_lt}
 use Rattle.std.proofs.lemmas.List.{length-append, length-map, map-append, take_more}
 use Rattle.std.proofs.lemmas.Option.{slice_get-get_or}
 use Rattle.std.proofs.lemmas.List.FromFn.{get_or-map-range_with_len}
-use Rattle.lists.proofs.Members.{contains_here, contains_cases, contains_map, contains_mapped, got_before, got_below, map_got, map_same, some_injective}
+use Rattle.lists.proofs.Members.{contains_here, contains_cases, contains_map, contains_mapped, got_before, got_below, map_got, map_same, some_injective, contains_none}
 use Rattle.meaning.specs.declared.types.Val.{Val}
 use Rattle.meaning.specs.declared.types.Val.TheVariants.{Label}
 use Rattle.meaning.specs.declared.types.Ground.{Ground}
@@ -13,7 +13,6 @@ use Rattle.meaning.specs.Triggers.{bound}
 use Rattle.homomorphism.specs.declared.assignment.Assignment.{Assignment}
 use Rattle.homomorphism.specs.Bindings.{at, values_of}
 use Rattle.homomorphism.specs.Matches.{IsMatch, NoMatch, AreMatches, AreCovered}
-use Rattle.homomorphism.proofs.Members.{contains_none}
 use Rattle.connected_match.specs.declared.chain.Link.{Link}
 use Rattle.connected_match.specs.Chains.{Leads, LinkFits, AreNexts}
 use Rattle.connected_match.specs.Walks.{empty_row_if, kept_of, HavePlaces}

@@ -1,14 +1,11 @@
 -- Places of names.
-use Rattle.std.proofs.Common.{◌≡◌, ◌⊎◌, ℕ, suc, ◌+◌, ◌<◌, List, [], ◌∷◌, ◌++◌, true, false, length, refl, sym, ap, ◌∙◌, subst, inl, inr, ⊎_elim, arith}
-use Rattle.std.specs.Prelude.{Contains, Some, slice_get, slice_index_or, nat_eq}
+use Rattle.std.proofs.Common.{◌≡◌, ◌⊎◌, ℕ, suc, ◌+◌, ◌<◌, List, [], ◌∷◌, ◌++◌, true, false, length, refl, ap, ◌∙◌, subst, inl, inr, ⊎_elim, arith}
+use Rattle.std.specs.Prelude.{Contains, Some, slice_get, nat_eq}
 use Rattle.std.proofs.lemmas.Bool.{cases_Bool, eqb-true, eqb-false, eq-eqb}
-use Rattle.std.proofs.lemmas.Option.{slice_get_within, slice_get-get_or}
+use Rattle.std.proofs.lemmas.Option.{slice_get_within}
 use Rattle.lists.proofs.Members.{contains_here, contains_there, contains_cases}
+use Rattle.lists.proofs.Places.{got_indexed}
 use Rattle.connected_match.specs.Chains.{place_in}
-
--- an element that stands at a place
-pub standing : {X : Type 0} (xs : List X) (k : ℕ) (x : X) → k < length xs → x ≡ slice_index_or xs k x → slice_get xs k ≡ Some x
-standing xs k x low is = slice_get-get_or xs k x low ∙ ap Some (sym is)
 
 got_there : (y : ℕ) (names : List ℕ) (k : ℕ) → slice_get (y ∷ names) (k + 1) ≡ slice_get names k
 got_there y names k = let on : k + 1 ≡ suc k = omega arith in ap (slice_get (y ∷ names)) on

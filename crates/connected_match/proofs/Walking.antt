@@ -4,10 +4,9 @@ use Rattle.std.specs.Prelude.{Contains, Some, slice_get}
 use Rattle.std.proofs.lemmas.List.{drop_more, drop_all, length-drop, length-map}
 use Rattle.std.proofs.lemmas.Option.{slice_get_within, get_or_from_slice_get}
 use Rattle.std.proofs.lemmas.List.Elements.{Contains-append_left, Contains-append_right, Contains-append_cases, Contains-push, Contains-push_cases}
-use Rattle.lists.proofs.Members.{contains_here, contains_cases, contains_map, contains_mapped, some_injective}
+use Rattle.lists.proofs.Members.{contains_here, contains_cases, contains_map, contains_mapped, some_injective, contains_none}
 use Rattle.meaning.specs.declared.types.Val.{Val}
 use Rattle.meaning.specs.declared.types.Ground.{Ground}
-use Rattle.homomorphism.proofs.Members.{contains_none}
 use Rattle.connected_match.specs.declared.chain.Link.{Link}
 use Rattle.connected_match.specs.declared.walk.Point.{Point}
 use Rattle.connected_match.specs.Chains.{Leads, Completes, LinkFits, FitFrom, AreNexts}

@@ -6,6 +6,7 @@ use Rattle.std.proofs.lemmas.Str.{IsUtf8-from_is_utf8, is_utf8-from_IsUtf8}
 use Rattle.std.proofs.lemmas.Grind.{common_steps}
 use Rattle.std.proofs.lemmas.Bool.Decides.{nat_tests}
 use Rattle.std.proofs.lemmas.List.Sums.{sum_by-cons}
+use Rattle.lists.proofs.Booleans.{both_true}
 use Rattle.csv.specs.Records.{AllText, field_at}
 use Rattle.csv_sources.specs.DataFile.{all_text, bad_column, place_in, times_in}
 
@@ -68,10 +69,6 @@ bad_here header n (x ∷ left) name d some is bad =
     let test : nat_eq (times_in header x) 1 ≡ false = grind (arith, nat_tests, apart) in
     ap (λ t. cond t (bad_column header (n + 1) left) (Some n)) test
 
-and_true : (a b : Bool) → (a && b) ≡ true → (a ≡ true) × (b ≡ true)
-and_true true b e = (refl, e)
-and_true false b e = absurd (cc)
-
 -- a record is of text just where its fields are
 pub all_text-true : (fs : List (List ℕ)) → AllText fs → all_text fs ≡ true
 unfolding AllText
@@ -81,7 +78,7 @@ all_text-true (f ∷ fs) all = ap (λ b. b && all_text fs) (is_utf8-from_IsUtf8 
 pub AllText-from_all_text : (fs : List (List ℕ)) → all_text fs ≡ true → AllText fs
 unfolding AllText
 AllText-from_all_text [] is = tt
-AllText-from_all_text (f ∷ fs) is = let both = and_true (is_utf8 f) (all_text fs) is in (IsUtf8-from_is_utf8 f both.0, AllText-from_all_text fs both.1)
+AllText-from_all_text (f ∷ fs) is = let both = both_true (is_utf8 f) (all_text fs) is in (IsUtf8-from_is_utf8 f both.0, AllText-from_all_text fs both.1)
 
 pub all_text-false : (fs : List (List ℕ)) → ¬ (AllText fs) → all_text fs ≡ false
 all_text-false fs not_all = by (all_text fs) refl

@@ -4,6 +4,7 @@ use Rattle.std.specs.Prelude.{IfSome, IsOk, is_ok}
 use Rattle.std.proofs.lemmas.List.{map-append}
 use Rattle.std.proofs.lemmas.List.Sums.{sum_by-cons, sum_by_push}
 use Rattle.std.proofs.lemmas.Bool.Decides.{nat_tests}
+use Rattle.lists.proofs.Booleans.{or_false}
 use Rattle.source_trait.specs.Asking.{RowList}
 use Rattle.source_trait.specs.Holding.{loads_of, others_than, sizes_of}
 use Rattle.source_trait.specs.Outside.{bytes_of}
@@ -34,14 +35,10 @@ others_total rel list = ap total (sym (others_loads rel list)) ∙ ap sum (count
 
 -- ---- one attach
 
-or_none : (b : Bool) → (b || false) ≡ b
-or_none true = refl
-or_none false = refl
-
 one_passes : (rel : ℕ) (list : List Attachment) (contents : Contents) (locator : List ℕ) →
     passes_limit (loads_of list) contents ((rel, locator) ∷ []) ≡ passes_beside (sum (sizes_of (others_than rel list))) (told_bytes contents locator)
 one_passes rel list contents locator =
-    or_none (passes_beside (total (beside rel (loads_of list))) (told_bytes contents locator))
+    or_false (passes_beside (total (beside rel (loads_of list))) (told_bytes contents locator))
     ∙ ap (λ (n : ℕ). passes_beside n (told_bytes contents locator)) (others_total rel list)
 
 -- what is offered beside the other relations is what an attach would take

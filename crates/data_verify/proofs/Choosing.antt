@@ -9,6 +9,8 @@ use Rattle.std.proofs.lemmas.Cmp.{upto, tied_itself, lists_total, nat_cmp_total}
 use Rattle.std.proofs.lemmas.List.{take_all, ext_get_or}
 use Rattle.std.proofs.lemmas.List.Elements.{Contains-append_left, Contains-push, Contains-push_cases}
 use Rattle.std.proofs.lemmas.List.FromFn.{length-map-range_with_len, get_or-map-range_with_len}
+use Rattle.lists.proofs.Members.{contains_none}
+use Rattle.lists.proofs.Places.{take_indexed}
 use Rattle.meaning_laws.proofs.Carrying.{occurs_below}
 use Rattle.meaning.specs.declared.types.Val.{Val}
 use Rattle.meaning.specs.declared.types.Val.TheVariants.{Const, Label}
@@ -21,10 +23,8 @@ use Rattle.meaning.specs.Triggers.{bound}
 use Rattle.homomorphism.specs.declared.assignment.Assignment.{Assignment}
 use Rattle.homomorphism.specs.Bindings.{at, values_of}
 use Rattle.homomorphism.specs.Rules.{AreBodyMatches, IsMet, IsUnmet, IsUnmetMatch}
-use Rattle.homomorphism.proofs.Members.{contains_none}
 use Rattle.data_verify.specs.Breaking.{row_under, facts_under, row_lists_cmp}
 use Rattle.homomorphism.specs.Texts.{text_at}
-use Rattle.data_verify.proofs.KeySets.{turn}
 use Rattle.data_verify.specs.Unmet.{lesser, AreLeastRows, AreLeastRowsIf, AreLeastUnmet}
 
 total : IsTotalOrder row_lists_cmp
@@ -139,12 +139,12 @@ module _ (facts : List Ground) (rule : Rule) where
   module _ (found : List Assignment) (i : ℕ) (one : Assignment) (l : i < length found) (is : one ≡ slice_index_or found i one) where
     pub turn_met : (least : Option (List (List (List ℕ)))) → IsMet facts rule one.vals → AreLeastRowsIf facts rule (take i found) least → AreLeastRowsIf facts rule (take (i + 1) found) least
     unfolding met_more
-    turn_met least met all = subst (λ done. AreLeastRowsIf facts rule done least) (sym (turn found i one l is)) (met_more (take i found) one least met all)
+    turn_met least met all = subst (λ done. AreLeastRowsIf facts rule done least) (sym (take_indexed found i one l is)) (met_more (take i found) one least met all)
 
     pub turn_unmet : (least : Option (List (List (List ℕ)))) (rows next : List (List (List ℕ))) → IsUnmet facts rule one.vals → rows ≡ rows_of one → next ≡ lesser least rows →
         AreLeastRowsIf facts rule (take i found) least → AreLeastRows facts rule (take (i + 1) found) next
     unfolding unmet_more
-    turn_unmet least rows next u e f all = subst (λ done. AreLeastRows facts rule done next) (sym (turn found i one l is)) (subst (AreLeastRows facts rule (take i found ++ one ∷ [])) (sym f) (unmet_more (take i found) one least rows u e all))
+    turn_unmet least rows next u e f all = subst (λ done. AreLeastRows facts rule done next) (sym (take_indexed found i one l is)) (subst (AreLeastRows facts rule (take i found ++ one ∷ [])) (sym f) (unmet_more (take i found) one least rows u e all))
 
   values_are : (values : List Val) → length values ≡ bound rule.body → values_of (bound rule.body) (at values) ≡ values
   values_are values width = ext_get_or (Label 0) (values_of (bound rule.body) (at values)) values (length-map-range_with_len (at values) 0 (bound rule.body) ∙ sym width)

@@ -6,7 +6,7 @@ use Rattle.std.specs.BTreeSet.{BTreeSet, contains}
 use Rattle.std.specs.declared.cmp.Ordering.{Ordering}
 use Rattle.std.specs.declared.cmp.Ordering.TheVariants.{Less, Equal, Greater}
 use Rattle.std.proofs.lemmas.Bool.{cases_eq, eq-eqb, eqb-true, ne_eqb, and_parts, true≢false}
-use Rattle.lists.proofs.Members.{contains_here, contains_there, contains_cases, map_same}
+use Rattle.lists.proofs.Members.{contains_here, contains_there, contains_cases, map_same, contains_none, contains_one}
 use Rattle.meaning.specs.declared.types.Term.{Term}
 use Rattle.meaning.specs.declared.types.Term.TheVariants.{Var, Const}
 use Rattle.meaning.specs.declared.types.Atom.{Atom}
@@ -14,11 +14,10 @@ use Rattle.meaning.specs.declared.types.Rule.{Rule}
 use Rattle.meaning.specs.declared.types.Fact.{Fact}
 use Rattle.meaning.specs.Matching.{value_of, AreFacts, OccursIn, Extends, MeetsRule, itself, FactsOf}
 use Rattle.meaning_laws.proofs.Deciding.{same_values}
-use Rattle.meaning_laws.proofs.Example.{only as only_member}
-use Rattle.homomorphism.proofs.Members.{contains_none}
+use Rattle.homomorphism.proofs.Binding.{var_is}
 use Rattle.data_verify.specs.Breaking.{Breaks, AreLeastBreaking, row_under, facts_under, row_lists_cmp}
 use Rattle.data_verify.specs.Inclusion.{is_inclusion, reading, key_of, AreShared, IsKey, AreKeys, IsWithout, IsLeastOf, row_cmp}
-use Rattle.data_verify.proofs.Terms.{var_is, const_var, reading_is}
+use Rattle.data_verify.proofs.Terms.{const_var, reading_is}
 
 -- whether a variable is one of the terms
 occurs : ℕ → List Term → Bool
@@ -96,7 +95,7 @@ module _ (instance : List Fact) (rule : Rule) (body head : Atom) (body_is : rule
   fact_under a atom = record { rel = atom.rel; row = map (value_of itself a) atom.terms }
 
   of_one : (atoms : List Atom) (atom : Atom) (a : ℕ → List ℕ) → atoms ≡ atom ∷ [] → Contains instance (fact_under a atom) → AreFacts itself (FactsOf instance) a atoms
-  of_one atoms atom a e c other among = subst (λ z. Contains instance (fact_under a z)) (only_member atom other (subst (λ z. Contains z other) e among)) c
+  of_one atoms atom a e c other among = subst (λ z. Contains instance (fact_under a z)) (contains_one atom other (subst (λ z. Contains z other) e among)) c
 
   one_of : (atoms : List Atom) (atom : Atom) (a : ℕ → List ℕ) → atoms ≡ atom ∷ [] → AreFacts itself (FactsOf instance) a atoms → Contains instance (fact_under a atom)
   one_of atoms atom a e facts = facts atom (subst (λ z. Contains z atom) (sym e) (contains_here atom []))

@@ -9,27 +9,23 @@ use Rattle.std.specs.declared.cmp.Ordering.{Ordering}
 use Rattle.std.specs.declared.cmp.Ordering.TheVariants.{Less, Equal, Greater}
 use Rattle.std.proofs.lemmas.Bool.{not-true, true≢false}
 use Rattle.std.proofs.lemmas.Cmp.{tied_itself}
-use Rattle.std.proofs.lemmas.List.{take_more}
 use Rattle.std.proofs.lemmas.List.Elements.{Contains-append_left, Contains-push, Contains-push_cases}
 use Rattle.lists.proofs.Orders.{rows_total, rows_equal}
+use Rattle.lists.proofs.Members.{contains_none}
+use Rattle.lists.proofs.Places.{take_indexed}
 use Rattle.meaning.specs.declared.types.Term.{Term}
 use Rattle.meaning.specs.declared.types.Term.TheVariants.{Var}
 use Rattle.meaning.specs.declared.types.Atom.{Atom}
 use Rattle.meaning.specs.declared.types.Fact.{Fact}
-use Rattle.homomorphism.proofs.Members.{contains_none}
+use Rattle.homomorphism.proofs.Binding.{var_is}
 use Rattle.data_verify.specs.Inclusion.{FitsAtom, key_of, AreShared, AreKeys, IsWithout, row_cmp}
-use Rattle.data_verify.proofs.Terms.{var_is}
-
--- one turn of a loop over a list
-pub turn : {X : Type 0} (xs : List X) (i : ℕ) (x : X) → i < length xs → x ≡ slice_index_or xs i x → take (i + 1) xs ≡ take i xs ++ x ∷ []
-turn xs i x l is = take_more xs i x l ∙ ap (λ z. take i xs ++ z ∷ []) (sym is)
 
 pub none_more : {X : Type 0} (xs : List X) (i : ℕ) (x y : X) → i < length xs → x ≡ slice_index_or xs i x → (x ≡ y → ⊥) → (Contains (take i xs) y → ⊥) → Contains (take (i + 1) xs) y → ⊥
-none_more xs i x y l is differ none c = ⊎_elim none differ (Contains-push_cases (take i xs) x y (subst (λ z. Contains z y) (turn xs i x l is) c))
+none_more xs i x y l is differ none c = ⊎_elim none differ (Contains-push_cases (take i xs) x y (subst (λ z. Contains z y) (take_indexed xs i x l is) c))
 
 module _ (body head : List Term) (i : ℕ) (term : Term) (l : i < length head) (is : term ≡ slice_index_or head i term) (variables : List ℕ) (are : AreShared body (take i head) variables) where
   pub shared_skip : ((x : ℕ) → term ≡ Var x → Contains body (Var x) → ⊥) → AreShared body (take (i + 1) head) variables
-  shared_skip not = subst (λ z. AreShared body z variables) (sym (turn head i term l is)) (λ x. (
+  shared_skip not = subst (λ z. AreShared body z variables) (sym (take_indexed head i term l is)) (λ x. (
     (λ c. let (of_head, of_body) = (are x).0 c in (Contains-append_left (take i head) (term ∷ []) (Var x) of_head, of_body)),
     (λ (of_head, of_body). ⊎_elim (λ h. (are x).1 (h, of_body)) (λ e. absurd (not x e of_body)) (Contains-push_cases (take i head) term (Var x) of_head)),
   ))
@@ -39,7 +35,7 @@ module _ (body head : List Term) (i : ℕ) (term : Term) (l : i < length head) (
   shared_lacks y e lacks = shared_skip (λ x f c. lacks (subst (Contains body) (sym f ∙ e) c))
 
   pub shared_more : (y : ℕ) → term ≡ Var y → Contains body (Var y) → AreShared body (take (i + 1) head) (variables ++ y ∷ [])
-  shared_more y e among = subst (λ z. AreShared body z (variables ++ y ∷ [])) (sym (turn head i term l is)) (λ x. (
+  shared_more y e among = subst (λ z. AreShared body z (variables ++ y ∷ [])) (sym (take_indexed head i term l is)) (λ x. (
     (λ c. ⊎_elim (λ h. let (of_head, of_body) = (are x).0 h in (Contains-append_left (take i head) (term ∷ []) (Var x) of_head, of_body))
         (λ same. subst (λ z. Contains (take i head ++ term ∷ []) (Var z) × Contains body (Var z)) same (subst (Contains (take i head ++ term ∷ [])) e (Contains-push (take i head) term), among))
         (Contains-push_cases variables y x c)),
@@ -65,7 +61,7 @@ keys_none atom variables keys e key = (
 
 module _ (facts : List Fact) (i : ℕ) (fact : Fact) (l : i < length facts) (is : fact ≡ slice_index_or facts i fact) (atom : Atom) (variables : List ℕ) (was : BTreeSet (List (List ℕ))) (are : AreKeys (take i facts) atom variables was) where
   pub keys_skip : (FitsAtom atom fact → ⊥) → AreKeys (take (i + 1) facts) atom variables was
-  keys_skip not = subst (λ z. AreKeys z atom variables was) (sym (turn facts i fact l is)) (λ key. (
+  keys_skip not = subst (λ z. AreKeys z atom variables was) (sym (take_indexed facts i fact l is)) (λ key. (
     (λ t. let (one, c, fits, e) = (are key).0 t in (one, Contains-append_left (take i facts) (fact ∷ []) one c, fits, e)),
     (λ (one, c, fits, e). ⊎_elim (λ h. (are key).1 (one, h, fits, e)) (λ same. absurd (not (subst (FitsAtom atom) (sym same) fits))) (Contains-push_cases (take i facts) fact one c)),
   ))
@@ -88,7 +84,7 @@ module _ (facts : List Fact) (i : ℕ) (fact : Fact) (l : i < length facts) (is 
 
     pub keys_more : FitsAtom atom fact → new ≡ key_of atom.terms variables fact.row → AreKeys (take (i + 1) facts) atom variables now
     unfolding key_old key_new key_back
-    keys_more fits same = subst (λ z. AreKeys z atom variables now) (sym (turn facts i fact l is)) (λ key. (
+    keys_more fits same = subst (λ z. AreKeys z atom variables now) (sym (take_indexed facts i fact l is)) (λ key. (
       (λ t. ⊎_elim (λ e. (fact, Contains-push (take i facts) fact, fits, sym same ∙ e))
           (λ h. let (one, c, f, e) = (are key).0 h in (one, Contains-append_left (take i facts) (fact ∷ []) one c, f, e)) (key_back key (row_cmp new key) refl t)),
       (λ (one, c, f, e). ⊎_elim (λ h. key_old key ((are key).1 (one, h, f, e))) (λ g. key_new key (same ∙ ap (λ (z : Fact). key_of atom.terms variables z.row) g ∙ e)) (Contains-push_cases (take i facts) fact one c)),

@@ -7,11 +7,11 @@ use Rattle.std.specs.declared.cmp.Ordering.TheVariants.{Less, Equal, Greater}
 use Rattle.std.proofs.lemmas.Cmp.{upto, tied_itself}
 use Rattle.std.proofs.lemmas.List.Elements.{Contains-append_left, Contains-push, Contains-push_cases}
 use Rattle.lists.proofs.Orders.{rows_total}
+use Rattle.lists.proofs.Members.{contains_none}
+use Rattle.lists.proofs.Places.{take_indexed}
 use Rattle.meaning.specs.declared.types.Fact.{Fact}
-use Rattle.homomorphism.proofs.Members.{contains_none}
 use Rattle.data_verify.specs.Inclusion.{IsLeastOf, IsLeastIf, IsBelow, row_cmp}
 use Rattle.data_verify.proofs.Choosing.{not_above, never_above}
-use Rattle.data_verify.proofs.KeySets.{turn}
 
 less_greater : Less ≡ Greater → ⊥
 less_greater e = cc
@@ -73,8 +73,8 @@ module _ (P : Fact → Type 0) where
   module _ (facts : List Fact) (i : ℕ) (fact : Fact) (l : i < length facts) (is : fact ≡ slice_index_or facts i fact) (least : Option Fact) (all : IsLeastIf P (take i facts) least) where
     pub turn_keeps : (IsBelow fact least → P fact → ⊥) → IsLeastIf P (take (i + 1) facts) least
     unfolding keeps
-    turn_keeps not = subst (λ z. IsLeastIf P z least) (sym (turn facts i fact l is)) (keeps (take i facts) fact least not all)
+    turn_keeps not = subst (λ z. IsLeastIf P z least) (sym (take_indexed facts i fact l is)) (keeps (take i facts) fact least not all)
 
     pub turn_takes : IsBelow fact least → P fact → IsLeastOf P (take (i + 1) facts) fact
     unfolding takes
-    turn_takes below p = subst (λ z. IsLeastOf P z fact) (sym (turn facts i fact l is)) (takes (take i facts) fact least below p all)
+    turn_takes below p = subst (λ z. IsLeastOf P z fact) (sym (take_indexed facts i fact l is)) (takes (take i facts) fact least below p all)

@@ -1,10 +1,10 @@
 -- Facts of atoms with rows, one after another.
 use Rattle.std.proofs.Common.{◌≡◌, ℕ, zero, suc, ◌+◌, ◌<◌, List, [], ◌∷◌, ◌++◌, map, length, take, slice_index_or, sym, ap, ◌∙◌, subst, arith}
 use Rattle.std.proofs.lemmas.List.{map-append}
+use Rattle.lists.proofs.Places.{take_indexed}
 use Rattle.meaning.specs.declared.types.Atom.{Atom}
 use Rattle.meaning.specs.declared.types.Fact.{Fact}
 use Rattle.data_verify.specs.Breaking.{row_under, facts_under}
-use Rattle.data_verify.proofs.KeySets.{turn}
 
 map_at : {X Y : Type 0} (f : X → Y) (xs : List X) (i : ℕ) (x : X) (y : Y) → i < length xs → x ≡ slice_index_or xs i x → y ≡ slice_index_or (map f xs) i y → y ≡ f x
 map_at f [] i x y l e g = absurd (omega arith)
@@ -19,4 +19,4 @@ facts_more a atoms rows i atom row copy facts l e f same all before =
     ap (λ z. z ++ record { rel = atom.rel; row = copy } ∷ []) before
     ∙ ap (λ r. facts_under a (take i atoms) ++ record { rel = atom.rel; row = r } ∷ []) (same ∙ here)
     ∙ sym (map-append (λ (m : Atom). record { rel = m.rel; row = row_under a m }) (take i atoms) (atom ∷ []))
-    ∙ ap (facts_under a) (sym (turn atoms i atom l e))
+    ∙ ap (facts_under a) (sym (take_indexed atoms i atom l e))

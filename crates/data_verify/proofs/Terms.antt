@@ -3,25 +3,16 @@ use Rattle.std.proofs.Common.{◌≡◌, ◌↔◌, ◌⊎◌, ◌==◌, IsTrue,
 use Rattle.std.proofs.lemmas.Bool.{cases_eq, eq-eqb, ne_eqb}
 use Rattle.std.proofs.lemmas.List.{length-map}
 use Rattle.std.proofs.lemmas.Option.{slice_get-get_or}
-use Rattle.lists.proofs.Members.{contains_cases, map_got, some_injective}
+use Rattle.lists.proofs.Members.{contains_cases, map_got, some_injective, head_is, tail_is}
 use Rattle.meaning.specs.declared.types.Term.{Term}
 use Rattle.meaning.specs.declared.types.Term.TheVariants.{Var, Const}
 use Rattle.meaning.specs.Matching.{value_of, itself}
 use Rattle.meaning_laws.proofs.Deciding.{same_values}
-use Rattle.homomorphism.proofs.Binding.{apart, none_left, no_left}
+use Rattle.homomorphism.proofs.Binding.{apart, none_left, no_left, var_is}
 use Rattle.data_verify.specs.Inclusion.{Fits, StandsAt, FitsBefore, reading}
-
-head_is : {X : Type 0} (x y : X) (xs ys : List X) → x ∷ xs ≡ y ∷ ys → x ≡ y
-head_is x y xs ys e = cc
-
-tail_is : {X : Type 0} (x y : X) (xs ys : List X) → x ∷ xs ≡ y ∷ ys → xs ≡ ys
-tail_is x y xs ys e = cc
 
 both : {X : Type 0} (x y : X) (xs ys : List X) → x ≡ y → xs ≡ ys → x ∷ xs ≡ y ∷ ys
 both x y xs ys e f = cc
-
-pub var_is : (x y : ℕ) → Var x ≡ Var y → x ≡ y
-var_is x y e = cc
 
 pub const_var : (c : List ℕ) (x : ℕ) → Const c ≡ Var x → ⊥
 const_var c x e = cc

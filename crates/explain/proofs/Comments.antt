@@ -1,9 +1,8 @@
 -- A comment line in front of a text: the text's tokens stand behind it, and its lines keep what they say.
-use Rattle.std.proofs.Common.{◌≡◌, ℕ, ◌+◌, ◌-◌, Bool, true, false, cond, List, [], ◌∷◌, ◌++◌, length, take, drop, Option, None, Some, refl, sym, ap, subst, ◌∙◌, append_assoc, arith}
+use Rattle.std.proofs.Common.{◌≡◌, ℕ, ◌+◌, ◌-◌, Bool, true, false, List, [], ◌∷◌, ◌++◌, length, take, drop, Option, None, Some, refl, sym, ap, subst, ◌∙◌, append_assoc, arith}
 use Rattle.std.specs.Prelude.{nat_eq, map, slice_range, ◌||◌, if◌then◌else◌}
 use Rattle.std.proofs.lemmas.Bool.{eqb-true, eq-eqb}
 use Rattle.std.proofs.lemmas.List.{length-append, drop_at}
-use Rattle.std.proofs.lemmas.List.Sums.{sum_by-append}
 use Rattle.std.proofs.Math.Seq.{drop-append-add, take-append-add, take-append_seam}
 use Rattle.pq_text.specs.declared.token.Style.TheVariants.{Lines}
 use Rattle.pq_text.specs.declared.token.Token.{Token}
@@ -20,6 +19,7 @@ use Rattle.pq_text.specs.Standing.{stands_for, lexeme_for}
 use Rattle.pq_text.specs.Lines.{kind_is_eol, feeds, number_at, into_first, cut, Tells, AreLines}
 use Rattle.plan_form.specs.Grammar.{written, behind_tokens, ArePlanLines, SaysPlan}
 use Rattle.meaning.specs.declared.types.Plan.{Plan}
+use Rattle.pq_text.proofs.Pieces.{feeds-append}
 
 -- ---- places that lie further behind
 
@@ -118,9 +118,6 @@ lexes_moved front text from (t ∷ ts) to (start, token, rest) = (
 )
 
 -- ---- lines that lie further behind
-
-feeds-append : (xs ys : List ℕ) → feeds (xs ++ ys) ≡ feeds xs + feeds ys
-feeds-append xs ys = sum_by-append (λ b. cond (nat_eq b 10) 1 0) xs ys
 
 number_moved : (front text : List ℕ) (n : ℕ) → number_at (front ++ text) (length front + n) ≡ feeds front + number_at text n
 number_moved front text n =

@@ -1,15 +1,15 @@
 -- Lines follow each other as a refutation's lines exactly where they are read one behind another.
 use Rattle.std.proofs.Common.{◌≡◌, ℕ, Bool, true, false, cond, List, [], ◌∷◌, ◌++◌, map, Option, None, Some, refl, sym, ap, subst, ◌∙◌, append_assoc, ⊎_elim, slice_get, arith}
 use Rattle.std.specs.Prelude.{codes, Contains, ◌≢◌}
-use Rattle.std.specs.List.{AllZip}
 use Rattle.std.proofs.lemmas.List.{append-nil, map-append}
 use Rattle.std.proofs.lemmas.List.Elements.{Contains-push_cases}
 use Rattle.lists.proofs.Members.{contains_here, contains_there, some_injective}
+use Rattle.lists.proofs.Booleans.{cond_some}
 use Rattle.pq_text.specs.declared.lexeme.Lexeme.{Lexeme}
 use Rattle.pq_text.specs.declared.token.TokenKind.TheVariants.{Word, Text}
 use Rattle.pq_text.specs.Lexemes.{◌>>=◌}
 use Rattle.pq_text.specs.Forms.{Slot}
-use Rattle.pq_text.proofs.Forms.{bind_some, some_is}
+use Rattle.pq_text.proofs.Forms.{bind_some}
 use Rattle.meaning.specs.declared.types.Fact.{Fact}
 use Rattle.meaning.specs.Instances.{FitsRelation, IsInstance}
 use Rattle.access_schema.specs.declared.schema.Schema.{Schema}
@@ -22,24 +22,7 @@ use Rattle.explain.specs.Grammar.{word_form, opening_form, answer_form, name_of,
 use Rattle.explain.specs.Reading.{is_lone, opening_at, answer_at, fact_at, next_at}
 use Rattle.explain.proofs.PrintLaws.{readable}
 use Rattle.explain.proofs.ReadLines.{lone_found, lone_again, row_no_lone, opening_found, opening_again, answer_found, answer_again, fact_found, fact_reread}
-
--- ---- lists of lines and forms
-
-abbrev pub Fit : List (List Lexeme) → List (List Slot) → Type 0
-Fit lines forms = AllZip IsOfForm lines forms
-
-Fit-append : (xs ys : List (List Lexeme)) (a b : List (List Slot)) → Fit xs a → Fit ys b → Fit (xs ++ ys) (a ++ b)
-Fit-append [] ys [] b p q = q
-Fit-append [] ys (f ∷ a) b p q = absurd p
-Fit-append (x ∷ xs) ys [] b p q = absurd p
-Fit-append (x ∷ xs) ys (f ∷ a) b p q = (p.0, Fit-append xs ys a b p.1 q)
-
-Fit-split : (lines : List (List Lexeme)) (a b : List (List Slot)) → Fit lines (a ++ b) → (xs : List (List Lexeme)) × (ys : List (List Lexeme)) × (lines ≡ xs ++ ys) × Fit xs a × Fit ys b
-Fit-split lines [] b p = ([], lines, refl, tt, p)
-Fit-split [] (f ∷ a) b p = absurd p
-Fit-split (x ∷ lines) (f ∷ a) b p =
-    let r = Fit-split lines a b p.1 in
-    (x ∷ r.0, r.1, ap (λ (ls : List (List Lexeme)). x ∷ ls) r.2, (p.0, r.3), r.4)
+use Rattle.plan_form.proofs.Following.{Fit, Fit-append, Fit-split}
 
 -- ---- what has been read
 
@@ -102,22 +85,18 @@ pub record AreRead (schema : Schema) (done : Progress) (lines : List (List Lexem
   pub fit : Fit lines forms
   pub sound : IsSound schema last
 
-cond_some : {A : Type 0} (b : Bool) (x y : A) → cond b (Some x) None ≡ Some y → (b ≡ true) × (x ≡ y)
-cond_some true x y e = (refl, some_is x y e)
-cond_some false x y e = absurd cc
-
 module _ (schema : Schema) where
   opening_follows : (tokens : List Lexeme) (more : Progress) → next_at schema Opening tokens ≡ Some more → Follows schema Opening tokens more
   opening_follows tokens more e =
       let a = bind_some (opening_at tokens) (λ (r : List Lexeme). Some Opened) more e in
-      subst (Follows schema Opening tokens) (some_is Opened more a.2) (record { form = opening_form; forms_are = refl; of_form = opening_found tokens a.0 a.1; sound = tt })
+      subst (Follows schema Opening tokens) (some_injective Opened more a.2) (record { form = opening_form; forms_are = refl; of_form = opening_found tokens a.0 a.1; sound = tt })
 
   answer_follows : (tokens : List Lexeme) (more : Progress) → next_at schema Opened tokens ≡ Some more → Follows schema Opened tokens more
   answer_follows tokens more e =
       let a = bind_some (answer_at tokens) (λ (x : List (List ℕ) × List Lexeme). Some (Answered x.0)) more e in
       let f = answer_found tokens a.0.0 a.0.1 a.1 in
       let made : Progress = Answered a.0.0 in
-      subst (Follows schema Opened tokens) {x = made} (some_is made more a.2) (record { form = answer_form a.0.0; forms_are = refl; of_form = f.0; sound = f.1 })
+      subst (Follows schema Opened tokens) {x = made} (some_injective made more a.2) (record { form = answer_form a.0.0; forms_are = refl; of_form = f.0; sound = f.1 })
 
   begin_follows : (answer : List (List ℕ)) (tokens : List Lexeme) (more : Progress) → IsSound schema (Answered answer) → next_at schema (Answered answer) tokens ≡ Some more → Follows schema (Answered answer) tokens more
   begin_follows answer tokens more sound e =
@@ -128,7 +107,7 @@ module _ (schema : Schema) where
   first_follows : (answer : List (List ℕ)) (first : List Fact) (tokens : List Lexeme) (b : Bool) (more : Progress) → is_lone second_word tokens ≡ b → IsSound schema (First answer first) →
       cond b (Some (Second answer first [])) (fact_at schema.relations tokens >>= λ x. Some (First answer (first ++ x.0 ∷ []))) ≡ Some more → Follows schema (First answer first) tokens more
   first_follows answer first tokens true more lone sound e =
-      subst (Follows schema (First answer first) tokens) (some_is (Second answer first []) more e)
+      subst (Follows schema (First answer first) tokens) (some_injective (Second answer first []) more e)
       (record {
         form = word_form second_word;
         forms_are = ap (λ (fs : List (List Slot)). opening_form ∷ answer_form answer ∷ word_form first_word ∷ fs) (append-nil (facts_forms schema.relations first second_word));
@@ -139,7 +118,7 @@ module _ (schema : Schema) where
       let a = bind_some (fact_at schema.relations tokens) (λ (x : Fact × List Lexeme). Some (First answer (first ++ x.0 ∷ []))) more e in
       let f = fact_found schema tokens a.0.0 a.0.1 a.1 in
       let made : Progress = First answer (first ++ a.0.0 ∷ []) in
-      subst (Follows schema (First answer first) tokens) {x = made} (some_is made more a.2)
+      subst (Follows schema (First answer first) tokens) {x = made} (some_injective made more a.2)
       (record {
         form = fact_form schema.relations a.0.0;
         forms_are = ap (λ (fs : List (List Slot)). opening_form ∷ answer_form answer ∷ word_form first_word ∷ fs) (map-append (fact_form schema.relations) first (a.0.0 ∷ []));
@@ -151,7 +130,7 @@ module _ (schema : Schema) where
       cond b (Some (Ended (record { first = first; second = second; answer = answer }))) (fact_at schema.relations tokens >>= λ x. Some (Second answer first (second ++ x.0 ∷ []))) ≡ Some more → Follows schema (Second answer first second) tokens more
   second_follows answer first second tokens true more lone sound e =
       let pair : Witness = record { first = first; second = second; answer = answer } in
-      subst (Follows schema (Second answer first second) tokens) (some_is (Ended pair) more e)
+      subst (Follows schema (Second answer first second) tokens) (some_injective (Ended pair) more e)
       (record {
         form = word_form end_word;
         forms_are = ap (λ (fs : List (List Slot)). opening_form ∷ answer_form answer ∷ word_form first_word ∷ fs) (sym (append_assoc (facts_forms schema.relations first second_word) (fact_forms schema second) (word_form end_word ∷ [])));
@@ -162,7 +141,7 @@ module _ (schema : Schema) where
       let a = bind_some (fact_at schema.relations tokens) (λ (x : Fact × List Lexeme). Some (Second answer first (second ++ x.0 ∷ []))) more e in
       let f = fact_found schema tokens a.0.0 a.0.1 a.1 in
       let made : Progress = Second answer first (second ++ a.0.0 ∷ []) in
-      subst (Follows schema (Second answer first second) tokens) {x = made} (some_is made more a.2)
+      subst (Follows schema (Second answer first second) tokens) {x = made} (some_injective made more a.2)
       (record {
         form = fact_form schema.relations a.0.0;
         forms_are = ap (λ (fs : List (List Slot)). opening_form ∷ answer_form answer ∷ word_form first_word ∷ (facts_forms schema.relations first second_word ++ fs)) (map-append (fact_form schema.relations) second (a.0.0 ∷ []))

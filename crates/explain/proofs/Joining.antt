@@ -1,15 +1,13 @@
 -- Texts that are written one behind another.
-use Rattle.std.proofs.Common.{◌≡◌, ℕ, ◌+◌, ◌<◌, List, [], ◌∷◌, ◌++◌, length, map, take, refl, sym, ap, ◌∙◌, append_assoc, slice_index_or}
+use Rattle.std.proofs.Common.{◌≡◌, ℕ, ◌+◌, ◌<◌, List, [], ◌∷◌, ◌++◌, length, map, take, refl, sym, ap, ◌∙◌, slice_index_or}
 use Rattle.std.specs.Prelude.{flat_map}
 use Rattle.std.proofs.lemmas.List.{take_more, map-append, append-nil}
 use Rattle.std.proofs.lemmas.Grind.{flat_map-append}
 use Rattle.std.proofs.lemmas.List.FromFn.{map-range_with_len_more}
 use Rattle.std.specs.List.{range_with_len}
+use Rattle.lists.proofs.Members.{joined_twice}
 
 -- what is written behind something else
-pub then_more : (old mid new x y : List ℕ) → mid ≡ old ++ x → new ≡ mid ++ y → new ≡ old ++ (x ++ y)
-then_more old mid new x y one two = two ∙ ap (λ (m : List ℕ). m ++ y) one ∙ append_assoc old x y
-
 flat_more : {X : Type 0} (f : X → List ℕ) (xs : List X) (x : X) → flat_map f (xs ++ x ∷ []) ≡ flat_map f xs ++ f x
 flat_more f xs x = flat_map-append f xs (x ∷ []) ∙ ap (λ (r : List ℕ). flat_map f xs ++ r) (append-nil (f x))
 
@@ -26,7 +24,7 @@ range_more f g from n = ap (flat_map f) (map-range_with_len_more g from n (from 
 
 -- a loop's text with one member more
 pub grown : (old mid new front more whole : List ℕ) → mid ≡ old ++ front → new ≡ mid ++ more → whole ≡ front ++ more → new ≡ old ++ whole
-grown old mid new front more whole one two is = then_more old mid new front more one two ∙ ap (λ (r : List ℕ). old ++ r) (sym is)
+grown old mid new front more whole one two is = joined_twice old mid new front more one two ∙ ap (λ (r : List ℕ). old ++ r) (sym is)
 
 -- the text of members, with one more
 pub members_more : {X : Type 0} (f : X → List ℕ) (xs : List X) (i : ℕ) (x : X) → i < length xs → x ≡ slice_index_or xs i x → flat_map f (take (i + 1) xs) ≡ flat_map f (take i xs) ++ f x

@@ -1,28 +1,26 @@
 -- A printed refutation is cut into the lines of its pair.
-use Rattle.std.proofs.Common.{◌≡◌, ℕ, ◌+◌, ◌≤◌, Bool, true, false, List, [], ◌∷◌, ◌++◌, map, length, Option, refl, sym, ap, subst, ◌∙◌, append_assoc, arith, slice_get}
+use Rattle.std.proofs.Common.{◌≡◌, ℕ, ◌+◌, Bool, true, false, List, [], ◌∷◌, ◌++◌, map, Option, refl, sym, ap, subst, ◌∙◌, append_assoc, arith, slice_get}
 use Rattle.std.specs.Prelude.{codes, flat_map}
-use Rattle.std.specs.List.{AllByRecursion, AllZip}
+use Rattle.std.specs.List.{AllByRecursion}
 use Rattle.std.proofs.lemmas.List.{append-nil}
 use Rattle.lists.proofs.Members.{contains_here, contains_there, contains_got}
 use Rattle.pq_text.specs.declared.token.Style.TheVariants.{Lines}
-use Rattle.pq_text.specs.declared.lexeme.Lexeme.{Lexeme}
-use Rattle.pq_text.specs.Lines.{feeds}
-use Rattle.pq_text.specs.Forms.{Slot, Mark, Takes, list_form, value_form, IsSome}
+use Rattle.pq_text.specs.Forms.{Slot, Mark, list_form, value_form, IsSome}
 use Rattle.pq_text.specs.Printing.{printed_name, printed_value, Stops}
 use Rattle.pq_text.specs.Listed.{listed}
-use Rattle.pq_text.specs.Pieces.{Piece, behind_blank, text_of, piece_lexeme, IsPrintedLine, ArePrintedLines, lines_text, numbered, word_piece, mark_piece, name_piece, value_piece, further_pieces, list_pieces}
-use Rattle.pq_text.proofs.Pieces.{printed_lines}
-use Rattle.pq_text.proofs.PieceLaws.{goes_on, name_is_lexed, value_is_lexed, word_is_lexed, open_is_lexed, close_is_lexed, text_of-append, AreLexed-append, AreInLine-append, Reads, Reads-append, name_fits, value_reads, name_in_line, IsPrinted, list_lexed, list_reads, list_in_line}
+use Rattle.pq_text.specs.Pieces.{Piece, behind_blank, text_of, IsPrintedLine, lines_text, numbered, word_piece, mark_piece, name_piece, value_piece, further_pieces, list_pieces}
+use Rattle.pq_text.proofs.Pieces.{printed_lines, text_of-append}
+use Rattle.pq_text.proofs.PieceLaws.{goes_on, name_is_lexed, value_is_lexed, word_is_lexed, open_is_lexed, close_is_lexed, AreLexed-append, AreInLine-append, Reads, Reads-append, name_fits, value_reads, name_in_line, IsPrinted, list_lexed, list_reads, list_in_line}
 use Rattle.meaning.specs.declared.types.Relation.{Relation}
 use Rattle.meaning.specs.declared.types.Fact.{Fact}
 use Rattle.meaning.specs.Instances.{FitsRelation, IsInstance}
+use Rattle.pq_text.proofs.Forms.{some_listed, some_long}
 use Rattle.access_schema.specs.declared.schema.Schema.{Schema}
 use Rattle.access_schema.specs.Meaning.{meaning_of}
-use Rattle.plan_form.specs.Grammar.{IsOfForm, behind_tokens, written}
-use Rattle.plan_form.proofs.ReadLines.{is_some}
 use Rattle.no_plan_witness.specs.declared.refutation.Witness.{Witness}
 use Rattle.explain.specs.Printing.{relation_text, fact_text, pair_text, IsListing, IsPrintedWitness}
 use Rattle.explain.specs.Grammar.{word_form, opening_form, answer_form, row_form, name_of, fact_form, facts_forms, witness_forms, FitsSchema, SaysWitness, IsReadAs}
+use Rattle.plan_form.proofs.PrintLaws.{IsLineOf, AreLinesOf, lines-append, all_printed, all_fit, line_join}
 
 -- ---- the pieces of a refutation
 
@@ -68,12 +66,6 @@ value_printed c = record { lexed = λ t rest stops. (value_is_lexed t c rest sto
 values_printed : (row : List (List ℕ)) → AllByRecursion (IsPrinted value_item value_form) row
 values_printed [] = tt
 values_printed (c ∷ row) = (value_printed c, values_printed row)
-
--- the pieces are a printed line of the form
-record IsLineOf (line : List Piece) (form : List Slot) : Type 0 where
-  pub some : IsSome line
-  pub printed : IsPrintedLine Lines line
-  pub reads : Reads line form
 
 opening_is : IsLineOf opening_line opening_form
 opening_is = record {
@@ -133,20 +125,16 @@ pub record IsReadable (relations : List Relation) (fact : Fact) : Type 0 where
   pub wide : IsSome fact.row
   pub name_is : relation_text (slice_get relations fact.rel) ≡ printed_name (name_of (slice_get relations fact.rel))
 
-some_left : {X : Type 0} (xs : List X) → 1 ≤ length xs → IsSome xs
-some_left [] l = absurd (omega arith)
-some_left (x ∷ xs) l = tt
-
 pub readable : (schema : Schema) (fact : Fact) → FitsRelation (meaning_of schema) fact.rel fact.row → IsReadable schema.relations fact
 readable schema fact fits =
     let among = contains_got schema.relations fact.rel fits.relation fits.there in
-    let named = is_some fits.relation.name (schema.valid.relations_are.named fits.relation among) in
+    let named = some_listed fits.relation.name (schema.valid.relations_are.named fits.relation among) in
     let wide = (schema.valid.relations_are.columns fits.relation among).some in
     let width = fits.width in
     let back = sym fits.there in
     record {
       named = subst (λ (o : Option Relation). IsSome (name_of o)) back named;
-      wide = some_left fact.row (omega (arith, wide, width));
+      wide = some_long fact.row (omega (arith, wide, width));
       name_is = subst (λ (o : Option Relation). relation_text o ≡ printed_name (name_of o)) back refl;
     }
 
@@ -155,15 +143,6 @@ all_readable schema [] fit = tt
 all_readable schema (fact ∷ facts) fit = (readable schema fact (fit fact (contains_here fact facts)), all_readable schema facts (λ other among. fit other (contains_there fact facts other among)))
 
 -- ---- all lines
-
-abbrev AreLinesOf : List (List Piece) → List (List Slot) → Type 0
-AreLinesOf lines forms = AllZip IsLineOf lines forms
-
-lines-append : (xs ys : List (List Piece)) (a b : List (List Slot)) → AreLinesOf xs a → AreLinesOf ys b → AreLinesOf (xs ++ ys) (a ++ b)
-lines-append [] ys [] b p q = q
-lines-append [] ys (f ∷ a) b p q = absurd p
-lines-append (x ∷ xs) ys [] b p q = absurd p
-lines-append (x ∷ xs) ys (f ∷ a) b p q = (p.0, lines-append xs ys a b p.1 q)
 
 facts_are : (relations : List Relation) (facts : List Fact) → AllByRecursion (IsReadable relations) facts → AreLinesOf (map (fact_line relations) facts) (map (fact_form relations) facts)
 facts_are relations [] all = tt
@@ -174,21 +153,6 @@ pair_are relations pair first second some =
     let front = lines-append (map (fact_line relations) pair.first) (word_line (codes "second") ∷ []) (map (fact_form relations) pair.first) (word_form (codes "second") ∷ []) (facts_are relations pair.first first) (second_is, tt) in
     let back = lines-append (map (fact_line relations) pair.second) (word_line (codes "end") ∷ []) (map (fact_form relations) pair.second) (word_form (codes "end") ∷ []) (facts_are relations pair.second second) (end_is, tt) in
     (opening_is, (answer_is pair.answer some, (first_is, lines-append (facts_lines relations pair.first (codes "second")) (facts_lines relations pair.second (codes "end")) (facts_forms relations pair.first (codes "second")) (facts_forms relations pair.second (codes "end")) front back)))
-
-all_printed : (lines : List (List Piece)) (forms : List (List Slot)) → AreLinesOf lines forms → ArePrintedLines Lines lines
-all_printed [] forms are = tt
-all_printed (line ∷ lines) [] are = absurd are
-all_printed (line ∷ lines) (form ∷ forms) are = (are.0.printed, all_printed lines forms are.1)
-
-all_fit : (n : ℕ) (lines : List (List Piece)) (forms : List (List Slot)) → AreLinesOf lines forms → AllZip IsOfForm (written (numbered n lines)) forms
-all_fit n [] [] are = tt
-all_fit n [] (form ∷ forms) are = absurd are
-all_fit n (line ∷ lines) [] are = absurd are
-all_fit n (line ∷ lines) (form ∷ forms) are = step line (λ m. all_fit m lines forms are.1) are.0.some (subst (λ (ls : List Lexeme). Takes ls form []) (append-nil (map piece_lexeme line)) (are.0.reads []))
-  where
-    step : (line : List Piece) → ((m : ℕ) → AllZip IsOfForm (written (numbered m lines)) forms) → IsSome line → Takes (map piece_lexeme line) form [] → AllZip IsOfForm (behind_tokens (map piece_lexeme line) (written (numbered (n + feeds (text_of line) + 1) lines))) (form ∷ forms)
-    step [] again some t = absurd some
-    step (x ∷ xs) again some t = (t, again (n + feeds (text_of (x ∷ xs)) + 1))
 
 -- ---- the text
 
@@ -210,16 +174,11 @@ values_text t (x ∷ xs) some =
     text_of-append (value_item t x) (further_pieces value_item xs) ∙ ap (λ (r : List ℕ). r ++ text_of (further_pieces value_item xs)) (value_text t x)
     ∙ blank-append t (printed_value x) (text_of (further_pieces value_item xs)) ∙ ap (λ (r : List ℕ). behind_blank t (printed_value x ++ r)) (further_text xs)
 
-row_join : (name list rest : List ℕ) → (name ++ 40 ∷ (list ++ 41 ∷ [])) ++ 10 ∷ rest ≡ (((name ++ 40 ∷ []) ++ list) ++ 41 ∷ 10 ∷ []) ++ rest
-row_join name list rest =
-    append_assoc name (40 ∷ (list ++ 41 ∷ [])) (10 ∷ rest) ∙ ap (λ (r : List ℕ). name ++ 40 ∷ r) (append_assoc list (41 ∷ []) (10 ∷ rest))
-    ∙ sym (append_assoc name (40 ∷ []) (list ++ 41 ∷ 10 ∷ rest)) ∙ sym (append_assoc (name ++ 40 ∷ []) list (41 ∷ 10 ∷ rest)) ∙ sym (append_assoc ((name ++ 40 ∷ []) ++ list) (41 ∷ 10 ∷ []) rest)
-
 row_text : (name : List ℕ) (row : List (List ℕ)) (rest : List ℕ) → IsSome row → text_of (row_line name row) ++ 10 ∷ rest ≡ (printed_name name ++ codes "(" ++ listed printed_value row ++ codes ")\n") ++ rest
 row_text name row rest some =
     let list : List ℕ = listed printed_value row in
     let inner : text_of (inside_pieces row) ≡ list ++ 41 ∷ [] = text_of-append (list_pieces value_item false row) close ∙ ap (λ (r : List ℕ). r ++ 41 ∷ []) (values_text false row some) in
-    ap (λ (r : List ℕ). (printed_name name ++ 40 ∷ r) ++ 10 ∷ rest) inner ∙ row_join (printed_name name) list rest
+    ap (λ (r : List ℕ). (printed_name name ++ 40 ∷ r) ++ 10 ∷ rest) inner ∙ line_join (printed_name name) list rest
 
 fact_is_text : (relations : List Relation) (fact : Fact) (rest : List ℕ) → IsReadable relations fact → text_of (fact_line relations fact) ++ 10 ∷ rest ≡ fact_text relations fact ++ rest
 fact_is_text relations fact rest fits =
@@ -260,7 +219,7 @@ says : (schema : Schema) (pair : Witness) → FitsSchema schema pair → SaysWit
 says schema pair fits =
     let first = all_readable schema pair.first fits.first in
     let second = all_readable schema pair.second fits.second in
-    let some = is_some pair.answer fits.some in
+    let some = some_listed pair.answer fits.some in
     let lines = witness_lines schema.relations pair in
     let forms = witness_forms schema.relations pair in
     let are = pair_are schema.relations pair first second some in

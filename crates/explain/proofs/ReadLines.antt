@@ -1,28 +1,20 @@
 -- The lines of a refutation are read exactly where they have their form.
 use Rattle.std.proofs.Common.{◌≡◌, ℕ, true, false, List, [], ◌∷◌, ◌++◌, Option, Some, refl, sym, subst, slice_get}
 use Rattle.std.specs.Prelude.{codes, ◌≢◌}
+use Rattle.lists.proofs.Members.{some_injective}
 use Rattle.pq_text.specs.declared.lexeme.Lexeme.{Lexeme}
 use Rattle.pq_text.specs.Lexemes.{◌>>=◌, comma, symbol_at, word_at, name_at, values_at, end_at}
 use Rattle.pq_text.specs.Forms.{Slot, Key, Mark, Name, Takes, list_form, value_form, IsSome}
-use Rattle.pq_text.proofs.Forms.{bind_some, some_is, Takes-append, Takes-split, symbol_found, symbol_again, word_found, word_again, name_found, name_again, values_found, values_again, other_symbol}
+use Rattle.pq_text.proofs.Forms.{bind_some, Takes-append, Takes-split, symbol_found, symbol_again, word_found, word_again, name_found, name_again, values_found, values_again, other_symbol, end_is, some_listed, not_empty}
 use Rattle.meaning.specs.declared.types.Relation.{Relation}
 use Rattle.meaning.specs.declared.types.Fact.{Fact}
 use Rattle.meaning.specs.Instances.{FitsRelation}
 use Rattle.access_schema.specs.declared.schema.Schema.{Schema}
 use Rattle.access_schema.specs.Meaning.{meaning_of}
 use Rattle.plan_form.specs.Grammar.{IsOfForm}
-use Rattle.plan_form.proofs.ReadLines.{is_some}
 use Rattle.explain.specs.Grammar.{word_form, opening_form, answer_form, row_form, name_of, fact_form}
 use Rattle.explain.specs.Reading.{fact_of, is_lone, opening_at, answer_at, fact_at}
 use Rattle.explain.proofs.Relations.{IsMade, fact_made, fact_again}
-
-not_nil : {X : Type 0} (xs : List X) → IsSome xs → xs ≢ []
-not_nil [] some = absurd some
-not_nil (x ∷ xs) some = λ e. cc
-
-end_is : (ls rest : List Lexeme) → end_at ls ≡ Some rest → (ls ≡ []) × (rest ≡ [])
-end_is [] rest e = (refl, cc)
-end_is (l ∷ ls) rest e = absurd cc
 
 -- ---- lines of words
 
@@ -74,13 +66,13 @@ answer_found ls answer rest e =
     let f = values_found a.0 o.0.0 o.0.1 o.1 in
     let inner = subst (λ (m : List Lexeme). Takes a.0 (list_form value_form o.0.0) m) last.0 f.1 in
     let whole = Takes-append ls (Key (codes "answer") ∷ []) (list_form value_form o.0.0) a.0 [] (word_found (codes "answer") ls a.0 a.1) inner in
-    subst (λ (y : List (List ℕ) × List Lexeme). IsOfForm ls (answer_form y.0) × (y.0 ≢ [])) {x = made} (some_is made (answer, rest) r.2) (whole, not_nil o.0.0 f.0)
+    subst (λ (y : List (List ℕ) × List Lexeme). IsOfForm ls (answer_form y.0) × (y.0 ≢ [])) {x = made} (some_injective made (answer, rest) r.2) (whole, not_empty o.0.0 f.0)
 
 pub answer_again : (ls : List Lexeme) (answer : List (List ℕ)) → answer ≢ [] → IsOfForm ls (answer_form answer) → answer_at ls ≡ Some (answer, [])
 unfolding answer_at
 answer_again ls answer some t =
     let a = word_again (codes "answer") ls (list_form value_form answer) [] t in
-    let o = values_again a.0 answer [] (is_some answer some) refl a.2 in
+    let o = values_again a.0 answer [] (some_listed answer some) refl a.2 in
     rw (a.1, o) refl
 
 -- ---- facts
@@ -117,7 +109,7 @@ row_found schema n ls fact rest e =
     let closed = subst (λ (m : List Lexeme). Takes p.0.1 (Mark (codes ")") ∷ []) m) {x = after} last.0 (symbol_found (codes ")") p.0.1 c.0 c.1) in
     let inner = Takes-append i.0 (list_form value_form p.0.0) (Mark (codes ")") ∷ []) p.0.1 [] v.1 closed in
     let whole = Takes-append ls (Mark (codes "(") ∷ []) (list_form value_form p.0.0 ++ Mark (codes ")") ∷ []) i.0 [] (symbol_found (codes "(") ls i.0 i.1) inner in
-    subst (λ (y : Fact × List Lexeme). IsRowRead schema n ls y.0) {x = found} (some_is found (fact, rest) f.2) (row_made schema n p.0.0 ls f.0 made whole)
+    subst (λ (y : Fact × List Lexeme). IsRowRead schema n ls y.0) {x = found} (some_injective found (fact, rest) f.2) (row_made schema n p.0.0 ls f.0 made whole)
 
 pub fact_found : (schema : Schema) (ls : List Lexeme) (fact : Fact) (rest : List Lexeme) → fact_at schema.relations ls ≡ Some (fact, rest) → IsOfForm ls (fact_form schema.relations fact) × FitsRelation (meaning_of schema) fact.rel fact.row
 unfolding fact_at

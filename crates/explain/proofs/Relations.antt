@@ -5,7 +5,7 @@ use Rattle.std.specs.Cmp.Lexicographic.{pointwise, nat_list_eq_equiv}
 use Rattle.std.proofs.lemmas.Bool.{eqb-true, eq-eqb}
 use Rattle.std.proofs.lemmas.Option.{none-some, cond_some}
 use Rattle.lists.proofs.Members.{map_got, got_mapped, some_injective}
-use Rattle.pq_text.proofs.Forms.{same_text}
+use Rattle.lists.proofs.Orders.{text_is}
 use Rattle.meaning.specs.declared.types.Relation.{Relation}
 use Rattle.meaning.specs.declared.types.Fact.{Fact}
 use Rattle.meaning.specs.Instances.{FitsRelation}
@@ -23,7 +23,7 @@ number_names [] name relation e = absurd (none-some relation e)
 number_names (r ∷ relations) name relation e = step (pointwise nat_eq r.name name) refl (λ h. number_names relations name relation h) e
   where
     step : (b : Bool) → pointwise nat_eq r.name name ≡ b → (slice_get relations (number_of relations name) ≡ Some relation → relation.name ≡ name) → slice_get (r ∷ relations) (cond b zero (suc (number_of relations name))) ≡ Some relation → relation.name ≡ name
-    step true same rec e = ap (λ (s : Relation). s.name) (sym (some_injective r relation e)) ∙ same_text r.name name same
+    step true same rec e = ap (λ (s : Relation). s.name) (sym (some_injective r relation e)) ∙ text_is r.name name same
     step false other rec e = rec e
 
 -- a name that some relation has is found

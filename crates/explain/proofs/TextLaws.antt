@@ -20,16 +20,7 @@ use Rattle.explain.specs.declared.progress.Progress.TheVariants.{Opening, Opened
 use Rattle.explain.specs.Grammar.{AreWitnessLines, SaysWitness, IsWitnessText, BeginWitness, HasMisfit, Stops, IsFirstMisfit, IsWitnessReadFault, OkOrNoMemory}
 use Rattle.explain.specs.Reading.{next_at, next_progress, progress_from, witness_of, ProgressGives, HasLineFault}
 use Rattle.explain.proofs.Following.{AreRead, read_from, read-append, lines_found, witness_again, read_begin, begin_read, ended_are}
-
--- ---- lines that have tokens
-
-behind-append : (tokens : List Lexeme) (xs ys : List (List Lexeme)) → behind_tokens tokens (xs ++ ys) ≡ behind_tokens tokens xs ++ ys
-behind-append [] xs ys = refl
-behind-append (t ∷ ts) xs ys = refl
-
-written-append : (xs ys : List Line) → written (xs ++ ys) ≡ written xs ++ written ys
-written-append [] ys = refl
-written-append (x ∷ xs) ys = ap (behind_tokens x.tokens) (written-append xs ys) ∙ behind-append x.tokens (written xs) (written ys)
+use Rattle.plan_form.proofs.TextLaws.{written-append}
 
 -- ---- all lines are read
 

@@ -6,6 +6,7 @@ use Rattle.std.proofs.lemmas.List.{length-set, length_push}
 use Rattle.std.proofs.lemmas.Option.{slice_get_within}
 use Rattle.std.proofs.lemmas.List.Elements.{Contains-append_left, Contains-push, Contains-push_cases}
 use Rattle.lists.proofs.Members.{contains_got, some_injective, got_push}
+use Rattle.lists.proofs.Places.{take_got}
 use Rattle.meaning.specs.declared.types.SchemaParts.{SchemaParts}
 use Rattle.meaning.specs.declared.types.Ground.{Ground}
 use Rattle.meaning.specs.declared.types.Method.{Method}
@@ -18,7 +19,7 @@ use Rattle.accessible_copy.specs.declared.holders.Holders.{Holders}
 use Rattle.accessible_copy.specs.Known.{known_values}
 use Rattle.accessible_copy.specs.Methods.{methods_of, IsMethodIndex}
 use Rattle.accessible_copy.specs.OpenFacts.{held_by, AreHolders}
-use Rattle.accessible_copy.proofs.Listed.{take_got, known_to}
+use Rattle.accessible_copy.proofs.Listed.{known_to}
 use Rattle.exposure_search.specs.declared.relevance.Marking.{Marking}
 use Rattle.exposure_search.specs.Tries.{IsMarked}
 use Rattle.exposure_search.specs.Sets.{got_contained, picked_at, picked_back, set_here, set_kept, set_cases}

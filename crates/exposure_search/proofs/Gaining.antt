@@ -6,7 +6,7 @@ use Rattle.std.proofs.lemmas.List.Elements.{Contains-append_left, Contains-push,
 use Rattle.lists.proofs.Members.{contains_here, contains_there, contains_cases, contains_mapped, contains_map}
 use Rattle.meaning_laws.specs.Trims.{AreIn, AreClosed}
 use Rattle.meaning_laws.proofs.Deciding.{dec_contains, dec_some, Val-discrete}
-use Rattle.meaning_laws.proofs.Trimming.{kinds_trim}
+use Rattle.meaning_laws.proofs.Trimming.{kinds_trim, known_or}
 use Rattle.meaning.specs.declared.types.SchemaParts.{SchemaParts}
 use Rattle.meaning.specs.declared.types.Ground.{Ground}
 use Rattle.meaning.specs.declared.types.Query.{Query}
@@ -49,10 +49,6 @@ all_known constants exposed (first ∷ vals) =
       | yes is ↦ ⊎_elim (λ rest. inl (λ v c. ⊎_elim (λ e. subst (λ u. IsKnownValue constants exposed u) e (known_to constants exposed first is)) (λ h. rest v h) (contains_cases first vals v c))) (λ (v, c, out). inr (v, contains_there first vals v c, out)) (all_known constants exposed vals)
       | no out ↦ inr (first, contains_here first vals, (λ known. out (known_from constants exposed first known)))
     ]
-
-known_push : (constants : List (List ℕ)) (exposed : List Ground) (fact : Ground) (v : Val) → IsKnownValue constants (exposed ++ fact ∷ []) v → IsKnownValue constants exposed v ⊎ Contains fact.vals v
-known_push constants exposed fact v known =
-    ⊎_elim (λ c. inl (inl c)) (λ (f, among, i). ⊎_elim (λ old. inl (inr (f, old, i))) (λ same. inr (subst (λ (g : Ground). Contains g.vals v) (sym same) i)) (Contains-push_cases exposed fact f among)) known
 
 known_more : (constants : List (List ℕ)) (exposed : List Ground) (fact : Ground) (v : Val) → IsKnownValue constants exposed v → IsKnownValue constants (exposed ++ fact ∷ []) v
 known_more constants exposed fact v known = ⊎_elim (λ c. inl c) (λ (f, among, i). inr (f, Contains-append_left exposed (fact ∷ []) f among, i)) known
@@ -108,13 +104,13 @@ module _ (schema : SchemaParts) (constants : List (List ℕ)) (base needs : List
   thinned wide narrow (e ∷ exposures) among known holds (first, rest) =
       let with_it = thinned (wide ++ e.fact ∷ []) (narrow ++ e.fact ∷ []) exposures
       (λ f c. ⊎_elim (λ old. Contains-append_left wide (e.fact ∷ []) f (among f old)) (λ same. subst (λ g. Contains (wide ++ e.fact ∷ []) g) same (Contains-push wide e.fact)) (Contains-push_cases narrow e.fact f c))
-      (λ v k. ⊎_elim (λ old. known_more constants narrow e.fact v (known v old)) (λ here. inr (e.fact, Contains-push narrow e.fact, here)) (known_push constants wide e.fact v k))
+      (λ v k. ⊎_elim (λ old. known_more constants narrow e.fact v (known v old)) (λ here. inr (e.fact, Contains-push narrow e.fact, here)) (known_or constants wide e.fact v k))
       (λ f n c. ⊎_elim (λ old. Contains-append_left narrow (e.fact ∷ []) f (holds f n old)) (λ same. subst (λ g. Contains (narrow ++ e.fact ∷ []) g) same (Contains-push narrow e.fact)) (Contains-push_cases wide e.fact f c)) rest in
       elim (dec_contains needs e.fact) [
         | yes is ↦ thin_keep wide narrow e exposures among known first (inl is) with_it
         | no out ↦ ⊎_elim
             (λ all. thin_skip wide narrow e exposures (thinned (wide ++ e.fact ∷ []) narrow exposures (λ f c. Contains-append_left wide (e.fact ∷ []) f (among f c))
-            (λ v k. ⊎_elim (λ old. known v old) (λ here. all v here) (known_push constants wide e.fact v k))
+            (λ v k. ⊎_elim (λ old. known v old) (λ here. all v here) (known_or constants wide e.fact v k))
             (λ f n c. ⊎_elim (λ old. holds f n old) (λ same. absurd (out (subst (λ g. Contains needs g) (sym same) n))) (Contains-push_cases wide e.fact f c)) rest))
             (λ new. thin_keep wide narrow e exposures among known first (inr new) with_it) (all_known constants narrow e.fact.vals)
       ]

@@ -2,6 +2,7 @@
 use Rattle.std.proofs.Common.{◌≡◌, ◌⊎◌, ℕ, ◌+◌, List, [], length, take, Some, None, Option, replicate, sym, ap, subst, inl, inr, ⊎_elim, arith}
 use Rattle.std.specs.Prelude.{Contains, IfSome, IfNone, slice_get}
 use Rattle.std.proofs.lemmas.List.Elements.{Contains-push_cases}
+use Rattle.lists.proofs.Places.{take_got}
 use Rattle.meaning.specs.declared.types.Atom.{Atom}
 use Rattle.meaning.specs.declared.types.Ground.{Ground}
 use Rattle.meaning.specs.declared.types.Query.{Query}
@@ -11,7 +12,6 @@ use Rattle.homomorphism.specs.Bindings.{Agrees}
 use Rattle.homomorphism.specs.Narrowing.{Narrows, Differs, NarrowsIf}
 use Rattle.accessible_copy.specs.Goals.{IsCounted}
 use Rattle.accessible_copy.proofs.HeadMatches.{agrees_all, long}
-use Rattle.accessible_copy.proofs.Listed.{take_got}
 use Rattle.exposure_search.specs.Relevance.{IsImageOf, IsImageAmong, IsMade, AreGiven}
 
 given_images : (query : Query) (head : List Val) (given : List (Option Val)) → IsCounted query → Narrows query.head head (replicate query.variables None) given → AreGiven query head given

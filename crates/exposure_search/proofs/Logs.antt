@@ -17,7 +17,7 @@ use Rattle.accessible_copy.specs.declared.entry.Entry.{Entry}
 use Rattle.accessible_copy.specs.declared.entry.Exposed.{Exposed}
 use Rattle.accessible_copy.specs.Known.{facts_of}
 use Rattle.accessible_copy.specs.Written.{firing_of}
-use Rattle.accessible_copy.specs.Proving.{Proving, IsProofOf, log_of, firings_of, exposed_by, exposed_in, sizes_of}
+use Rattle.accessible_copy.specs.Proving.{Proving, IsProofOf, log_of, firings_of, sizes_of}
 use Rattle.accessible_copy.specs.Rounds.{exposure_of}
 use Rattle.accessible_copy.specs.Settling.{Settles}
 use Rattle.accessible_copy.specs.Exposing.{with_exposure}
@@ -25,18 +25,11 @@ use Rattle.accessible_copy.proofs.Writing.{written_run, firings_on}
 use Rattle.accessible_copy.proofs.PassEntries.{part_low}
 use Rattle.exposure_search.specs.Making.{bases_of, OnlyExposes, SameBase}
 use Rattle.exposure_search.proofs.Trying.{quiet_later}
+use Rattle.accessible_copy.proofs.Shown.{shown_in, shown_of}
 
 -- ---- what a log has
 
 -- the exposed facts of a log
-abbrev pub shown_of : List Firing → List Exposed
-shown_of [] = []
-shown_of (firing ∷ log) = exposed_by firing ++ shown_of log
-
-shown_in : (entries : List Entry) → exposed_in entries ≡ shown_of (firings_of entries)
-shown_in [] = refl
-shown_in (entry ∷ entries) = ap (λ rest. exposed_by entry.firing ++ rest) (shown_in entries)
-
 shown_made : (bases : List Trigger) (made : List Exposed) → shown_of (map Base bases ++ map exposure_of made) ≡ made
 shown_made [] [] = refl
 shown_made [] (one ∷ made) = ap (λ z. one ∷ z) (shown_made [] made)

@@ -4,6 +4,7 @@ use Rattle.std.specs.Prelude.{Contains, slice_get}
 use Rattle.std.proofs.lemmas.List.{map-append}
 use Rattle.std.proofs.lemmas.List.Elements.{Contains-push_cases}
 use Rattle.lists.proofs.Members.{contains_got, contains_map}
+use Rattle.lists.proofs.Places.{take_got}
 use Rattle.meaning.specs.declared.types.Atom.{Atom}
 use Rattle.meaning.specs.declared.types.Rule.{Rule}
 use Rattle.meaning.specs.declared.types.Ground.{Ground}
@@ -11,7 +12,6 @@ use Rattle.meaning.specs.declared.types.Query.{Query}
 use Rattle.meaning.specs.declared.types.Val.{Val}
 use Rattle.accessible_copy.specs.declared.entry.Exposed.{Exposed}
 use Rattle.accessible_copy.specs.Known.{facts_of}
-use Rattle.accessible_copy.proofs.Listed.{take_got}
 use Rattle.least_search.specs.declared.space.Move.{Move}
 use Rattle.exposure_search.specs.Making.{IsMissing, CannotMake, fact_at, made_by, all_made}
 use Rattle.exposure_search.specs.Ahead.{AreTheMarked, CannotFire, facts_along}

@@ -6,13 +6,14 @@ use Rattle.std.proofs.lemmas.List.{take_more}
 use Rattle.std.proofs.lemmas.List.Elements.{Contains-append_left, Contains-push, Contains-push_cases}
 use Rattle.std.proofs.lemmas.Option.{slice_get_within}
 use Rattle.lists.proofs.Members.{some_injective}
+use Rattle.lists.proofs.Places.{take_got}
 use Rattle.meaning.specs.declared.types.Method.{Method}
 use Rattle.meaning.specs.declared.types.Ground.{Ground}
 use Rattle.meaning.specs.declared.types.Val.{Val}
 use Rattle.accessible_copy.specs.Known.{known_values}
 use Rattle.accessible_copy.specs.Listing.{AreInputs}
 use Rattle.accessible_copy.specs.Methods.{IsMethodIndex, methods_of}
-use Rattle.accessible_copy.proofs.Listed.{known_to, known_from, inputs_more, take_got}
+use Rattle.accessible_copy.proofs.Listed.{known_to, known_from, inputs_more}
 use Rattle.least_search.specs.declared.space.Move.{Move}
 use Rattle.exposure_search.specs.declared.marks.Marks.{Marks}
 use Rattle.exposure_search.specs.declared.candidates.Candidate.{Candidate}

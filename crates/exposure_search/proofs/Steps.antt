@@ -5,6 +5,7 @@ use Rattle.std.specs.List.{AllZip}
 use Rattle.std.proofs.lemmas.List.{append-nil, map-append}
 use Rattle.std.proofs.lemmas.Option.{slice_get_within, get_or_from_slice_get}
 use Rattle.lists.proofs.Members.{some_injective}
+use Rattle.lists.proofs.Places.{take_got}
 use Rattle.meaning.specs.declared.types.SchemaParts.{SchemaParts}
 use Rattle.meaning.specs.declared.types.Method.{Method}
 use Rattle.meaning.specs.declared.types.Ground.{Ground}
@@ -15,7 +16,6 @@ use Rattle.accessible_copy.specs.declared.entry.Exposed.{Exposed}
 use Rattle.accessible_copy.specs.Known.{facts_of}
 use Rattle.accessible_copy.specs.Proving.{Proving, IsProofOf}
 use Rattle.accessible_copy.specs.Exposing.{with_exposure}
-use Rattle.accessible_copy.proofs.Listed.{take_got}
 use Rattle.least_search.specs.declared.space.Move.{Move}
 use Rattle.least_search.specs.Walks.{IsWalk, walk_cost, no_facts, with_fact}
 use Rattle.exposure_search.specs.Tries.{picked, IsOpen}

@@ -2,9 +2,9 @@
 use Rattle.std.proofs.Common.{◌≡◌, ℕ, zero, suc, ◌+◌, ◌<◌, take, List, [], ◌∷◌, ◌++◌, length, Bool, true, false, Some, refl, sym, ◌∙◌, subst, ⊎_elim, arith}
 use Rattle.std.specs.Prelude.{Contains, slice_get, slice_set, Result, Ok}
 use Rattle.std.proofs.lemmas.List.Elements.{Contains-push_cases}
+use Rattle.lists.proofs.Places.{take_got}
 use Rattle.meaning.specs.declared.types.Atom.{Atom}
 use Rattle.meaning.specs.declared.types.Rule.{Rule}
-use Rattle.accessible_copy.proofs.Listed.{take_got}
 use Rattle.exposure_search.specs.Tries.{IsMarked}
 use Rattle.exposure_search.specs.Relevance.{Keeps, AllMarked}
 

@@ -1,10 +1,10 @@
 -- Matches of one atom after another.
-use Rattle.std.proofs.Common.{◌≡◌, ℕ, suc, ◌-◌, ◌<◌, ◌≤◌, max, List, [], ◌∷◌, ◌++◌, length, Some, Option, refl, sym, ap, ◌∙◌, subst, inl, inr, ⊎_elim, arith, Contains, map, take, slice_index_or, drop}
-use Rattle.std.proofs.lemmas.List.{ext_get_or}
+use Rattle.std.proofs.Common.{◌≡◌, ℕ, ◌-◌, ◌<◌, ◌≤◌, max, List, [], ◌∷◌, ◌++◌, length, Some, Option, sym, ◌∙◌, subst, inl, inr, ⊎_elim, arith, Contains, map, take, slice_index_or, drop}
+use Rattle.std.proofs.lemmas.List.{ext_get_or, length-map}
 use Rattle.std.proofs.lemmas.List.FromFn.{length-map-range_with_len, get_or-map-range_with_len}
 use Rattle.std.proofs.lemmas.List.Elements.{Contains-append_left, Contains-append_right, Contains-append_cases, Contains-push, Contains-push_cases}
 use Rattle.std.proofs.lemmas.Option.{get_or_from_slice_get}
-use Rattle.lists.proofs.Members.{contains_here, contains_there, contains_cases, map_got}
+use Rattle.lists.proofs.Members.{contains_here, contains_there, contains_cases, map_got, contains_none}
 use Rattle.meaning.specs.declared.types.Term.TheVariants.{Var}
 use Rattle.meaning.specs.declared.types.Val.{Val}
 use Rattle.meaning.specs.declared.types.Val.TheVariants.{Const, Label}
@@ -20,13 +20,9 @@ use Rattle.homomorphism.specs.Ways.{AreApart, AreWays}
 use Rattle.homomorphism.specs.Matches.{IsMatch, AreMatches, AreCovered}
 use Rattle.homomorphism.specs.Widening.{Widens}
 use Rattle.homomorphism.proofs.Extending.{wider}
-use Rattle.homomorphism.proofs.Members.{contains_none, distinct_append}
+use Rattle.homomorphism.proofs.Members.{distinct_append}
 use Rattle.homomorphism.proofs.Ways.{apart_take}
 use Rattle.homomorphism.proofs.Binding.{apart}
-
-length_map : {X Y : Type 0} (f : X → Y) (xs : List X) → length (map f xs) ≡ length xs
-length_map f [] = refl
-length_map f (x ∷ xs) = ap suc (length_map f xs)
 
 pub values_agree : (given : List (Option Val)) → Agrees given (at (map value_or_none given))
 values_agree given x v e = get_or_from_slice_get (map value_or_none given) x v (Label 0) (map_got value_or_none given x (Some v) e)
@@ -34,7 +30,7 @@ values_agree given x v e = get_or_from_slice_get (map value_or_none given) x v (
 -- no atoms
 pub match_none : (facts : List Ground) (given : List (Option Val)) (values : List Val) → values ≡ map value_or_none given → IsMatch facts [] given values
 match_none facts given values e = subst (IsMatch facts [] given) (sym e) (record {
-  width = length_map value_or_none given;
+  width = length-map given value_or_none;
   agrees = values_agree given;
   facts_are = λ atom c. absurd (contains_none atom c);
 })
@@ -42,7 +38,7 @@ match_none facts given values e = subst (IsMatch facts [] given) (sym e) (record
 -- values that were found, as a list
 pub match_of : (facts : List Ground) (atoms : List Atom) (given found : List (Option Val)) (values : List Val) → Widens facts atoms given found → values ≡ map value_or_none found → IsMatch facts atoms given values
 match_of facts atoms given found values w e = subst (IsMatch facts atoms given) (sym e) (record {
-  width = length_map value_or_none found ∙ w.width;
+  width = length-map found value_or_none ∙ w.width;
   agrees = wider given found w.kept (at (map value_or_none found)) (values_agree found);
   facts_are = w.sound (at (map value_or_none found)) (values_agree found);
 })
@@ -62,7 +58,7 @@ matches_none facts given m covered e = record {
     bound_at x l = ⊎_elim (λ b. b) (λ (atom, among, o). absurd (contains_none atom among)) (covered x l)
 
     same : (a : ℕ → Val) → Agrees given a → values_of (length given) a ≡ map value_or_none given
-    same a ag = ext_get_or (Label 0) (values_of (length given) a) (map value_or_none given) (length-map-range_with_len a 0 (length given) ∙ sym (length_map value_or_none given))
+    same a ag = ext_get_or (Label 0) (values_of (length given) a) (map value_or_none given) (length-map-range_with_len a 0 (length given) ∙ sym (length-map given value_or_none))
         (λ x l. let within : x < length given = subst (λ n. x < n) (length-map-range_with_len a 0 (length given)) l in
         let (v, got) = bound_at x within in
         get_or-map-range_with_len a 0 (length given) x x (Label 0) within (omega arith) ∙ ag x v got ∙ sym (values_agree given x v got))

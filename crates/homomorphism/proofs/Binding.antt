@@ -1,7 +1,7 @@
 -- Terms made values, one after another.
 use Rattle.std.proofs.Common.{◌≡◌, ◌⊎◌, ℕ, zero, suc, ◌<◌, ◌≤◌, List, [], ◌∷◌, length, Some, None, Option, refl, sym, ap, ◌∙◌, subst, inl, inr, ⊎_elim, arith, Contains, map, slice_get, slice_set, slice_index_or, ◌-◌, take, drop, Bool, true, false, ◌==◌}
 use Rattle.std.proofs.lemmas.Option.{slice_get_within, slice_get-get_or}
-use Rattle.lists.proofs.Members.{contains_cases, some_injective}
+use Rattle.lists.proofs.Members.{contains_cases, some_injective, contains_none, head_is, tail_is}
 use Rattle.std.proofs.lemmas.Grind.{common_steps}
 use Rattle.std.proofs.lemmas.Bool.Decides.{nat_tests}
 use Rattle.meaning.specs.declared.types.Term.{Term}
@@ -12,7 +12,6 @@ use Rattle.meaning.specs.Matching.{value_of}
 use Rattle.meaning.specs.Triggers.{terms_bound}
 use Rattle.homomorphism.specs.Bindings.{Agrees, IsBound}
 use Rattle.homomorphism.specs.Narrowing.{Narrows, Differs}
-use Rattle.homomorphism.proofs.Members.{contains_none}
 
 -- a place after a write
 pub got_set_same : {X : Type 0} (xs : List X) (k : ℕ) (x : X) → k < length xs → slice_get (slice_set xs k x) k ≡ Some x
@@ -40,12 +39,6 @@ same_or_not (suc j) (suc k) = ⊎_elim (λ e. inl (ap suc e)) (λ n. inr (λ e. 
 
 pub var_is : (x y : ℕ) → Var x ≡ Var y → x ≡ y
 var_is x y e = cc
-
-head_is : {X : Type 0} (x y : X) (xs ys : List X) → x ∷ xs ≡ y ∷ ys → x ≡ y
-head_is x y xs ys e = cc
-
-tail_is : {X : Type 0} (x y : X) (xs ys : List X) → x ∷ xs ≡ y ∷ ys → xs ≡ ys
-tail_is x y xs ys e = cc
 
 pub none_some : {X : Type 0} (x : X) → ◌≡◌ {A = Option X} None (Some x) → ⊥
 none_some x e = cc

@@ -3,7 +3,7 @@ use Rattle.std.proofs.Common.{◌≡◌, ℕ, zero, suc, ◌+◌, ◌<◌, List,
 use Rattle.std.specs.Prelude.{if◌then◌else◌}
 use Rattle.std.specs.List.{filter}
 use Rattle.std.proofs.lemmas.Option.{slice_get-get_or}
-use Rattle.lists.proofs.Members.{contains_here, contains_there, map_got}
+use Rattle.lists.proofs.Members.{contains_here, contains_there, map_got, contains_filter}
 use Rattle.meaning.specs.declared.types.Term.{Term}
 use Rattle.meaning.specs.declared.types.Val.{Val}
 use Rattle.meaning.specs.declared.types.Val.TheVariants.{Const}
@@ -20,7 +20,7 @@ use Rattle.homomorphism.specs.Bindings.{Agrees}
 use Rattle.homomorphism.specs.Ways.{AreWays}
 use Rattle.homomorphism.specs.declared.key_lists.KeyLists.{KeyLists}
 use Rattle.homomorphism.specs.Listed.{has_position, is_found_by, value_keys, has_key, numbers_from, listed, IsIndexOf, AreCandidates}
-use Rattle.homomorphism.proofs.Members.{in_filter, to_filter, distinct_filter}
+use Rattle.homomorphism.proofs.Members.{in_filter, distinct_filter}
 use Rattle.homomorphism.proofs.Indexing.{has_key_decides, of_values, numbers_below}
 
 -- the list is that of some key that facts are found by, which the atom has under each assignment that agrees
@@ -104,7 +104,7 @@ module _ (facts : List Ground) (atom : Atom) (given : List (Option Val)) (number
 
   pub picked_has : (a : ℕ → Val) → Agrees given a → Contains facts (ground a atom) → Contains (picked facts numbers) (ground a atom)
   unfolding picked_are
-  picked_has a ag c = subst (λ l. Contains l (ground a atom)) (sym picked_are) (to_filter (has_key r.0) facts (ground a atom) c (r.2 a ag))
+  picked_has a ag c = subst (λ l. Contains l (ground a atom)) (sym picked_are) (contains_filter (has_key r.0) facts (ground a atom) c (r.2 a ag))
 
   pub ways_picked : (ways : List (List (Option Val))) → AreWays (picked facts numbers) atom given ways → AreWays facts atom given ways
   unfolding picked_are picked_has

@@ -1,8 +1,9 @@
 -- Variables that occur, one after another.
-use Rattle.std.proofs.Common.{◌≡◌, ◌↔◌, ◌⊎◌, ℕ, ◌+◌, ◌-◌, ◌<◌, ◌≤◌, List, ◌∷◌, length, Some, None, Option, refl, sym, ap, ◌∙◌, subst, ⊎_elim, arith, Contains, take, drop, slice_index_or, IsTrue, Bool, true, false}
+use Rattle.std.proofs.Common.{◌≡◌, ◌↔◌, ◌⊎◌, ℕ, ◌+◌, ◌-◌, ◌<◌, ◌≤◌, List, ◌∷◌, length, Some, None, Option, sym, ap, ◌∙◌, subst, ⊎_elim, arith, Contains, take, drop, slice_index_or, IsTrue, Bool, true, false}
 use Rattle.std.proofs.lemmas.Bool.{cases_lt}
 use Rattle.std.proofs.lemmas.Option.{slice_get-get_or}
 use Rattle.lists.proofs.Members.{contains_there, contains_cases, some_injective}
+use Rattle.lists.proofs.Booleans.{test_holds, test_fails}
 use Rattle.meaning.specs.declared.types.Term.TheVariants.{Var}
 use Rattle.meaning.specs.declared.types.Val.{Val}
 use Rattle.meaning.specs.declared.types.Atom.{Atom}
@@ -22,15 +23,6 @@ pub denied : {P : Type 0} (b : Bool) → (IsTrue b ↔ P) → b ≡ false → P 
 denied b iff e p = let yes : b ≡ true = iff.1 p in clash (sym yes ∙ e)
   where
     clash : true ≡ false → ⊥
-    clash h = cc
-
-pub confirmed : {P : Type 0} → P → IsTrue true ↔ P
-confirmed p = ((λ e. p), (λ p. refl))
-
-pub refuted : {P : Type 0} → (P → ⊥) → IsTrue false ↔ P
-refuted not = ((λ e. absurd (clash e)), (λ p. absurd (not p)))
-  where
-    clash : false ≡ true → ⊥
     clash h = cc
 
 occurs_else : (atom : Atom) (rest : List Atom) (x : ℕ) → (Contains atom.terms (Var x) → ⊥) → OccursIn (atom ∷ rest) x → OccursIn rest x

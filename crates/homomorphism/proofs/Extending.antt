@@ -1,7 +1,7 @@
 -- Atoms made facts one after another, with values that are given in place.
 use Rattle.std.proofs.Common.{◌≡◌, ℕ, zero, suc, ◌-◌, ◌<◌, ◌≤◌, max, List, [], ◌∷◌, length, Some, None, Option, refl, sym, ap, ◌∙◌, subst, ⊎_elim, arith, Contains, slice_get, slice_index_or, take, drop}
 use Rattle.std.proofs.lemmas.List.{take_all}
-use Rattle.lists.proofs.Members.{contains_here, contains_there, contains_cases, some_injective}
+use Rattle.lists.proofs.Members.{contains_here, contains_there, contains_cases, some_injective, contains_none}
 use Rattle.meaning.specs.declared.types.Val.{Val}
 use Rattle.meaning.specs.declared.types.Atom.{Atom}
 use Rattle.meaning.specs.declared.types.Ground.{Ground}
@@ -14,7 +14,6 @@ use Rattle.homomorphism.specs.Widening.{Touches, Widens, taken}
 use Rattle.homomorphism.proofs.Binding.{apart, none_some}
 use Rattle.homomorphism.proofs.Choosing.{picked, picked_has, length_picked}
 use Rattle.homomorphism.proofs.FactByFact.{NoneAmong}
-use Rattle.homomorphism.proofs.Members.{contains_none}
 use Rattle.homomorphism.proofs.Touching.{default}
 
 pub widens_none : (facts : List Ground) (given : List (Option Val)) → Widens facts [] given given

@@ -3,6 +3,7 @@ use Rattle.std.proofs.Common.{◌≡◌, ℕ, ◌+◌, ◌-◌, ◌<◌, ◌≤�
 use Rattle.std.proofs.lemmas.List.{take_all}
 use Rattle.std.proofs.lemmas.List.Elements.{Contains-push_cases}
 use Rattle.lists.proofs.Members.{contains_here, contains_there, contains_cases}
+use Rattle.lists.proofs.Places.{take_indexed}
 use Rattle.meaning.specs.declared.types.Val.{Val}
 use Rattle.meaning.specs.declared.types.Val.TheVariants.{Const}
 use Rattle.meaning.specs.declared.types.Atom.{Atom}
@@ -15,7 +16,6 @@ use Rattle.homomorphism.specs.Matches.{IsMatch, NoMatch}
 use Rattle.homomorphism.specs.Listed.{AreCandidates}
 use Rattle.homomorphism.proofs.Binding.{apart}
 use Rattle.homomorphism.proofs.Choosing.{picked, picked_has, length_picked}
-use Rattle.homomorphism.proofs.Members.{turn}
 
 -- no assignment makes the atom one of some facts, and the other atoms facts
 abbrev pub NoneAmong : List Ground → List Ground → Atom → List Atom → List (Option Val) → Type 0
@@ -24,7 +24,7 @@ NoneAmong done facts atom rest given = (a : ℕ → Val) → Agrees given a → 
 -- one turn of the loop over the facts that are picked
 module _ (chosen : List Ground) (i : ℕ) (fact : Ground) (l : i < length chosen) (is : fact ≡ slice_index_or chosen i fact) (facts : List Ground) (atom : Atom) (rest : List Atom) (given : List (Option Val)) (before : NoneAmong (take i chosen) facts atom rest given) where
   cases : (a : ℕ → Val) → Contains (take (i + 1) chosen) (ground a atom) → ((fact ≡ ground a atom) → ⊥) → (Contains (take i chosen) (ground a atom) → ⊥) → ⊥
-  cases a c here there = ⊎_elim there here (Contains-push_cases (take i chosen) fact (ground a atom) (subst (λ done. Contains done (ground a atom)) (turn chosen i fact l is) c))
+  cases a c here there = ⊎_elim there here (Contains-push_cases (take i chosen) fact (ground a atom) (subst (λ done. Contains done (ground a atom)) (take_indexed chosen i fact l is) c))
 
   pub none_without : ((a : ℕ → Val) → Agrees given a → ground a atom ≡ fact → ⊥) → NoneAmong (take (i + 1) chosen) facts atom rest given
   unfolding cases

@@ -4,7 +4,8 @@ use Rattle.std.proofs.lemmas.Bool.{cases_lt}
 use Rattle.std.proofs.lemmas.List.{take_all}
 use Rattle.std.proofs.lemmas.List.Elements.{Contains-append_left, Contains-append_right, Contains-append_cases, Contains-push_cases}
 use Rattle.std.proofs.lemmas.Option.{slice_get-get_or}
-use Rattle.lists.proofs.Members.{contains_here, contains_there, contains_cases, contains_map, contains_mapped}
+use Rattle.lists.proofs.Members.{contains_here, contains_there, contains_cases, contains_map, contains_mapped, contains_none}
+use Rattle.lists.proofs.Places.{take_indexed}
 use Rattle.meaning_laws.proofs.Carrying.{occurs_below}
 use Rattle.meaning_laws.proofs.Deciding.{same_facts}
 use Rattle.meaning_laws.proofs.Joined.{joined_below, joined_above}
@@ -29,7 +30,6 @@ use Rattle.homomorphism.proofs.AtomByAtom.{match_none}
 use Rattle.homomorphism.proofs.Binding.{apart}
 use Rattle.homomorphism.proofs.Choosing.{picked, picked_has, length_picked}
 use Rattle.homomorphism.proofs.Giving.{body_fits}
-use Rattle.homomorphism.proofs.Members.{contains_none, turn}
 use Rattle.homomorphism.proofs.Touching.{default}
 
 -- a variable that is not one without a value has one
@@ -71,7 +71,7 @@ by_none facts atom rest head given = record {
 -- one turn of the loop over the facts that are picked
 module _ (chosen : List Ground) (i : ℕ) (fact : Ground) (l : i < length chosen) (is : fact ≡ slice_index_or chosen i fact) (facts : List Ground) (atom : Atom) (rest head : List Atom) (given : List (Option Val)) (matches : List Assignment) (before : ByFacts (take i chosen) facts atom rest head given matches) where
   cases : (a : ℕ → Val) → Contains (take (i + 1) chosen) (ground a atom) → Contains (take i chosen) (ground a atom) ⊎ (fact ≡ ground a atom)
-  cases a c = Contains-push_cases (take i chosen) fact (ground a atom) (subst (λ done. Contains done (ground a atom)) (turn chosen i fact l is) c)
+  cases a c = Contains-push_cases (take i chosen) fact (ground a atom) (subst (λ done. Contains done (ground a atom)) (take_indexed chosen i fact l is) c)
 
   pub by_without : ((a : ℕ → Val) → Agrees given a → ground a atom ≡ fact → ⊥) → ByFacts (take (i + 1) chosen) facts atom rest head given matches
   unfolding cases

@@ -1,9 +1,11 @@
 -- Values fixed for a search, and what its answer says of a rule.
-use Rattle.std.proofs.Common.{◌≡◌, ℕ, suc, ◌+◌, ◌-◌, ◌<◌, ◌≤◌, max, List, [], ◌∷◌, ◌++◌, length, Some, None, Option, refl, sym, ap, ◌∙◌, subst, inr, ⊎_elim, arith, Contains, map, take, drop, slice_get, slice_index_or}
+use Rattle.std.proofs.Common.{◌≡◌, ℕ, ◌+◌, ◌-◌, ◌<◌, ◌≤◌, max, List, [], ◌∷◌, ◌++◌, length, Some, None, Option, refl, sym, ap, ◌∙◌, subst, inr, ⊎_elim, arith, Contains, map, take, drop, slice_get, slice_index_or}
 use Rattle.std.proofs.lemmas.Bool.{cases_lt}
 use Rattle.std.proofs.lemmas.List.Elements.{Contains-push_cases}
 use Rattle.std.proofs.lemmas.Option.{slice_get_within, slice_get-get_or}
+use Rattle.std.proofs.lemmas.List.{length-map}
 use Rattle.lists.proofs.Members.{got_push, got_before, map_got, some_injective}
+use Rattle.lists.proofs.Places.{take_indexed}
 use Rattle.meaning_laws.proofs.Carrying.{occurs_below}
 use Rattle.meaning.specs.declared.types.Term.{Term}
 use Rattle.meaning.specs.declared.types.Term.TheVariants.{Var, Const as Said}
@@ -19,7 +21,6 @@ use Rattle.homomorphism.specs.Matches.{IsMatch, NoMatch, AreMatches, AreCovered}
 use Rattle.homomorphism.specs.Narrowing.{Gives}
 use Rattle.homomorphism.specs.Rules.{AreBodyMatches, IsMet, IsUnmet}
 use Rattle.homomorphism.proofs.Binding.{apart}
-use Rattle.homomorphism.proofs.Members.{turn}
 
 -- widths
 pub terms_apart : (left : List Term) (term : Term) → 1 ≤ length left → term ≡ slice_index_or left 0 term → terms_bound left ≡ max (terms_bound (term ∷ [])) (terms_bound (take (length left - 1) (drop 1 left)))
@@ -41,15 +42,11 @@ pub record Fills (values : List Val) (width : ℕ) (fixed : List (Option Val)) :
 
 pub fills_start : (values : List Val) (width : ℕ) → Fills values width (map Some values)
 fills_start values width = record {
-  least = let e = length_map values in omega arith;
-  most = let e = length_map values in omega arith;
+  least = let e = length-map values Some in omega arith;
+  most = let e = length-map values Some in omega arith;
   front = λ x l. map_got Some values x (at values x) (slice_get-get_or values x (Label 0) l);
-  free = λ x v l e. let f = slice_get_within (map Some values) x (Some v) e in let g = length_map values in omega arith;
+  free = λ x v l e. let f = slice_get_within (map Some values) x (Some v) e in let g = length-map values Some in omega arith;
 }
-  where
-    length_map : (values : List Val) → length (map Some values) ≡ length values
-    length_map [] = refl
-    length_map (x ∷ values) = ap suc (length_map values)
 
 pub fills_more : (values : List Val) (width : ℕ) (fixed : List (Option Val)) → length fixed < width → Fills values width fixed → Fills values width (fixed ++ None ∷ [])
 fills_more values width fixed l f = record {
@@ -106,4 +103,4 @@ head_unmet facts rule values fixed numbered width g none b ext = none b (g.compl
 pub met_push : (facts : List Ground) (rule : Rule) (found : List Assignment) (i : ℕ) (one : Assignment) → i < length found → one ≡ slice_index_or found i one →
     ((other : Assignment) → Contains (take i found) other → IsMet facts rule other.vals) → IsMet facts rule one.vals → (other : Assignment) → Contains (take (i + 1) found) other → IsMet facts rule other.vals
 met_push facts rule found i one l e before now other c =
-    ⊎_elim (λ h. before other h) (λ same. subst (λ (n : Assignment). IsMet facts rule n.vals) same now) (Contains-push_cases (take i found) one other (subst (λ z. Contains z other) (turn found i one l e) c))
+    ⊎_elim (λ h. before other h) (λ same. subst (λ (n : Assignment). IsMet facts rule n.vals) same now) (Contains-push_cases (take i found) one other (subst (λ z. Contains z other) (take_indexed found i one l e) c))

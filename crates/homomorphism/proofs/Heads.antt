@@ -2,6 +2,7 @@
 use Rattle.std.proofs.Common.{◌≡◌, ℕ, ◌+◌, ◌<◌, ◌≤◌, List, [], ◌∷◌, length, refl, subst, ⊎_elim, arith, Contains, take, slice_index_or}
 use Rattle.std.proofs.lemmas.List.Elements.{Contains-push_cases}
 use Rattle.lists.proofs.Members.{contains_here}
+use Rattle.lists.proofs.Places.{take_indexed}
 use Rattle.meaning_laws.proofs.Carrying.{occurs_below}
 use Rattle.meaning_laws.proofs.Deciding.{same_facts}
 use Rattle.meaning.specs.declared.types.Term.TheVariants.{Var}
@@ -14,7 +15,6 @@ use Rattle.meaning.specs.Matching.{AreFacts, GroundsOf}
 use Rattle.meaning.specs.Triggers.{ground, bound, terms_bound, IsNumbered}
 use Rattle.homomorphism.specs.Bindings.{at}
 use Rattle.homomorphism.specs.Rules.{IsMet, IsUnmet}
-use Rattle.homomorphism.proofs.Members.{turn}
 
 pub known_met : (facts : List Ground) (rule : Rule) (values : List Val) → AreFacts Const (GroundsOf facts) (at values) rule.head → IsMet facts rule values
 known_met facts rule values are = (at values, record { agrees = λ x occurs. refl; head = are })
@@ -30,4 +30,4 @@ variable_below atom x n c fits = let l : x < bound (atom ∷ []) = occurs_below 
 pub are_more : (facts : List Ground) (atoms : List Atom) (i : ℕ) (atom : Atom) (a : ℕ → Val) → i < length atoms → atom ≡ slice_index_or atoms i atom →
     AreFacts Const (GroundsOf facts) a (take i atoms) → Contains facts (ground a atom) → AreFacts Const (GroundsOf facts) a (take (i + 1) atoms)
 are_more facts atoms i atom a l is before now other c =
-    ⊎_elim (λ h. before other h) (λ same. subst (λ (t : Atom). Contains facts (ground a t)) same now) (Contains-push_cases (take i atoms) atom other (subst (λ z. Contains z other) (turn atoms i atom l is) c))
+    ⊎_elim (λ h. before other h) (λ same. subst (λ (t : Atom). Contains facts (ground a t)) same now) (Contains-push_cases (take i atoms) atom other (subst (λ z. Contains z other) (take_indexed atoms i atom l is) c))

@@ -2,7 +2,7 @@
 use Rattle.std.proofs.Common.{◌≡◌, ◌⊎◌, ℕ, zero, suc, ◌+◌, ◌<◌, List, [], ◌∷◌, ◌++◌, length, Option, Some, None, Bool, true, false, refl, sym, ap, ◌∙◌, subst, inl, inr, ⊎_elim, arith, Contains, slice_get}
 use Rattle.std.specs.Prelude.{Decides, nat_eq, ◌&&◌, if◌then◌else◌}
 use Rattle.std.proofs.lemmas.Bool.Decides.{Decides-eqb, Decides-and, Decides-like}
-use Rattle.lists.proofs.Members.{contains_here, contains_there, contains_cases, some_injective}
+use Rattle.lists.proofs.Members.{contains_here, contains_there, contains_cases, some_injective, contains_none}
 use Rattle.meaning_laws.proofs.Added.{val_decides}
 use Rattle.meaning.specs.declared.types.Val.{Val}
 use Rattle.meaning.specs.declared.types.Ground.{Ground}
@@ -14,7 +14,6 @@ use Rattle.homomorphism.specs.declared.fact_index.FactIndex.{FactIndex}
 use Rattle.homomorphism.specs.declared.key_lists.KeyLists.{KeyLists}
 use Rattle.homomorphism.specs.Listed.{is_found_by, value_keys, keys_of, is_val, has_key, numbers_from, listed, MayEndIn, IsIndexOf}
 use Rattle.homomorphism.specs.Present.{IsPresence}
-use Rattle.homomorphism.proofs.Members.{contains_none}
 
 -- the keys of a row
 in_values : (rel i : ℕ) (vals : List Val) (key : Key) → Contains (value_keys rel i vals) key → (k : ℕ) × (v : Val) × (slice_get vals k ≡ Some v) × (Value rel (i + k) v ≡ key)

@@ -1,20 +1,13 @@
 -- Membership and lists without doubles.
-use Rattle.std.proofs.Common.{◌≡◌, ◌⊎◌, ℕ, zero, suc, List, [], ◌∷◌, ◌++◌, Bool, true, false, cond, refl, sym, ap, ◌∙◌, subst, ⊎_elim, arith, Contains, take, slice_index_or, ◌+◌, ◌<◌, length}
+use Rattle.std.proofs.Common.{◌≡◌, ◌⊎◌, ℕ, zero, suc, List, [], ◌∷◌, ◌++◌, Bool, true, false, cond, sym, subst, ⊎_elim, arith, Contains, take, ◌+◌}
 use Rattle.std.specs.List.{filter}
-use Rattle.std.proofs.lemmas.List.{take_more}
 use Rattle.std.proofs.lemmas.List.Elements.{Contains-append_cases, Contains-append_left, Contains-push}
-use Rattle.lists.proofs.Members.{contains_here, contains_there, contains_cases}
+use Rattle.lists.proofs.Members.{contains_here, contains_there, contains_cases, contains_none, contains_filter}
+use Rattle.lists.proofs.Places.{take_indexed}
 use Rattle.meaning.specs.Search.{AreDistinct}
-
--- one item more of a list
-pub turn : {A : Type 0} (xs : List A) (n : ℕ) (x : A) → n < length xs → x ≡ slice_index_or xs n x → take (n + 1) xs ≡ take n xs ++ x ∷ []
-turn xs n x l is = take_more xs n x l ∙ ap (λ z. take n xs ++ z ∷ []) (sym is)
 
 pub contains_else : {X : Type 0} (y : X) (xs : List X) (x : X) → (y ≡ x → ⊥) → Contains (y ∷ xs) x → Contains xs x
 contains_else y xs x differ c = ⊎_elim (λ e. absurd (differ e)) (λ h. h) (contains_cases y xs x c)
-
-pub contains_none : {X : Type 0} (x : X) → Contains [] x → ⊥
-contains_none x c = omega arith
 
 pub distinct_append : {X : Type 0} (xs ys : List X) → AreDistinct xs → AreDistinct ys → ((x : X) → Contains xs x → Contains ys x → ⊥) → AreDistinct (xs ++ ys)
 distinct_append [] ys first second apart = second
@@ -50,17 +43,6 @@ in_filter p (y ∷ xs) x c = by (p y) (in_filter p xs x) c
     by : (t : Bool) → (Contains (filter p xs) x → Contains xs x) → Contains (cond t (y ∷ filter p xs) (filter p xs)) x → Contains (y ∷ xs) x
     by true more c = ⊎_elim (λ e. subst (Contains (y ∷ xs)) e (contains_here y xs)) (λ h. contains_there y xs x (more h)) (contains_cases y (filter p xs) x c)
     by false more c = contains_there y xs x (more c)
-
-pub to_filter : {X : Type 0} (p : X → Bool) (xs : List X) (x : X) → Contains xs x → p x ≡ true → Contains (filter p xs) x
-to_filter p [] x c e = c
-to_filter p (y ∷ xs) x c e = by (p y) refl (contains_cases y xs x c) (λ h. to_filter p xs x h e)
-  where
-    clash : false ≡ true → ⊥
-    clash e = cc
-
-    by : (t : Bool) → p y ≡ t → (y ≡ x) ⊎ Contains xs x → (Contains xs x → Contains (filter p xs) x) → Contains (cond t (y ∷ filter p xs) (filter p xs)) x
-    by true f either more = ⊎_elim (λ g. subst (Contains (y ∷ filter p xs)) g (contains_here y (filter p xs))) (λ h. contains_there y (filter p xs) x (more h)) either
-    by false f either more = ⊎_elim (λ g. absurd (clash (sym f ∙ ap p g ∙ e))) more either
 
 pub distinct_filter : {X : Type 0} (p : X → Bool) (xs : List X) → AreDistinct xs → AreDistinct (filter p xs)
 distinct_filter p [] once = tt

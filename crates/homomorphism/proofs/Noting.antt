@@ -3,7 +3,8 @@ use Rattle.std.proofs.Common.{◌≡◌, ◌⊎◌, ℕ, zero, suc, ◌+◌, ◌
 use Rattle.std.proofs.lemmas.List.{take_all}
 use Rattle.std.proofs.lemmas.List.Elements.{Contains-append_left, Contains-push, Contains-push_cases}
 use Rattle.std.proofs.lemmas.Option.{slice_get-get_or}
-use Rattle.lists.proofs.Members.{contains_here, contains_there}
+use Rattle.lists.proofs.Members.{contains_here, contains_there, contains_none}
+use Rattle.lists.proofs.Places.{take_indexed}
 use Rattle.meaning.specs.declared.types.Val.{Val}
 use Rattle.meaning.specs.declared.types.Ground.{Ground}
 use Rattle.meaning.specs.Search.{AreDistinct}
@@ -14,7 +15,7 @@ use Rattle.homomorphism.specs.declared.positions.Positions.{Positions}
 use Rattle.homomorphism.specs.Listed.{is_found_by, listed, keys_of, value_keys, MayEndIn}
 use Rattle.homomorphism.proofs.Exact.{key_cases}
 use Rattle.homomorphism.proofs.Indexing.{keys_distinct, of_values}
-use Rattle.homomorphism.proofs.Members.{contains_none, contains_else, distinct_parts, turn}
+use Rattle.homomorphism.proofs.Members.{contains_else, distinct_parts}
 
 length_take : {X : Type 0} (n : ℕ) (xs : List X) → n < length xs → n ≡ 0 + length (take n xs)
 length_take zero xs l = refl
@@ -78,7 +79,7 @@ noting_relation positions fact vals number was next here others = noting_push po
 module _ (positions : Positions) (fact : Ground) (vals : List Val) (same : vals ≡ fact.vals) (number p : ℕ) (val : Val) (l : p < length vals) (is : val ≡ slice_index_or vals p val)
     (was now : KeyLists) (r : Noting positions (keys_of fact) (keys_before fact vals p) number was now) where
   one_more : keys_before fact vals p ++ Value fact.rel p val ∷ [] ≡ keys_before fact vals (p + 1)
-  one_more = ap (λ keys. Relation fact.rel ∷ keys) (sym (value_keys_push fact.rel 0 p (take p vals) val (length_take p vals l)) ∙ ap (value_keys fact.rel 0) (sym (turn vals p val l is)))
+  one_more = ap (λ keys. Relation fact.rel ∷ keys) (sym (value_keys_push fact.rel 0 p (take p vals) val (length_take p vals l)) ∙ ap (value_keys fact.rel 0) (sym (take_indexed vals p val l is)))
 
   inside : Contains (keys_of fact) (Value fact.rel p val)
   inside = contains_there (Relation fact.rel) (value_keys fact.rel 0 fact.vals) (Value fact.rel p val)

@@ -1,7 +1,7 @@
 -- Relations with rows in ascending order, each once: what sorting and dropping doubles leaves of an instance.
-use Rattle.std.proofs.Common.{◌≡◌, ℕ, List, [], ◌∷◌, map, Bool, true, false, ◌&&◌, refl, sym, ap, ◌∙◌, subst, ⊎_elim, arith}
+use Rattle.std.proofs.Common.{◌≡◌, ℕ, List, [], ◌∷◌, map, Bool, true, ◌&&◌, refl, sym, ap, ◌∙◌, subst}
 use Rattle.std.specs.Prelude.{Contains, nat_eq}
-use Rattle.std.specs.List.{AllByRecursion, dedup}
+use Rattle.std.specs.List.{dedup}
 use Rattle.std.specs.List.Sorted.{IsPermutation, IsSorted, IsStrictlySortedBy}
 use Rattle.std.specs.Ordering.{nat_cmp, ordering_then, eq_by_cmp}
 use Rattle.std.specs.Cmp.{IsTotalOrder, IsEquivalence, on_equiv, and_equiv, both_tied, unsigned_tied}
@@ -12,8 +12,9 @@ use Rattle.std.proofs.lemmas.Bool.{eqb-true}
 use Rattle.std.proofs.lemmas.Cmp.{tied_itself, then_total, on_total, nat_cmp_total, nat_eq_equiv}
 use Rattle.std.proofs.lemmas.List.Kept.{Contains-dedup, Contains-from_dedup, IsStrictlySortedBy-dedup}
 use Rattle.std.proofs.lemmas.List.Sorted.{Contains-permutation, IsPermutation-sym}
-use Rattle.lists.proofs.Members.{contains_cases, contains_map, contains_mapped}
+use Rattle.lists.proofs.Members.{contains_map, contains_mapped, all_member}
 use Rattle.lists.proofs.Orders.{rows_equiv, rows_same_equal, rows_ties, rows_total}
+use Rattle.lists.proofs.Booleans.{both_true}
 use Rattle.meaning.specs.declared.types.Fact.{Fact}
 use Rattle.meaning.specs.declared.types.Val.TheVariants.{Const}
 use Rattle.meaning.specs.declared.types.Ground.{Ground}
@@ -38,28 +39,20 @@ pair_ties x y = both_tied _ _ (nat_cmp x.0 y.0) (slice_cmp (slice_cmp nat_cmp) x
 pair_equiv : IsEquivalence pair_same
 pair_equiv = and_equiv (on_equiv (λ (t : Pair). t.0) nat_eq_equiv) (on_equiv (λ (t : Pair). t.1) rows_equiv)
 
-pub both_hold : (a b : Bool) → (a && b) ≡ true → (a ≡ true) × (b ≡ true)
-both_hold true b e = (refl, e)
-both_hold false b e = absurd (cc)
-
 pair_equal : (x y : Pair) → pair_same x y ≡ true → x ≡ y
 pair_equal x y e =
-    let (first, rest) = both_hold (nat_eq x.0 y.0) (pointwise (pointwise nat_eq) x.1 y.1) e in
+    let (first, rest) = both_true (nat_eq x.0 y.0) (pointwise (pointwise nat_eq) x.1 y.1) e in
     let rel : x.0 ≡ y.0 = eqb-true x.0 y.0 first in
     let row : x.1 ≡ y.1 = rows_same_equal x.1 y.1 rest in
     λ i. (rel i, row i)
 
 -- what ascends strictly has nothing twice
-above : {X : Type 0} (P : X → Type 0) (xs : List X) (x : X) → AllByRecursion P xs → Contains xs x → P x
-above P [] x all c = absurd (omega arith)
-above P (y ∷ xs) x all c = ⊎_elim (λ e. subst P e all.0) (λ h. above P xs x all.1 h) (contains_cases y xs x c)
-
 distinct_sorted : (xs : List Pair) → IsStrictlySortedBy pair_cmp xs → AreDistinct xs
 unfolding IsStrictlySortedBy
 distinct_sorted [] s = tt
 distinct_sorted (x ∷ xs) s = (
   (λ c.
-      let less : pair_cmp x x ≡ Less = above (λ y. pair_cmp x y ≡ Less) xs x s.0 c in
+      let less : pair_cmp x x ≡ Less = all_member (λ y. pair_cmp x y ≡ Less) xs x s.0 c in
       let equal : pair_cmp x x ≡ Equal = tied_itself pair_total x in
       clash (sym less ∙ equal)),
   distinct_sorted xs s.1,

@@ -1,5 +1,5 @@
 -- Which facts are there, with one fact more and one fact fewer.
-use Rattle.std.proofs.Common.{◌≡◌, ℕ, ◌+◌, ◌<◌, List, [], ◌∷◌, ◌++◌, length, Option, Some, None, Bool, true, false, cond, refl, sym, ap, ◌∙◌, subst, inl, inr, ⊎_elim, arith, Contains, slice_get}
+use Rattle.std.proofs.Common.{◌≡◌, ℕ, ◌+◌, ◌<◌, List, [], ◌∷◌, ◌++◌, length, Some, None, Bool, true, false, cond, refl, sym, ap, ◌∙◌, subst, inl, inr, ⊎_elim, arith, Contains, slice_get}
 use Rattle.std.specs.Ordering.{is_eq, nat_cmp}
 use Rattle.std.specs.BTreeMap.{get, is_at}
 use Rattle.std.specs.BTreeSet.{contains}
@@ -12,15 +12,12 @@ use Rattle.std.proofs.lemmas.Cmp.{tied_itself}
 use Rattle.std.proofs.lemmas.Map.Lookups.{exact_unsigned}
 use Rattle.std.proofs.lemmas.Option.{slice_get_within}
 use Rattle.std.proofs.lemmas.List.Elements.{Contains-append_left, Contains-push, Contains-push_cases}
-use Rattle.lists.proofs.Members.{contains_got, got_push, got_before, some_injective}
+use Rattle.lists.proofs.Members.{contains_got, got_push, got_before, some_injective, none_apart}
 use Rattle.meaning.specs.declared.types.Ground.{Ground}
 use Rattle.homomorphism.specs.Codes.{fact_code}
 use Rattle.homomorphism.specs.Present.{ground_cmp, IsFirst, IsThere, IsPresence}
 use Rattle.homomorphism.specs.declared.presence.Presence.{Presence}
 use Rattle.homomorphism.proofs.Exact.{ground_exact, ground_total}
-
-none_some : {X : Type 0} (o : Option X) (x : X) → o ≡ None → o ≡ Some x → ⊥
-none_some o x e f = cc
 
 -- two different numbers are apart in a tree
 pub number_apart : (a b : ℕ) → (a ≡ b → ⊥) → is_at (nat_cmp a) b ≡ false
@@ -55,7 +52,7 @@ module _ (facts : List Ground) (fact : Ground) (number : ℕ) (is : number ≡ l
       last = ap (slice_get (facts ++ fact ∷ [])) is ∙ got_push facts fact
 
       keeps : (n : ℕ) → get nat_cmp was.firsts (fact_code other) ≡ Some n → get nat_cmp now.firsts (fact_code other) ≡ Some n
-      keeps n at = ⊎_elim (λ e. absurd (none_some (get nat_cmp was.firsts (fact_code other)) n (ap (get nat_cmp was.firsts) (sym e) ∙ absent) at))
+      keeps n at = ⊎_elim (λ e. absurd (none_apart (get nat_cmp was.firsts (fact_code other)) n (ap (get nat_cmp was.firsts) (sym e) ∙ absent) at))
           (λ differ. same (fact_code other) (number_apart (fact_code fact) (fact_code other) differ) ∙ at) (cases_eq (fact_code fact) (fact_code other))
 
       wider : IsThere facts was other → IsThere (facts ++ fact ∷ []) now other

@@ -3,7 +3,8 @@ use Rattle.std.proofs.Common.{◌≡◌, ◌⊎◌, ℕ, zero, suc, ◌+◌, ◌
 use Rattle.std.proofs.lemmas.List.{take_all}
 use Rattle.std.proofs.lemmas.List.Elements.{Contains-append_left, Contains-push, Contains-push_cases}
 use Rattle.std.proofs.lemmas.Option.{slice_get-get_or}
-use Rattle.lists.proofs.Members.{contains_cases, contains_map, contains_mapped}
+use Rattle.lists.proofs.Members.{contains_cases, contains_map, contains_mapped, contains_none}
+use Rattle.lists.proofs.Places.{take_indexed}
 use Rattle.meaning_laws.proofs.Deciding.{same_facts}
 use Rattle.meaning.specs.declared.types.Term.TheVariants.{Var}
 use Rattle.meaning.specs.declared.types.Val.{Val}
@@ -16,7 +17,6 @@ use Rattle.homomorphism.specs.Matches.{NoMatch}
 use Rattle.homomorphism.specs.Widening.{Widens, AreUntouched, AreRuns, taken}
 use Rattle.homomorphism.proofs.Binding.{got_set_other, same_or_not}
 use Rattle.homomorphism.proofs.Extending.{wider}
-use Rattle.homomorphism.proofs.Members.{contains_none, turn}
 use Rattle.homomorphism.proofs.Touching.{default}
 
 below_or_last : (n count : ℕ) → n < count + 1 → (n < count) ⊎ (n ≡ count)
@@ -63,7 +63,7 @@ marked_more run i v before now l is within (width, marked, low) = (
 )
   where
     one_more : take (i + 1) run ≡ take i run ++ v ∷ []
-    one_more = turn run i v l is
+    one_more = take_indexed run i v l is
 
     length_set : {X : Type 0} (xs : List X) (k : ℕ) (x : X) → length (slice_set xs k x) ≡ length xs
     length_set [] k x = refl
@@ -106,7 +106,7 @@ marked_run count runs i run seen next l is r width marked low = record {
 }
   where
     one_more : take (i + 1) runs ≡ take i runs ++ run ∷ []
-    one_more = turn runs i run l is
+    one_more = take_indexed runs i run l is
 
 pub all_marked : (count : ℕ) (runs : List (List ℕ)) (i : ℕ) (seen : List Bool) → length runs ≤ i → Marked count (take i runs) seen → ((n : ℕ) → n < length seen → slice_get seen n ≡ Some true) → AreRuns count runs
 all_marked count runs i seen past r all = record {
@@ -150,7 +150,7 @@ untouched_more atoms run i n atom given now l is low here before one x (other, c
     (Contains-push_cases (take i run) n k (subst (λ z. Contains z k) one_more among))
   where
     one_more : take (i + 1) run ≡ take i run ++ n ∷ []
-    one_more = turn run i n l is
+    one_more = take_indexed run i n l is
 
 -- the runs that were gone through
 pub record Searched (facts : List Ground) (atoms : List Atom) (done : List (List ℕ)) (given now : List (Option Val)) : Type 0 where
@@ -174,7 +174,7 @@ searched_more facts atoms runs i run given now next l is r w = record {
 }
   where
     one_more : take (i + 1) runs ≡ take i runs ++ run ∷ []
-    one_more = turn runs i run l is
+    one_more = take_indexed runs i run l is
 
 -- an atom by its number
 number_of : (atoms : List Atom) (run : List ℕ) (n : ℕ) (atom : Atom) → (l : n < length atoms) → slice_index_or atoms n atom ≡ atom → Contains run n → Contains (taken atoms run) atom

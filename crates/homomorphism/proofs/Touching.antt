@@ -2,14 +2,14 @@
 use Rattle.std.proofs.Common.{◌≡◌, ◌⊎◌, ℕ, zero, suc, ◌+◌, ◌-◌, ◌<◌, ◌≤◌, List, [], ◌∷◌, ◌++◌, length, Some, None, Option, refl, sym, ap, ◌∙◌, subst, inl, inr, ⊎_elim, arith, Contains, slice_get, slice_set, slice_index_or, take, drop}
 use Rattle.std.proofs.lemmas.List.Elements.{Contains-append_left, Contains-push, Contains-push_cases}
 use Rattle.std.proofs.lemmas.Option.{slice_get_within, slice_get-get_or}
-use Rattle.lists.proofs.Members.{contains_there, contains_cases, some_injective}
+use Rattle.lists.proofs.Members.{contains_there, contains_cases, some_injective, contains_none}
+use Rattle.lists.proofs.Places.{take_indexed}
 use Rattle.meaning.specs.declared.types.Term.{Term}
 use Rattle.meaning.specs.declared.types.Term.TheVariants.{Var}
 use Rattle.meaning.specs.declared.types.Val.{Val}
 use Rattle.meaning.specs.Triggers.{terms_bound}
 use Rattle.homomorphism.specs.Widening.{Touches, AreFree}
 use Rattle.homomorphism.proofs.Binding.{got_set_same, got_set_other, length_set, same_or_not, apart, var_is}
-use Rattle.homomorphism.proofs.Members.{contains_none, turn}
 
 -- a variable without a value gets one
 pub touched_bind : (given : List (Option Val)) (x : ℕ) (w : Val) (term : Term) (r : Option Val) → term ≡ Var x → terms_bound (term ∷ []) ≤ length given → r ≡ slice_index_or given x r → r ≡ None →
@@ -51,7 +51,7 @@ free_none given = record {
 
 module _ (terms : List Term) (i : ℕ) (term : Term) (given : List (Option Val)) (free : List ℕ) (l : i < length terms) (is : term ≡ slice_index_or terms i term) (r : AreFree (take i terms) given free) where
   cases : (x : ℕ) → Contains (take (i + 1) terms) (Var x) → Contains (take i terms) (Var x) ⊎ (term ≡ Var x)
-  cases x c = Contains-push_cases (take i terms) term (Var x) (subst (λ done. Contains done (Var x)) (turn terms i term l is) c)
+  cases x c = Contains-push_cases (take i terms) term (Var x) (subst (λ done. Contains done (Var x)) (take_indexed terms i term l is) c)
 
   pub free_skip : ((x : ℕ) → term ≡ Var x → slice_get given x ≡ Some None → ⊥) → AreFree (take (i + 1) terms) given free
   unfolding cases
@@ -93,7 +93,7 @@ released_more free i v before now l is within (width, r) = (
 )
   where
     one_more : take (i + 1) free ≡ take i free ++ v ∷ []
-    one_more = turn free i v l is
+    one_more = take_indexed free i v l is
 
     here : Contains (take (i + 1) free) v
     here = subst (λ z. Contains z v) (sym one_more) (Contains-push (take i free) v)

@@ -1,7 +1,8 @@
 -- The ways to make one atom one of the facts, fact by fact.
 use Rattle.std.proofs.Common.{◌≡◌, ℕ, zero, suc, ◌+◌, ◌<◌, List, [], ◌∷◌, ◌++◌, length, Option, refl, sym, ap, ◌∙◌, subst, ⊎_elim, arith, Contains, take, slice_index_or}
 use Rattle.std.proofs.lemmas.List.Elements.{Contains-append_left, Contains-push, Contains-push_cases}
-use Rattle.lists.proofs.Members.{contains_here, contains_there, contains_cases}
+use Rattle.lists.proofs.Members.{contains_here, contains_there, contains_cases, contains_none}
+use Rattle.lists.proofs.Places.{take_indexed}
 use Rattle.meaning.specs.declared.types.Term.TheVariants.{Var}
 use Rattle.meaning.specs.declared.types.Val.{Val}
 use Rattle.meaning.specs.declared.types.Atom.{Atom}
@@ -11,7 +12,6 @@ use Rattle.meaning.specs.Triggers.{ground}
 use Rattle.meaning.specs.Search.{AreDistinct}
 use Rattle.homomorphism.specs.Bindings.{Agrees, IsBound}
 use Rattle.homomorphism.specs.Ways.{AreApart, AreWays, IsWay}
-use Rattle.homomorphism.proofs.Members.{contains_none, turn}
 
 -- what stands before a place differs from what stands there
 pub distinct_take : {X : Type 0} (xs : List X) (i : ℕ) (d : X) → AreDistinct xs → i < length xs → Contains (take i xs) (slice_index_or xs i d) → ⊥
@@ -79,7 +79,7 @@ module _ (done : List Ground) (fact : Ground) (atom : Atom) (given : List (Optio
 -- one turn of the loop over the facts
 module _ (facts : List Ground) (i : ℕ) (fact : Ground) (atom : Atom) (given : List (Option Val)) (ways : List (List (Option Val))) (l : i < length facts) (is : fact ≡ slice_index_or facts i fact) (r : AreWays (take i facts) atom given ways) where
   one_more : take (i + 1) facts ≡ take i facts ++ fact ∷ []
-  one_more = turn facts i fact l is
+  one_more = take_indexed facts i fact l is
 
   pub turn_skip : ((a : ℕ → Val) → Agrees given a → ground a atom ≡ fact → ⊥) → AreWays (take (i + 1) facts) atom given ways
   unfolding one_more

@@ -6,6 +6,7 @@ use Rattle.std.proofs.Math.ListN.{get_or-append}
 use native.Mathlib.Decide.{dec_le, ℕ_discrete}
 use mathlib.Core.Logic.{dite}
 use Rattle.std.proofs.lemmas.List.{length-map}
+use Rattle.lists.proofs.Members.{some_injective}
 use Rattle.lane_pool.specs.Numbers.{total, times, hit, EachOnce, AllAscend}
 use Rattle.lane_pool.specs.Work.{WorkedBy, AllWorked, FansOut}
 use Rattle.lane_pool.specs.Lanes.{Steps, Stops, LaneDid, LanesDid, LanesEnded}
@@ -189,12 +190,9 @@ slice_get-set_other (y ∷ ys) zero (suc j) x h = refl
 slice_get-set_other (y ∷ ys) (suc k) zero x h = refl
 slice_get-set_other (y ∷ ys) (suc k) (suc j) x h = slice_get-set_other ys k j x (λ e. h (ap suc e))
 
-some_is : {X : Type 0} (x y : X) → Some x ≡ Some y → x ≡ y
-some_is x y e = cc
-
 slice_get-all : {X : Type 0} (P : X → Type 0) (xs : List X) → ((k : ℕ) → k < length xs → (x : X) × (slice_get xs k ≡ Some x) × P x) → All P xs
 slice_get-all P [] h k d b = absurd (omega arith)
-slice_get-all P (x ∷ xs) h zero d b = let t = h 0 (omega arith) in subst P (sym (some_is x t.0 t.1)) t.2
+slice_get-all P (x ∷ xs) h zero d b = let t = h 0 (omega arith) in subst P (sym (some_injective x t.0 t.1)) t.2
 slice_get-all P (x ∷ xs) h (suc k) d b = slice_get-all P xs (λ j c. h (suc j) (omega arith)) k d (omega arith)
 
 module _ {A : Type 0} where

@@ -6,53 +6,11 @@ use Rattle.lists.proofs.Members.{contains_here, contains_there, contains_cases, 
 use Rattle.least_search.specs.declared.space.Move.{Move}
 use Rattle.least_search.specs.Ways.{Way, IsWay}
 use Rattle.meaning.specs.Search.{AreDistinct}
+use Rattle.meaning.proofs.Subsets.{with_true, with_false, true_back, false_back, true_distinct, false_distinct}
 use Rattle.least_search.specs.Walks.{IsWalk, no_facts, IsSubset, IsSpace}
 use Rattle.least_search.specs.Frontier.{sets_of}
 use Rattle.least_search.specs.Costs.{IsEnough}
 use Rattle.least_search.proofs.Searched.{IsCounted}
-
--- the rests of the sets that begin with true, and with false
-with_true : List (List Bool) → List (List Bool)
-with_true [] = []
-with_true ([] ∷ sets) = with_true sets
-with_true ((true ∷ set) ∷ sets) = set ∷ with_true sets
-with_true ((false ∷ set) ∷ sets) = with_true sets
-
-with_false : List (List Bool) → List (List Bool)
-with_false [] = []
-with_false ([] ∷ sets) = with_false sets
-with_false ((true ∷ set) ∷ sets) = with_false sets
-with_false ((false ∷ set) ∷ sets) = set ∷ with_false sets
-
-true_back : (sets : List (List Bool)) (set : List Bool) → Contains (with_true sets) set → Contains sets (true ∷ set)
-unfolding with_true
-true_back [] set c = absurd (omega arith)
-true_back ([] ∷ sets) set c = contains_there [] sets (true ∷ set) (true_back sets set c)
-true_back ((false ∷ first) ∷ sets) set c = contains_there (false ∷ first) sets (true ∷ set) (true_back sets set c)
-true_back ((true ∷ first) ∷ sets) set c =
-    ⊎_elim (λ e. subst (λ s. Contains ((true ∷ first) ∷ sets) (true ∷ s)) e (contains_here (true ∷ first) sets)) (λ h. contains_there (true ∷ first) sets (true ∷ set) (true_back sets set h)) (contains_cases first (with_true sets) set c)
-
-false_back : (sets : List (List Bool)) (set : List Bool) → Contains (with_false sets) set → Contains sets (false ∷ set)
-unfolding with_false
-false_back [] set c = absurd (omega arith)
-false_back ([] ∷ sets) set c = contains_there [] sets (false ∷ set) (false_back sets set c)
-false_back ((true ∷ first) ∷ sets) set c = contains_there (true ∷ first) sets (false ∷ set) (false_back sets set c)
-false_back ((false ∷ first) ∷ sets) set c =
-    ⊎_elim (λ e. subst (λ s. Contains ((false ∷ first) ∷ sets) (false ∷ s)) e (contains_here (false ∷ first) sets)) (λ h. contains_there (false ∷ first) sets (false ∷ set) (false_back sets set h)) (contains_cases first (with_false sets) set c)
-
-true_distinct : (sets : List (List Bool)) → AreDistinct sets → AreDistinct (with_true sets)
-unfolding with_true
-true_distinct [] d = tt
-true_distinct ([] ∷ sets) d = true_distinct sets d.1
-true_distinct ((false ∷ first) ∷ sets) d = true_distinct sets d.1
-true_distinct ((true ∷ first) ∷ sets) d = ((λ c. d.0 (true_back sets first c)), true_distinct sets d.1)
-
-false_distinct : (sets : List (List Bool)) → AreDistinct sets → AreDistinct (with_false sets)
-unfolding with_false
-false_distinct [] d = tt
-false_distinct ([] ∷ sets) d = false_distinct sets d.1
-false_distinct ((true ∷ first) ∷ sets) d = false_distinct sets d.1
-false_distinct ((false ∷ first) ∷ sets) d = ((λ c. d.0 (false_back sets first c)), false_distinct sets d.1)
 
 halves : (m : Bool) (mask : List Bool) (sets : List (List Bool)) → ((s : List Bool) → Contains sets s → IsSubset s (m ∷ mask)) → length sets ≡ length (with_true sets) + length (with_false sets)
 unfolding with_true with_false

@@ -6,7 +6,7 @@ use Rattle.std.proofs.lemmas.List.Elements.{Contains-append_left, Contains-push,
 use Rattle.std.specs.Str.{bytes_eq}
 use Rattle.std.proofs.lemmas.Bool.{cases_Bool}
 use Rattle.std.proofs.lemmas.Slice.Eq.{bytes_eq-Decides}
-use Rattle.lists.proofs.Members.{contains_here, contains_there, contains_cases, contains_mapped}
+use Rattle.lists.proofs.Members.{contains_here, contains_there, contains_mapped, contains_map}
 use Rattle.least_search.specs.declared.space.Move.{Move}
 use Rattle.least_search.specs.declared.waiting.Waiter.{Waiter}
 use Rattle.least_search.specs.declared.table.Seen.{Seen}
@@ -21,10 +21,6 @@ use Rattle.least_search.specs.declared.frontier.Taken.{Taken}
 use Rattle.least_search.specs.Frontier.{sets_of, way_of, way_at, ways_at, looked_in, waiting_in, Waiting, AreKept, IsFrontier, IsTakenFrom, IsAdded}
 use Rattle.least_search.proofs.Packing.{packed_same}
 use Rattle.least_search.proofs.Steps.{cost_push, contains_none}
-
-pub contains_image : {X Y : Type 0} (f : X → Y) (xs : List X) (x : X) → Contains xs x → Contains (map f xs) (f x)
-contains_image f [] x c = absurd (contains_none [] x refl c)
-contains_image f (y ∷ xs) x c = ⊎_elim (λ e. subst (λ z. Contains (f y ∷ map f xs) (f z)) e (contains_here (f y) (map f xs))) (λ h. contains_there (f y) (map f xs) (f x) (contains_image f xs x h)) (contains_cases y xs x c)
 
 after_push : (moves : List Move) (set : List Bool) (move : Move) → set_after set (moves ++ move ∷ []) ≡ with_fact (set_after set moves) move
 after_push [] set move = refl
@@ -71,7 +67,7 @@ module _ (facts : ℕ) (paths : List (List Move)) where
       (waiter, there, ap (way_at facts paths) same ∙ is)
 
   pub way_waits : (waiters : List Waiter) (waiter : Waiter) → Contains waiters waiter → Contains (ways_at facts paths (map (λ (waiter : Waiter). waiter.number) waiters)) (way_at facts paths waiter.number)
-  way_waits waiters waiter c = contains_image (way_at facts paths) (map (λ (w : Waiter). w.number) waiters) waiter.number (contains_image (λ (w : Waiter). w.number) waiters waiter c)
+  way_waits waiters waiter c = contains_map (way_at facts paths) (map (λ (w : Waiter). w.number) waiters) waiter.number (contains_map (λ (w : Waiter). w.number) waiters waiter c)
 
   module _ (before after : List Waiter) (waiter : Waiter) (leaves : Leaves before after waiter) where
     -- a way that waited waits, or is that of the waiter

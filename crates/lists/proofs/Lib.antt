@@ -1,2 +1,4 @@
+pub mod Booleans
 pub mod Members
 pub mod Orders
+pub mod Places

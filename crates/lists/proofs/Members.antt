@@ -1,6 +1,9 @@
--- Members of lists: where they stand, and what maps do to them. Crates above cite these lemmas.
-use Rattle.std.proofs.Common.{◌≡◌, ◌⊎◌, ℕ, zero, suc, ◌<◌, List, [], ◌∷◌, ◌++◌, length, Some, refl, ap, inl, inr, ⊎_elim, arith}
-use Rattle.std.specs.Prelude.{Contains, slice_get, map}
+-- Members of lists: where they stand, and what maps, filters and joins do to them. Crates above cite these lemmas.
+use Rattle.std.proofs.Common.{◌≡◌, ◌⊎◌, ◌∙◌, ℕ, zero, suc, ◌<◌, List, [], ◌∷◌, ◌++◌, length, take, drop, Bool, true, false, cond, Option, Some, None, refl, sym, ap, subst, inl, inr, ⊎_elim, arith, append_assoc}
+use Rattle.std.specs.Prelude.{Contains, slice_get, map, flat_map}
+use Rattle.std.specs.List.{AllByRecursion, filter}
+use Rattle.std.proofs.lemmas.List.{take-append-drop}
+use Rattle.std.proofs.lemmas.List.Elements.{Contains-append_cases, Contains-append_left, Contains-append_right}
 use Rattle.std.proofs.lemmas.Option.{slice_get_within, get_or_from_slice_get}
 
 pub contains_here : {X : Type 0} (x : X) (xs : List X) → Contains (x ∷ xs) x
@@ -58,3 +61,74 @@ map_same f g (x ∷ xs) same =
     let here : f x ≡ g x = same x (contains_here x xs) in
     let rest : map f xs ≡ map g xs = map_same f g xs (λ y c. same y (contains_there x xs y c)) in
     cc
+
+-- no members, and one
+pub contains_none : {X : Type 0} (x : X) → Contains [] x → ⊥
+contains_none x c = omega arith
+
+pub contains_one : {X : Type 0} (x y : X) → Contains (x ∷ []) y → x ≡ y
+contains_one x y c = ⊎_elim (λ e. e) (λ h. absurd (contains_none y h)) (contains_cases x [] y c)
+
+-- lists that are joined, cut or filtered
+pub contains_joined : {X Y : Type 0} (f : X → List Y) (xs : List X) (x : X) (y : Y) → Contains xs x → Contains (f x) y → Contains (flat_map f xs) y
+contains_joined f [] x y c d = absurd (omega arith)
+contains_joined f (z ∷ xs) x y c d =
+    ⊎_elim (λ e. Contains-append_left (f z) (flat_map f xs) y (subst (λ w. Contains (f w) y) (sym e) d)) (λ h. Contains-append_right (f z) (flat_map f xs) y (contains_joined f xs x y h d)) (contains_cases z xs x c)
+
+pub joined_from : {X Y : Type 0} (f : X → List Y) (xs : List X) (y : Y) → Contains (flat_map f xs) y → (x : X) × Contains xs x × Contains (f x) y
+joined_from f [] y c = absurd (omega arith)
+joined_from f (x ∷ xs) y c =
+    ⊎_elim (λ h. (x, contains_here x xs, h)) (λ h. let (z, among, e) = joined_from f xs y h in (z, contains_there x xs z among, e)) (Contains-append_cases (f x) (flat_map f xs) y c)
+
+pub contains_take : {X : Type 0} (n : ℕ) (xs : List X) (x : X) → Contains (take n xs) x → Contains xs x
+contains_take n xs x c = subst (λ l. Contains l x) (take-append-drop n xs) (Contains-append_left (take n xs) (drop n xs) x c)
+
+pub contains_filter : {X : Type 0} (test : X → Bool) (xs : List X) (x : X) → Contains xs x → test x ≡ true → Contains (filter test xs) x
+contains_filter test [] x c e = c
+contains_filter test (y ∷ xs) x c e = by (test y) refl (contains_cases y xs x c) (λ h. contains_filter test xs x h e)
+  where
+    clash : false ≡ true → ⊥
+    clash e = cc
+
+    by : (t : Bool) → test y ≡ t → (y ≡ x) ⊎ Contains xs x → (Contains xs x → Contains (filter test xs) x) → Contains (cond t (y ∷ filter test xs) (filter test xs)) x
+    by true f either more = ⊎_elim (λ g. subst (Contains (y ∷ filter test xs)) g (contains_here y (filter test xs))) (λ h. contains_there y (filter test xs) x (more h)) either
+    by false f either more = ⊎_elim (λ g. absurd (clash (sym f ∙ ap test g ∙ e))) more either
+
+pub filter_from : {X : Type 0} (test : X → Bool) (xs : List X) (x : X) → Contains (filter test xs) x → Contains xs x × (test x ≡ true)
+filter_from test [] x c = absurd (omega arith)
+filter_from test (y ∷ xs) x c = step (test y) refl (λ h. filter_from test xs x h) c
+  where
+    step : (b : Bool) → test y ≡ b → (Contains (filter test xs) x → Contains xs x × (test x ≡ true)) → Contains (cond b (y ∷ filter test xs) (filter test xs)) x → Contains (y ∷ xs) x × (test x ≡ true)
+    step true t rec c = ⊎_elim (λ e. (subst (λ z. Contains (y ∷ xs) z) e (contains_here y xs), subst (λ z. test z ≡ true) e t)) (λ h. let r = rec h in (contains_there y xs x r.0, r.1)) (contains_cases y (filter test xs) x c)
+    step false t rec c = let r = rec c in (contains_there y xs x r.0, r.1)
+
+-- what holds of each member
+pub all_member : {X : Type 0} (P : X → Type 0) (xs : List X) (x : X) → AllByRecursion P xs → Contains xs x → P x
+all_member P [] x all c = absurd (omega arith)
+all_member P (y ∷ xs) x all c = ⊎_elim (λ e. subst P e all.0) (λ h. all_member P xs x all.1 h) (contains_cases y xs x c)
+
+pub all_from : {X : Type 0} (P : X → Type 0) (xs : List X) → ((x : X) → Contains xs x → P x) → AllByRecursion P xs
+all_from P [] each = tt
+all_from P (x ∷ xs) each = (each x (contains_here x xs), all_from P xs (λ y c. each y (contains_there x xs y c)))
+
+pub all_along : {X : Type 0} (P Q : X → Type 0) → ((x : X) → P x → Q x) → (xs : List X) → AllByRecursion P xs → AllByRecursion Q xs
+all_along P Q each [] all = tt
+all_along P Q each (x ∷ xs) all = (each x all.0, all_along P Q each xs all.1)
+
+-- two joins in a row
+pub joined_twice : (out now next p q : List ℕ) → now ≡ out ++ p → next ≡ now ++ q → next ≡ out ++ (p ++ q)
+joined_twice out now next p q e f = f ∙ ap (λ z. z ++ q) e ∙ append_assoc out p q
+
+-- heads and tails
+pub head_is : {X : Type 0} (x y : X) (xs ys : List X) → x ∷ xs ≡ y ∷ ys → x ≡ y
+head_is x y xs ys e = cc
+
+pub tail_is : {X : Type 0} (x y : X) (xs ys : List X) → x ∷ xs ≡ y ∷ ys → xs ≡ ys
+tail_is x y xs ys e = cc
+
+-- nothing is not something
+pub none_some : {X : Type 0} (x : X) → None ≡ Some x → ⊥
+none_some x e = cc
+
+pub none_apart : {X : Type 0} (o : Option X) (x : X) → o ≡ None → o ≡ Some x → ⊥
+none_apart o x e f = cc

@@ -1,4 +1,4 @@
--- The order of rows of texts, in which rows that tie are the same. Crates above cite these lemmas.
+-- Texts that are the same, and the order of rows of texts, in which rows that tie are the same. Crates above cite these lemmas.
 use Rattle.std.proofs.Common.{◌≡◌, ◌∙◌, ℕ, suc, List, Some, Bool, true, refl, ap, slice_get, nat_eq, arith}
 use Rattle.std.specs.List.Sorted.{IsStrictlySortedBy}
 use Rattle.std.specs.Ordering.{nat_cmp, is_eq, eq_by_cmp}
@@ -10,6 +10,9 @@ use Rattle.std.proofs.lemmas.Cmp.{lists_total, lists_equiv, nat_list_cmp_total, 
 use Rattle.std.proofs.lemmas.Map.Keys.{Less-from_sorted}
 use Rattle.std.proofs.lemmas.Option.{slice_get_within, get_or_from_slice_get}
 use Rattle.std.proofs.lemmas.Slice.Eq.{slice_eq-Decides}
+
+pub text_is : (a b : List ℕ) → pointwise nat_eq a b ≡ true → a ≡ b
+text_is a b same = (bytes_decides a b).0 same
 
 -- by values, and values by bytes
 abbrev order : List (List ℕ) → List (List ℕ) → Ordering

@@ -24,6 +24,10 @@ pub record IsWellFormed (schema : SchemaParts) : Type 0 where
 abbrev pub IsMethod : SchemaParts → Value → Method → Type 0
 IsMethod schema name method = Contains schema.methods method × (method.name ≡ name)
 
+-- Each of the steps names a method of the schema.
+abbrev pub NamesMethods : SchemaParts → List Step → Type 0
+NamesMethods schema steps = (step : Step) → Contains steps step → (method : Method) × IsMethod schema step.method method
+
 -- Each new place makes the next column.
 abbrev pub made : ℕ → List Place → ℕ
 made columns [] = columns

@@ -2,8 +2,8 @@
 use Rattle.std.proofs.Common.{◌≡◌, ◌⊎◌, ℕ, zero, suc, ◌+◌, ◌<◌, List, [], ◌∷◌, length, Some, refl, sym, ap, ◌∙◌, subst, inl, inr, ⊎_elim, arith}
 use Rattle.std.specs.Prelude.{Contains, slice_get, slice_index_or, map, codes}
 use Rattle.std.specs.List.{AllZip}
-use Rattle.lists.proofs.Members.{contains_here, contains_cases, some_injective}
-use Rattle.meaning_laws.proofs.Example.{only, got_only, no_element, alone_first}
+use Rattle.lists.proofs.Members.{contains_here, contains_cases, some_injective, contains_one}
+use Rattle.meaning_laws.proofs.Example.{got_only, no_element, alone_first}
 use Rattle.meaning_laws.proofs.Closing.{accessible_closed}
 use Rattle.meaning_laws.proofs.Choosing.{select_sound, select_complete}
 use Rattle.meaning_laws.proofs.Decided.{extracted}
@@ -122,12 +122,12 @@ head_atom = record { rel = 1; terms = Var 0 ∷ Var 2 ∷ [] }
 
 -- facts in which each profile has its entry meet the rule
 meets_by : (facts : List Fact) → ((e o l : Value) → Contains facts (profile e o l) → Contains facts (entry e l)) → Meets facts staff
-meets_by facts has rule among = subst (λ r. (a : ℕ → Value) → AreFacts itself (FactsOf facts) a r.body → (b : ℕ → Value) × Extends itself (FactsOf facts) r a b) (only in_directory rule among)
+meets_by facts has rule among = subst (λ r. (a : ℕ → Value) → AreFacts itself (FactsOf facts) a r.body → (b : ℕ → Value) × Extends itself (FactsOf facts) r a b) (contains_one in_directory rule among)
     (λ a body. (
       a,
       record {
         agrees = λ x occurs. refl;
-        head = λ atom c. subst (λ (t : Atom). FactsOf facts t.rel (map (value_of itself a) t.terms)) (only head_atom atom c) (has (a 0) (a 1) (a 2) (body rule_atom (contains_here rule_atom [])));
+        head = λ atom c. subst (λ (t : Atom). FactsOf facts t.rel (map (value_of itself a) t.terms)) (contains_one head_atom atom c) (has (a 0) (a 1) (a 2) (body rule_atom (contains_here rule_atom [])));
       },
     ))
 
@@ -201,7 +201,7 @@ unlisted_profile = profile four (codes "104") smith
 pub unlisted_breaks_the_rule : Meets unlisted staff → ⊥
 unlisted_breaks_the_rule meets =
     let a : ℕ → Value = λ k. slice_index_or (four ∷ codes "104" ∷ smith ∷ []) k [] in
-    let (b, ext) = meets in_directory (0, omega arith, refl) a (λ atom c. subst (λ (t : Atom). FactsOf unlisted t.rel (map (value_of itself a) t.terms)) (only rule_atom atom c) (0, omega arith, refl)) in
+    let (b, ext) = meets in_directory (0, omega arith, refl) a (λ atom c. subst (λ (t : Atom). FactsOf unlisted t.rel (map (value_of itself a) t.terms)) (contains_one rule_atom atom c) (0, omega arith, refl)) in
     let holds : Contains unlisted (entry (b 0) (b 2)) = ext.head head_atom (contains_here head_atom []) in
     let is_four : b 0 ≡ four = ext.agrees 0 (rule_atom, contains_here rule_atom [], (0, omega arith, refl)) in
     ⊎_elim (λ s. profile_no_entry four (codes "104") smith (b 0) (b 2) s) (λ c. no_four (entry (b 0) (b 2)) c (subst (λ v. Contains (b 0 ∷ b 2 ∷ []) v) is_four (contains_here (b 0) (b 2 ∷ []))))
@@ -216,7 +216,7 @@ profile_is_accessible = (
       method = prof_by_eid;
       of_schema = (0, omega arith, refl);
       of_relation = refl;
-      inputs = λ p c. subst (λ q. (value : Value) × (slice_get (one ∷ first_onum ∷ smith ∷ []) q ≡ Some value) × IsKnown known (entry one smith ∷ []) value) (only 0 p c)
+      inputs = λ p c. subst (λ q. (value : Value) × (slice_get (one ∷ first_onum ∷ smith ∷ []) q ≡ Some value) × IsKnown known (entry one smith ∷ []) value) (contains_one 0 p c)
           (one, refl, inr (entry one smith, contains_here (entry one smith) [], contains_here one (smith ∷ [])));
     },
     (
@@ -250,7 +250,7 @@ unlisted_is_not_accessible (earlier, path) =
   where
     closes : (fact : Fact) → Contains unlisted fact → CanAccess staff known office fact → Contains office fact
     closes fact c = ⊎_elim (λ s. subst (λ f. CanAccess staff known office f → Contains office f) s
-        (λ access. ⊎_elim (λ k. absurd (smith_not (only smith four k))) (λ (f, d, i). absurd (no_four f d i)) (number_known known office four (codes "104") smith access)))
+        (λ access. ⊎_elim (λ k. absurd (smith_not (contains_one smith four k))) (λ (f, d, i). absurd (no_four f d i)) (number_known known office four (codes "104") smith access)))
         (λ d access. d) (contains_cases unlisted_profile office fact c)
 
 abbrev row_of : Value → Value → Row
@@ -264,14 +264,14 @@ smith_answers = (
   (
     (one ∷ first_onum ∷ smith ∷ []) ∷ [],
     ((0, omega arith, refl), tt),
-    (λ condition c. subst (λ (d : Condition). operand_value ((one ∷ first_onum ∷ smith ∷ []) ∷ []) d.left ≡ operand_value ((one ∷ first_onum ∷ smith ∷ []) ∷ []) d.right) (only (record { left = Column 0 2; right = Literal smith }) condition c) refl),
+    (λ condition c. subst (λ (d : Condition). operand_value ((one ∷ first_onum ∷ smith ∷ []) ∷ []) d.left ≡ operand_value ((one ∷ first_onum ∷ smith ∷ []) ∷ []) d.right) (contains_one (record { left = Column 0 2; right = Literal smith }) condition c) refl),
     refl,
   ),
 )
 
 -- an answer's fact has the name
 named_smith : (facts : List Fact) (row : Row) → Answers smiths_statement facts row → (r : Row) × Contains facts (record { rel = 0; row = r }) × (slice_index_or r 2 [] ≡ smith)
-named_smith facts row (select, among, answer) = go (subst (λ s. AnswersSelect s facts row) (sym (only smiths select among)) answer)
+named_smith facts row (select, among, answer) = go (subst (λ s. AnswersSelect s facts row) (sym (contains_one smiths select among)) answer)
   where
     go : AnswersSelect smiths facts row → (r : Row) × Contains facts (record { rel = 0; row = r }) × (slice_index_or r 2 [] ≡ smith)
     go (rows, choice, conditions, e) = chosen rows choice (conditions (record { left = Column 0 2; right = Literal smith }) (0, omega arith, refl))
@@ -316,17 +316,17 @@ named_by (Column from column) (rel, relation, got, got', below) =
 pub smiths_form : IsConjunctive staff smiths smiths_query
 smiths_form = record {
   atoms = ((refl, record { relation = profinfo; there = refl; width = refl }), tt);
-  joined = λ condition c. subst (λ (d : Condition). term_of (the_atom ∷ []) d.left ≡ term_of (the_atom ∷ []) d.right) (only (record { left = Column 0 2; right = Literal smith }) condition c) refl;
+  joined = λ condition c. subst (λ (d : Condition). term_of (the_atom ∷ []) d.left ≡ term_of (the_atom ∷ []) d.right) (contains_one (record { left = Column 0 2; right = Literal smith }) condition c) refl;
   only = λ o p fits fits' e. chained (named_by o fits) (subst (λ t. AreJoined smiths.conditions (name_of t) p) (sym e) (turned (named_by p fits')));
   head = refl;
 }
 
 -- lawful plans
 input_first : (p : ℕ) → Contains prof_by_eid.inputs (p + 1) → ⊥
-input_first p c = let e : 0 ≡ p + 1 = only 0 (p + 1) c in omega arith
+input_first p c = let e : 0 ≡ p + 1 = contains_one 0 (p + 1) c in omega arith
 
 pub smiths_plan_is_lawful : IsLawful smiths_plan staff known
-smiths_plan_is_lawful branch c = subst (λ (b : Branch). (length b.output ≡ 2) × IsLawfulBranch staff known b) (only smiths_branch branch c) (refl, lawful)
+smiths_plan_is_lawful branch c = subst (λ (b : Branch). (length b.output ≡ 2) × IsLawfulBranch staff known b) (contains_one smiths_branch branch c) (refl, lawful)
   where
     outs : (out : Out) → Contains smiths_branch.output out → IsLawfulOut known 2 out
     outs = each_of (IsLawfulOut known 2) smiths_branch.output (omega arith, (omega arith, tt))
@@ -398,7 +398,7 @@ careless_branch = record {
 }
 
 pub careless_is_lawful : IsLawful careless_plan staff known
-careless_is_lawful branch c = subst (λ (b : Branch). (length b.output ≡ 2) × IsLawfulBranch staff known b) (only careless_branch branch c) (refl, lawful)
+careless_is_lawful branch c = subst (λ (b : Branch). (length b.output ≡ 2) × IsLawfulBranch staff known b) (contains_one careless_branch branch c) (refl, lawful)
   where
     outs : (out : Out) → Contains careless_branch.output out → IsLawfulOut known 4 out
     outs = each_of (IsLawfulOut known 4) careless_branch.output (omega arith, (omega arith, tt))
@@ -463,10 +463,10 @@ lone_profile = profile (codes "_1") (codes "_2") smith
 
 no_access : (fact : Fact) → Contains unreachable fact → CanAccess ruleless known [] fact → Contains [] fact
 no_access fact c access =
-    let same : lone_profile ≡ fact = only lone_profile fact c in
+    let same : lone_profile ≡ fact = contains_one lone_profile fact c in
     let its : CanAccess ruleless known [] lone_profile = subst (λ f. CanAccess ruleless known [] f) (sym same) access in
     let plain : CanAccess staff known [] lone_profile = record { method = its.method; of_schema = its.of_schema; of_relation = its.of_relation; inputs = its.inputs } in
-    ⊎_elim (λ k. absurd (clash (byte_at smith (codes "_1") 0 (only smith (codes "_1") k)))) (λ (f, d, i). absurd (no_element d)) (number_known known [] (codes "_1") (codes "_2") smith plain)
+    ⊎_elim (λ k. absurd (clash (byte_at smith (codes "_1") 0 (contains_one smith (codes "_1") k)))) (λ (f, d, i). absurd (no_element d)) (number_known known [] (codes "_1") (codes "_2") smith plain)
   where
     clash : ◌≡◌ {A = ℕ} 115 95 → ⊥
     clash e = omega arith
@@ -485,7 +485,7 @@ unreachable_refutes = record {
     (
       (codes "_1" ∷ codes "_2" ∷ smith ∷ []) ∷ [],
       ((0, omega arith, refl), tt),
-      (λ condition c. subst (λ (d : Condition). operand_value ((codes "_1" ∷ codes "_2" ∷ smith ∷ []) ∷ []) d.left ≡ operand_value ((codes "_1" ∷ codes "_2" ∷ smith ∷ []) ∷ []) d.right) (only (record { left = Column 0 2; right = Literal smith }) condition c) refl),
+      (λ condition c. subst (λ (d : Condition). operand_value ((codes "_1" ∷ codes "_2" ∷ smith ∷ []) ∷ []) d.left ≡ operand_value ((codes "_1" ∷ codes "_2" ∷ smith ∷ []) ∷ []) d.right) (contains_one (record { left = Column 0 2; right = Literal smith }) condition c) refl),
       refl,
     ),
   );
@@ -503,7 +503,7 @@ direct_round : IsRound staff office [] ask_directory (direct_request ∷ [])
 direct_round = record {
   ascending = λ i first second g g'. let past : i + 1 ≡ 0 = (got_only direct_request second (i + 1) g').0 in absurd (omega arith);
   exactly = λ request. (
-    (λ c. subst (λ r. Wants staff office [] ask_directory r) (only direct_request request c) (record { row = []; method = all_direct; leads = refl; named = ((1, omega arith, refl), refl); of_relation = refl; positions = refl; values = tt })),
+    (λ c. subst (λ r. Wants staff office [] ask_directory r) (contains_one direct_request request c) (record { row = []; method = all_direct; leads = refl; named = ((1, omega arith, refl), refl); of_relation = refl; positions = refl; values = tt })),
     (λ wants.
         let method : all_direct ≡ wants.method = direct_name wants.method wants.named in
         let rel : 1 ≡ request.rel = sym (wants.of_relation ∙ ap (λ (m : Method). m.rel) (sym method)) in
@@ -586,7 +586,7 @@ smiths_plan_asks_three = (
 -- the run
 profile_is : (facts : List Ground) (vals : List Val) → facts ≡ smith_profile ∷ smith_entry ∷ [] → Contains facts (record { rel = 0; vals = vals }) → Label 0 ∷ Label 1 ∷ Known smith ∷ [] ≡ vals
 profile_is facts vals e c =
-    ⊎_elim (λ same. ap (λ (f : Ground). f.vals) same) (λ h. one_no_zero (ap (λ (f : Ground). f.rel) (only smith_entry (record { rel = 0; vals = vals }) h)))
+    ⊎_elim (λ same. ap (λ (f : Ground). f.vals) same) (λ h. one_no_zero (ap (λ (f : Ground). f.rel) (contains_one smith_entry (record { rel = 0; vals = vals }) h)))
     (contains_cases smith_profile (smith_entry ∷ []) (record { rel = 0; vals = vals }) (subst (λ fs. Contains fs (record { rel = 0; vals = vals })) e c))
 
 base_quiet : (proof : Proof) → proof.base ≡ smith_profile ∷ smith_entry ∷ [] → IsBaseQuiet staff proof
@@ -598,16 +598,16 @@ base_quiet proof e trigger rule active =
     let name : Known smith ≡ assigned trigger 2 = ap (λ (vs : List Val). slice_index_or vs 2 (Label 0)) vals in
     its.unmet (assigned trigger) (record {
       agrees = λ x occurs. refl;
-      head = λ atom c. subst (λ (a : Atom). Contains proof.base (ground (assigned trigger) a)) (only head_atom atom c)
+      head = λ atom c. subst (λ (a : Atom). Contains proof.base (ground (assigned trigger) a)) (contains_one head_atom atom c)
           (subst (λ v. Contains proof.base (record { rel = 1; vals = v ∷ assigned trigger 2 ∷ [] })) number (subst (λ v. Contains proof.base (record { rel = 1; vals = Label 0 ∷ v ∷ [] })) name
           (subst (λ fs. Contains fs smith_entry) (sym e) (1, omega arith, refl))));
     })
 
 trigger_active : IsActive staff.rules (base_state (opening smiths_query)) smiths_trigger in_directory
 trigger_active = record {
-  trigger_is = record { numbered = refl; width = refl; fresh = omega arith; body = λ atom c. subst (λ (a : Atom). Contains (smith_profile ∷ []) (ground (assigned smiths_trigger) a)) (only rule_atom atom c) (0, omega arith, refl) };
+  trigger_is = record { numbered = refl; width = refl; fresh = omega arith; body = λ atom c. subst (λ (a : Atom). Contains (smith_profile ∷ []) (ground (assigned smiths_trigger) a)) (contains_one rule_atom atom c) (0, omega arith, refl) };
   next = refl;
-  unmet = λ b ext. differ b (only smith_profile (record { rel = 1; vals = b 0 ∷ b 2 ∷ [] }) (ext.head head_atom (contains_here head_atom [])));
+  unmet = λ b ext. differ b (contains_one smith_profile (record { rel = 1; vals = b 0 ∷ b 2 ∷ [] }) (ext.head head_atom (contains_here head_atom [])));
 }
   where
     differ : (b : ℕ → Val) → smith_profile ≡ record { rel = 1; vals = b 0 ∷ b 2 ∷ [] } → ⊥
@@ -623,10 +623,10 @@ abbrev entered_proof : Proof
 entered_proof = record { base = smith_profile ∷ smith_entry ∷ []; exposed = smith_entry ∷ []; copy = smith_entry ∷ []; next = 2 }
 
 profile_new : Contains (smith_entry ∷ []) smith_profile → ⊥
-profile_new c = one_no_zero (ap (λ (f : Ground). f.rel) (only smith_entry smith_profile c))
+profile_new c = one_no_zero (ap (λ (f : Ground). f.rel) (contains_one smith_entry smith_profile c))
 
 profile_inputs : (p : ℕ) → Contains prof_by_eid.inputs p → (value : Val) × (slice_get smith_profile.vals p ≡ Some value) × IsKnownValue known (smith_entry ∷ []) value
-profile_inputs p c = subst (λ q. (value : Val) × (slice_get smith_profile.vals q ≡ Some value) × IsKnownValue known (smith_entry ∷ []) value) (only 0 p c) (Label 0, refl, inr (smith_entry, (0, omega arith, refl), (0, omega arith, refl)))
+profile_inputs p c = subst (λ q. (value : Val) × (slice_get smith_profile.vals q ≡ Some value) × IsKnownValue known (smith_entry ∷ []) value) (contains_one 0 p c) (Label 0, refl, inr (smith_entry, (0, omega arith, refl), (0, omega arith, refl)))
 
 pub smiths_run : IsOrderedRun staff known 0 (opening smiths_query) smiths_log smiths_end
 smiths_run = (
@@ -672,7 +672,7 @@ smiths_run = (
     one_two e = omega arith
 
 smiths_match : IsQueryAnswer Known (GroundsOf smiths_end.copy) smiths_query (frozen_head smiths_query)
-smiths_match = (Label, (λ atom c. subst (λ (a : Atom). Contains smiths_end.copy (ground Label a)) (only the_atom atom c) (1, omega arith, refl)), refl)
+smiths_match = (Label, (λ atom c. subst (λ (a : Atom). Contains smiths_end.copy (ground Label a)) (contains_one the_atom atom c) (1, omega arith, refl)), refl)
 
 pub smiths_goal : HasGoal (smiths_query ∷ []) smiths_end (frozen_head smiths_query)
 smiths_goal = (smiths_query, (0, omega arith, refl), smiths_match)
@@ -688,7 +688,7 @@ well_formed = record {
     keyed relation p got c =
         let long : length profinfo.columns ≡ length relation.columns = ap (λ (r : Relation). length r.columns) (some_injective profinfo relation got) in
         let three_columns : 3 ≡ length relation.columns = long in
-        let zeroth : 0 ≡ p = only 0 p c in omega arith
+        let zeroth : 0 ≡ p = contains_one 0 p c in omega arith
 
 -- the constants of one atom over variables and the name
 no_constant : (terms : List Term) → AllOf (λ t. (c : Value) → t ≡ Said c → Contains known c) terms → (c : Value) → Contains terms (Said c) → Contains known c
@@ -699,9 +699,9 @@ variable_no k c e = absurd (cc)
 
 rules_fit : RulesFit staff known
 rules_fit = record {
-  numbered = λ rule c. subst (λ r. IsNumbered r) (only in_directory rule c) rule_numbered;
-  have = λ rule c. subst (λ (r : Rule). HaveConstants known r.body × HaveConstants known r.head) (only in_directory rule c) (body_have, head_have);
-  heads = λ rule atom c d. subst (λ (a : Atom). FitsRelation staff a.rel a.terms) (only head_atom atom (subst (λ (r : Rule). Contains r.head atom) (sym (only in_directory rule c)) d)) (record { relation = udirect; there = refl; width = refl });
+  numbered = λ rule c. subst (λ r. IsNumbered r) (contains_one in_directory rule c) rule_numbered;
+  have = λ rule c. subst (λ (r : Rule). HaveConstants known r.body × HaveConstants known r.head) (contains_one in_directory rule c) (body_have, head_have);
+  heads = λ rule atom c d. subst (λ (a : Atom). FitsRelation staff a.rel a.terms) (contains_one head_atom atom (subst (λ (r : Rule). Contains r.head atom) (sym (contains_one in_directory rule c)) d)) (record { relation = udirect; there = refl; width = refl });
 }
   where
     occurs : (x : ℕ) → x < 3 → OccursIn (rule_atom ∷ []) x
@@ -714,14 +714,14 @@ rules_fit = record {
     rule_numbered = record { body = λ x l. occurs x l; head = λ x l m. absurd (omega arith) }
 
     body_have : HaveConstants known (rule_atom ∷ [])
-    body_have atom c d i = no_constant (Var 0 ∷ Var 1 ∷ Var 2 ∷ []) (variable_no 0, (variable_no 1, (variable_no 2, tt))) c (subst (λ (a : Atom). Contains a.terms (Said c)) (sym (only rule_atom atom d)) i)
+    body_have atom c d i = no_constant (Var 0 ∷ Var 1 ∷ Var 2 ∷ []) (variable_no 0, (variable_no 1, (variable_no 2, tt))) c (subst (λ (a : Atom). Contains a.terms (Said c)) (sym (contains_one rule_atom atom d)) i)
 
     head_have : HaveConstants known (head_atom ∷ [])
-    head_have atom c d i = no_constant (Var 0 ∷ Var 2 ∷ []) (variable_no 0, (variable_no 2, tt)) c (subst (λ (a : Atom). Contains a.terms (Said c)) (sym (only head_atom atom d)) i)
+    head_have atom c d i = no_constant (Var 0 ∷ Var 2 ∷ []) (variable_no 0, (variable_no 2, tt)) c (subst (λ (a : Atom). Contains a.terms (Said c)) (sym (contains_one head_atom atom d)) i)
 
 query_fits : QueryFits staff smiths_query
 query_fits = record {
-  arity = λ atom c. subst (λ (a : Atom). FitsRelation staff a.rel a.terms) (only the_atom atom c) (record { relation = profinfo; there = refl; width = refl });
+  arity = λ atom c. subst (λ (a : Atom). FitsRelation staff a.rel a.terms) (contains_one the_atom atom c) (record { relation = profinfo; there = refl; width = refl });
   variables = omega arith;
   head = λ x c. each_of (λ t. (y : ℕ) → t ≡ Var y → OccursIn (the_atom ∷ []) y) smiths_query.head (at 0 (0, omega arith, refl), (at 1 (1, omega arith, refl), tt)) (Var x) c x refl;
 }
@@ -731,7 +731,7 @@ query_fits = record {
 
 query_constants : QueryHasConstants known smiths_query
 query_constants = record {
-  atoms = λ atom c d i. no_constant the_atom.terms (variable_no 0, (variable_no 1, (λ t e. named t e, tt))) c (subst (λ (a : Atom). Contains a.terms (Said c)) (sym (only the_atom atom d)) i);
+  atoms = λ atom c d i. no_constant the_atom.terms (variable_no 0, (variable_no 1, (λ t e. named t e, tt))) c (subst (λ (a : Atom). Contains a.terms (Said c)) (sym (contains_one the_atom atom d)) i);
   head = λ c i. no_constant smiths_query.head (variable_no 0, (variable_no 1, tt)) c i;
 }
   where
@@ -740,8 +740,8 @@ query_constants = record {
 
 select_fits : SelectFits staff smiths
 select_fits = record {
-  froms = λ rel c. (profinfo, ap (slice_get staff.relations) (sym (only 0 rel c)));
-  conditions = λ condition c. subst (λ (d : Condition). OperandFits staff smiths d.left × OperandFits staff smiths d.right) (only (record { left = Column 0 2; right = Literal smith }) condition c) ((0, profinfo, refl, refl, omega arith), tt);
+  froms = λ rel c. (profinfo, ap (slice_get staff.relations) (sym (contains_one 0 rel c)));
+  conditions = λ condition c. subst (λ (d : Condition). OperandFits staff smiths d.left × OperandFits staff smiths d.right) (contains_one (record { left = Column 0 2; right = Literal smith }) condition c) ((0, profinfo, refl, refl, omega arith), tt);
   items = each_of (OperandFits staff smiths) smiths.items ((0, profinfo, refl, refl, omega arith), ((0, profinfo, refl, refl, omega arith), tt));
 }
 
@@ -764,8 +764,8 @@ pub smiths_plan_is_equivalent : IsEquivalent smiths_plan smiths_statement staff
 smiths_plan_is_equivalent =
     let (lawful, sound, complete) = extracted staff known smiths_query smiths_query well_formed rules_fit query_fits query_fits query_constants (smiths_trigger ∷ []) middle exposures [] (record { facts = smith_entry ∷ smith_profile ∷ []; next = 2 }) base_run exposing refl smiths_match in
     record {
-      sound = λ facts row model (branch, c, rows). (smiths, contains_here smiths [], select_sound staff smiths smiths_query smiths_form facts row select_fits (sound facts row model.meets (subst (λ b. IsBranchRow staff b facts row) (sym (only smiths_branch branch c)) rows)));
-      complete = λ facts row model (select, c, answer). (smiths_branch, contains_here smiths_branch [], complete facts row model.meets (select_complete staff smiths smiths_query smiths_form facts row select_fits model.fits (subst (λ s. AnswersSelect s facts row) (sym (only smiths select c)) answer)));
+      sound = λ facts row model (branch, c, rows). (smiths, contains_here smiths [], select_sound staff smiths smiths_query smiths_form facts row select_fits (sound facts row model.meets (subst (λ b. IsBranchRow staff b facts row) (sym (contains_one smiths_branch branch c)) rows)));
+      complete = λ facts row model (select, c, answer). (smiths_branch, contains_here smiths_branch [], complete facts row model.meets (select_complete staff smiths smiths_query smiths_form facts row select_fits model.fits (subst (λ s. AnswersSelect s facts row) (sym (contains_one smiths select c)) answer)));
     }
 
 -- a request that stands out of order, or twice

@@ -1,7 +1,7 @@
 -- The premises of the laws can be met: r(a), s(a), a method on s alone, the rule r(x) -> s(x), and the query r(x).
 use Rattle.std.proofs.Common.{◌≡◌, ℕ, zero, suc, ◌<◌, ◌≤◌, List, [], ◌∷◌, ◌++◌, length, Some, refl, sym, ap, ◌∙◌, subst, ⊎_elim, arith}
 use Rattle.std.specs.Prelude.{slice_index_or, Contains, slice_get, map}
-use Rattle.lists.proofs.Members.{contains_here, contains_there, contains_cases, some_injective}
+use Rattle.lists.proofs.Members.{contains_here, contains_there, contains_cases, some_injective, contains_one}
 use Rattle.meaning_laws.proofs.Kept.{ordered_is_run, run_refutes}
 use Rattle.meaning_laws.proofs.Decided.{read_from_run}
 use Rattle.meaning_laws.proofs.Closing.{plan_from_branches}
@@ -38,12 +38,6 @@ use Rattle.meaning.specs.Naming.{IsNaming}
 use Rattle.meaning.specs.Fitting.{HaveConstants, RulesFit, QueryFits, QueryHasConstants}
 use Rattle.meaning.specs.Conjunctive.{StandFor, AreJoined, alike, IsConjunctive, SelectFits, OperandFits, term_of}
 
-pub only : {X : Type 0} (x y : X) → Contains (x ∷ []) y → x ≡ y
-only x y c = ⊎_elim (λ e. e) (λ h. absurd (none h)) (contains_cases x [] y c)
-  where
-    none : Contains [] y → ⊥
-    none h = omega arith
-
 pub got_only : {X : Type 0} (x y : X) (i : ℕ) → slice_get (x ∷ []) i ≡ Some y → (i ≡ 0) × (x ≡ y)
 got_only x y zero e = (refl, some_injective x y e)
 got_only x y (suc i) e = absurd (cc)
@@ -53,8 +47,8 @@ no_element c = omega arith
 
 rules_fit : RulesFit closed_schema []
 rules_fit = record {
-  numbered = λ rule c. subst (λ r. IsNumbered r) (only r_to_s rule c) numbered;
-  have = λ rule c. subst (λ (r : Rule). HaveConstants [] r.body × HaveConstants [] r.head) (only r_to_s rule c) (none r_atom, none s_atom);
+  numbered = λ rule c. subst (λ r. IsNumbered r) (contains_one r_to_s rule c) numbered;
+  have = λ rule c. subst (λ (r : Rule). HaveConstants [] r.body × HaveConstants [] r.head) (contains_one r_to_s rule c) (none r_atom, none s_atom);
   heads = λ rule atom c d. record { relation = s_relation; there = at rule atom c d; width = long rule atom c d };
 }
   where
@@ -62,10 +56,10 @@ rules_fit = record {
     numbered = record { body = λ x l. let e : 0 ≡ x = omega arith in subst (λ y. OccursIn (r_atom ∷ []) y) e (r_atom, contains_here r_atom [], contains_here (Var 0) []); head = λ x l m. absurd (omega arith) }
 
     none : (atom : Atom) → HaveConstants [] (record { rel = atom.rel; terms = Var 0 ∷ [] } ∷ [])
-    none atom other c d i = let e = only (record { rel = atom.rel; terms = Var 0 ∷ [] }) other d in let f : Var 0 ≡ Said c = only (Var 0) (Said c) (subst (λ (x : Atom). Contains x.terms (Said c)) (sym e) i) in absurd (cc)
+    none atom other c d i = let e = contains_one (record { rel = atom.rel; terms = Var 0 ∷ [] }) other d in let f : Var 0 ≡ Said c = contains_one (Var 0) (Said c) (subst (λ (x : Atom). Contains x.terms (Said c)) (sym e) i) in absurd (cc)
 
     the_head : (rule : Rule) (atom : Atom) → Contains closed_schema.rules rule → Contains rule.head atom → s_atom ≡ atom
-    the_head rule atom c d = only s_atom atom (subst (λ (r : Rule). Contains r.head atom) (sym (only r_to_s rule c)) d)
+    the_head rule atom c d = contains_one s_atom atom (subst (λ (r : Rule). Contains r.head atom) (sym (contains_one r_to_s rule c)) d)
 
     at : (rule : Rule) (atom : Atom) → Contains closed_schema.rules rule → Contains rule.head atom → slice_get closed_schema.relations atom.rel ≡ Some s_relation
     at rule atom c d = subst (λ (a : Atom). slice_get closed_schema.relations a.rel ≡ Some s_relation) (the_head rule atom c d) refl
@@ -75,16 +69,16 @@ rules_fit = record {
 
 query_fits : QueryFits closed_schema r_query
 query_fits = record {
-  arity = λ atom c. record { relation = r_relation; there = subst (λ (a : Atom). slice_get closed_schema.relations a.rel ≡ Some r_relation) (only r_atom atom c) refl; width = ap (λ (a : Atom). length a.terms) (sym (only r_atom atom c)) };
+  arity = λ atom c. record { relation = r_relation; there = subst (λ (a : Atom). slice_get closed_schema.relations a.rel ≡ Some r_relation) (contains_one r_atom atom c) refl; width = ap (λ (a : Atom). length a.terms) (sym (contains_one r_atom atom c)) };
   variables = omega arith;
-  head = λ x c. let e : 0 ≡ x = zero_is x (only (Var 0) (Var x) c) in subst (λ y. OccursIn (r_atom ∷ []) y) e (r_atom, contains_here r_atom [], contains_here (Var 0) []);
+  head = λ x c. let e : 0 ≡ x = zero_is x (contains_one (Var 0) (Var x) c) in subst (λ y. OccursIn (r_atom ∷ []) y) e (r_atom, contains_here r_atom [], contains_here (Var 0) []);
 }
   where
     zero_is : (x : ℕ) → Var 0 ≡ Var x → 0 ≡ x
     zero_is x e = cc
 
 query_constants : QueryHasConstants [] r_query
-query_constants = record { atoms = λ atom c d i. let f : Var 0 ≡ Said c = only (Var 0) (Said c) (subst (λ (x : Atom). Contains x.terms (Said c)) (sym (only r_atom atom d)) i) in absurd (cc); head = λ c i. let f : Var 0 ≡ Said c = only (Var 0) (Said c) i in absurd (cc) }
+query_constants = record { atoms = λ atom c d i. let f : Var 0 ≡ Said c = contains_one (Var 0) (Said c) (subst (λ (x : Atom). Contains x.terms (Said c)) (sym (contains_one r_atom atom d)) i) in absurd (cc); head = λ c i. let f : Var 0 ≡ Said c = contains_one (Var 0) (Said c) i in absurd (cc) }
 
 conjunctive : IsConjunctive closed_schema all_of_r r_query
 conjunctive = record {
@@ -116,21 +110,21 @@ conjunctive = record {
 
 select_fits : SelectFits closed_schema all_of_r
 select_fits = record {
-  froms = λ rel c. (r_relation, ap (slice_get closed_schema.relations) (sym (only 0 rel c)));
+  froms = λ rel c. (r_relation, ap (slice_get closed_schema.relations) (sym (contains_one 0 rel c)));
   conditions = λ condition c. absurd (no_element c);
-  items = λ item c. subst (λ o. OperandFits closed_schema all_of_r o) (only (Column 0 0) item c) (0, r_relation, refl, refl, omega arith);
+  items = λ item c. subst (λ o. OperandFits closed_schema all_of_r o) (contains_one (Column 0 0) item c) (0, r_relation, refl, refl, omega arith);
 }
 
 stand : StandFor closed_schema (r_query ∷ []) r_statement
 stand = record {
-  sound = λ facts row query fits c answer. (all_of_r, contains_here all_of_r [], select_sound closed_schema all_of_r r_query conjunctive facts row select_fits (subst (λ q. AnswersQuery q facts row) (sym (only r_query query c)) answer));
-  complete = λ facts row fits (select, c, answer). (r_query, contains_here r_query [], select_complete closed_schema all_of_r r_query conjunctive facts row select_fits fits (subst (λ s. AnswersSelect s facts row) (sym (only all_of_r select c)) answer));
+  sound = λ facts row query fits c answer. (all_of_r, contains_here all_of_r [], select_sound closed_schema all_of_r r_query conjunctive facts row select_fits (subst (λ q. AnswersQuery q facts row) (sym (contains_one r_query query c)) answer));
+  complete = λ facts row fits (select, c, answer). (r_query, contains_here r_query [], select_complete closed_schema all_of_r r_query conjunctive facts row select_fits fits (subst (λ s. AnswersSelect s facts row) (sym (contains_one all_of_r select c)) answer));
 }
 
 -- facts of the relation r and of s
 r_is : (facts : List Ground) (vals : List Val) → facts ≡ r_fact ∷ s_fact ∷ [] → Contains facts (record { rel = 0; vals = vals }) → Label 0 ∷ [] ≡ vals
 r_is facts vals e c =
-    ⊎_elim (λ same. ap (λ (f : Ground). f.vals) same) (λ h. absurd (differ vals (only s_fact (record { rel = 0; vals = vals }) h)))
+    ⊎_elim (λ same. ap (λ (f : Ground). f.vals) same) (λ h. absurd (differ vals (contains_one s_fact (record { rel = 0; vals = vals }) h)))
     (contains_cases r_fact (s_fact ∷ []) (record { rel = 0; vals = vals }) (subst (λ fs. Contains fs (record { rel = 0; vals = vals })) e c))
   where
     differ : (vals : List Val) → s_fact ≡ record { rel = 0; vals = vals } → ⊥
@@ -142,15 +136,15 @@ base_quiet proof e trigger rule active =
     let vals : Label 0 ∷ [] ≡ assigned trigger 0 ∷ [] = r_is proof.base (assigned trigger 0 ∷ []) e (its.trigger_is.body r_atom (contains_here r_atom [])) in
     its.unmet (assigned trigger) (record {
       agrees = λ x occurs. refl;
-      head = λ atom c. subst (λ (a : Atom). Contains proof.base (ground (assigned trigger) a)) (only s_atom atom c)
+      head = λ atom c. subst (λ (a : Atom). Contains proof.base (ground (assigned trigger) a)) (contains_one s_atom atom c)
           (subst (λ vs. Contains proof.base (record { rel = 1; vals = vs })) vals (subst (λ fs. Contains fs s_fact) (sym e) (contains_there r_fact (s_fact ∷ []) s_fact (contains_here s_fact []))));
     })
 
 r_only_active : IsActive closed_schema.rules (base_state (opening r_query)) r_trigger r_to_s
 r_only_active = record {
-  trigger_is = record { numbered = refl; width = refl; fresh = omega arith; body = λ atom c. subst (λ (a : Atom). Contains (r_fact ∷ []) (ground (assigned r_trigger) a)) (only r_atom atom c) (contains_here r_fact []) };
+  trigger_is = record { numbered = refl; width = refl; fresh = omega arith; body = λ atom c. subst (λ (a : Atom). Contains (r_fact ∷ []) (ground (assigned r_trigger) a)) (contains_one r_atom atom c) (contains_here r_fact []) };
   next = refl;
-  unmet = λ b ext. differ b (only r_fact (record { rel = 1; vals = b 0 ∷ [] }) (ext.head s_atom (contains_here s_atom [])));
+  unmet = λ b ext. differ b (contains_one r_fact (record { rel = 1; vals = b 0 ∷ [] }) (ext.head s_atom (contains_here s_atom [])));
 }
   where
     differ : (b : ℕ → Val) → r_fact ≡ record { rel = 1; vals = b 0 ∷ [] } → ⊥
@@ -200,7 +194,7 @@ closed_run = (
     one_two e = omega arith
 
 no_r : (vals : List Val) → Contains (s_fact ∷ []) (record { rel = 0; vals = vals }) → ⊥
-no_r vals c = let rel : ◌≡◌ {A = ℕ} 1 0 = ap (λ (f : Ground). f.rel) (only s_fact (record { rel = 0; vals = vals }) c) in omega arith
+no_r vals c = let rel : ◌≡◌ {A = ℕ} 1 0 = ap (λ (f : Ground). f.rel) (contains_one s_fact (record { rel = 0; vals = vals }) c) in omega arith
 
 stuck : IsStuck closed_schema [] (r_query ∷ []) closed_end (frozen_head r_query)
 stuck = record {
@@ -208,7 +202,7 @@ stuck = record {
   exposures = exposures;
   copy = λ trigger rule active. let its = subst (λ r. IsActive closed_schema.rules (copy_state closed_end) trigger r) (sym (got_only r_to_s rule trigger.rule active.trigger_is.numbered).1) active in
       no_r (assigned trigger 0 ∷ []) (its.trigger_is.body r_atom (contains_here r_atom []));
-  goal = λ (query, c, answer). goal (subst (λ q. IsQueryAnswer Const (GroundsOf closed_end.copy) q (frozen_head r_query)) (sym (only r_query query c)) answer);
+  goal = λ (query, c, answer). goal (subst (λ q. IsQueryAnswer Const (GroundsOf closed_end.copy) q (frozen_head r_query)) (sym (contains_one r_query query c)) answer);
 }
   where
     exposures : NoExposure closed_schema [] closed_end
@@ -224,12 +218,12 @@ stuck = record {
 pub small_refutes : (h : ℕ → List ℕ) → IsNaming [] 1 h → Refutes closed_schema [] r_statement (renamed h closed_end.base) (renamed h closed_end.copy) (map (image h) (frozen_head r_query))
 small_refutes h naming =
     run_refutes closed_schema [] r_statement (r_query ∷ []) r_query (closed_log) closed_end h rules_fit stand (contains_here r_query [])
-    (λ q c. subst (λ x. QueryHasConstants [] x) (only r_query q c) query_constants) query_fits (ordered_is_run closed_schema [] 0 (opening r_query) (closed_log) closed_end closed_run) stuck naming
+    (λ q c. subst (λ x. QueryHasConstants [] x) (contains_one r_query q c) query_constants) query_fits (ordered_is_run closed_schema [] 0 (opening r_query) (closed_log) closed_end closed_run) stuck naming
 
 well_formed : IsWellFormed closed_schema
 well_formed = record {
-  once = λ first second c d e. sym (only all_s first c) ∙ only all_s second d;
-  inputs = λ method relation p c g i. absurd (no_element (subst (λ (m : Method). Contains m.inputs p) (sym (only all_s method c)) i));
+  once = λ first second c d e. sym (contains_one all_s first c) ∙ contains_one all_s second d;
+  inputs = λ method relation p c g i. absurd (no_element (subst (λ (m : Method). Contains m.inputs p) (sym (contains_one all_s method c)) i));
 }
 
 -- and no lawful plan is equivalent
@@ -280,13 +274,13 @@ open_run = (
     one_two e = omega arith
 
 open_goal : HasGoal (r_query ∷ []) open_end (frozen_head r_query)
-open_goal = (r_query, contains_here r_query [], (Label, (λ atom c. subst (λ (a : Atom). Contains (r_fact ∷ []) (ground Label a)) (only r_atom atom c) (contains_here r_fact [])), refl))
+open_goal = (r_query, contains_here r_query [], (Label, (λ atom c. subst (λ (a : Atom). Contains (r_fact ∷ []) (ground Label a)) (contains_one r_atom atom c) (contains_here r_fact [])), refl))
 
 open_well : IsWellFormed open_schema
 open_well = record {
-  once = λ first second c d e. ⊎_elim (λ i. ⊎_elim (λ j. sym i ∙ j) (λ j. absurd (differ (ap (λ (m : Method). m.name) i ∙ e ∙ sym (ap (λ (m : Method). m.name) (only all_r second j))))) (contains_cases all_s (all_r ∷ []) second d))
-      (λ i. ⊎_elim (λ j. absurd (differ (ap (λ (m : Method). m.name) j ∙ sym e ∙ sym (ap (λ (m : Method). m.name) (only all_r first i))))) (λ j. sym (only all_r first i) ∙ only all_r second j) (contains_cases all_s (all_r ∷ []) second d)) (contains_cases all_s (all_r ∷ []) first c);
-  inputs = λ method relation p c g i. ⊎_elim (λ e. absurd (no_element (subst (λ (m : Method). Contains m.inputs p) (sym e) i))) (λ h. absurd (no_element (subst (λ (m : Method). Contains m.inputs p) (sym (only all_r method h)) i))) (contains_cases all_s (all_r ∷ []) method c);
+  once = λ first second c d e. ⊎_elim (λ i. ⊎_elim (λ j. sym i ∙ j) (λ j. absurd (differ (ap (λ (m : Method). m.name) i ∙ e ∙ sym (ap (λ (m : Method). m.name) (contains_one all_r second j))))) (contains_cases all_s (all_r ∷ []) second d))
+      (λ i. ⊎_elim (λ j. absurd (differ (ap (λ (m : Method). m.name) j ∙ sym e ∙ sym (ap (λ (m : Method). m.name) (contains_one all_r first i))))) (λ j. sym (contains_one all_r first i) ∙ contains_one all_r second j) (contains_cases all_s (all_r ∷ []) second d)) (contains_cases all_s (all_r ∷ []) first c);
+  inputs = λ method relation p c g i. ⊎_elim (λ e. absurd (no_element (subst (λ (m : Method). Contains m.inputs p) (sym e) i))) (λ h. absurd (no_element (subst (λ (m : Method). Contains m.inputs p) (sym (contains_one all_r method h)) i))) (contains_cases all_s (all_r ∷ []) method c);
 }
   where
     differ : all_s.name ≡ all_r.name → ⊥
@@ -301,9 +295,9 @@ open_stand = record { sound = λ facts row query fits c answer. stand.sound fact
 pub small_plan : (plan : Plan) × IsLawful plan open_schema [] × IsEquivalent plan r_statement open_schema
 small_plan =
     let (branch, is, long) = read_from_run open_schema [] (r_query ∷ []) r_query (open_log) open_end open_well open_fits open_query_fits
-    (λ q c. subst (λ x. QueryFits open_schema x) (only r_query q c) open_query_fits) query_constants (ordered_is_run open_schema [] 0 (opening r_query) (open_log) open_end open_run) open_goal in
+    (λ q c. subst (λ x. QueryFits open_schema x) (contains_one r_query q c) open_query_fits) query_constants (ordered_is_run open_schema [] 0 (opening r_query) (open_log) open_end open_run) open_goal in
     let plan : Plan = record { width = 1; branches = branch ∷ [] } in
-    let both = plan_from_branches open_schema [] r_statement (r_query ∷ []) plan open_stand (is, tt) (λ other c. ap (λ (b : Branch). length b.output) (sym (only branch other c)) ∙ long) in
+    let both = plan_from_branches open_schema [] r_statement (r_query ∷ []) plan open_stand (is, tt) (λ other c. ap (λ (b : Branch). length b.output) (sym (contains_one branch other c)) ∙ long) in
     (plan, both.0, both.1)
 
 -- a run that makes a copy firing while an exposure waits
@@ -346,7 +340,7 @@ hasty_is_not_ordered (order, waits, (first, (rule, active, e), (order', waits', 
     second_is = subst (λ (p : Proof). second ≡ record p { exposed = p.exposed ++ r_fact ∷ []; copy = p.copy ++ r_fact ∷ [] }) first_is e'
 
     s_is_new : Contains (r_fact ∷ []) s_fact → ⊥
-    s_is_new c = let rel : ◌≡◌ {A = ℕ} 0 1 = ap (λ (f : Ground). f.rel) (only r_fact s_fact c) in omega arith
+    s_is_new c = let rel : ◌≡◌ {A = ℕ} 0 1 = ap (λ (f : Ground). f.rel) (contains_one r_fact s_fact c) in omega arith
 
 -- no exposure follows a copy firing
 pub parts_stand_in_order : (schema : SchemaParts) (constants : List (List ℕ)) (proof end : Proof) (method : ℕ) (fact : Ground) (log : List Firing) → IsRun schema constants 2 proof (Expose method fact ∷ log) end → ⊥

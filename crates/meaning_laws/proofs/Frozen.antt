@@ -27,13 +27,13 @@ length_terms n (Const c ∷ places) = ap suc (length_terms n places)
 length_terms n (Col k ∷ places) = ap suc (length_terms n places)
 length_terms n (New ∷ places) = ap suc (length_terms (n + 1) places)
 
-made_grows : (n : ℕ) (places : List Place) → n ≤ made n places
+pub made_grows : (n : ℕ) (places : List Place) → n ≤ made n places
 made_grows n [] = omega arith
 made_grows n (Const c ∷ places) = made_grows n places
 made_grows n (Col k ∷ places) = made_grows n places
 made_grows n (New ∷ places) = let more : n + 1 ≤ made (n + 1) places = made_grows (n + 1) places in omega arith
 
-columns_grow : (n : ℕ) (steps : List Step) → n ≤ columns_of n steps
+pub columns_grow : (n : ℕ) (steps : List Step) → n ≤ columns_of n steps
 columns_grow n [] = omega arith
 columns_grow n (step ∷ steps) =
     let here : n ≤ made n step.places = made_grows n step.places in
@@ -141,3 +141,9 @@ module _ (schema : SchemaParts) (well : IsWellFormed schema) (constants : List (
       constant : (out : Out) (c : List ℕ) → IsLawfulOut constants (columns_of 0 branch.steps) out → out_term out ≡ Said c → Contains constants c
       constant (Fixed t) c lawful e = let same : t ≡ c = cc in subst (λ u. Contains constants u) same lawful
       constant (Made k) c lawful e = let clash : ⊥ = cc in absurd clash
+
+pub made_few : (n : ℕ) (places : List Place) → made n places ≤ n + length places
+made_few n [] = omega arith
+made_few n (Const c ∷ places) = let rest = made_few n places in omega arith
+made_few n (Col k ∷ places) = let rest = made_few n places in omega arith
+made_few n (New ∷ places) = let rest = made_few (n + 1) places in omega arith

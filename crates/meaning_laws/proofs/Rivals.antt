@@ -34,6 +34,7 @@ use Rattle.meaning.specs.Conjunctive.{StandFor}
 use Rattle.meaning.specs.Extract.{Exposure, exposed_facts, IsExposing, exposures_cost, IsBase, IsQueryRival, HasGoalAfter}
 use Rattle.meaning.specs.declared.types.Statement.{Statement}
 use Rattle.meaning.specs.declared.types.Select.{Select}
+use Rattle.meaning.proofs.Steps.{cost_once}
 
 -- rows grow with the facts
 pub steps_grow : (schema : SchemaParts) (first second : List Fact) → ((fact : Fact) → Contains first fact → Contains second fact) → (steps : List Step) (row last : List (List ℕ)) → LeadsTo schema first steps row last → LeadsTo schema second steps row last
@@ -161,14 +162,6 @@ rival_exposes schema constants queries query base head rival cost well rules hav
     )
 
 -- a list of steps has one cost
-cost_once : (schema : SchemaParts) → IsWellFormed schema → (steps : List Step) (m n : ℕ) → IsStepsCost schema steps m → IsStepsCost schema steps n → m ≡ n
-cost_once schema well [] m n a b = a ∙ sym b
-cost_once schema well (step ∷ steps) m n (method, left, named, more, e) (other, left', named', more', e') =
-    let same : method ≡ other = well.once method other named.0 named'.0 (named.1 ∙ sym named'.1) in
-    let price : method.cost ≡ other.cost = ap (λ (x : Method). x.cost) same in
-    let rest : left ≡ left' = cost_once schema well steps left left' more more' in
-    omega arith
-
 -- where no exposures with a goal cost less, no rival costs less
 pub least_by_exposures : (schema : SchemaParts) (constants : List (List ℕ)) (statement : Statement) (select : Select) (queries : List Query) (query : Query) (base : State) (head : List Val) (branch : Branch) (best : ℕ) →
     IsWellFormed schema → RulesFit schema constants → ((q : Query) → Contains queries q → QueryHasConstants constants q) → StandFor schema queries statement →

@@ -254,7 +254,7 @@ pub record Trimmed (schema : SchemaParts) (constants : List (List ℕ)) (Relevan
   pub asked : (v : Val) → Contains values v → (fact : Ground) × Relevant fact × Asks schema constants fact v
 
 -- a value known after one more exposure was known before, or is of its fact
-known_or : (constants : List (List ℕ)) (before : List Ground) (fact : Ground) (v : Val) → IsKnownValue constants (before ++ fact ∷ []) v → IsKnownValue constants before v ⊎ Contains fact.vals v
+pub known_or : (constants : List (List ℕ)) (before : List Ground) (fact : Ground) (v : Val) → IsKnownValue constants (before ++ fact ∷ []) v → IsKnownValue constants before v ⊎ Contains fact.vals v
 known_or constants before fact v known =
     ⊎_elim (λ c. inl (inl c)) (λ (f, among, i). ⊎_elim (λ old. inl (inr (f, old, i))) (λ same. inr (subst (λ (g : Ground). Contains g.vals v) (sym same) i)) (Contains-push_cases before fact f among)) known
 

@@ -1,8 +1,8 @@
 -- The relations that steps and branches access.
-use Rattle.std.proofs.Common.{◌≡◌, ◌⊎◌, ◌↔◌, inl, inr, ⊎_elim, ℕ, ◌+◌, ◌<◌, ◌≤◌, List, [], ◌∷◌, ◌++◌, length, take, get_or, sym, ◌∙◌, ap, subst, arith}
+use Rattle.std.proofs.Common.{◌≡◌, ◌⊎◌, ◌↔◌, inl, inr, ⊎_elim, ℕ, ◌+◌, ◌<◌, ◌≤◌, List, [], ◌∷◌, ◌++◌, length, take, get_or, sym, ◌∙◌, ap, subst}
 use Rattle.std.specs.Prelude.{Contains}
 use Rattle.std.proofs.lemmas.List.{take_more, take_all}
-use Rattle.lists.proofs.Members.{contains_here, contains_cases}
+use Rattle.lists.proofs.Members.{contains_here, contains_cases, contains_none}
 use Rattle.meaning.specs.declared.types.Method.{Method}
 use Rattle.meaning.specs.declared.types.Step.{Step}
 use Rattle.meaning.specs.declared.types.Branch.{Branch}
@@ -15,15 +15,12 @@ use Rattle.middleware.specs.PlanSources.{IsAccessed}
 use Rattle.middleware.specs.Sources.{StepAccesses, StepsAccess, BranchesAccess}
 use Rattle.middleware.proofs.Steps.{in_append, append_first, append_second}
 
-no_member : {X : Type 0} (x : X) → Contains [] x → ⊥
-no_member x n = omega arith
-
 -- the relation of the step's method was added
 pub step_found : (schema : Schema) (step : Step) (method : Method) → IsMethod (meaning_of schema) step.method method → (old new : List ℕ) → new ≡ old ++ method.rel ∷ [] → (rel : ℕ) → Contains new rel ↔ (Contains old rel ⊎ StepAccesses schema step rel)
 step_found schema step method named old new is rel = (
   (λ c. elim (in_append old (method.rel ∷ []) rel (subst (λ (l : List ℕ). Contains l rel) is c)) [
     | inl first ↦ inl first
-    | inr second ↦ inr (record { method = method; named = named; of_relation = ⊎_elim (λ e. e) (λ n. absurd (no_member rel n)) (contains_cases method.rel [] rel second) })
+    | inr second ↦ inr (record { method = method; named = named; of_relation = ⊎_elim (λ e. e) (λ n. absurd (contains_none rel n)) (contains_cases method.rel [] rel second) })
   ]),
   (λ h. subst (λ (l : List ℕ). Contains l rel) (sym is) (⊎_elim (λ c. append_first old (method.rel ∷ []) rel c) (λ a. append_second old (method.rel ∷ []) rel (own a)) h)),
 )
@@ -57,11 +54,11 @@ steps_more schema steps i step less at base now next before after rel = (
     split : StepsAccess schema (take (i + 1) steps) rel → Contains now rel ⊎ StepAccesses schema step rel
     split a = elim (in_append (take i steps) (step ∷ []) a.step (subst (λ (l : List Step). Contains l a.step) more a.among)) [
       | inl first ↦ inl ((before rel).1 (inr (record { step = a.step; among = first; accesses = a.accesses })))
-      | inr second ↦ inr (subst (λ (s : Step). StepAccesses schema s rel) (sym (⊎_elim (λ e. e) (λ n. absurd (no_member a.step n)) (contains_cases step [] a.step second))) a.accesses)
+      | inr second ↦ inr (subst (λ (s : Step). StepAccesses schema s rel) (sym (⊎_elim (λ e. e) (λ n. absurd (contains_none a.step n)) (contains_cases step [] a.step second))) a.accesses)
     ]
 
 pub steps_none : (schema : Schema) (base : List ℕ) (rel : ℕ) → Contains base rel ↔ (Contains base rel ⊎ StepsAccess schema [] rel)
-steps_none schema base rel = ((λ c. inl c), (λ h. ⊎_elim (λ c. c) (λ a. absurd (no_member a.step a.among)) h))
+steps_none schema base rel = ((λ c. inl c), (λ h. ⊎_elim (λ c. c) (λ a. absurd (contains_none a.step a.among)) h))
 
 pub steps_all : (schema : Schema) (steps : List Step) (i : ℕ) → length steps ≤ i → (base now : List ℕ) → ((rel : ℕ) → Contains now rel ↔ (Contains base rel ⊎ StepsAccess schema (take i steps) rel)) → (rel : ℕ) → Contains now rel ↔ (Contains base rel ⊎ StepsAccess schema steps rel)
 steps_all schema steps i over base now h = subst (λ (s : List Step). (rel : ℕ) → Contains now rel ↔ (Contains base rel ⊎ StepsAccess schema s rel)) (take_all i steps over) h
@@ -91,12 +88,12 @@ branches_more schema branches i its less at steps se now next before after rel =
     split a = elim (in_append (take i branches) (its ∷ []) a.branch (subst (λ (l : List Branch). Contains l a.branch) more a.among)) [
       | inl first ↦ inl ((before rel).1 (record { branch = a.branch; among = first; accesses = a.accesses }))
       | inr second ↦
-          let same : its ≡ a.branch = ⊎_elim (λ e. e) (λ n. absurd (no_member a.branch n)) (contains_cases its [] a.branch second) in
+          let same : its ≡ a.branch = ⊎_elim (λ e. e) (λ n. absurd (contains_none a.branch n)) (contains_cases its [] a.branch second) in
           inr (subst (λ (s : List Step). StepsAccess schema s rel) (sym se) (subst (λ (b : Branch). StepsAccess schema b.steps rel) (sym same) a.accesses))
     ]
 
 pub branches_none : (schema : Schema) (now : List ℕ) → now ≡ [] → (rel : ℕ) → Contains now rel ↔ BranchesAccess schema [] rel
-branches_none schema now e rel = ((λ c. absurd (no_member rel (subst (λ (l : List ℕ). Contains l rel) e c))), (λ a. absurd (no_member a.branch a.among)))
+branches_none schema now e rel = ((λ c. absurd (contains_none rel (subst (λ (l : List ℕ). Contains l rel) e c))), (λ a. absurd (contains_none a.branch a.among)))
 
 -- the relations of all branches are those of the plan
 pub plan_accesses : (schema : Schema) (plan : Plan) (branches : List Branch) → branches ≡ plan.branches → (i : ℕ) → length branches ≤ i → (now next : List ℕ) → ((rel : ℕ) → Contains next rel ↔ Contains now rel)

@@ -4,7 +4,8 @@ use Rattle.std.specs.Prelude.{Contains, slice_get}
 use Rattle.std.specs.Cmp.Lexicographic.{pointwise}
 use Rattle.std.proofs.lemmas.Bool.Decides.{nat_tests}
 use Rattle.std.proofs.lemmas.List.{length_push}
-use Rattle.lists.proofs.Members.{contains_map, contains_mapped, some_injective}
+use Rattle.lists.proofs.Members.{contains_map, contains_mapped, some_injective, contains_joined, joined_from}
+use Rattle.lists.proofs.Booleans.{cond_true}
 use Rattle.meaning.specs.declared.types.Fact.{Fact}
 use Rattle.meaning.specs.declared.types.Method.{Method}
 use Rattle.meaning.specs.declared.types.Place.{Place}
@@ -17,7 +18,7 @@ use Rattle.middleware.specs.Joining.{joined, listed, grown, is_at, text_or, inpu
 use Rattle.middleware.specs.Rounds.{IsWanted, next_rows}
 use Rattle.middleware.specs.Live.{is_named, is_shown, is_live, IsAlike, AreAlike, KeepsLive, masked}
 use Rattle.middleware.specs.Branches.{output_of}
-use Rattle.middleware.proofs.Steps.{in_flat, flat_in, in_listed, listed_in}
+use Rattle.middleware.proofs.Steps.{in_listed, listed_in}
 
 -- ---- masked rows are alike
 
@@ -73,10 +74,6 @@ module _ (live : ℕ → Bool) where
 
 -- ---- what alike rows give
 
-either : (b x : Bool) → x ≡ true → cond b true x ≡ true
-either true x is = refl
-either false x is = is
-
 named_at : (places : List Place) (p k : ℕ) → slice_get places p ≡ Some (Col k) → is_named places k ≡ true
 named_at [] p k e = absurd (cc)
 named_at (Const c ∷ places) zero k e = absurd (cc)
@@ -85,7 +82,7 @@ named_at (Col j ∷ places) zero k e =
     let same : j ≡ k = cc in
     let test : nat_eq j k ≡ true = grind (arith, nat_tests) in
     rw test refl
-named_at (Col j ∷ places) (suc p) k e = either (nat_eq j k) (is_named places k) (named_at places p k e)
+named_at (Col j ∷ places) (suc p) k e = cond_true (nat_eq j k) (is_named places k) (named_at places p k e)
 named_at (New ∷ places) zero k e = absurd (cc)
 named_at (New ∷ places) (suc p) k e = named_at places p k e
 
@@ -134,7 +131,7 @@ module _ (live : ℕ → Bool) where
   out_same row other alike (Made j ∷ outs) shown =
       let test : nat_eq j j ≡ true = grind (arith, nat_tests) in
       let here : slice_get other j ≡ slice_get row j = alike.same j (shown j (rw test refl)) in
-      let rest = out_same row other alike outs (λ k is. shown k (either (nat_eq j k) (is_shown outs k) is)) in
+      let rest = out_same row other alike outs (λ k is. shown k (cond_true (nat_eq j k) (is_shown outs k) is)) in
       rw here (rw rest refl)
 
   -- two results of a join, neither of which there is, or alike
@@ -157,7 +154,7 @@ module _ (live : ℕ → Bool) where
       let test : nat_eq j j ≡ true = grind (arith, nat_tests) in
       let here : slice_get other j ≡ slice_get row j = alike.same j (named j (rw test refl)) in
       subst (λ (o : Option (List ℕ)). AlikeResults (joined (Col j ∷ places) (value ∷ values) row) (cond (is_at o value) (joined places values other) None)) (sym here)
-      (guarded (is_at (slice_get row j) value) (joined places values row) (joined places values other) (joined_alike places values row other (λ k is. named k (either (nat_eq j k) (is_named places k) is)) alike))
+      (guarded (is_at (slice_get row j) value) (joined places values row) (joined places values other) (joined_alike places values row other (λ k is. named k (cond_true (nat_eq j k) (is_named places k) is)) alike))
   joined_alike (New ∷ places) (value ∷ values) row other named alike = joined_alike places values (row ++ value ∷ []) (other ++ value ∷ []) named (pushed row other value alike)
 
   result_there : (x y : Option (List (List ℕ))) (next : List (List ℕ)) → AlikeResults x y → x ≡ Some next → (nigh : List (List ℕ)) × (y ≡ Some nigh) × IsAlike live next nigh
@@ -185,9 +182,9 @@ module _ (live : ℕ → Bool) where
 
     grown_alike : (answer : RowList) (row other next : List (List ℕ)) → IsAlike live row other → Contains (grown places answer row) next → (nigh : List (List ℕ)) × Contains (grown places answer other) nigh × IsAlike live next nigh
     grown_alike answer row other next alike c =
-        let (values, among, h) = in_flat (λ v. listed (joined places v row)) answer next c in
+        let (values, among, h) = joined_from (λ v. listed (joined places v row)) answer next c in
         let (nigh, is, near) = result_there (joined places values row) (joined places values other) next (joined_alike places values row other named alike) (in_listed (joined places values row) next h) in
-        (nigh, flat_in (λ v. listed (joined places v other)) answer values nigh among (listed_in (joined places values other) nigh is), near)
+        (nigh, contains_joined (λ v. listed (joined places v other)) answer values nigh among (listed_in (joined places values other) nigh is), near)
 
     module _ (method : Method) (facts : List Fact) where
       abbrev picked : List (List ℕ) → RowList
@@ -196,12 +193,12 @@ module _ (live : ℕ → Bool) where
       one_way : (rows others : RowList) → ((row : List (List ℕ)) → Contains rows row → (other : List (List ℕ)) × Contains others other × IsAlike live row other)
           → (next : List (List ℕ)) → Contains (next_rows places method facts rows) next → (nigh : List (List ℕ)) × Contains (next_rows places method facts others) nigh × IsAlike live next nigh
       one_way rows others through next c =
-          let (row, among, g) = in_flat (λ r. grown places (picked r) r) rows next c in
+          let (row, among, g) = joined_from (λ r. grown places (picked r) r) rows next c in
           let (other, of, alike) = through row among in
           let (nigh, there, near) = grown_alike (picked row) row other next alike g in
           let same = inputs_same method.inputs row other alike in
           let here : Contains (grown places (picked other) other) nigh = subst (λ (v : List (List ℕ)). Contains (grown places (pick facts method.rel method.inputs v) other) nigh) (sym same) there in
-          (nigh, flat_in (λ r. grown places (picked r) r) others other nigh of here, near)
+          (nigh, contains_joined (λ r. grown places (picked r) r) others other nigh of here, near)
 
       -- the next rows of alike rows are alike
       pub next_alike : (rows others : RowList) → AreAlike live rows others → AreAlike live (next_rows places method facts rows) (next_rows places method facts others)
@@ -245,5 +242,5 @@ module _ (step : Step) (steps : List Step) (outs : List Out) where
   pub round_alike : (method : Method) (facts : List Fact) (partial kept next : RowList) → AreAlike before partial kept
       → ((row : List (List ℕ)) → Contains next row ↔ Contains (next_rows step.places method facts kept) row) → AreAlike (is_live steps outs) (next_rows step.places method facts partial) next
   round_alike method facts partial kept next alike are =
-      alike_less before (is_live steps outs) (λ k is. either (is_named step.places k) (is_live steps outs k) is) (next_rows step.places method facts partial) next
+      alike_less before (is_live steps outs) (λ k is. cond_true (is_named step.places k) (is_live steps outs k) is) (next_rows step.places method facts partial) next
       (alike_members before (next_rows step.places method facts partial) (next_rows step.places method facts kept) next are (next_alike before step.places named_before method facts partial kept alike))

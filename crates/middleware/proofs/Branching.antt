@@ -2,8 +2,8 @@
 use Rattle.std.proofs.Common.{◌≡◌, ◌↔◌, inl, inr, ⊎_elim, ℕ, zero, suc, ◌+◌, ◌-◌, ◌<◌, ◌≤◌, List, [], ◌∷◌, ◌++◌, length, map, take, drop, get_or, Option, None, Some, refl, sym, ◌∙◌, ap, subst, arith}
 use Rattle.std.specs.Prelude.{Contains, IsSomeAnd, slice_get}
 use Rattle.std.specs.List.{AllZip}
-use Rattle.std.proofs.lemmas.List.{drop_more, take-append-drop}
-use Rattle.lists.proofs.Members.{contains_here, contains_there, contains_map, contains_mapped, got_below}
+use Rattle.std.proofs.lemmas.List.{drop_more}
+use Rattle.lists.proofs.Members.{contains_here, contains_there, contains_map, contains_mapped, got_below, contains_take}
 use Rattle.meaning.specs.declared.types.Fact.{Fact}
 use Rattle.meaning.specs.declared.types.Method.{Method}
 use Rattle.meaning.specs.declared.types.SchemaParts.{SchemaParts}
@@ -29,7 +29,7 @@ use Rattle.middleware.specs.Rounds.{requests_of, IsWanted, CanAskAll, next_rows}
 use Rattle.middleware.specs.Branches.{HasAdded, AddsBranch, IsInput, columns_after, IsReady, IsReadyOut, IsReadyBranch, out_value, output_of, IsAskable, Means}
 use Rattle.middleware.specs.Live.{AreAlike, is_live, is_shown}
 use Rattle.middleware.specs.declared.branch.BranchFault.TheVariants as branch
-use Rattle.middleware.proofs.Steps.{append_first, steps_length, requests_append, requests_one, next_partial, is_round}
+use Rattle.middleware.proofs.Steps.{steps_length, requests_append, requests_one, next_partial, is_round}
 use Rattle.middleware.proofs.Alike.{alike_through, outputs_alike, round_wanted, round_alike}
 
 -- ---- what a lawful branch makes ready
@@ -105,15 +105,12 @@ inputs_for schema well before step method named ready =
     let same : ready.method ≡ method = well.once ready.method method ready.named.0 named.0 (ready.named.1 ∙ sym named.1) in
     subst (λ (m : Method). (p : ℕ) → Contains m.inputs p → IsInput (columns_after 0 before) (slice_get step.places p)) same ready.inputs
 
-pub in_take : {X : Type 0} (n : ℕ) (xs : List X) (x : X) → Contains (take n xs) x → Contains xs x
-in_take n xs x c = subst (λ (l : List _). Contains l x) (take-append-drop n xs) (append_first (take n xs) (drop n xs) x c)
-
 -- the wanted requests are requests of the step
 pub of_step : (schema : SchemaParts) (step : Step) (method : Method) (columns : ℕ) → IsMethod schema step.method method → ((p : ℕ) → Contains method.inputs p → IsInput columns (slice_get step.places p))
     → (rows list : RowList) → IsWanted step.places method.inputs rows list → (n : ℕ) (request : Request) → Contains (requests_of method.rel method.inputs (take n list)) request → IsStepRequest schema step request
 of_step schema step method columns named are rows list wanted n request c =
     let (values, among, is) = contains_mapped (λ v. record { rel = method.rel; positions = method.inputs; values = v }) (take n list) request c in
-    let (row, of, e) = contains_mapped (input_row_of step.places method.inputs) rows values ((wanted.same values).0 (in_take n list values among)) in
+    let (row, of, e) = contains_mapped (input_row_of step.places method.inputs) rows values ((wanted.same values).0 (contains_take n list values among)) in
     subst (λ (q : Request). IsStepRequest schema step q) is (record {
       method = method;
       named = named;

@@ -2,13 +2,12 @@
 use Rattle.std.proofs.Common.{◌≡◌, ◌↔◌, ℕ, List, map, subst}
 use Rattle.std.specs.Prelude.{Contains, flat_map}
 use Rattle.std.specs.List.Sorted.{IsStrictlySortedBy}
-use Rattle.lists.proofs.Members.{contains_map, contains_mapped}
+use Rattle.lists.proofs.Members.{contains_map, contains_mapped, contains_joined, joined_from}
 use Rattle.meaning.specs.declared.types.Place.{Place}
 use Rattle.source_trait.specs.Asking.{RowList}
 use Rattle.row_text.specs.RowText.{row_cmp}
 use Rattle.middleware.specs.Joining.{input_row_of}
 use Rattle.middleware.specs.Rounds.{IsWanted}
-use Rattle.middleware.proofs.Steps.{flat_in, in_flat}
 
 map_within : {X Y : Type 0} (f : X → Y) (xs ys : List X) → ((x : X) → Contains xs x → Contains ys x) → (y : Y) → Contains (map f xs) y → Contains (map f ys) y
 map_within f xs ys within y c =
@@ -17,8 +16,8 @@ map_within f xs ys within y c =
 
 flat_within : {X Y : Type 0} (f : X → List Y) (xs ys : List X) → ((x : X) → Contains xs x → Contains ys x) → (y : Y) → Contains (flat_map f xs) y → Contains (flat_map f ys) y
 flat_within f xs ys within y c =
-    let (x, among, there) = in_flat f xs y c in
-    flat_in f ys x y (within x among) there
+    let (x, among, there) = joined_from f xs y c in
+    contains_joined f ys x y (within x among) there
 
 module _ (rows distinct : RowList) (same : (row : List (List ℕ)) → Contains distinct row ↔ Contains rows row) where
   pub wanted_same : (places : List Place) (inputs : List ℕ) (list : RowList) → IsWanted places inputs distinct list → IsWanted places inputs rows list

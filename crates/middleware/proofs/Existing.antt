@@ -1,13 +1,12 @@
 -- Each round has its list of requests, and so have steps and branches, whatever the instance.
 use Rattle.std.proofs.Common.{◌≡◌, ◌⊎◌, ◌↔◌, inl, inr, ⊎_elim, ℕ, zero, suc, ◌+◌, List, [], ◌∷◌, ◌++◌, length, map, take, drop, Some, refl, sym, ◌∙◌, ap, subst, append_assoc, arith}
 use Rattle.std.specs.Prelude.{Contains, slice_get}
-use Rattle.std.specs.List.{AllByRecursion}
 use Rattle.std.specs.List.Sorted.{IsStrictlySortedBy}
 use Rattle.std.specs.Ordering.{ordering_reverse}
 use Rattle.std.specs.declared.cmp.Ordering.{Ordering}
 use Rattle.std.specs.declared.cmp.Ordering.TheVariants.{Less, Equal, Greater}
 use Rattle.std.proofs.lemmas.List.{append-nil}
-use Rattle.lists.proofs.Members.{contains_here, contains_there, contains_cases}
+use Rattle.lists.proofs.Members.{contains_here, contains_there, contains_cases, contains_none, all_member, all_from}
 use Rattle.meaning.specs.declared.types.Fact.{Fact}
 use Rattle.meaning.specs.declared.types.SchemaParts.{SchemaParts}
 use Rattle.meaning.specs.declared.types.Place.{Place}
@@ -19,24 +18,11 @@ use Rattle.meaning.specs.Requests.{IsRound, AreStepsRequests, AreBranchesRequest
 use Rattle.source_trait.specs.Asking.{RowList}
 use Rattle.row_text.specs.RowText.{row_cmp}
 use Rattle.lists.proofs.Orders.{rows_equal, rows_total}
+use Rattle.lists.proofs.Places.{got_after}
 use Rattle.middleware.specs.Joining.{input_row_of}
 use Rattle.middleware.specs.Rounds.{requests_of, IsWanted, next_rows}
 use Rattle.middleware.specs.Branches.{IsReady, AreReady, ArePartial}
 use Rattle.middleware.proofs.Steps.{next_partial, is_round, requests_append, requests_one}
-
-pub none : {X : Type 0} (x : X) → Contains [] x → ⊥
-none x c = omega arith
-
-all_from : {X : Type 0} (P : X → Type 0) (xs : List X) → ((x : X) → Contains xs x → P x) → AllByRecursion P xs
-all_from P [] each = tt
-all_from P (x ∷ xs) each = (each x (contains_here x xs), all_from P xs (λ y c. each y (contains_there x xs y c)))
-
-pub below : {X : Type 0} (P : X → Type 0) (xs : List X) (x : X) → AllByRecursion P xs → Contains xs x → P x
-below P [] x all c = absurd (none x c)
-below P (y ∷ xs) x all c = elim (contains_cases y xs x c) [
-  | inl here ↦ subst P here all.0
-  | inr there ↦ below P xs x all.1 there
-]
 
 -- a strictly ascending list with one row more
 record Put (x : List (List ℕ)) (ys zs : RowList) : Type 0 where
@@ -45,14 +31,14 @@ record Put (x : List (List ℕ)) (ys zs : RowList) : Type 0 where
 
 put : (x : List (List ℕ)) (ys : RowList) → IsStrictlySortedBy row_cmp ys → (zs : RowList) × Put x ys zs
 unfolding IsStrictlySortedBy
-put x [] s = (x ∷ [], record { ascends = (tt, tt); same = λ r. ((λ c. contains_cases x [] r c), (λ h. ⊎_elim (λ e. subst (λ z. Contains (x ∷ []) z) e (contains_here x [])) (λ c. absurd (none r c)) h)) })
+put x [] s = (x ∷ [], record { ascends = (tt, tt); same = λ r. ((λ c. contains_cases x [] r c), (λ h. ⊎_elim (λ e. subst (λ z. Contains (x ∷ []) z) e (contains_here x [])) (λ c. absurd (contains_none r c)) h)) })
 put x (y ∷ ys) s = go (row_cmp x y) refl (put x ys s.1)
   where
     go : (o : Ordering) → row_cmp x y ≡ o → (zs : RowList) × Put x ys zs → (zs : RowList) × Put x (y ∷ ys) zs
     go Less is rec = (
       x ∷ y ∷ ys,
       record {
-        ascends = ((is, all_from (λ z. row_cmp x z ≡ Less) ys (λ z c. rows_total.trans x y z is (below (λ z. row_cmp y z ≡ Less) ys z s.0 c))), s);
+        ascends = ((is, all_from (λ z. row_cmp x z ≡ Less) ys (λ z c. rows_total.trans x y z is (all_member (λ z. row_cmp y z ≡ Less) ys z s.0 c))), s);
         same = λ r. ((λ c. contains_cases x (y ∷ ys) r c), (λ h. ⊎_elim (λ e. subst (λ z. Contains (x ∷ y ∷ ys) z) e (contains_here x (y ∷ ys))) (λ c. contains_there x (y ∷ ys) r c) h));
       },
     )
@@ -67,7 +53,7 @@ put x (y ∷ ys) s = go (row_cmp x y) refl (put x ys s.1)
         let less : row_cmp y x ≡ Less = rows_total.antisymm y x ∙ ap ordering_reverse is in (
           y ∷ zs,
           record {
-            ascends = (all_from (λ z. row_cmp y z ≡ Less) zs (λ z c. ⊎_elim (λ e. subst (λ w. row_cmp y w ≡ Less) e less) (λ d. below (λ w. row_cmp y w ≡ Less) ys z s.0 d) ((rec.same z).0 c)), rec.ascends);
+            ascends = (all_from (λ z. row_cmp y z ≡ Less) zs (λ z c. ⊎_elim (λ e. subst (λ w. row_cmp y w ≡ Less) e less) (λ d. all_member (λ w. row_cmp y w ≡ Less) ys z s.0 d) ((rec.same z).0 c)), rec.ascends);
             same = λ r. (
               (λ c. elim (contains_cases y zs r c) [
                 | inl here ↦ inr (subst (λ z. Contains (y ∷ ys) z) here (contains_here y ys))
@@ -104,10 +90,6 @@ wanted_exists places inputs rows =
     let (list, s, same) = ascending (map (input_row_of places inputs) rows) in
     (list, record { ascends = s; same = same })
 
-got_after : {X : Type 0} (xs ys : List X) (i : ℕ) → slice_get (xs ++ ys) (length xs + i) ≡ slice_get ys i
-got_after [] ys i = ap (slice_get ys) (omega arith)
-got_after (x ∷ xs) ys i = let e : length (x ∷ xs) + i ≡ suc (length xs + i) = omega arith in rw e (got_after xs ys i)
-
 take_after : {X : Type 0} (xs ys : List X) (i : ℕ) → take (length xs + i) (xs ++ ys) ≡ xs ++ take i ys
 take_after [] ys i = ap (λ n. take n ys) (omega arith)
 take_after (x ∷ xs) ys i = let e : length (x ∷ xs) + i ≡ suc (length xs + i) = omega arith in rw e (ap (λ (l : List _). x ∷ l) (take_after xs ys i))
@@ -135,7 +117,7 @@ module _ (schema : SchemaParts) (well : IsWellFormed schema) (facts : List Fact)
   -- before the first step there is the empty partial row
   pub first_partial : ArePartial schema facts [] ([] ∷ [])
   first_partial row = (
-    (λ c. ⊎_elim (λ e. sym e) (λ d. absurd (none row d)) (contains_cases [] [] row c)),
+    (λ c. ⊎_elim (λ e. sym e) (λ d. absurd (contains_none row d)) (contains_cases [] [] row c)),
     (λ e. subst (λ (r : List (List ℕ)). Contains ([] ∷ []) r) (sym e) (contains_here [] [])),
   )
 

@@ -2,11 +2,11 @@
 use Rattle.std.proofs.Common.{◌≡◌, ◌≢◌, ℕ, List, Some, sym, ◌∙◌, ap, subst}
 use Rattle.std.specs.Prelude.{Contains, slice_get}
 use Rattle.lists.proofs.Members.{map_got, some_injective}
+use Rattle.lists.proofs.Places.{got_contained}
 use Rattle.meaning.specs.declared.types.Method.{Method}
 use Rattle.access_schema.specs.declared.schema.Schema.{Schema}
 use Rattle.access_schema.specs.declared.schema.SourceLine.{SourceLine}
 use Rattle.access_schema.specs.Names.{method_names}
-use Rattle.access_schema.proofs.Texts.{got_contained}
 use Rattle.source_trait.specs.Asking.{Seen}
 use Rattle.source_trait.specs.Lanes.{AtKind}
 use Rattle.source_trait.specs.declared.lanes.Kind.{Kind}

@@ -5,7 +5,7 @@ use Rattle.std.specs.Option.{is_some}
 use Rattle.std.specs.List.{AllByRecursion}
 use Rattle.std.specs.List.Sorted.{IsStrictlyIncreasing}
 use Rattle.std.proofs.lemmas.Option.{get_or_from_slice_get, slice_get_within}
-use Rattle.lists.proofs.Members.{some_injective, contains_here, contains_there, contains_cases}
+use Rattle.lists.proofs.Members.{some_injective, contains_here, contains_there, contains_cases, contains_none}
 use Rattle.access_schema.specs.declared.schema.SourceLine.{SourceLine}
 use Rattle.source_trait.specs.Asking.{Rises}
 use Rattle.source_trait.specs.Lanes.{names_of, place_from, source_of}
@@ -14,9 +14,6 @@ use Rattle.source_trait.proofs.LaneSteps.{some_source, source_of-none}
 use Rattle.middleware.specs.PlanSources.{line_for}
 use Rattle.middleware.specs.Sources.{first_lineless, first_kindless, has_place}
 use Rattle.middleware.proofs.Attached.{rises_from}
-
-no_member : {X : Type 0} (x : X) → Contains [] x → ⊥
-no_member x n = omega arith
 
 -- rising numbers, as std and as sources say it
 pub rises_strictly : (rels : List ℕ) → IsStrictlyIncreasing rels → Rises rels
@@ -27,7 +24,7 @@ rises_strictly rels up = rises_from rels (λ i a b e f.
     omega (arith, less, at, next))
 
 pub above : (r : ℕ) (xs : List ℕ) (x : ℕ) → AllByRecursion (λ q. r < q) xs → Contains xs x → r < x
-above r [] x h c = absurd (no_member x c)
+above r [] x h c = absurd (contains_none x c)
 above r (y ∷ xs) x h c = elim (contains_cases y xs x c) [
   | inl same ↦ subst (λ n. r < n) same h.0
   | inr more ↦ above r xs x h.1 more
@@ -35,7 +32,7 @@ above r (y ∷ xs) x h c = elim (contains_cases y xs x c) [
 
 -- where none lacks a line, each has one
 pub lineless_none : (lines : List SourceLine) (rels : List ℕ) → None ≡ first_lineless lines rels → (rel : ℕ) → Contains rels rel → IsSome (line_for rel lines)
-lineless_none lines [] e rel c = absurd (no_member rel c)
+lineless_none lines [] e rel c = absurd (contains_none rel c)
 lineless_none lines (r ∷ rels) e rel c = go (is_some (line_for r lines)) refl (λ f d. lineless_none lines rels f rel d) e
   where
     go : (b : Bool) → is_some (line_for r lines) ≡ b → (None ≡ first_lineless lines rels → Contains rels rel → IsSome (line_for rel lines)) → None ≡ cond b (first_lineless lines rels) (Some r) → IsSome (line_for rel lines)
@@ -83,7 +80,7 @@ lineless_some lines (r ∷ rels) up rel e = go (is_some (line_for r lines)) refl
 
 -- the same of kinds
 pub kindless_none : (names : List (List ℕ)) (lines : List SourceLine) (rels : List ℕ) → None ≡ first_kindless names lines rels → (rel : ℕ) → Contains rels rel → has_place names (line_for rel lines) ≡ true
-kindless_none names lines [] e rel c = absurd (no_member rel c)
+kindless_none names lines [] e rel c = absurd (contains_none rel c)
 kindless_none names lines (r ∷ rels) e rel c = go (has_place names (line_for r lines)) refl (λ f d. kindless_none names lines rels f rel d) e
   where
     go : (b : Bool) → has_place names (line_for r lines) ≡ b → (None ≡ first_kindless names lines rels → Contains rels rel → has_place names (line_for rel lines) ≡ true) → None ≡ cond b (first_kindless names lines rels) (Some r)

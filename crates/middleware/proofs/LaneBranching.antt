@@ -3,7 +3,7 @@ use Rattle.std.proofs.Common.{◌≡◌, inl, inr, ℕ, ◌+◌, ◌-◌, ◌<�
 use Rattle.std.specs.Prelude.{Contains, slice_get}
 use Rattle.std.proofs.lemmas.List.{take_more, append-nil, take_all}
 use Rattle.std.proofs.lemmas.Option.{slice_get_read}
-use Rattle.lists.proofs.Members.{contains_here, contains_got}
+use Rattle.lists.proofs.Members.{contains_here, contains_got, contains_take}
 use Rattle.meaning.specs.declared.types.Fact.{Fact}
 use Rattle.meaning.specs.declared.types.SchemaParts.{SchemaParts}
 use Rattle.meaning.specs.declared.types.Out.{Out}
@@ -28,7 +28,7 @@ use Rattle.middleware.specs.declared.branch.BranchFault.TheVariants as branch
 use Rattle.middleware.proofs.Steps.{in_append, append_first, append_second, len_requests}
 use Rattle.middleware.proofs.Existing.{first_partial, steps_exist, steps_rest}
 use Rattle.middleware.proofs.Alike.{all_alike}
-use Rattle.middleware.proofs.Branching.{inputs_for, in_take, of_step, left_at, drop_all, round_means, means_more, adds_branch, relation_later, askable_later}
+use Rattle.middleware.proofs.Branching.{inputs_for, of_step, left_at, drop_all, round_means, means_more, adds_branch, relation_later, askable_later}
 use Rattle.middleware.proofs.LaneShares.{AsksEach-refl, AsksEach-trans, AsksSome-none, OnlyAsked, only_asked, each_later}
 
 pub no_request : (request : Request) → Contains [] request → ⊥
@@ -144,7 +144,7 @@ module _ {S : Type 0} (seen : S → Seen) (schema : Schema) where
       asks_earlier = r.asks;
       asks_now = stops.asks;
       of_steps = λ request c. elim (in_append r.list now request c) [
-        | inl first ↦ let (s, among, is) = r.of_steps request first in (s, in_take n steps s among, is)
+        | inl first ↦ let (s, among, is) = r.of_steps request first in (s, contains_take n steps s among, is)
         | inr second ↦ (step, contains_got steps n step got, of_now request second)
       ];
       part = λ instance holds.
@@ -164,7 +164,7 @@ module _ {S : Type 0} (seen : S → Seen) (schema : Schema) where
 
         means : (instance : List Fact) → LanesHoldSteps seen schema steps old instance
             → Means parts instance (is_live (drop n steps) outs) (take n steps) rows r.list
-        means instance holds = r.means instance (λ lane among s method line c. holds lane among s method line (in_take n steps s c))
+        means instance holds = r.means instance (λ lane among s method line c. holds lane among s method line (contains_take n steps s c))
 
         round_at : (instance : List Fact) → LanesHoldSteps seen schema steps old instance → IsRound parts instance (take n steps) step now
         round_at instance holds =

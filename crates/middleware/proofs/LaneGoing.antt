@@ -8,7 +8,7 @@ use Rattle.std.specs.declared.cmp.Ordering.{Ordering}
 use Rattle.std.specs.declared.cmp.Ordering.TheVariants.{Less, Equal}
 use Rattle.std.proofs.lemmas.Cmp.{tied_itself}
 use Rattle.std.proofs.lemmas.Option.{slice_get-get_or, slice_get_within}
-use Rattle.lists.proofs.Members.{contains_here, contains_cases, contains_map, contains_mapped, contains_got, got_mapped, map_got, map_same, some_injective}
+use Rattle.lists.proofs.Members.{contains_here, contains_cases, contains_map, contains_mapped, contains_got, got_mapped, map_got, map_same, some_injective, contains_joined, joined_from}
 use Rattle.lists.proofs.Orders.{rows_total}
 use Rattle.meaning.specs.declared.types.Fact.{Fact}
 use Rattle.meaning.specs.declared.types.Method.{Method}
@@ -42,7 +42,7 @@ use Rattle.middleware.proofs.Distinct.{wanted_same, joined_same}
 use Rattle.middleware.proofs.Existing.{wanted_exists}
 use Rattle.middleware.proofs.Finding.{ready_line}
 use Rattle.middleware.proofs.LaneShares.{AsksSome-none, first_each, first_some}
-use Rattle.middleware.proofs.Steps.{in_flat, flat_in, grown_joins, joins_grown, in_pick, pick_in, len_requests}
+use Rattle.middleware.proofs.Steps.{grown_joins, joins_grown, in_pick, pick_in, len_requests}
 use Rattle.std.specs.Result.{is_err}
 use Rattle.std.proofs.lemmas.List.{take-map, length-map}
 use Rattle.source_trait.specs.Causes.{Rose}
@@ -119,19 +119,19 @@ module _ (places : List Place) (method : Method) (facts : List Fact) (rows reque
       to : Contains (flat_map (λ r. grown places (answer_at requests answers (input_row_of places method.inputs r)) r) rows) row
           → Contains (next_rows places method facts rows) row
       to c =
-          let (last, among, h) = in_flat (λ r. grown places (answer_at requests answers (input_row_of places method.inputs r)) r) rows row c in
+          let (last, among, h) = joined_from (λ r. grown places (answer_at requests answers (input_row_of places method.inputs r)) r) rows row c in
           let (values, of, j) = grown_joins places (answer_at requests answers (input_row_of places method.inputs last)) last row h in
           let own = own_answer (input_row_of places method.inputs last) values (there last among) in
-          flat_in (λ r. grown places (pick facts method.rel method.inputs (input_row_of places method.inputs r)) r) rows last row among
+          contains_joined (λ r. grown places (pick facts method.rel method.inputs (input_row_of places method.inputs r)) r) rows last row among
           (joins_grown places (pick facts method.rel method.inputs (input_row_of places method.inputs last)) last row values (own.0 of) j)
 
       back : Contains (next_rows places method facts rows) row
           → Contains (flat_map (λ r. grown places (answer_at requests answers (input_row_of places method.inputs r)) r) rows) row
       back c =
-          let (last, among, h) = in_flat (λ r. grown places (pick facts method.rel method.inputs (input_row_of places method.inputs r)) r) rows row c in
+          let (last, among, h) = joined_from (λ r. grown places (pick facts method.rel method.inputs (input_row_of places method.inputs r)) r) rows row c in
           let (values, of, j) = grown_joins places (pick facts method.rel method.inputs (input_row_of places method.inputs last)) last row h in
           let own = own_answer (input_row_of places method.inputs last) values (there last among) in
-          flat_in (λ r. grown places (answer_at requests answers (input_row_of places method.inputs r)) r) rows last row among
+          contains_joined (λ r. grown places (answer_at requests answers (input_row_of places method.inputs r)) r) rows last row among
           (joins_grown places (answer_at requests answers (input_row_of places method.inputs last)) last row values (own.1 of) j)
 
 -- ---- the requests of a method, asked of lanes

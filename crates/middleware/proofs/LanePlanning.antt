@@ -3,7 +3,7 @@ use Rattle.std.proofs.Common.{◌≡◌, ◌↔◌, inl, inr, ℕ, ◌+◌, ◌-
 use Rattle.std.specs.Prelude.{Contains, slice_get}
 use Rattle.std.proofs.lemmas.List.{append-nil, take_more, take_all}
 use Rattle.std.proofs.lemmas.Option.{slice_get_read, slice_get_within}
-use Rattle.lists.proofs.Members.{contains_here, contains_got}
+use Rattle.lists.proofs.Members.{contains_here, contains_got, contains_take}
 use Rattle.meaning.specs.declared.types.Fact.{Fact}
 use Rattle.meaning.specs.declared.types.SchemaParts.{SchemaParts}
 use Rattle.meaning.specs.declared.types.Step.{Step}
@@ -24,7 +24,6 @@ use Rattle.middleware.specs.declared.branch.BranchFault.{BranchFault}
 use Rattle.middleware.specs.declared.branch.BranchFault.TheVariants as branch
 use Rattle.middleware.specs.declared.fault.RunFault.TheVariants as fault
 use Rattle.middleware.proofs.Steps.{in_append, append_first, append_second}
-use Rattle.middleware.proofs.Branching.{in_take}
 use Rattle.middleware.proofs.Planning.{hold_steps, branches_more, branches_rest, plan_earlier}
 use Rattle.middleware.proofs.LaneShares.{AsksEach-refl, AsksEach-trans, AsksSome-none, OnlyAsked, each_earlier}
 use Rattle.middleware.proofs.LaneBranching.{no_request, steps_later, each_asked}
@@ -149,7 +148,7 @@ module _ {S : Type 0} (seen : S → Seen) (schema : Schema) (plan : Plan) where
     asks_now = s.asks_now;
     of_branches = λ request c. elim (in_append d.list (s.earlier ++ s.now) request
         (subst (λ (l : List Request). Contains l request) (append_assoc d.list s.earlier s.now) c)) [
-          | inl first ↦ let (b, step, among, of, is) = d.of_branches request first in (b, step, in_take i plan.branches b among, of, is)
+          | inl first ↦ let (b, step, among, of, is) = d.of_branches request first in (b, step, contains_take i plan.branches b among, of, is)
           | inr second ↦ let (step, of, is) = s.of_steps request second in (its, step, of_plan, of, is)
         ];
     part = λ instance holds.

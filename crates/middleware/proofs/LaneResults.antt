@@ -1,17 +1,14 @@
 -- The first refused answer of a round.
-use Rattle.std.proofs.Common.{◌≡◌, ◌<◌, ℕ, List, [], ◌∷◌, ◌++◌, length, map, Some, refl, sym, ◌∙◌, ap, subst, arith}
+use Rattle.std.proofs.Common.{◌≡◌, ◌<◌, ℕ, List, ◌∷◌, ◌++◌, length, map, sym, ◌∙◌, ap, subst, arith}
 use Rattle.std.specs.Prelude.{slice_get}
 use Rattle.std.proofs.lemmas.List.{length-append, length-map}
 use Rattle.lists.proofs.Members.{got_before, got_below, map_got}
+use Rattle.lists.proofs.Places.{got_seam}
 use Rattle.source_trait.specs.Asking.{RowList}
 use Rattle.source_trait.specs.declared.work.Asked.{Asked}
 use Rattle.source_trait.specs.declared.work.Asked.TheVariants as asked
 use Rattle.middleware.specs.LaneRounds.{RowsBelow, FirstRefused}
 use Rattle.middleware.specs.declared.lane_round.AskFault.TheVariants as fault
-
-got_next : {X : Type 0} (xs : List X) (y : X) (ys : List X) → slice_get (xs ++ y ∷ ys) (length xs) ≡ Some y
-got_next [] y ys = refl
-got_next (x ∷ xs) y ys = got_next xs y ys
 
 module _ (rows : List RowList) (before left answers : List Asked) (parts : before ++ left ≡ answers) (are : map asked.Rows rows ≡ before)
   where
@@ -30,7 +27,7 @@ module _ (rows : List RowList) (before left answers : List Asked) (parts : befor
     first_failed number rest is counted =
         subst (λ n. FirstRefused (fault.CallFailed n) answers) (sym counted) (
           ap (λ (l : List Asked). slice_get l (length before)) (sym parts ∙ ap (λ (l : List Asked). before ++ l) is)
-              ∙ got_next before asked.Failed rest,
+              ∙ got_seam before asked.Failed rest,
           rows_below,
         )
 

@@ -5,6 +5,7 @@ use Rattle.std.specs.Cmp.Lexicographic.{pointwise}
 use Rattle.std.proofs.lemmas.Bool.{cases_eq}
 use Rattle.std.proofs.lemmas.Slice.Eq.{bytes_eq-Decides}
 use Rattle.lists.proofs.Members.{some_injective}
+use Rattle.lists.proofs.Places.{set_twice}
 use Rattle.source_trait.specs.Asking.{Seen}
 use Rattle.source_trait.specs.Lanes.{names_of, place_from, source_of, AtKind, StepsAt, StepsOn, KindsStay}
 use Rattle.source_trait.specs.declared.lanes.Kind.{Kind}
@@ -27,11 +28,6 @@ set_got : {X : Type 0} (xs : List X) (p : ℕ) (x : X) → slice_get xs p ≡ So
 set_got [] p x h = absurd (cc)
 set_got (z ∷ xs) zero x h = ap (λ (y : _). y ∷ xs) (sym (some_injective z x h))
 set_got (z ∷ xs) (suc p) x h = ap (λ (l : List _). z ∷ l) (set_got xs p x h)
-
-set_twice : {X : Type 0} (xs : List X) (p : ℕ) (x y : X) → slice_set (slice_set xs p x) p y ≡ slice_set xs p y
-set_twice [] p x y = refl
-set_twice (z ∷ xs) zero x y = refl
-set_twice (z ∷ xs) (suc p) x y = ap (λ (l : List _). z ∷ l) (set_twice xs p x y)
 
 -- a place that is found is one of the list
 place_got : {S : Type 0} (n : ℕ) (name : List ℕ) (kinds : List (Kind S)) (p : ℕ) → place_from n name (names_of kinds) ≡ Some p → (q : ℕ) × (p ≡ n + q) × ((k : Kind S) × (slice_get kinds q ≡ Some k))

@@ -6,7 +6,7 @@ use Rattle.std.specs.declared.cmp.Ordering.TheVariants.{Less, Equal}
 use Rattle.std.proofs.lemmas.Cmp.{tied_itself}
 use Rattle.std.proofs.lemmas.List.{append-nil, take_more}
 use Rattle.std.proofs.lemmas.List.Elements.{filter-append}
-use Rattle.lists.proofs.Members.{contains_here, contains_there, contains_cases, contains_got, map_same}
+use Rattle.lists.proofs.Members.{contains_here, contains_there, contains_cases, contains_got, map_same, contains_none, all_member}
 use Rattle.lists.proofs.Orders.{rows_equiv, rows_same_equal, rows_total}
 use Rattle.meaning.specs.declared.types.Place.{Place}
 use Rattle.source_trait.specs.Asking.{RowList}
@@ -14,7 +14,6 @@ use Rattle.row_text.specs.RowText.{row_cmp, row_eq}
 use Rattle.middleware.specs.Joining.{joined, listed, grown, text_or, input_value_or, input_row_of}
 use Rattle.middleware.specs.Branches.{IsInput}
 use Rattle.middleware.specs.Parts.{key_of, part_of}
-use Rattle.middleware.proofs.Existing.{none, below}
 use Rattle.middleware.proofs.Steps.{joins_joined, joins_input}
 use Rattle.middleware.proofs.Whole.{answer_is}
 
@@ -28,7 +27,7 @@ module _ (places : List Place) (columns : ℕ) where
       push : (old : List ℕ) → AreKnown old → Contains (old ++ x ∷ []) p → IsInput columns (slice_get places p)
       push [] each c = elim (contains_cases x [] p c) [
         | inl e ↦ subst (λ q. IsInput columns (slice_get places q)) e here
-        | inr d ↦ absurd (none p d)
+        | inr d ↦ absurd (contains_none p d)
       ]
       push (y ∷ old) each c = elim (contains_cases y (old ++ x ∷ []) p c) [
         | inl e ↦ each p (subst (λ z. Contains (y ∷ old) z) e (contains_here y old))
@@ -37,11 +36,6 @@ module _ (places : List Place) (columns : ℕ) where
 
   pub kept_known : (old new : Vec ℕ Global) → new ≡ old → AreKnown old.items → AreKnown new.items
   kept_known old new same each = subst (λ (v : Vec ℕ Global). AreKnown v.items) (sym same) each
-
-pub set_twice : {X : Type 0} (xs : List X) (i : ℕ) (a b : X) → slice_set (slice_set xs i a) i b ≡ slice_set xs i b
-set_twice [] i a b = refl
-set_twice (x ∷ xs) zero a b = refl
-set_twice (x ∷ xs) (suc i) a b = ap (λ (l : List _). x ∷ l) (set_twice xs i a b)
 
 -- ---- the parts after one row more
 
@@ -80,11 +74,11 @@ module _ (positions : List ℕ) (taken : RowList) (row : List (List ℕ)) where
   parts_more [] n ascends at = absurd (cc)
   parts_more (key ∷ keys) zero ascends at =
       let same : key_of positions row ≡ key = cc in
-      let absent : Contains keys (key_of positions row) → ⊥ = λ c. apart key (below (λ z. row_cmp key z ≡ Less) keys key ascends.0 (subst (λ k. Contains keys k) same c)) in
+      let absent : Contains keys (key_of positions row) → ⊥ = λ c. apart key (all_member (λ z. row_cmp key z ≡ Less) keys key ascends.0 (subst (λ k. Contains keys k) same c)) in
       ap (λ (l : RowList). l ∷ map had keys) (sym (part_here key same)) ∙ ap (λ (l : List RowList). more key ∷ l) (parts_same keys absent)
   parts_more (key ∷ keys) (suc n) ascends at =
       let among : Contains keys (key_of positions row) = contains_got keys n (key_of positions row) at in
-      let other : key_of positions row ≡ key → ⊥ = λ e. apart key (below (λ z. row_cmp key z ≡ Less) keys key ascends.0 (subst (λ k. Contains keys k) e among)) in
+      let other : key_of positions row ≡ key → ⊥ = λ e. apart key (all_member (λ z. row_cmp key z ≡ Less) keys key ascends.0 (subst (λ k. Contains keys k) e among)) in
       ap (λ (l : RowList). l ∷ slice_set (map had keys) n (slice_index_or (map had keys) n [] ++ row ∷ [])) (sym (part_other key other))
       ∙ ap (λ (l : List RowList). more key ∷ l) (parts_more keys n ascends.1 at)
 

@@ -1,8 +1,8 @@
 -- What the branches of a plan mean on an instance, and what a lane holds for them.
-use Rattle.std.proofs.Common.{◌≡◌, inl, inr, ⊎_elim, ℕ, ◌+◌, ◌-◌, List, [], ◌∷◌, ◌++◌, take, drop, Some, refl, sym, ◌∙◌, ap, subst, append_assoc, arith}
+use Rattle.std.proofs.Common.{◌≡◌, inl, inr, ⊎_elim, ℕ, ◌+◌, ◌-◌, List, [], ◌∷◌, ◌++◌, take, drop, Some, refl, sym, ◌∙◌, ap, subst, append_assoc}
 use Rattle.std.specs.Prelude.{Contains, slice_get}
 use Rattle.std.proofs.lemmas.List.{take-append-drop}
-use Rattle.lists.proofs.Members.{contains_here, contains_cases, got_below}
+use Rattle.lists.proofs.Members.{contains_here, contains_cases, got_below, contains_none}
 use Rattle.meaning.specs.declared.types.Fact.{Fact}
 use Rattle.meaning.specs.declared.types.Method.{Method}
 use Rattle.meaning.specs.declared.types.Relation.{Relation}
@@ -25,9 +25,6 @@ use Rattle.middleware.specs.Branches.{AreReady, HoldSteps, AddsBranch, BranchesM
 use Rattle.middleware.proofs.Steps.{in_append, append_first, append_second}
 use Rattle.middleware.proofs.Existing.{split_at, branches_exist, branches_append, branches_one}
 use Rattle.middleware.proofs.Branching.{relation_earlier}
-
-no_branch : {X : Type 0} (b : X) → Contains [] b → ⊥
-no_branch b n = omega arith
 
 -- a relation that a step accesses is one of the schema
 pub relation_there : (schema : Schema) (method : Method) → Contains schema.methods method → (relation : Relation) × (slice_get schema.relations method.rel ≡ Some relation)
@@ -55,7 +52,7 @@ module _ (schema : SchemaParts) (well : IsWellFormed schema) (instance : List Fa
   }
     where
       only : (b : Branch) → Contains (its ∷ []) b → its ≡ b
-      only b h = ⊎_elim (λ e. e) (λ n. absurd (no_branch b n)) (contains_cases its [] b h)
+      only b h = ⊎_elim (λ e. e) (λ n. absurd (contains_none b n)) (contains_cases its [] b h)
 
   -- the requests of the branches before one, and the first ones of its own, are followed by others
   pub branches_rest : (branches : List Branch) → ((its : Branch) → Contains branches its → AreReady schema its.steps) → (i : ℕ) (its : Branch) → slice_get branches i ≡ Some its

@@ -1,13 +1,12 @@
 -- The joined rows of a round are the next partial rows, and its list is the round's.
 use Rattle.std.proofs.Common.{◌≡◌, ◌⊎◌, ◌↔◌, inl, inr, ⊎_elim, ℕ, zero, suc, ◌+◌, ◌<◌, ◌≤◌, List, [], ◌∷◌, ◌++◌, length, map, take, get_or, Option, None, Some, Bool, true, false, cond, ◌&&◌, nat_eq, refl, sym, ◌∙◌, ap, subst, append_assoc, arith}
-use Rattle.std.specs.Prelude.{Contains, slice_get, flat_map}
+use Rattle.std.specs.Prelude.{Contains, slice_get}
 use Rattle.std.specs.List.{AllZip, filter}
 use Rattle.std.specs.Cmp.Lexicographic.{pointwise, nat_list_eq_equiv}
 use Rattle.std.proofs.lemmas.Bool.Decides.{nat_tests}
 use Rattle.std.proofs.lemmas.List.{length_push, append-nil, map-append, take_more}
-use Rattle.std.proofs.lemmas.Slice.Eq.{bytes_eq-Decides}
 use Rattle.std.specs.declared.cmp.Ordering.TheVariants.{Less}
-use Rattle.lists.proofs.Members.{contains_here, contains_there, contains_cases, contains_map, contains_mapped, got_before, got_below, got_mapped}
+use Rattle.lists.proofs.Members.{contains_here, contains_there, contains_cases, contains_map, contains_mapped, got_before, got_below, got_mapped, contains_joined, joined_from, filter_from, contains_filter}
 use Rattle.meaning.specs.declared.types.Fact.{Fact}
 use Rattle.meaning.specs.declared.types.Method.{Method}
 use Rattle.meaning.specs.declared.types.SchemaParts.{SchemaParts}
@@ -24,10 +23,8 @@ use Rattle.row_text.specs.RowText.{row_cmp}
 use Rattle.middleware.specs.Joining.{joined, listed, grown, is_at, input_value_or, input_row_of}
 use Rattle.middleware.specs.Rounds.{requests_of, IsWanted, next_rows}
 use Rattle.middleware.specs.Branches.{IsInput, columns_after, ArePartial, HasAdded}
-use Rattle.lists.proofs.Orders.{adjacent}
-
-texts_equal : (x y : List ℕ) → pointwise nat_eq x y ≡ true → x ≡ y
-texts_equal x y h = (bytes_eq-Decides x y).0 h
+use Rattle.lists.proofs.Orders.{adjacent, text_is}
+use Rattle.lists.proofs.Booleans.{both_true}
 
 guarded : {X : Type 0} (b : Bool) (x : Option X) (y : X) → cond b x None ≡ Some y → (b ≡ true) × (x ≡ Some y)
 guarded true x y h = (refl, h)
@@ -39,7 +36,7 @@ passed false x y h e = absurd (cc)
 
 at_some : (o : Option (List ℕ)) (v : List ℕ) → is_at o v ≡ true → o ≡ Some v
 at_some None v h = absurd (cc)
-at_some (Some w) v h = ap (λ (t : List ℕ). Some t) (texts_equal w v h)
+at_some (Some w) v h = ap (λ (t : List ℕ). Some t) (text_is w v h)
 
 some_at : (o : Option (List ℕ)) (v : List ℕ) → o ≡ Some v → is_at o v ≡ true
 some_at o v e = rw e (nat_list_eq_equiv.refl v)
@@ -50,7 +47,7 @@ joins_joined [] [] row next e = cc
 joins_joined [] (value ∷ values) row next e = absurd (cc)
 joins_joined (place ∷ places) [] row next e = absurd (cc)
 joins_joined (Const c ∷ places) (value ∷ values) row next e =
-    let g = guarded (pointwise nat_eq value c) (joined places values row) next e in (texts_equal value c g.0, joins_joined places values row next g.1)
+    let g = guarded (pointwise nat_eq value c) (joined places values row) next e in (text_is value c g.0, joins_joined places values row next g.1)
 joins_joined (Col k ∷ places) (value ∷ values) row next e =
     let g = guarded (is_at (slice_get row k) value) (joined places values row) next e in (at_some (slice_get row k) value g.0, joins_joined places values row next g.1)
 joins_joined (New ∷ places) (value ∷ values) row next e = joins_joined places values (row ++ value ∷ []) next e
@@ -78,14 +75,6 @@ pub append_second : {X : Type 0} (xs ys : List X) (x : X) → Contains ys x → 
 append_second [] ys x c = c
 append_second (y ∷ xs) ys x c = contains_there y (xs ++ ys) x (append_second xs ys x c)
 
-pub in_flat : {X Y : Type 0} (f : X → List Y) (xs : List X) (y : Y) → Contains (flat_map f xs) y → (x : X) × Contains xs x × Contains (f x) y
-in_flat f [] y c = absurd (omega arith)
-in_flat f (x ∷ xs) y c = ⊎_elim (λ h. (x, contains_here x xs, h)) (λ h. let (z, among, e) = in_flat f xs y h in (z, contains_there x xs z among, e)) (in_append (f x) (flat_map f xs) y c)
-
-pub flat_in : {X Y : Type 0} (f : X → List Y) (xs : List X) (x : X) (y : Y) → Contains xs x → Contains (f x) y → Contains (flat_map f xs) y
-flat_in f [] x y c d = absurd (omega arith)
-flat_in f (z ∷ xs) x y c d = ⊎_elim (λ e. append_first (f z) (flat_map f xs) y (subst (λ w. Contains (f w) y) (sym e) d)) (λ h. append_second (f z) (flat_map f xs) y (flat_in f xs x y h d)) (contains_cases z xs x c)
-
 pub in_listed : {X : Type 0} (o : Option X) (x : X) → Contains (listed o) x → o ≡ Some x
 in_listed None x c = absurd (omega arith)
 in_listed (Some y) x c = ⊎_elim (λ e. ap (λ z. Some z) e) (λ h. absurd (no_member x h)) (contains_cases y [] x c)
@@ -99,37 +88,14 @@ listed_in o x e = rw e (contains_here x [])
 -- the rows that a partial row grows to
 pub grown_joins : (places : List Place) (answer : RowList) (row next : List (List ℕ)) → Contains (grown places answer row) next → (values : List (List ℕ)) × Contains answer values × Joins places values row next
 grown_joins places answer row next c =
-    let (values, among, h) = in_flat (λ v. listed (joined places v row)) answer next c in
+    let (values, among, h) = joined_from (λ v. listed (joined places v row)) answer next c in
     (values, among, joins_joined places values row next (in_listed (joined places values row) next h))
 
 pub joins_grown : (places : List Place) (answer : RowList) (row next values : List (List ℕ)) → Contains answer values → Joins places values row next → Contains (grown places answer row) next
 joins_grown places answer row next values among j =
-    flat_in (λ v. listed (joined places v row)) answer values next among (listed_in (joined places values row) next (joined_joins places values row next j))
+    contains_joined (λ v. listed (joined places v row)) answer values next among (listed_in (joined places values row) next (joined_joins places values row next j))
 
 -- what is picked
-in_filter : {X : Type 0} (test : X → Bool) (xs : List X) (x : X) → Contains (filter test xs) x → Contains xs x × (test x ≡ true)
-in_filter test [] x c = absurd (omega arith)
-in_filter test (y ∷ xs) x c = step (test y) refl (λ h. in_filter test xs x h) c
-  where
-    step : (b : Bool) → test y ≡ b → (Contains (filter test xs) x → Contains xs x × (test x ≡ true)) → Contains (cond b (y ∷ filter test xs) (filter test xs)) x → Contains (y ∷ xs) x × (test x ≡ true)
-    step true t rec c = ⊎_elim (λ e. (subst (λ z. Contains (y ∷ xs) z) e (contains_here y xs), subst (λ z. test z ≡ true) e t)) (λ h. let r = rec h in (contains_there y xs x r.0, r.1)) (contains_cases y (filter test xs) x c)
-    step false t rec c = let r = rec c in (contains_there y xs x r.0, r.1)
-
-clash : false ≡ true → ⊥
-clash h = cc
-
-filter_in : {X : Type 0} (test : X → Bool) (xs : List X) (x : X) → Contains xs x → test x ≡ true → Contains (filter test xs) x
-filter_in test [] x c t = absurd (omega arith)
-filter_in test (y ∷ xs) x c t = step (test y) refl (λ h. filter_in test xs x h t)
-  where
-    step : (b : Bool) → test y ≡ b → (Contains xs x → Contains (filter test xs) x) → Contains (cond b (y ∷ filter test xs) (filter test xs)) x
-    step true u rec = ⊎_elim (λ e. subst (λ z. Contains (y ∷ filter test xs) z) e (contains_here y (filter test xs))) (λ h. contains_there y (filter test xs) x (rec h)) (contains_cases y xs x c)
-    step false u rec = ⊎_elim (λ e. absurd (clash (sym u ∙ ap test e ∙ t))) (λ h. rec h) (contains_cases y xs x c)
-
-both : (a b : Bool) → (a && b) ≡ true → (a ≡ true) × (b ≡ true)
-both true b h = (refl, h)
-both false b h = absurd (cc)
-
 module _ (facts : List Fact) (rel : ℕ) (positions : List ℕ) (values : List (List ℕ)) where
   abbrev fits_at : Fact → Bool
   fits_at f = nat_eq f.rel rel && agrees positions values f.row
@@ -137,15 +103,15 @@ module _ (facts : List Fact) (rel : ℕ) (positions : List ℕ) (values : List (
   pub in_pick : (row : List (List ℕ)) → Contains (pick facts rel positions values) row → Contains facts (record { rel = rel; row = row }) × (agrees positions values row ≡ true)
   in_pick row c =
       let (fact, among, e) = contains_mapped (λ (f : Fact). f.row) (filter fits_at facts) row c in
-      let r = in_filter fits_at facts fact among in
-      let t = both (nat_eq fact.rel rel) (agrees positions values fact.row) r.1 in
+      let r = filter_from fits_at facts fact among in
+      let t = both_true (nat_eq fact.rel rel) (agrees positions values fact.row) r.1 in
       let here : fact.rel ≡ rel = grind (arith, nat_tests, t.0) in (
         subst (λ (w : List (List ℕ)). Contains facts (record { rel = rel; row = w })) e (subst (λ (n : ℕ). Contains facts (record { rel = n; row = fact.row })) here r.0),
         subst (λ (w : List (List ℕ)). agrees positions values w ≡ true) e t.1,
       )
 
   pub pick_in : (row : List (List ℕ)) → Contains facts (record { rel = rel; row = row }) → agrees positions values row ≡ true → Contains (pick facts rel positions values) row
-  pick_in row c t = contains_map (λ (f : Fact). f.row) (filter fits_at facts) (record { rel = rel; row = row }) (filter_in fits_at facts (record { rel = rel; row = row }) c (grind (arith, nat_tests, t)))
+  pick_in row c t = contains_map (λ (f : Fact). f.row) (filter fits_at facts) (record { rel = rel; row = row }) (contains_filter fits_at facts (record { rel = rel; row = row }) c (grind (arith, nat_tests, t)))
 
 -- the fact has the input value at each input place
 pub joins_input : (start : List (List ℕ)) (places : List Place) (values row next : List (List ℕ)) (p : ℕ) → Joins places values row next → ((k : ℕ) → k < length start → slice_get row k ≡ slice_get start k) → length start ≤ length row
@@ -263,11 +229,11 @@ module _ (schema : SchemaParts) (well : IsWellFormed schema) (facts : List Fact)
       → ArePartial schema facts (before ++ step ∷ []) next
   next_partial rows next partial is last = (
     (λ c.
-        let (row, among, g) = in_flat (λ r. grown step.places (answer_of schema well facts step method named r) r) rows last ((is last).0 c) in
+        let (row, among, g) = joined_from (λ r. grown step.places (answer_of schema well facts step method named r) r) rows last ((is last).0 c) in
         push_steps schema facts before step [] row last ((partial row).0 among) (step_grown schema well facts step method named row last g)),
     (λ s.
         let (row, r, one) = steps_push schema facts before step [] last s in
-        (is last).1 (flat_in (λ r. grown step.places (answer_of schema well facts step method named r) r) rows row last ((partial row).1 r) (grown_step schema well facts step method named row last (are_at row r) one))),
+        (is last).1 (contains_joined (λ r. grown step.places (answer_of schema well facts step method named r) r) rows row last ((partial row).1 r) (grown_step schema well facts step method named row last (are_at row r) one))),
   )
 
   -- the round's list is exactly the requests of the step

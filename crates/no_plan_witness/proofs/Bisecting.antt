@@ -8,7 +8,8 @@ use Rattle.std.specs.List.Sorted.{IsSorted, IsSearchInRange, IsBinarySearchResul
 use Rattle.std.proofs.lemmas.Bool.{cases_lt}
 use Rattle.std.proofs.lemmas.Cmp.{nat_list_cmp_total}
 use Rattle.std.proofs.lemmas.List.Sorted.{searchable_from_sorted}
-use Rattle.access_schema.proofs.Texts.{text_is, text_same}
+use Rattle.lists.proofs.Orders.{text_is}
+use Rattle.access_schema.proofs.Texts.{text_same}
 
 pub bisected : (constants : List (List ℕ)) (text : List ℕ) (r : Result ℕ ℕ) → IsSorted (slice_cmp nat_cmp) constants → IsSearchInRange r (length constants) → IsBinarySearchResult (λ c. slice_cmp nat_cmp c text) constants r → IsTrue (is_ok r) ↔ Contains constants text
 bisected constants text (Ok i) sorted range found =

@@ -7,8 +7,9 @@ use Rattle.std.proofs.lemmas.Fmt.{decimal_injective}
 use Rattle.std.proofs.lemmas.List.{length-append, get_or_append_left, get_or_push, map-append}
 use Rattle.std.proofs.lemmas.List.Elements.{Contains-get_or, Contains-append_left, Contains-append_right, Contains-push, Contains-push_cases}
 use Rattle.access_schema.specs.Names.{AllDiffer}
-use Rattle.access_schema.proofs.Texts.{got_contained, length_le}
+use Rattle.access_schema.proofs.Texts.{length_le}
 use Rattle.lists.proofs.Members.{contains_map, some_injective}
+use Rattle.lists.proofs.Places.{got_contained}
 use Rattle.no_plan_witness.specs.Texts.{numbered_text, AreFirstFree}
 use Rattle.no_plan_witness.specs.Passing.{AreFreeUpTo}
 

@@ -3,17 +3,16 @@ use Rattle.std.proofs.Common.{◌≡◌, ◌∙◌, sym, ap, ℕ, List, [], ◌+
 use Rattle.std.specs.Prelude.{Contains}
 use Rattle.std.proofs.lemmas.List.Concat.{flat_map-append}
 use Rattle.std.proofs.lemmas.List.Elements.{Contains-append_left}
-use Rattle.lists.proofs.Members.{contains_here}
+use Rattle.lists.proofs.Members.{contains_here, contains_joined}
 use Rattle.meaning.specs.declared.types.Val.TheVariants.{Label}
 use Rattle.meaning.specs.declared.types.Ground.{Ground}
-use Rattle.access_schema.proofs.BuiltRules.{given_of}
 use Rattle.no_plan_witness.specs.Texts.{labels_of, labels_among, labels_in}
 
 -- a label of a value of a fact occurs in the facts
 pub label_occurs : (facts : List Ground) (fact : Ground) (k : ℕ) → Contains facts fact → Contains fact.vals (Label k) → Contains (labels_in facts) k
 label_occurs facts fact k among inside =
-    given_of (λ (f : Ground). labels_among f.vals) facts fact k among
-    (given_of labels_of fact.vals (Label k) k inside (contains_here k []))
+    contains_joined (λ (f : Ground). labels_among f.vals) facts fact k among
+    (contains_joined labels_of fact.vals (Label k) k inside (contains_here k []))
 
 -- the labels of two lists of facts, one behind the other
 pub labels_joined : (first second : List Ground) (none some all : List ℕ) → none ≡ [] → some ≡ none ++ labels_in first → all ≡ some ++ labels_in second → all ≡ labels_in (first ++ second)

@@ -2,8 +2,9 @@
 use Rattle.std.proofs.Common.{◌≡◌, ◌↔◌, ◌⊎◌, ℕ, ◌+◌, ◌<◌, ◌≤◌, true, false, IsTrue, List, [], length, refl, subst, ⊎_elim, Contains, take, slice_index_or, get_or}
 use Rattle.std.proofs.lemmas.List.{take_all, get_or_default}
 use Rattle.std.proofs.lemmas.List.Elements.{Contains-push_cases}
-use Rattle.homomorphism.proofs.Members.{contains_none}
-use Rattle.data_verify.proofs.KeySets.{turn}
+use Rattle.lists.proofs.Members.{contains_none}
+use Rattle.lists.proofs.Places.{take_indexed}
+use Rattle.lists.proofs.Booleans.{test_holds, test_fails}
 
 -- P holds of each member
 abbrev pub EachOf : {X : Type 0} → (X → Type 0) → List X → Type 0
@@ -14,7 +15,7 @@ pub number_is : (xs : List ℕ) (i : ℕ) → i < length xs → get_or xs i 0 �
 number_is xs i l = get_or_default xs i 0 (get_or xs i 0) l
 
 pub turn_cases : {X : Type 0} (xs : List X) (i : ℕ) (x y : X) → i < length xs → x ≡ slice_index_or xs i x → Contains (take (i + 1) xs) y → Contains (take i xs) y ⊎ (x ≡ y)
-turn_cases xs i x y l e c = Contains-push_cases (take i xs) x y (subst (λ zs. Contains zs y) (turn xs i x l e) c)
+turn_cases xs i x y l e c = Contains-push_cases (take i xs) x y (subst (λ zs. Contains zs y) (take_indexed xs i x l e) c)
 
 pub each_none : {X : Type 0} (P : X → Type 0) → EachOf P []
 each_none P x c = absurd (contains_none x c)
@@ -31,9 +32,3 @@ true_says is = is.0 refl
 
 pub false_says : {P : Type 0} → (IsTrue false ↔ P) → P → ⊥
 false_says is p = let t : false ≡ true = is.1 p in absurd (cc)
-
-pub is_true : {P : Type 0} → P → IsTrue true ↔ P
-is_true p = ((λ t. p), (λ q. refl))
-
-pub is_false : {P : Type 0} → (P → ⊥) → IsTrue false ↔ P
-is_false not = ((λ t. absurd (cc)), (λ p. absurd (not p)))

@@ -1,5 +1,5 @@
 -- The terms of places and the atoms of steps, one after another.
-use Rattle.std.proofs.Common.{◌≡◌, ℕ, ◌+◌, ◌≤◌, List, [], ◌∷◌, ◌++◌, refl, sym, ap, ◌∙◌, subst, arith, append_assoc}
+use Rattle.std.proofs.Common.{◌≡◌, ℕ, ◌+◌, List, [], ◌∷◌, ◌++◌, refl, sym, ap, ◌∙◌, subst, append_assoc}
 use Rattle.std.proofs.lemmas.List.{append-nil}
 use Rattle.meaning.specs.declared.types.Term.{Term}
 use Rattle.meaning.specs.declared.types.Atom.{Atom}
@@ -8,23 +8,11 @@ use Rattle.meaning.specs.declared.types.Place.{Place}
 use Rattle.meaning.specs.declared.types.Place.TheVariants.{Const, Col, New}
 use Rattle.meaning.specs.declared.types.Step.{Step}
 use Rattle.meaning.specs.Plans.{made}
-use Rattle.meaning.specs.Judge.{terms_of, AreAtoms, columns_of}
+use Rattle.meaning.specs.Judge.{terms_of, AreAtoms}
+use Rattle.meaning_laws.proofs.Frozen.{made_grows, columns_grow}
 use Rattle.plan_check.specs.Forms.{IsAtomOf, place_term}
 
 -- columns grow in number
-pub made_up : (n : ℕ) (places : List Place) → n ≤ made n places
-made_up n [] = omega arith
-made_up n (Const c ∷ places) = made_up n places
-made_up n (Col k ∷ places) = made_up n places
-made_up n (New ∷ places) = let rest = made_up (n + 1) places in omega arith
-
-pub columns_up : (n : ℕ) (steps : List Step) → n ≤ columns_of n steps
-columns_up n [] = omega arith
-columns_up n (step ∷ steps) =
-    let first = made_up n step.places in
-    let rest = columns_up (made n step.places) steps in
-    omega arith
-
 -- one place, and then the others
 pub made_one : (n : ℕ) (place : Place) (places : List Place) → made n (place ∷ places) ≡ made (made n (place ∷ [])) places
 made_one n (Const c) places = refl

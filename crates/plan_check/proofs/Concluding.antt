@@ -29,7 +29,7 @@ use Rattle.plan_check.specs.Verdicts.{known_of, IsLegalOver, IsSelectSpent, IsBr
 use Rattle.plan_check.specs.Verdicts.IsConclusion.{same, lost, added, select_spent, branch_spent}
 use Rattle.plan_check.specs.Verdicts.IsVerdict.{equivalent, loses, adds, undecided}
 use Rattle.plan_check.specs.declared.verdict.Side.TheVariants as side
-use Rattle.plan_check.proofs.Zips.{zip_left, zip_right, zip_at, zip_from}
+use Rattle.plan_extract.proofs.Zips.{zip_left, zip_right, zip_at, zip_from}
 use Rattle.plan_check.proofs.Trying.{contained_none}
 
 -- ---- trials of both sides

@@ -1,5 +1,4 @@
 pub mod Methods
-pub mod Zips
 pub mod Branching
 pub mod Sizes
 pub mod Fitting

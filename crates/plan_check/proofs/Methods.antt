@@ -3,11 +3,10 @@ use Rattle.std.proofs.Common.{◌≡◌, ◌≢◌, ℕ, ◌<◌, List, length, 
 use Rattle.std.specs.Prelude.{Contains, slice_get, slice_index_or, Some}
 use Rattle.std.proofs.lemmas.Option.{slice_get_within}
 use Rattle.lists.proofs.Members.{contains_got, got_mapped, map_got, some_injective}
+use Rattle.lists.proofs.Places.{got_indexed, got_contained}
 use Rattle.meaning.specs.declared.types.Method.{Method}
 use Rattle.meaning.specs.Values.{Value}
 use Rattle.access_schema.specs.Names.{method_names}
-use Rattle.access_schema.proofs.Texts.{got_contained}
-use Rattle.accessible_copy.proofs.Listed.{got_here}
 
 -- a name that some method has is found
 pub name_there : (methods : List Method) (name : Value) (method : Method) → Contains methods method → method.name ≡ name → ((k : ℕ) → slice_get (method_names methods) k ≢ Some name) → ⊥
@@ -19,6 +18,6 @@ pub relation_is : (methods : List Method) (name : Value) (number : ℕ) (method 
     (found : Method) × (Contains methods found × (found.name ≡ name)) × (method.rel ≡ found.rel)
 relation_is methods name number method at is =
     let (found, there, named) = got_mapped (λ (m : Method). m.name) methods number name at in
-    let got : slice_get methods number ≡ Some method = got_here methods number method (slice_get_within methods number found there) is in
+    let got : slice_get methods number ≡ Some method = got_indexed methods number method (slice_get_within methods number found there) is in
     let same : found ≡ method = some_injective found method (sym there ∙ got) in
     (found, (contains_got methods number found there, named), ap (λ (m : Method). m.rel) (sym same))

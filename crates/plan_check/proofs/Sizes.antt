@@ -1,22 +1,15 @@
 -- A branch makes at most as many columns as it has places.
-use Rattle.std.proofs.Common.{◌≡◌, ℕ, zero, suc, ◌+◌, ◌≤◌, List, [], ◌∷◌, length, sym, subst, arith}
+use Rattle.std.proofs.Common.{◌≡◌, ℕ, zero, suc, ◌+◌, ◌≤◌, List, [], ◌∷◌, sym, subst, arith}
 use Rattle.std.specs.Prelude.{Contains}
-use Rattle.meaning.specs.declared.types.Place.{Place}
-use Rattle.meaning.specs.declared.types.Place.TheVariants.{Const, Col, New}
 use Rattle.meaning.specs.declared.types.Step.{Step}
 use Rattle.meaning.specs.declared.types.Branch.{Branch}
 use Rattle.meaning.specs.declared.types.Plan.{Plan}
 use Rattle.meaning.specs.Plans.{made}
 use Rattle.meaning.specs.Judge.{columns_of}
+use Rattle.meaning_laws.proofs.Frozen.{made_few}
 use Rattle.plan_form.specs.Grammar.{step_places, branch_places, places_of}
 use Rattle.rule_pass.specs.declared.pass.TheConstants.{HIGHEST_FIRST_LABEL}
 use Rattle.plan_check.specs.Forms.{HasFewColumns}
-
-made_few : (n : ℕ) (places : List Place) → made n places ≤ n + length places
-made_few n [] = omega arith
-made_few n (Const c ∷ places) = let rest = made_few n places in omega arith
-made_few n (Col k ∷ places) = let rest = made_few n places in omega arith
-made_few n (New ∷ places) = let rest = made_few (n + 1) places in omega arith
 
 columns_few : (n : ℕ) (steps : List Step) → columns_of n steps ≤ n + step_places steps
 columns_few n [] = omega arith

@@ -5,6 +5,7 @@ use Rattle.std.proofs.lemmas.List.{length-take-le, take_all}
 use Rattle.std.proofs.lemmas.Option.{slice_get_within}
 use Rattle.std.proofs.lemmas.List.Elements.{Contains-push, Contains-push_cases, Contains-append_left}
 use Rattle.lists.proofs.Members.{contains_got, got_before, got_push}
+use Rattle.lists.proofs.Places.{take_got}
 use Rattle.meaning.specs.declared.types.SchemaParts.{SchemaParts}
 use Rattle.meaning.specs.declared.types.Fact.{Fact}
 use Rattle.meaning.specs.declared.types.Query.{Query}
@@ -12,7 +13,6 @@ use Rattle.meaning.specs.declared.types.Trigger.{Trigger}
 use Rattle.meaning.specs.declared.types.Val.{Val}
 use Rattle.meaning.specs.declared.types.Ground.{Ground}
 use Rattle.meaning.specs.Values.{Value, Row}
-use Rattle.accessible_copy.proofs.Listed.{take_got}
 use Rattle.plan_check.specs.declared.trial.Outcome.{Outcome}
 use Rattle.plan_check.specs.declared.trial.Outcome.TheVariants as one
 use Rattle.plan_check.specs.declared.trial.Tried.{Tried}

@@ -19,7 +19,7 @@ use Rattle.meaning.specs.Matching.{AnswersQuery}
 use Rattle.meaning.specs.Answers.{AnswersSelect}
 use Rattle.meaning.specs.Fitting.{QueryFits, QueryHasConstants}
 use Rattle.meaning.specs.Conjunctive.{IsConjunctive}
-use Rattle.meaning.specs.Plans.{IsMethod}
+use Rattle.meaning.specs.Plans.{IsMethod, NamesMethods}
 use Rattle.meaning.specs.Judge.{terms_of, columns_of, IsBranchQuery}
 use Rattle.access_schema.specs.declared.schema.Schema.{Schema}
 use Rattle.access_schema.specs.Meaning.{meaning_of}
@@ -57,10 +57,6 @@ NamesMethod schema name = (method : Method) × IsMethod schema name method
 -- The relation is that of the method of that name.
 abbrev pub IsRelationOf : SchemaParts → Value → ℕ → Type 0
 IsRelationOf schema name rel = (method : Method) × IsMethod schema name method × (rel ≡ method.rel)
-
--- Each step names a method.
-abbrev pub NamesMethods : SchemaParts → List Step → Type 0
-NamesMethods schema steps = (step : Step) → Contains steps step → NamesMethod schema step.method
 
 -- The atom is that of a step before which there are so many columns.
 abbrev pub IsAtomOf : SchemaParts → ℕ → Step → Atom → Type 0

@@ -1,10 +1,10 @@
 // A branch as a conjunctive query.
 ghost use Rattle.std.specs.Prelude.{◌≡◌, ◌≤◌, ◌<◌, ◌-◌, ◌^◌, ◌∷◌, [], IfOk, map};
-ghost use Rattle.meaning.specs.Plans.{made};
+ghost use Rattle.meaning.specs.Plans.{NamesMethods, made};
 ghost use Rattle.meaning.specs.Judge.{terms_of, AreAtoms, out_term, columns_of, IsBranchQuery};
 ghost use Rattle.access_schema.specs.Meaning.{meaning_of};
 ghost use Rattle.rule_pass.specs.declared.pass.TheConstants.{HIGHEST_FIRST_LABEL};
-ghost use Rattle.plan_check.specs.Forms.{CanBeQuery, NamesMethods, NamesMethod, IsRelationOf, IsAtomOf, place_term};
+ghost use Rattle.plan_check.specs.Forms.{CanBeQuery, NamesMethod, IsRelationOf, IsAtomOf, place_term};
 
 use access_schema::Schema;
 use lists::{Copies, NoMemory, Seq, Text};

@@ -6,6 +6,7 @@ use Rattle.std.proofs.lemmas.List.{length-map}
 use Rattle.std.proofs.lemmas.Option.{slice_get_within}
 use Rattle.std.proofs.lemmas.Slice.Zip.{AllZip-long}
 use Rattle.lists.proofs.Members.{some_injective, contains_got, contains_map, contains_mapped}
+use Rattle.lists.proofs.Places.{got_indexed}
 use Rattle.meaning.specs.declared.types.SchemaParts.{SchemaParts}
 use Rattle.meaning.specs.declared.types.Query.{Query}
 use Rattle.meaning.specs.declared.types.Branch.{Branch}
@@ -34,15 +35,15 @@ use Rattle.rule_pass.specs.declared.pass.TheConstants.{MOST_FIRINGS}
 use Rattle.accessible_copy.specs.Proving.{Proving, IsProofOf, firings_of, log_of}
 use Rattle.accessible_copy.specs.Goals.{IsGoal, IsHeadMatch}
 use Rattle.accessible_copy.proofs.Writing.{written_run}
-use Rattle.accessible_copy.proofs.Listed.{got_here}
 use Rattle.plan_extract.specs.Lent.{values_in}
 use Rattle.plan_extract.specs.Branches.{IsBranchFor, IsProofFor}
 use Rattle.plan_extract.specs.Resting.{RestsOnFact, RestsOn}
 use Rattle.plan_extract.specs.Trimmed.{IsShown, picked, IsTrimmed, IsTrimmedBranch}
 use Rattle.plan_extract.specs.Passes.{AreWanted, AreMarked}
-use Rattle.plan_extract.proofs.Shown.{shown_of, shown_in, few_exposed, same_shown}
+use Rattle.plan_extract.proofs.Shown.{few_exposed, same_shown}
 use Rattle.plan_extract.proofs.Read.{Derives, derives, exposing_each, narrow_facts, values_bound, schema_narrow, steps_long}
 use Rattle.plan_extract.proofs.Marked.{exposing_picked, picked_facts, picked_back, picked_cost, length-picked, rests_wider}
+use Rattle.accessible_copy.proofs.Shown.{shown_in, shown_of}
 
 -- ---- what the two passes come to
 
@@ -187,7 +188,7 @@ module _ (schema : Schema) (proof : Proving) (queries : List Query) (head : List
 pub indexed : {X : Type 0} (xs ys : List X) (n : ℕ) (x y : X) → ys ≡ xs → slice_get xs n ≡ Some x → y ≡ get_or ys n y → y ≡ x
 indexed xs ys n x y same got is =
     let low = slice_get_within xs n x got in
-    some_injective y x (sym (got_here xs n y low (subst (λ zs. y ≡ get_or zs n y) same is)) ∙ got)
+    some_injective y x (sym (got_indexed xs n y low (subst (λ zs. y ≡ get_or zs n y) same is)) ∙ got)
 
 pub few_kept : (schema : SchemaParts) (proof : Proving) → IsProofOf schema proof → (lent : List Exposure) → AllZip (IsShown schema) proof.exposed lent → (marks : List Bool) → length (picked lent marks) ≤ length proof.entries
 few_kept schema proof is lent shown marks =

@@ -5,6 +5,7 @@ use Rattle.std.proofs.lemmas.Bool.{cases_lt}
 use Rattle.std.proofs.lemmas.List.{append-nil, take_all, take-take, length-take, length-append}
 use Rattle.std.proofs.lemmas.Option.{slice_get_within}
 use Rattle.lists.proofs.Members.{some_injective, contains_here, contains_there, contains_got, contains_map, got_push, map_same}
+use Rattle.lists.proofs.Places.{take_got, got_member}
 use Rattle.meaning.specs.declared.types.SchemaParts.{SchemaParts}
 use Rattle.meaning.specs.declared.types.Atom.{Atom}
 use Rattle.meaning.specs.declared.types.Rule.{Rule}
@@ -26,8 +27,6 @@ use Rattle.accessible_copy.specs.declared.entry.Sizes.{Sizes}
 use Rattle.accessible_copy.specs.declared.entry.Entry.{Entry}
 use Rattle.accessible_copy.specs.Proving.{Proving, IsWritten, IsProofOf, exposed_in, exposed_by, firings_of, sizes_of}
 use Rattle.accessible_copy.proofs.Writing.{exposed_on, firings_on}
-use Rattle.accessible_copy.proofs.Listed.{take_got}
-use Rattle.accessible_copy.proofs.OpenListed.{place_of}
 use Rattle.plan_extract.specs.Resting.{Makes}
 use Rattle.plan_extract.specs.Resting.RestsOnFact.{atom as rests_atom, body as rests_body}
 use Rattle.plan_extract.specs.Passes.{Serves, IsBack, HasRule}
@@ -234,7 +233,7 @@ module _ (schema : SchemaParts) (proof : Proving) (goals : List Ground) (left af
     where
       old : (fact : Ground) → Contains wanted fact → Contains (fired (copy_state its.middle) trigger its.rule).facts fact → Contains its.middle.copy fact
       old fact want there =
-          let (k, at) = place_of (take after proof.end.copy) fact (subst (λ facts. Contains facts fact) (sym its.copy ∙ back.copy) there) in
+          let (k, at) = got_member (take after proof.end.copy) fact (subst (λ facts. Contains facts fact) (sym its.copy ∙ back.copy) there) in
           let (below, is) = got_take proof.end.copy after k fact at in
           ⊎_elim (λ early. subst (λ facts. Contains facts fact) (sym front_copy) (take_has proof.end.copy entry.before.copy k fact early is)) (λ late. absurd (none k fact late below is want)) (cases_lt k entry.before.copy)
 

@@ -8,6 +8,7 @@ use Rattle.std.proofs.lemmas.List.{length_push, length-take-le, map-append, take
 use Rattle.std.proofs.lemmas.Option.{slice_get_within, slice_get-get_or}
 use Rattle.std.proofs.lemmas.List.Elements.{Contains-push, Contains-push_cases, Contains-append_left}
 use Rattle.lists.proofs.Members.{some_injective, contains_here, contains_there, contains_cases, contains_got, contains_map, contains_mapped, got_push, got_before}
+use Rattle.lists.proofs.Places.{take_got, got_member}
 use Rattle.meaning.specs.declared.types.SchemaParts.{SchemaParts}
 use Rattle.meaning.specs.declared.types.Ground.{Ground}
 use Rattle.meaning.specs.declared.types.Val.{Val}
@@ -20,8 +21,6 @@ use Rattle.plan_extract.specs.Resting.{IsFirstWith, RestsOn}
 use Rattle.plan_extract.specs.Resting.RestsOn.{exposed as rests_exposed, input as rests_input}
 use Rattle.plan_extract.specs.Trimmed.{picked}
 use Rattle.plan_extract.specs.Passes.{AreOrigins, IsOriginAt, IsMarked, HoldsWanted, AreClosed}
-use Rattle.accessible_copy.proofs.Listed.{take_got}
-use Rattle.accessible_copy.proofs.OpenListed.{place_of}
 use Rattle.plan_extract.proofs.Noting.{either_option}
 
 -- ---- members that are marked
@@ -86,7 +85,7 @@ module _ (schema : SchemaParts) (constants : List Value) (n : ℕ) (base : List 
       let here : slice_get all (length done) ≡ Some e = subst (λ list. slice_get list (length done) ≡ Some e) (sym split) (got_middle done rest e) in
       let (number, first, is, marked) = closed (length done) e place label (omega arith) here mark input at in
       let (other, of_done, same) = contains_mapped (λ (x : Exposure). x.fact) done fact among in
-      let (k, got) = place_of done other of_done in
+      let (k, got) = got_member done other of_done in
       let within = slice_get_within done k other got in
       let got_all : slice_get all k ≡ Some other = subst (λ list. slice_get list k ≡ Some other) (sym split) (got_before done (e ∷ rest) k within ∙ got) in
       let has_other : Contains other.fact.vals (Label label) = subst (λ (g : Ground). Contains g.vals (Label label)) (sym same) has in
@@ -159,7 +158,7 @@ module _ (schema : SchemaParts) (constants : List Value) (n : ℕ) (base : List 
 pub picked_facts : (all : List Exposure) (wanted : List Ground) (marks : List Bool) → HoldsWanted all wanted marks → (fact : Ground) → Contains wanted fact → Contains (exposed_facts all) fact → Contains (exposed_facts (picked all marks)) fact
 picked_facts all wanted marks held fact want among =
     let (e, there, same) = contains_mapped (λ (x : Exposure). x.fact) all fact among in
-    let (k, got) = place_of all e there in
+    let (k, got) = got_member all e there in
     let marked = held.wanted_are k e got (subst (Contains wanted) (sym same) want) in
     subst (Contains (exposed_facts (picked all marks))) same (contains_map (λ (x : Exposure). x.fact) (picked all marks) e (picked_has all marks k e got marked))
 

@@ -26,8 +26,8 @@ use Rattle.accessible_copy.specs.declared.entry.Exposed.{Exposed}
 use Rattle.accessible_copy.specs.Proving.{Proving, IsProofOf, log_of}
 use Rattle.accessible_copy.proofs.Writing.{written_run}
 use Rattle.plan_extract.specs.Trimmed.{IsShown}
-use Rattle.plan_extract.proofs.Shown.{shown_of, shown_in}
 use Rattle.plan_extract.proofs.Zips.{zip_from}
+use Rattle.accessible_copy.proofs.Shown.{shown_in, shown_of}
 
 module _ (schema : SchemaParts) (constants : List Value) where
   -- a run never goes back to an earlier part

@@ -5,6 +5,7 @@ use Rattle.std.specs.List.{AllZip}
 use Rattle.std.proofs.lemmas.List.{append-nil, length-append, map-append, take_all}
 use Rattle.std.proofs.lemmas.List.Elements.{Contains-push_cases}
 use Rattle.lists.proofs.Members.{contains_got, contains_map, some_injective}
+use Rattle.lists.proofs.Places.{take_got, got_none}
 use Rattle.meaning.specs.declared.types.SchemaParts.{SchemaParts}
 use Rattle.meaning.specs.declared.types.Ground.{Ground}
 use Rattle.meaning.specs.declared.types.Firing.{Firing}
@@ -15,21 +16,11 @@ use Rattle.meaning.specs.Extract.{Exposure}
 use Rattle.accessible_copy.specs.declared.entry.Entry.{Entry}
 use Rattle.accessible_copy.specs.declared.entry.Exposed.{Exposed}
 use Rattle.accessible_copy.specs.Known.{facts_of}
-use Rattle.accessible_copy.proofs.Lists.{none_beyond}
-use Rattle.accessible_copy.proofs.Listed.{take_got}
-use Rattle.accessible_copy.specs.Proving.{Proving, firings_of, exposed_by, exposed_in, IsWritten, IsProofOf}
+use Rattle.accessible_copy.specs.Proving.{Proving, exposed_by, exposed_in, IsWritten, IsProofOf}
 use Rattle.plan_extract.proofs.Zips.{zip_push}
 use Rattle.plan_extract.specs.Trimmed.{IsShown}
 
 -- the exposed facts of a log
-abbrev pub shown_of : List Firing → List Exposed
-shown_of [] = []
-shown_of (firing ∷ log) = exposed_by firing ++ shown_of log
-
-pub shown_in : (entries : List Entry) → exposed_in entries ≡ shown_of (firings_of entries)
-shown_in [] = refl
-shown_in (entry ∷ entries) = ap (λ rest. exposed_by entry.firing ++ rest) (shown_in entries)
-
 one_shown : (firing : Firing) → length (exposed_by firing) ≤ 1
 one_shown (Base trigger) = omega arith
 one_shown (Copy trigger) = omega arith
@@ -98,7 +89,7 @@ none_more exposed n x fact got other none among =
     ⊎_elim none other (Contains-push_cases (facts_of (take n exposed)) x.fact fact (subst (λ list. Contains list fact) turn among))
 
 pub none_past : (exposed : List Exposed) (n : ℕ) → slice_get exposed n ≡ None → take (n + 1) exposed ≡ take n exposed
-none_past exposed n none = let low = none_beyond exposed n none in take_all (n + 1) exposed (omega arith) ∙ sym (take_all n exposed low)
+none_past exposed n none = let low = got_none exposed n none in take_all (n + 1) exposed (omega arith) ∙ sym (take_all n exposed low)
 
 pub zip_more : (schema : SchemaParts) (exposed : List Exposed) (n : ℕ) (x : Exposed) (so_far : List Exposure) (e : Exposure) → slice_get exposed n ≡ Some x → IsShown schema x e →
     AllZip (IsShown schema) (take n exposed) so_far → AllZip (IsShown schema) (take (n + 1) exposed) (so_far ++ e ∷ [])

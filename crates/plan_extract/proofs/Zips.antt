@@ -1,9 +1,9 @@
 -- Two lists side by side.
-use Rattle.std.proofs.Common.{◌≡◌, ℕ, zero, suc, ◌+◌, ◌<◌, List, [], ◌∷◌, ◌++◌, length, take, refl, sym, subst, arith}
+use Rattle.std.proofs.Common.{◌≡◌, ℕ, zero, suc, ◌+◌, ◌<◌, List, [], ◌∷◌, ◌++◌, length, take, refl, sym, ap, subst, arith}
 use Rattle.std.specs.Prelude.{Contains, slice_get, slice_index_or, Some}
 use Rattle.std.specs.List.{AllZip}
 use Rattle.lists.proofs.Members.{contains_here, contains_there, some_injective}
-use Rattle.accessible_copy.proofs.Listed.{got_here, take_got}
+use Rattle.lists.proofs.Places.{take_got, got_indexed}
 
 module _ {A B : Type 0} (P : A → B → Type 0) where
   pub zip_push : (xs : List A) (ys : List B) (x : A) (y : B) → AllZip P xs ys → P x y → AllZip P (xs ++ x ∷ []) (ys ++ y ∷ [])
@@ -11,6 +11,12 @@ module _ {A B : Type 0} (P : A → B → Type 0) where
   zip_push [] (z ∷ ys) x y all one = absurd all
   zip_push (z ∷ xs) [] x y all one = absurd all
   zip_push (z ∷ xs) (w ∷ ys) x y all one = (all.0, zip_push xs ys x y all.1 one)
+
+  pub zip_length : (xs : List A) (ys : List B) → AllZip P xs ys → length ys ≡ length xs
+  zip_length [] [] all = refl
+  zip_length [] (y ∷ ys) all = absurd all
+  zip_length (x ∷ xs) [] all = absurd all
+  zip_length (x ∷ xs) (y ∷ ys) all = let rest = zip_length xs ys all.1 in omega arith
 
   -- a member of the first list has its counterpart
   pub zip_left : (xs : List A) (ys : List B) (x : A) → AllZip P xs ys → Contains xs x → (y : B) × Contains ys y × P x y
@@ -47,4 +53,4 @@ module _ {A B : Type 0} (P : A → B → Type 0) where
       AllZip P (take (n + 1) xs) pushed
   zip_more xs ys pushed n x y all low is one e =
       subst (λ zs. AllZip P (take (n + 1) xs) zs) (sym e)
-      (subst (λ zs. AllZip P zs (ys ++ y ∷ [])) (sym (take_got xs n x (got_here xs n x low is))) (zip_push (take n xs) ys x y all one))
+      (subst (λ zs. AllZip P zs (ys ++ y ∷ [])) (sym (take_got xs n x (got_indexed xs n x low is))) (zip_push (take n xs) ys x y all one))

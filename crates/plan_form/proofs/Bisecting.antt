@@ -11,8 +11,9 @@ use Rattle.std.specs.BTreeMap.Comparable.{le_lt_trans}
 use Rattle.std.proofs.lemmas.Bool.{cases_lt}
 use Rattle.std.proofs.lemmas.Cmp.{nat_list_cmp_total}
 use Rattle.std.proofs.lemmas.List.Sorted.{IsNonDecreasingBy-from_all_adjacent}
+use Rattle.lists.proofs.Booleans.{cond_true}
 use Rattle.plan_form.specs.Judging.{has_text, Ascend}
-use Rattle.plan_form.proofs.Texts.{either_true, first_true}
+use Rattle.plan_form.proofs.Texts.{first_true}
 
 -- where a does not come behind b, it stands no further behind c than b does
 index_rises : {K : Type 0} {cmp : K → K → Ordering} → IsTotalOrder cmp → (a b c : K) → is_le (cmp a b) ≡ true → ordering_index (cmp a c) ≤ ordering_index (cmp b c)
@@ -37,7 +38,7 @@ index_rises {cmp = cmp} total a b c le = by (cmp a c) (cmp b c) refl refl
 found_has : (constants : List (List ℕ)) (text : List ℕ) (i : ℕ) → i < length constants → ((d : List ℕ) → slice_cmp nat_cmp (get_or constants i d) text ≡ Equal) → has_text constants text ≡ true
 found_has [] text i l at = absurd (omega arith)
 found_has (c ∷ constants) text zero l at = first_true (pointwise nat_eq c text) (has_text constants text) (texts_ties c text ∙ ap is_eq (at []))
-found_has (c ∷ constants) text (suc i) l at = either_true (pointwise nat_eq c text) (has_text constants text) (found_has constants text i (omega arith) at)
+found_has (c ∷ constants) text (suc i) l at = cond_true (pointwise nat_eq c text) (has_text constants text) (found_has constants text i (omega arith) at)
 
 not_equal : (answer : Ordering) → answer ≢ Equal → is_eq answer ≡ false
 not_equal Less other = refl

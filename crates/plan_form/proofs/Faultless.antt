@@ -1,5 +1,5 @@
 -- A lawful plan has no fault: what a fault says of a place, a step or an output contradicts that it is lawful.
-use Rattle.std.proofs.Common.{◌≡◌, ◌+◌, ℕ, zero, suc, List, [], ◌∷◌, length, take, None, Some, sym, ◌∙◌, subst, arith, inl, inr}
+use Rattle.std.proofs.Common.{◌≡◌, ◌+◌, ℕ, zero, suc, List, [], ◌∷◌, length, take, Some, sym, ◌∙◌, subst, arith, inl, inr}
 use Rattle.std.specs.Prelude.{Contains, slice_get}
 use Rattle.meaning.specs.declared.types.Method.{Method}
 use Rattle.meaning.specs.declared.types.SchemaParts.{SchemaParts}
@@ -10,13 +10,10 @@ use Rattle.meaning.specs.declared.types.Out.TheVariants.{Const as Fixed, Col as 
 use Rattle.meaning.specs.declared.types.Step.{Step}
 use Rattle.meaning.specs.declared.types.Plan.{Plan}
 use Rattle.meaning.specs.Plans.{IsWellFormed, made, AreLawfulPlaces, IsLawfulOut, IsLawfulStep, AreLawfulFrom, IsLawful}
-use Rattle.lists.proofs.Members.{contains_got, some_injective}
+use Rattle.lists.proofs.Members.{contains_got, some_injective, none_some}
 use Rattle.plan_form.specs.declared.fault.PlanFaultKind.{PlanFaultKind}
 use Rattle.plan_form.specs.declared.fault.PlanFault.{PlanFault}
 use Rattle.plan_form.specs.Faults.{IsPlaceFault, IsFaultOfMethod, IsStepFault, made_by, IsOutFault, IsOutputFault, IsBranchFault, IsFirstFault}
-
-none_never : {X : Type 0} (x : X) → None ≡ Some x → ⊥
-none_never x e = cc
 
 -- ---- places
 
@@ -29,7 +26,7 @@ this_place constants inputs began p columns kind New places lawful fault = lawfu
 
 place_clash : (constants : List (List ℕ)) (inputs : List ℕ) (began columns q p r : ℕ) (kind : PlanFaultKind) (places : List Place) (place : Place) → r ≡ q + p → slice_get places p ≡ Some place →
     AreLawfulPlaces constants inputs began q columns places → IsPlaceFault constants inputs began r (made columns (take p places)) place kind → ⊥
-place_clash constants inputs began columns q p r kind [] place e at lawful fault = none_never place at
+place_clash constants inputs began columns q p r kind [] place e at lawful fault = none_some place at
 place_clash constants inputs began columns q zero r kind (x ∷ xs) place e at lawful fault =
     let same : x ≡ place = some_injective x place at in
     let here : r ≡ q = omega (arith, e) in
@@ -60,7 +57,7 @@ this_step schema constants columns step method p kind formed lawful (inr fault) 
 
 step_clash : (schema : SchemaParts) (constants : List (List ℕ)) (columns : ℕ) (steps : List Step) (output : List Out) (s : ℕ) (step : Step) (p : ℕ) (kind : PlanFaultKind) → IsWellFormed schema →
     slice_get steps s ≡ Some step → AreLawfulFrom schema constants columns steps output → IsStepFault schema constants (made_by columns (take s steps)) step p kind → ⊥
-step_clash schema constants columns [] output s step p kind formed at lawful fault = none_never step at
+step_clash schema constants columns [] output s step p kind formed at lawful fault = none_some step at
 step_clash schema constants columns (x ∷ xs) output zero step p kind formed at lawful fault =
     let same : x ≡ step = some_injective x step at in
     this_step schema constants columns x lawful.0 p kind formed lawful.1 (subst (λ (y : Step). IsStepFault schema constants columns y p kind) (sym same) fault)

@@ -17,7 +17,8 @@ use Rattle.meaning.specs.declared.types.Branch.{Branch}
 use Rattle.meaning.specs.declared.types.Plan.{Plan}
 use Rattle.meaning.specs.Instances.{FitsRelation}
 use Rattle.meaning.specs.Plans.{IsWellFormed, made, AreLawfulPlaces, IsLawfulOut, AreLawfulFrom, IsLawfulBranch, IsLawful}
-use Rattle.lists.proofs.Members.{contains_cases, some_injective}
+use Rattle.lists.proofs.Members.{contains_cases, some_injective, none_apart}
+use Rattle.lists.proofs.Booleans.{both_true, not_false, not_true}
 use Rattle.plan_form.specs.declared.fault.PlanFaultKind.{PlanFaultKind}
 use Rattle.plan_form.specs.declared.fault.PlanFaultKind.TheVariants.{NoSuchMethod, InputNotKnown, UnknownConstant, BadColumn}
 use Rattle.plan_form.specs.declared.fault.PlanFault.{PlanFault}
@@ -37,18 +38,6 @@ then_is : (b : Bool) (k kind : PlanFaultKind) (rest : Option PlanFaultKind) → 
 then_is true k kind rest h = inl (refl, cc)
 then_is false k kind rest h = inr (refl, h)
 
-not_is : (b : Bool) → not b ≡ true → b ≡ false
-not_is true h = absurd (cc)
-not_is false h = refl
-
-not_not : (b : Bool) → not b ≡ false → b ≡ true
-not_not true h = refl
-not_not false h = absurd (cc)
-
-both_are : (a b : Bool) → (a && b) ≡ true → (a ≡ true) × (b ≡ true)
-both_are true b h = (refl, h)
-both_are false b h = absurd (cc)
-
 none_never : (kind : PlanFaultKind) → None ≡ Some kind → ⊥
 none_never kind e = cc
 
@@ -66,10 +55,10 @@ module _ (constants : List (List ℕ)) (inputs : List ℕ) (began : ℕ) where
       let g = else_is (has_text constants c) UnknownConstant kind e in
       (g.1, λ among. clash (has_text constants c) g.0 (in_has constants c among))
   place_is_fault p columns (Col k) kind e =
-      ⊎_elim (λ g. inl (g.1, ltb-false k columns (not_is (nat_lt k columns) g.0)))
+      ⊎_elim (λ g. inl (g.1, ltb-false k columns (not_true (nat_lt k columns) g.0)))
       (λ g. ⊎_elim
-      (λ i. let both = both_are (is_input_at inputs p) (not (nat_lt k began)) i.0 in
-      inr (i.1, input_in inputs p both.0, ltb-true k columns (not_not (nat_lt k columns) g.0), ltb-false k began (not_is (nat_lt k began) both.1)))
+      (λ i. let both = both_true (is_input_at inputs p) (not (nat_lt k began)) i.0 in
+      inr (i.1, input_in inputs p both.0, ltb-true k columns (not_false (nat_lt k columns) g.0), ltb-false k began (not_true (nat_lt k began) both.1)))
       (λ n. absurd (none_never kind n.1))
       (then_is (is_input_at inputs p && not (nat_lt k began)) InputNotKnown kind None g.1))
       (then_is (not (nat_lt k columns)) BadColumn kind _ e)
@@ -129,15 +118,12 @@ module _ (constants : List (List ℕ)) (inputs : List ℕ) (began : ℕ) where
 
 -- ---- steps
 
-clash_some : {X : Type 0} (o : Option X) (x : X) → o ≡ None → o ≡ Some x → ⊥
-clash_some o x n s = cc
-
 module _ (schema : SchemaParts) (well : IsWellFormed schema) (constants : List (List ℕ)) where
   arity_fault : (columns : ℕ) (step : Step) (method : Method) (o : Option Relation) (spot : Spot) → slice_get schema.relations method.rel ≡ o → judged_arity constants columns step method o ≡ Err spot →
       IsFaultOfMethod schema constants columns step method spot.place spot.kind
   arity_fault columns step method None spot at h =
       let same : wrong ≡ spot = spot_is wrong spot h in
-      inl (ap (λ (s : Spot). s.kind) (sym same), ap (λ (s : Spot). s.place) (sym same), λ (fits : FitsRelation schema method.rel step.places). clash_some (slice_get schema.relations method.rel) fits.relation at fits.there)
+      inl (ap (λ (s : Spot). s.kind) (sym same), ap (λ (s : Spot). s.place) (sym same), λ (fits : FitsRelation schema method.rel step.places). none_apart (slice_get schema.relations method.rel) fits.relation at fits.there)
   arity_fault columns step method (Some relation) spot at h = go (nat_eq (length step.places) (length relation.columns)) refl h
     where
       differs : nat_eq (length step.places) (length relation.columns) ≡ false → FitsRelation schema method.rel step.places → ⊥
@@ -160,7 +146,7 @@ module _ (schema : SchemaParts) (well : IsWellFormed schema) (constants : List (
       inl (
         ap (λ (s : Spot). s.kind) (sym same),
         ap (λ (s : Spot). s.place) (sym same),
-        λ (m : Method) named. let there = there_found schema.methods step.method m named.0 named.1 in clash_some (method_of schema.methods step.method) there.0 f there.1,
+        λ (m : Method) named. let there = there_found schema.methods step.method m named.0 named.1 in none_apart (method_of schema.methods step.method) there.0 f there.1,
       )
   method_fault columns step (Some method) spot f h =
       inr (method, found_method schema.methods step.method method f, arity_fault columns step method (slice_get schema.relations method.rel) spot refl h)

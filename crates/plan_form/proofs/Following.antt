@@ -5,11 +5,12 @@ use Rattle.std.specs.List.{AllByRecursion, AllZip}
 use Rattle.std.specs.Fmt.{decimal}
 use Rattle.std.specs.Cmp.Lexicographic.{nat_list_eq_equiv}
 use Rattle.std.proofs.lemmas.List.{append-nil, map-append}
+use Rattle.lists.proofs.Members.{some_injective}
 use Rattle.pq_text.specs.declared.lexeme.Lexeme.{Lexeme}
 use Rattle.pq_text.specs.declared.token.TokenKind.TheVariants.{Word, Text, Number}
 use Rattle.pq_text.specs.Lexemes.{◌>>=◌, word_next}
 use Rattle.pq_text.specs.Forms.{Slot, Key, Mark, Name, list_form}
-use Rattle.pq_text.proofs.Forms.{bind_some, some_is, other_word, this_word}
+use Rattle.pq_text.proofs.Forms.{bind_some, other_word, this_word}
 use Rattle.pq_text.proofs.Spans.{all_push}
 use Rattle.meaning.specs.declared.types.Out.{Out}
 use Rattle.meaning.specs.declared.types.Out.TheVariants.{Const as Fixed}
@@ -79,19 +80,19 @@ opening_follows : (tokens : List Lexeme) (more : Progress) → next_at Opening t
 opening_follows tokens more e =
     let a = bind_some (opening_at tokens) (λ (x : ℕ × List Lexeme). Some (Between x.0 [])) more e in
     let f = opening_found tokens a.0.0 a.0.1 a.1 in
-    subst (Follows Opening tokens) (some_is (Between a.0.0 []) more a.2) (record { form = opening_form a.0.0; forms_are = refl; of_form = f.0; sound = ((f.1, f.2), tt) })
+    subst (Follows Opening tokens) (some_injective (Between a.0.0 []) more a.2) (record { form = opening_form a.0.0; forms_are = refl; of_form = f.0; sound = ((f.1, f.2), tt) })
 
 between_follows : (width : ℕ) (branches : List Branch) (tokens : List Lexeme) (t : Bool) (more : Progress) → IsSound (Between width branches) →
     cond t (lone_at (codes "branch") tokens >>= λ r. Some (Inside width branches [])) (lone_at (codes "end") tokens >>= λ r. Some (Ended (record { width = width; branches = branches }))) ≡ Some more →
     Follows (Between width branches) tokens more
 between_follows width branches tokens true more sound e =
     let a = bind_some (lone_at (codes "branch") tokens) (λ (r : List Lexeme). Some (Inside width branches [])) more e in
-    subst (Follows (Between width branches) tokens) (some_is (Inside width branches []) more a.2)
+    subst (Follows (Between width branches) tokens) (some_injective (Inside width branches []) more a.2)
     (record { form = branch_form; forms_are = refl; of_form = lone_found (codes "branch") tokens a.0 a.1; sound = (sound.0, sound.1, tt) })
 between_follows width branches tokens false more sound e =
     let plan : Plan = record { width = width; branches = branches } in
     let a = bind_some (lone_at (codes "end") tokens) (λ (r : List Lexeme). Some (Ended plan)) more e in
-    subst (Follows (Between width branches) tokens) (some_is (Ended plan) more a.2)
+    subst (Follows (Between width branches) tokens) (some_injective (Ended plan) more a.2)
     (record { form = end_form; forms_are = refl; of_form = lone_found (codes "end") tokens a.0 a.1; sound = record { some = sound.0.0; most = sound.0.1; branches = sound.1 } })
 
 -- the forms of a branch behind others
@@ -115,7 +116,7 @@ inside_follows : (width : ℕ) (branches : List Branch) (steps : List Step) (tok
 inside_follows width branches steps tokens true more sound e =
     let a = bind_some (access_at tokens) (λ (x : Step × List Lexeme). Some (Inside width branches (steps ++ x.0 ∷ []))) more e in
     let f = access_found tokens a.0.0 a.0.1 a.1 in
-    subst (Follows (Inside width branches steps) tokens) (some_is (Inside width branches (steps ++ a.0.0 ∷ [])) more a.2)
+    subst (Follows (Inside width branches steps) tokens) (some_injective (Inside width branches (steps ++ a.0.0 ∷ [])) more a.2)
     (record {
       form = access_form a.0.0;
       forms_are = ap (λ (r : List (List Slot)). opening_form width ∷ r) (step_behind branches steps a.0.0);
@@ -127,7 +128,7 @@ inside_follows width branches steps tokens false more sound e =
     let f = output_found tokens a.0.0 a.0.1 a.1 in
     let branch : Branch = record { steps = steps; output = a.0.0 } in
     let whole : IsWritableBranch branch = record { steps = sound.2; some = f.1; outs = f.2 } in
-    subst (Follows (Inside width branches steps) tokens) (some_is (Between width (branches ++ branch ∷ [])) more a.2)
+    subst (Follows (Inside width branches steps) tokens) (some_injective (Between width (branches ++ branch ∷ [])) more a.2)
     (record {
       form = output_form a.0.0;
       forms_are = ap (λ (r : List (List Slot)). opening_form width ∷ r) (branch_behind branches steps a.0.0);

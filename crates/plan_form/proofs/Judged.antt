@@ -14,7 +14,8 @@ use Rattle.meaning.specs.declared.types.Step.{Step}
 use Rattle.meaning.specs.declared.types.Branch.{Branch}
 use Rattle.meaning.specs.Plans.{IsWellFormed, made, AreLawfulPlaces, IsLawfulOut, IsLawfulStep, AreLawfulFrom, IsLawfulBranch}
 use Rattle.lists.proofs.Members.{contains_here, contains_there, contains_cases}
-use Rattle.pq_text.proofs.Forms.{same_text}
+use Rattle.lists.proofs.Booleans.{never_true, not_false}
+use Rattle.lists.proofs.Orders.{text_is}
 use Rattle.plan_form.specs.declared.fault.PlanFaultKind.{PlanFaultKind}
 use Rattle.plan_form.specs.declared.fault.PlanFaultKind.TheVariants.{WrongArity}
 use Rattle.plan_form.specs.declared.fault.PlanFault.{PlanFault}
@@ -46,10 +47,6 @@ unless_ok (Some k) p rest x h = absurd (cc)
 ok_unless : {T : Type 0} (o : Option PlanFaultKind) (p : ℕ) (rest : Result T Spot) (x : T) → o ≡ None → rest ≡ Ok x → unless o p rest ≡ Ok x
 ok_unless o p rest x h r = rw h r
 
-not_false : (b : Bool) → not b ≡ false → b ≡ true
-not_false true h = refl
-not_false false h = absurd (cc)
-
 below : (a b : ℕ) → not (nat_lt a b) ≡ false → a < b
 below a b h = ltb-true a b (not_false (nat_lt a b) h)
 
@@ -66,10 +63,6 @@ false_and false b h = refl
 
 pub clash : (b : Bool) → b ≡ false → b ≡ true → ⊥
 clash b f t = cc
-
-not_true : (b : Bool) → (b ≡ true → ⊥) → b ≡ false
-not_true true h = absurd (h refl)
-not_true false h = refl
 
 pub made_behind : (place : Place) (places : List Place) (columns : ℕ) → made (count_place columns place) places ≡ made columns (place ∷ places)
 made_behind (Const c) places columns = refl
@@ -108,7 +101,7 @@ module _ (constants : List (List ℕ)) (inputs : List ℕ) (began : ℕ) where
       (lawful_places places (p + 1) columns rest)
   lawful_places (New ∷ places) p columns (i, rest) =
       ok_unless (place_fault constants inputs began p columns New) p (judged_places constants inputs began (p + 1) (columns + 1) places) (made (columns + 1) places)
-      (false_none (is_input_at inputs p) _ None (not_true (is_input_at inputs p) (λ t. i (input_in inputs p t))) refl) (lawful_places places (p + 1) (columns + 1) rest)
+      (false_none (is_input_at inputs p) _ None (never_true (is_input_at inputs p) (λ t. i (input_in inputs p t))) refl) (lawful_places places (p + 1) (columns + 1) rest)
 
 -- ---- methods
 
@@ -117,7 +110,7 @@ found_method [] name m e = absurd (cc)
 found_method (x ∷ rest) name m e = step (pointwise nat_eq x.name name) refl (λ h. found_method rest name m h) e
   where
     step : (b : Bool) → pointwise nat_eq x.name name ≡ b → (method_of rest name ≡ Some m → Contains rest m × (m.name ≡ name)) → cond b (Some x) (method_of rest name) ≡ Some m → Contains (x ∷ rest) m × (m.name ≡ name)
-    step true t rec e = let is : x ≡ m = cc in subst (λ (y : Method). Contains (x ∷ rest) y × (y.name ≡ name)) is (contains_here x rest, same_text x.name name t)
+    step true t rec e = let is : x ≡ m = cc in subst (λ (y : Method). Contains (x ∷ rest) y × (y.name ≡ name)) is (contains_here x rest, text_is x.name name t)
     step false t rec e = let r = rec e in (contains_there x rest m r.0, r.1)
 
 pub there_found : (methods : List Method) (name : List ℕ) (m : Method) → Contains methods m → m.name ≡ name → (x : Method) × (method_of methods name ≡ Some x)

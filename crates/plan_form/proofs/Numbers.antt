@@ -4,36 +4,17 @@ use Rattle.std.specs.Prelude.{◌&&◌, ◌≢◌, nat_lt}
 use Rattle.std.specs.Fmt.{decimal}
 use Rattle.std.specs.Cmp.Lexicographic.{nat_list_eq_equiv}
 use Rattle.std.proofs.lemmas.Bool.{ltb-true, lt-ltb}
-use Rattle.std.proofs.lemmas.Fmt.{decimal_by_steps}
+use Rattle.lists.proofs.Booleans.{both_true, and_true}
+use Rattle.lists.proofs.Members.{some_injective}
+use Rattle.lists.proofs.Orders.{text_is}
 use Rattle.pq_text.specs.declared.lexeme.Lexeme.{Lexeme}
 use Rattle.pq_text.specs.Numbers.{value_from, value_of}
 use Rattle.pq_text.specs.Lexemes.{◌>>=◌, number_at}
 use Rattle.pq_text.specs.Forms.{Slot, Digits, Takes}
-use Rattle.pq_text.proofs.Forms.{bind_some, some_is, same_text, number_found, number_again}
+use Rattle.pq_text.proofs.Forms.{bind_some, number_found, number_again}
+use Rattle.pq_text.proofs.Digits.{decimal_value}
 use Rattle.plan_form.specs.Grammar.{is_decimal}
 use Rattle.plan_form.specs.Reading.{plain_of, plain_at}
-
-value_push : (ds : List ℕ) (n d : ℕ) → value_from n (ds ++ d ∷ []) ≡ value_from n ds * 10 + (d - 48)
-value_push [] n d = refl
-value_push (c ∷ ds) n d = value_push ds (n * 10 + (c - 48)) d
-
-digit_value : (n : ℕ) → n < 10 → 0 * 10 + (48 + n - 48) ≡ n
-digit_value n low = omega arith
-
-step_value : (n m : ℕ) → m ≡ n / 10 → m * 10 + (48 + n % 10 - 48) ≡ n
-step_value n m e = omega (arith, e)
-
--- the digits of a number stand for it
-decimal_value : (n : ℕ) → n < 2 ^ 64 → value_of (decimal n) ≡ n
-decimal_value n fits =
-    decimal_by_steps (λ m ds. value_of ds ≡ m) digit_value (λ m ds high so_far. value_push ds 0 (48 + m % 10) ∙ step_value m (value_of ds) so_far) n fits
-
-both_are : (a b : Bool) → (a && b) ≡ true → (a ≡ true) × (b ≡ true)
-both_are true b h = (refl, h)
-both_are false b h = absurd (cc)
-
-both_true : (a b : Bool) → a ≡ true → b ≡ true → (a && b) ≡ true
-both_true a b e f = cc
 
 if_some : (t : Bool) (v n : ℕ) → cond t (Some v) None ≡ Some n → (t ≡ true) × (v ≡ n)
 if_some true v n e = (refl, cc)
@@ -43,25 +24,25 @@ pub plain_found : (digits : List ℕ) (n : ℕ) → plain_of digits ≡ Some n �
 plain_found digits n e =
     let v = value_of digits in
     let g = if_some (is_decimal v digits && nat_lt v (2 ^ 32)) v n e in
-    let b = both_are (is_decimal v digits) (nat_lt v (2 ^ 32)) g.0 in
+    let b = both_true (is_decimal v digits) (nat_lt v (2 ^ 32)) g.0 in
     (subst (λ (m : ℕ). is_decimal m digits ≡ true) g.1 b.0, subst (λ (m : ℕ). m < 2 ^ 32) g.1 (ltb-true v (2 ^ 32) b.1))
 
 plain_printed : (n : ℕ) → n < 2 ^ 32 → plain_of (decimal n) ≡ Some n
 plain_printed n fits =
     let v : value_of (decimal n) ≡ n = decimal_value n (omega arith) in
-    let test : (is_decimal n (decimal n) && nat_lt n (2 ^ 32)) ≡ true = both_true (is_decimal n (decimal n)) (nat_lt n (2 ^ 32)) (nat_list_eq_equiv.refl (decimal n)) (lt-ltb n (2 ^ 32) fits) in
+    let test : (is_decimal n (decimal n) && nat_lt n (2 ^ 32)) ≡ true = and_true (is_decimal n (decimal n)) (nat_lt n (2 ^ 32)) (nat_list_eq_equiv.refl (decimal n)) (lt-ltb n (2 ^ 32) fits) in
     let P : ℕ → Option ℕ = λ m. cond (is_decimal m (decimal n) && nat_lt m (2 ^ 32)) (Some m) None in
     ap P v ∙ ap (λ (t : Bool). cond t (Some n) None) test
 
 pub plain_again : (digits : List ℕ) (n : ℕ) → is_decimal n digits ≡ true → n < 2 ^ 32 → plain_of digits ≡ Some n
-plain_again digits n is fits = ap plain_of (same_text digits (decimal n) is) ∙ plain_printed n fits
+plain_again digits n is fits = ap plain_of (text_is digits (decimal n) is) ∙ plain_printed n fits
 
 pub plain_none : (digits : List ℕ) → ((n : ℕ) → n < 2 ^ 32 → digits ≢ decimal n) → None ≡ plain_of digits
 plain_none digits none = step (plain_of digits) refl
   where
     step : (o : Option ℕ) → plain_of digits ≡ o → None ≡ o
     step None e = refl
-    step (Some n) e = let g = plain_found digits n e in absurd (none n g.1 (same_text digits (decimal n) g.0))
+    step (Some n) e = let g = plain_found digits n e in absurd (none n g.1 (text_is digits (decimal n) g.0))
 
 pub plain_some : (digits : List ℕ) (n : ℕ) → digits ≡ decimal n → n < 2 ^ 32 → Some n ≡ plain_of digits
 plain_some digits n says fits = sym (ap plain_of says ∙ plain_printed n fits)
@@ -75,7 +56,7 @@ plain_at_found ls n rest e =
     let made : ℕ × List Lexeme = (b.0, a.0.1) in
     let g = plain_found a.0.0 b.0 b.1 in
     let t = number_found ls a.0.0 a.0.1 (is_decimal b.0) g.0 a.1 in
-    subst (λ (y : ℕ × List Lexeme). Takes ls (Digits (is_decimal y.0) ∷ []) y.1 × (y.0 < 2 ^ 32)) (some_is made (n, rest) b.2) (t, g.1)
+    subst (λ (y : ℕ × List Lexeme). Takes ls (Digits (is_decimal y.0) ∷ []) y.1 × (y.0 < 2 ^ 32)) (some_injective made (n, rest) b.2) (t, g.1)
 
 pub plain_at_again : (ls : List Lexeme) (n : ℕ) (ss : List Slot) (rest : List Lexeme) → n < 2 ^ 32 → Takes ls (Digits (is_decimal n) ∷ ss) rest → (mid : List Lexeme) × (plain_at ls ≡ Some (n, mid)) × Takes mid ss rest
 plain_at_again ls n ss rest fits t =

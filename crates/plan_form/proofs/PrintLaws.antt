@@ -6,6 +6,7 @@ use Rattle.std.specs.Fmt.{decimal}
 use Rattle.std.specs.Str.{IsUtf8}
 use Rattle.std.specs.Cmp.Lexicographic.{nat_list_eq_equiv}
 use Rattle.std.proofs.lemmas.List.{append-nil}
+use Rattle.lists.proofs.Members.{all_along}
 use Rattle.pq_text.specs.declared.token.Style.TheVariants.{Lines}
 use Rattle.pq_text.specs.declared.lexeme.Lexeme.{Lexeme}
 use Rattle.pq_text.specs.Lines.{feeds}
@@ -13,8 +14,8 @@ use Rattle.pq_text.specs.Forms.{Slot, Key, Mark, Takes, list_form, IsSome}
 use Rattle.pq_text.specs.Printing.{printed_name, printed_value, Stops}
 use Rattle.pq_text.specs.Listed.{listed}
 use Rattle.pq_text.specs.Pieces.{Piece, behind_blank, text_of, piece_lexeme, IsPrintedLine, ArePrintedLines, lines_text, numbered, word_piece, mark_piece, name_piece, value_piece, number_piece, further_pieces, list_pieces}
-use Rattle.pq_text.proofs.Pieces.{printed_lines}
-use Rattle.pq_text.proofs.PieceLaws.{goes_on, name_is_lexed, value_is_lexed, word_is_lexed, open_is_lexed, close_is_lexed, dollar_is_lexed, number_is_lexed, text_of-append, AreLexed-append, AreInLine-append, Reads, Reads-append, name_fits, value_reads, name_in_line, IsPrinted, list_lexed, list_reads, list_in_line}
+use Rattle.pq_text.proofs.Pieces.{printed_lines, text_of-append}
+use Rattle.pq_text.proofs.PieceLaws.{goes_on, name_is_lexed, value_is_lexed, word_is_lexed, open_is_lexed, close_is_lexed, dollar_is_lexed, number_is_lexed, AreLexed-append, AreInLine-append, Reads, Reads-append, name_fits, value_reads, name_in_line, IsPrinted, list_lexed, list_reads, list_in_line}
 use Rattle.meaning.specs.declared.types.Place.{Place}
 use Rattle.meaning.specs.declared.types.Place.TheVariants.{Const, Col, New}
 use Rattle.meaning.specs.declared.types.Out.{Out}
@@ -22,10 +23,10 @@ use Rattle.meaning.specs.declared.types.Out.TheVariants.{Const as Fixed, Col as 
 use Rattle.meaning.specs.declared.types.Step.{Step}
 use Rattle.meaning.specs.declared.types.Branch.{Branch}
 use Rattle.meaning.specs.declared.types.Plan.{Plan}
+use Rattle.pq_text.proofs.Forms.{some_listed}
 use Rattle.plan_form.specs.Fitting.{IsWritablePlace, IsWritableOut, IsWritableStep, IsWritableBranch, IsWritable}
 use Rattle.plan_form.specs.Printing.{place_text, out_text, step_text, branch_text, plan_text}
 use Rattle.plan_form.specs.Grammar.{place_form, out_form, opening_form, access_form, output_form, branch_forms, plan_forms, IsOfForm, behind_tokens, written, SaysPlan, IsPlanText}
-use Rattle.plan_form.proofs.ReadLines.{is_some}
 
 -- ---- the pieces of a plan
 
@@ -70,14 +71,10 @@ out_printed : (o : Out) → IsWritableOut o → IsPrinted out_pieces out_form o
 out_printed (Fixed c) w = record { lexed = λ t rest stops. (value_is_lexed t c rest stops, tt); reads = λ t. value_reads t c; in_line = λ t. (refl, tt) }
 out_printed (Made k) w = record { lexed = λ t rest stops. (dollar_is_lexed t (text_of (number_piece false k ∷ []) ++ rest), (number_is_lexed false k rest (omega (arith, w)) stops, tt)); reads = λ t. column_reads t k; in_line = λ t. (refl, (refl, tt)) }
 
-all_of : {X : Type 0} (P Q : X → Type 0) → ((x : X) → P x → Q x) → (xs : List X) → AllByRecursion P xs → AllByRecursion Q xs
-all_of P Q each [] all = tt
-all_of P Q each (x ∷ xs) all = (each x all.0, all_of P Q each xs all.1)
-
 -- ---- lines
 
 -- the pieces are a printed line of the form
-record IsLineOf (line : List Piece) (form : List Slot) : Type 0 where
+pub record IsLineOf (line : List Piece) (form : List Slot) : Type 0 where
   pub some : IsSome line
   pub printed : IsPrintedLine Lines line
   pub reads : Reads line form
@@ -107,8 +104,8 @@ bracket_pieces step = mark_piece false (codes "(") ∷ inside_pieces step
 
 access_is : (step : Step) → IsWritableStep step → IsLineOf (access_pieces step) (access_form step)
 access_is step w =
-    let all = all_of IsWritablePlace (IsPrinted place_pieces place_form) place_printed step.places w.places in
-    let named = is_some step.method w.named in
+    let all = all_along IsWritablePlace (IsPrinted place_pieces place_form) place_printed step.places w.places in
+    let named = some_listed step.method w.named in
     let list = list_pieces place_pieces false step.places in
     let inner = Reads-append list close (list_form place_form step.places) (Mark (codes ")") ∷ []) (list_reads place_pieces place_form false step.places all) (λ rest. (refl, refl)) in
     record {
@@ -132,7 +129,7 @@ output_stops (Made k ∷ outs) rest some = refl
 
 output_is : (outs : List Out) → IsSome outs → AllByRecursion IsWritableOut outs → IsLineOf (output_pieces outs) (output_form outs)
 output_is outs some w =
-    let all = all_of IsWritableOut (IsPrinted out_pieces out_form) out_printed outs w in
+    let all = all_along IsWritableOut (IsPrinted out_pieces out_form) out_printed outs w in
     let inner = list_reads out_pieces out_form true outs all in
     record {
       some = tt;
@@ -145,10 +142,10 @@ output_is outs some w =
 
 -- ---- all lines
 
-abbrev AreLinesOf : List (List Piece) → List (List Slot) → Type 0
+abbrev pub AreLinesOf : List (List Piece) → List (List Slot) → Type 0
 AreLinesOf lines forms = AllZip IsLineOf lines forms
 
-lines-append : (xs ys : List (List Piece)) (a b : List (List Slot)) → AreLinesOf xs a → AreLinesOf ys b → AreLinesOf (xs ++ ys) (a ++ b)
+pub lines-append : (xs ys : List (List Piece)) (a b : List (List Slot)) → AreLinesOf xs a → AreLinesOf ys b → AreLinesOf (xs ++ ys) (a ++ b)
 lines-append [] ys [] b p q = q
 lines-append [] ys (f ∷ a) b p q = absurd p
 lines-append (x ∷ xs) ys [] b p q = absurd p
@@ -159,7 +156,7 @@ steps_are [] all = tt
 steps_are (step ∷ steps) all = (access_is step all.0, steps_are steps all.1)
 
 branch_are : (branch : Branch) → IsWritableBranch branch → AreLinesOf (branch_lines branch) (branch_forms branch)
-branch_are branch w = (branch_is, lines-append (map access_pieces branch.steps) (output_pieces branch.output ∷ []) (map access_form branch.steps) (output_form branch.output ∷ []) (steps_are branch.steps w.steps) (output_is branch.output (is_some branch.output w.some) w.outs, tt))
+branch_are branch w = (branch_is, lines-append (map access_pieces branch.steps) (output_pieces branch.output ∷ []) (map access_form branch.steps) (output_form branch.output ∷ []) (steps_are branch.steps w.steps) (output_is branch.output (some_listed branch.output w.some) w.outs, tt))
 
 branches_are : (branches : List Branch) → AllByRecursion IsWritableBranch branches → AreLinesOf (flat_map branch_lines branches) (flat_map branch_forms branches)
 branches_are [] all = tt
@@ -170,12 +167,12 @@ plan_are plan w =
     let most = w.most in
     (opening_is plan.width (omega (arith, most)), lines-append (flat_map branch_lines plan.branches) (lone_pieces (codes "end") ∷ []) (flat_map branch_forms plan.branches) ((Key (codes "end") ∷ []) ∷ []) (branches_are plan.branches w.branches) (end_is, tt))
 
-all_printed : (lines : List (List Piece)) (forms : List (List Slot)) → AreLinesOf lines forms → ArePrintedLines Lines lines
+pub all_printed : (lines : List (List Piece)) (forms : List (List Slot)) → AreLinesOf lines forms → ArePrintedLines Lines lines
 all_printed [] forms are = tt
 all_printed (line ∷ lines) [] are = absurd are
 all_printed (line ∷ lines) (form ∷ forms) are = (are.0.printed, all_printed lines forms are.1)
 
-all_fit : (n : ℕ) (lines : List (List Piece)) (forms : List (List Slot)) → AreLinesOf lines forms → AllZip IsOfForm (written (numbered n lines)) forms
+pub all_fit : (n : ℕ) (lines : List (List Piece)) (forms : List (List Slot)) → AreLinesOf lines forms → AllZip IsOfForm (written (numbered n lines)) forms
 all_fit n [] [] are = tt
 all_fit n [] (form ∷ forms) are = absurd are
 all_fit n (line ∷ lines) [] are = absurd are
@@ -221,8 +218,8 @@ out_is t (Made k) = column_is t k
 opening_text : (width : ℕ) (rest : List ℕ) → text_of (opening_pieces width) ++ 10 ∷ rest ≡ codes "plan " ++ (decimal width ++ 10 ∷ rest)
 opening_text width rest = ap (λ (r : List ℕ). codes "plan " ++ (r ++ 10 ∷ rest)) (append-nil (decimal width))
 
-access_join : (name list rest : List ℕ) → (name ++ 40 ∷ (list ++ 41 ∷ [])) ++ 10 ∷ rest ≡ (((name ++ 40 ∷ []) ++ list) ++ 41 ∷ 10 ∷ []) ++ rest
-access_join name list rest =
+pub line_join : (name list rest : List ℕ) → (name ++ 40 ∷ (list ++ 41 ∷ [])) ++ 10 ∷ rest ≡ (((name ++ 40 ∷ []) ++ list) ++ 41 ∷ 10 ∷ []) ++ rest
+line_join name list rest =
     append_assoc name (40 ∷ (list ++ 41 ∷ [])) (10 ∷ rest) ∙ ap (λ (r : List ℕ). name ++ 40 ∷ r) (append_assoc list (41 ∷ []) (10 ∷ rest))
     ∙ sym (append_assoc name (40 ∷ []) (list ++ 41 ∷ 10 ∷ rest)) ∙ sym (append_assoc (name ++ 40 ∷ []) list (41 ∷ 10 ∷ rest)) ∙ sym (append_assoc ((name ++ 40 ∷ []) ++ list) (41 ∷ 10 ∷ []) rest)
 
@@ -235,7 +232,7 @@ access_text step rest some =
     let name : List ℕ = printed_name step.method in
     let list : List ℕ = listed place_text step.places in
     let inner : text_of (inside_pieces step) ≡ list ++ 41 ∷ [] = text_of-append (list_pieces place_pieces false step.places) close ∙ ap (λ (r : List ℕ). r ++ 41 ∷ []) (places_text step.places some) in
-    ap (λ (r : List ℕ). codes "access " ++ ((name ++ 40 ∷ r) ++ 10 ∷ rest)) inner ∙ ap (λ (r : List ℕ). codes "access " ++ r) (access_join name list rest)
+    ap (λ (r : List ℕ). codes "access " ++ ((name ++ 40 ∷ r) ++ 10 ∷ rest)) inner ∙ ap (λ (r : List ℕ). codes "access " ++ r) (line_join name list rest)
 
 output_text : (outs : List Out) (rest : List ℕ) → IsSome outs → text_of (output_pieces outs) ++ 10 ∷ rest ≡ (codes "output " ++ (listed out_text outs ++ codes "\n")) ++ rest
 output_text [] rest some = absurd some
@@ -246,7 +243,7 @@ output_text (x ∷ xs) rest some =
 steps_text : (steps : List Step) (more : List (List Piece)) → AllByRecursion IsWritableStep steps → lines_text (map access_pieces steps ++ more) ≡ flat_map step_text steps ++ lines_text more
 steps_text [] more all = refl
 steps_text (step ∷ steps) more all =
-    access_text step (lines_text (map access_pieces steps ++ more)) (is_some step.places all.0.some)
+    access_text step (lines_text (map access_pieces steps ++ more)) (some_listed step.places all.0.some)
     ∙ ap (λ (r : List ℕ). step_text step ++ r) (steps_text steps more all.1) ∙ sym (append_assoc (step_text step) (flat_map step_text steps) (lines_text more))
 
 branch_join : (front word list behind rest : List ℕ) → front ++ ((word ++ (list ++ behind)) ++ rest) ≡ (((front ++ word) ++ list) ++ behind) ++ rest
@@ -260,7 +257,7 @@ branch_is_text branch more w =
     let list : List ℕ = listed out_text branch.output in
     ap (λ (ls : List (List Piece)). codes "branch\n" ++ lines_text ls) (append_assoc (map access_pieces branch.steps) (output_pieces branch.output ∷ []) more)
     ∙ ap (λ (r : List ℕ). codes "branch\n" ++ r)
-    (steps_text branch.steps (output_pieces branch.output ∷ more) w.steps ∙ ap (λ (r : List ℕ). front ++ r) (output_text branch.output (lines_text more) (is_some branch.output w.some)) ∙ branch_join front (codes "output ") list (codes "\n") (lines_text more))
+    (steps_text branch.steps (output_pieces branch.output ∷ more) w.steps ∙ ap (λ (r : List ℕ). front ++ r) (output_text branch.output (lines_text more) (some_listed branch.output w.some)) ∙ branch_join front (codes "output ") list (codes "\n") (lines_text more))
 
 branches_text : (branches : List Branch) (more : List (List Piece)) → AllByRecursion IsWritableBranch branches → lines_text (flat_map branch_lines branches ++ more) ≡ flat_map branch_text branches ++ lines_text more
 branches_text [] more all = refl

@@ -19,11 +19,11 @@ use Rattle.plan_form.proofs.Following.{AreRead, read_from, read-append, lines_fo
 
 -- ---- lines that have tokens
 
-behind-append : (tokens : List Lexeme) (xs ys : List (List Lexeme)) → behind_tokens tokens (xs ++ ys) ≡ behind_tokens tokens xs ++ ys
+pub behind-append : (tokens : List Lexeme) (xs ys : List (List Lexeme)) → behind_tokens tokens (xs ++ ys) ≡ behind_tokens tokens xs ++ ys
 behind-append [] xs ys = refl
 behind-append (t ∷ ts) xs ys = refl
 
-written-append : (xs ys : List Line) → written (xs ++ ys) ≡ written xs ++ written ys
+pub written-append : (xs ys : List Line) → written (xs ++ ys) ≡ written xs ++ written ys
 written-append [] ys = refl
 written-append (x ∷ xs) ys = ap (behind_tokens x.tokens) (written-append xs ys) ∙ behind-append x.tokens (written xs) (written ys)
 

@@ -4,7 +4,8 @@ use Rattle.std.specs.Prelude.{Contains}
 use Rattle.std.specs.Cmp.Lexicographic.{pointwise, nat_list_eq_equiv}
 use Rattle.std.proofs.lemmas.Bool.{eqb-true, eq-eqb}
 use Rattle.lists.proofs.Members.{contains_here, contains_there, contains_cases}
-use Rattle.pq_text.proofs.Forms.{same_text}
+use Rattle.lists.proofs.Booleans.{cond_true}
+use Rattle.lists.proofs.Orders.{text_is}
 use Rattle.plan_form.specs.Judging.{has_text, is_input_at}
 
 pub has_in : (constants : List (List ℕ)) (text : List ℕ) → has_text constants text ≡ true → Contains constants text
@@ -12,12 +13,8 @@ has_in [] text h = absurd (cc)
 has_in (c ∷ constants) text h = step (pointwise nat_eq c text) refl (λ r. has_in constants text r) h
   where
     step : (b : Bool) → pointwise nat_eq c text ≡ b → (has_text constants text ≡ true → Contains constants text) → cond b true (has_text constants text) ≡ true → Contains (c ∷ constants) text
-    step true t rec h = subst (λ (x : List ℕ). Contains (c ∷ constants) x) (same_text c text t) (contains_here c constants)
+    step true t rec h = subst (λ (x : List ℕ). Contains (c ∷ constants) x) (text_is c text t) (contains_here c constants)
     step false t rec h = contains_there c constants text (rec h)
-
-pub either_true : (b r : Bool) → r ≡ true → cond b true r ≡ true
-either_true true r h = refl
-either_true false r h = h
 
 pub first_true : (b r : Bool) → b ≡ true → cond b true r ≡ true
 first_true true r h = refl
@@ -27,7 +24,7 @@ pub in_has : (constants : List (List ℕ)) (text : List ℕ) → Contains consta
 in_has [] text c = absurd (omega arith)
 in_has (x ∷ constants) text c =
     ⊎_elim (λ e. first_true (pointwise nat_eq x text) (has_text constants text) (subst (λ (y : List ℕ). pointwise nat_eq x y ≡ true) e (nat_list_eq_equiv.refl x)))
-    (λ h. either_true (pointwise nat_eq x text) (has_text constants text) (in_has constants text h)) (contains_cases x constants text c)
+    (λ h. cond_true (pointwise nat_eq x text) (has_text constants text) (in_has constants text h)) (contains_cases x constants text c)
 
 pub input_in : (inputs : List ℕ) (p : ℕ) → is_input_at inputs p ≡ true → Contains inputs p
 input_in [] p h = absurd (cc)
@@ -41,4 +38,4 @@ pub in_input : (inputs : List ℕ) (p : ℕ) → Contains inputs p → is_input_
 in_input [] p c = absurd (omega arith)
 in_input (q ∷ inputs) p c =
     ⊎_elim (λ e. first_true (nat_eq q p) (is_input_at inputs p) (eq-eqb q p e))
-    (λ h. either_true (nat_eq q p) (is_input_at inputs p) (in_input inputs p h)) (contains_cases q inputs p c)
+    (λ h. cond_true (nat_eq q p) (is_input_at inputs p) (in_input inputs p h)) (contains_cases q inputs p c)

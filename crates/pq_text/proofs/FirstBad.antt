@@ -1,21 +1,18 @@
 -- Bytes stop being text at one place at most.
-use Rattle.std.proofs.Common.{◌≡◌, ℕ, List, [], ◌∷◌, ◌++◌, length, take, drop, refl, sym, ◌∙◌, ap, subst, arith, ◌<◌, ◌≤◌, Bool, true, false, ◌&&◌, append_assoc, ⊎_elim}
+use Rattle.std.proofs.Common.{◌≡◌, ℕ, List, [], ◌∷◌, ◌++◌, length, take, drop, refl, sym, ◌∙◌, ap, subst, arith, ◌<◌, ◌≤◌, append_assoc, ⊎_elim}
 use Rattle.std.specs.Str.{IsUtf8, StartsWithNoChar}
 use Rattle.std.proofs.lemmas.Str.{IsUtf8-drop, IsCharBoundary-from_take}
 use Rattle.std.proofs.lemmas.List.{take-append-drop, take-append-le, drop-append-le, length-drop, length-take}
 use Rattle.std.proofs.lemmas.Bool.{cases_order}
 use Rattle.std.proofs.Math.Utf8.{encode, encodes, scalars, scalar}
+use Rattle.lists.proofs.Booleans.{first_true}
 use Rattle.pq_text.specs.Utf8.{IsFirstBad}
-
-both : (a b : Bool) → (a && b) ≡ true → a ≡ true
-both true b e = refl
-both false b e = e
 
 -- text that is not empty begins with a character, whatever follows it
 char_first : (bytes others : List ℕ) → IsUtf8 bytes → 0 < length bytes → StartsWithNoChar (bytes ++ others) → ⊥
 char_first bytes others ([], (scalars_are, e)) long none = let short : 0 ≡ length bytes = ap length e in absurd (omega arith)
 char_first bytes others (c ∷ cs, (scalars_are, e)) long none =
-    none c (encodes cs ++ others) (both (scalar c) (scalars cs) scalars_are) (ap (λ q. q ++ others) (sym e) ∙ append_assoc (encode c) (encodes cs) others)
+    none c (encodes cs ++ others) (first_true (scalar c) (scalars cs) scalars_are) (ap (λ q. q ++ others) (sym e) ∙ append_assoc (encode c) (encodes cs) others)
 
 -- the front of a text up to which another text goes on is cut where a character begins
 pub cut_short : (bytes : List ℕ) (a b : ℕ) → IsFirstBad bytes a → IsUtf8 (take b bytes) → a < b → b ≤ length bytes → ⊥

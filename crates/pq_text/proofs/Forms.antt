@@ -1,24 +1,37 @@
 -- What is read has its form, and what has a form is read.
-use Rattle.std.proofs.Common.{◌≡◌, ℕ, zero, suc, ◌+◌, ◌<◌, ◌≤◌, Bool, true, false, cond, List, [], ◌∷◌, ◌++◌, length, Option, None, Some, refl, sym, ap, subst, ◌∙◌, append_assoc, arith, lit≤}
+use Rattle.std.proofs.Common.{◌≡◌, ◌≢◌, ℕ, zero, suc, ◌+◌, ◌<◌, ◌≤◌, Bool, true, false, List, [], ◌∷◌, ◌++◌, length, Option, None, Some, refl, sym, ap, subst, ◌∙◌, append_assoc, arith, lit≤}
 use Rattle.std.specs.Prelude.{◌&&◌, ◌==◌, not, nat_eq}
 use Rattle.std.specs.Cmp.Lexicographic.{pointwise}
-use Rattle.std.proofs.lemmas.Bool.{eqb-true}
 use Rattle.std.specs.List.{AllByRecursion}
 use Rattle.std.proofs.lemmas.List.{length-append}
+use Rattle.lists.proofs.Booleans.{both_true, cond_some}
+use Rattle.lists.proofs.Members.{some_injective}
+use Rattle.lists.proofs.Orders.{text_is}
 use Rattle.pq_text.specs.declared.lexeme.Lexeme.{Lexeme}
-use Rattle.pq_text.specs.Lexemes.{◌>>=◌, comma, kind_is_symbol, kind_is_word, kind_names, word_next, is_word, is_symbol, is_name, is_value, is_text, is_number, symbol_at, word_at, name_at, value_at, text_at, number_at, next_member, members, names_at, values_at}
+use Rattle.pq_text.specs.Lexemes.{◌>>=◌, comma, end_at, kind_is_symbol, kind_is_word, kind_names, word_next, is_word, is_symbol, is_name, is_value, is_text, is_number, symbol_at, word_at, name_at, value_at, text_at, number_at, next_member, members, names_at, values_at}
 use Rattle.pq_text.specs.Forms.{Slot, Key, Mark, Name, Value, Quote, Digits, Takes, further_form, list_form, IsSome, name_form, value_form}
 
 pub bind_some : {A B : Type 0} (r : Option A) (f : A → Option B) (y : B) → (r >>= f) ≡ Some y → (x : A) × (r ≡ Some x) × (f x ≡ Some y)
 bind_some None f y e = absurd cc
 bind_some (Some x) f y e = (x, refl, e)
 
-pub some_if : {A : Type 0} (b : Bool) (x y : A) → cond b (Some x) None ≡ Some y → (b ≡ true) × (x ≡ y)
-some_if true x y e = (refl, cc)
-some_if false x y e = absurd cc
+-- no token is left
+pub end_is : (ls rest : List Lexeme) → end_at ls ≡ Some rest → (ls ≡ []) × (rest ≡ [])
+end_is [] rest e = (refl, cc)
+end_is (l ∷ ls) rest e = absurd cc
 
-pub some_is : {A : Type 0} (x y : A) → Some x ≡ Some y → x ≡ y
-some_is x y e = cc
+-- some members
+pub some_listed : {X : Type 0} (xs : List X) → xs ≢ [] → IsSome xs
+some_listed [] some = some refl
+some_listed (x ∷ xs) some = tt
+
+pub some_long : {X : Type 0} (xs : List X) → 1 ≤ length xs → IsSome xs
+some_long [] some = omega arith
+some_long (x ∷ xs) some = tt
+
+pub not_empty : {X : Type 0} (xs : List X) → IsSome xs → xs ≢ []
+not_empty [] some = absurd some
+not_empty (x ∷ xs) some = λ e. cc
 
 -- ---- forms one after another
 
@@ -41,7 +54,7 @@ Takes-length (l ∷ ls) (s ∷ a) rest t = let e = Takes-length ls a rest t.1 in
 
 pub symbol_found : (text : List ℕ) (ls rest : List Lexeme) → symbol_at text ls ≡ Some rest → Takes ls (Mark text ∷ []) rest
 symbol_found text [] rest e = absurd cc
-symbol_found text (l ∷ ls) rest e = some_if (is_symbol text l) ls rest e
+symbol_found text (l ∷ ls) rest e = cond_some (is_symbol text l) ls rest e
 
 pub symbol_again : (text : List ℕ) (ls : List Lexeme) (ss : List Slot) (rest : List Lexeme) → Takes ls (Mark text ∷ ss) rest → (mid : List Lexeme) × (symbol_at text ls ≡ Some mid) × Takes mid ss rest
 symbol_again text [] ss rest t = absurd t
@@ -49,7 +62,7 @@ symbol_again text (l ∷ ls) ss rest t = (ls, rw t.0 refl, t.1)
 
 pub word_found : (text : List ℕ) (ls rest : List Lexeme) → word_at text ls ≡ Some rest → Takes ls (Key text ∷ []) rest
 word_found text [] rest e = absurd cc
-word_found text (l ∷ ls) rest e = some_if (is_word text l) ls rest e
+word_found text (l ∷ ls) rest e = cond_some (is_word text l) ls rest e
 
 pub word_again : (text : List ℕ) (ls : List Lexeme) (ss : List Slot) (rest : List Lexeme) → Takes ls (Key text ∷ ss) rest → (mid : List Lexeme) × (word_at text ls ≡ Some mid) × Takes mid ss rest
 word_again text [] ss rest t = absurd t
@@ -57,7 +70,7 @@ word_again text (l ∷ ls) ss rest t = (ls, rw t.0 refl, t.1)
 
 pub name_found : (ls : List Lexeme) (n : List ℕ) (rest : List Lexeme) → name_at ls ≡ Some (n, rest) → Takes ls (Name n ∷ []) rest
 name_found [] n rest e = absurd cc
-name_found (l ∷ ls) n rest e = let g = some_if (is_name l) (l.text, ls) (n, rest) e in ((g.0, ap (λ (p : List ℕ × List Lexeme). p.0) g.1), ap (λ (p : List ℕ × List Lexeme). p.1) g.1)
+name_found (l ∷ ls) n rest e = let g = cond_some (is_name l) (l.text, ls) (n, rest) e in ((g.0, ap (λ (p : List ℕ × List Lexeme). p.0) g.1), ap (λ (p : List ℕ × List Lexeme). p.1) g.1)
 
 pub name_again : (ls : List Lexeme) (n : List ℕ) (ss : List Slot) (rest : List Lexeme) → Takes ls (Name n ∷ ss) rest → (mid : List Lexeme) × (name_at ls ≡ Some (n, mid)) × Takes mid ss rest
 name_again [] n ss rest t = absurd t
@@ -65,7 +78,7 @@ name_again (l ∷ ls) n ss rest t = (ls, rw (t.0.0, t.0.1) refl, t.1)
 
 pub value_found : (ls : List Lexeme) (v : List ℕ) (rest : List Lexeme) → value_at ls ≡ Some (v, rest) → Takes ls (Value v ∷ []) rest
 value_found [] v rest e = absurd cc
-value_found (l ∷ ls) v rest e = let g = some_if (is_value l) (l.text, ls) (v, rest) e in ((g.0, ap (λ (p : List ℕ × List Lexeme). p.0) g.1), ap (λ (p : List ℕ × List Lexeme). p.1) g.1)
+value_found (l ∷ ls) v rest e = let g = cond_some (is_value l) (l.text, ls) (v, rest) e in ((g.0, ap (λ (p : List ℕ × List Lexeme). p.0) g.1), ap (λ (p : List ℕ × List Lexeme). p.1) g.1)
 
 pub value_again : (ls : List Lexeme) (v : List ℕ) (ss : List Slot) (rest : List Lexeme) → Takes ls (Value v ∷ ss) rest → (mid : List Lexeme) × (value_at ls ≡ Some (v, mid)) × Takes mid ss rest
 value_again [] v ss rest t = absurd t
@@ -73,21 +86,21 @@ value_again (l ∷ ls) v ss rest t = (ls, rw (t.0.0, t.0.1) refl, t.1)
 
 pub text_found : (ls : List Lexeme) (v : List ℕ) (rest : List Lexeme) → text_at ls ≡ Some (v, rest) → Takes ls (Quote v ∷ []) rest
 text_found [] v rest e = absurd cc
-text_found (l ∷ ls) v rest e = let g = some_if (is_text l) (l.text, ls) (v, rest) e in ((g.0, ap (λ (p : List ℕ × List Lexeme). p.0) g.1), ap (λ (p : List ℕ × List Lexeme). p.1) g.1)
+text_found (l ∷ ls) v rest e = let g = cond_some (is_text l) (l.text, ls) (v, rest) e in ((g.0, ap (λ (p : List ℕ × List Lexeme). p.0) g.1), ap (λ (p : List ℕ × List Lexeme). p.1) g.1)
 
 pub text_again : (ls : List Lexeme) (v : List ℕ) (ss : List Slot) (rest : List Lexeme) → Takes ls (Quote v ∷ ss) rest → (mid : List Lexeme) × (text_at ls ≡ Some (v, mid)) × Takes mid ss rest
 text_again [] v ss rest t = absurd t
 text_again (l ∷ ls) v ss rest t = (ls, rw (t.0.0, t.0.1) refl, t.1)
 
-not_empty : (b : Bool) (text : List ℕ) → (b && not (length text == 0)) ≡ true → text ≡ [] → ⊥
-not_empty false text e h = cc
-not_empty true [] e h = cc
-not_empty true (x ∷ xs) e h = cc
+named_some : (b : Bool) (text : List ℕ) → (b && not (length text == 0)) ≡ true → text ≡ [] → ⊥
+named_some false text e h = cc
+named_some true [] e h = cc
+named_some true (x ∷ xs) e h = cc
 
 -- a name is not empty
 pub name_some : (ls : List Lexeme) (n : List ℕ) (ss : List Slot) (rest : List Lexeme) → Takes ls (Name n ∷ ss) rest → n ≡ [] → ⊥
 name_some [] n ss rest t h = absurd t
-name_some (l ∷ ls) n ss rest t h = not_empty (kind_names l.kind) l.text t.0.0 (t.0.1 ∙ h)
+name_some (l ∷ ls) n ss rest t h = named_some (kind_names l.kind) l.text t.0.0 (t.0.1 ∙ h)
 
 -- ---- members
 
@@ -111,7 +124,7 @@ next_found : {X : Type 0} (item : List Lexeme → Option (X × List Lexeme)) (sl
     ((after : List Lexeme) → go after ≡ Some (xs, rest) → ReadMembers slots IsWhole (done ++ x ∷ []) xs after rest) →
     Takes ls (slots x) mid → IsWhole x → symbol_at comma mid ≡ o → next_member go (done ++ x ∷ []) mid o ≡ Some (xs, rest) → ReadMembers slots IsWhole done xs ls rest
 next_found item slots IsWhole go done xs x ls mid rest None again t w next e =
-    let p = some_is (done ++ x ∷ [], mid) (xs, rest) e in
+    let p = some_injective (done ++ x ∷ [], mid) (xs, rest) e in
     record { head = x; more = []; all = sym (ap (λ p. p.0) p); takes = Takes-append ls (slots x) [] mid rest t (ap (λ p. p.1) p); whole = (w, tt) }
 next_found item slots IsWhole go done xs x ls mid rest (Some after) again t w next e =
     let r = again after e in
@@ -154,33 +167,19 @@ list_length slots some (y ∷ ys) x =
 
 -- ---- two symbols
 
-both : (x y : Bool) → (x && y) ≡ true → (x ≡ true) × (y ≡ true)
-both true y e = (refl, e)
-both false y e = absurd cc
-
-pub same_text : (a b : List ℕ) → pointwise nat_eq a b ≡ true → a ≡ b
-same_text [] [] e = refl
-same_text [] (b ∷ bs) e = absurd cc
-same_text (a ∷ xs) [] e = absurd cc
-same_text (a ∷ xs) (b ∷ bs) e =
-    let g = both (nat_eq a b) (pointwise nat_eq xs bs) e in
-    let h = same_text xs bs g.1 in
-    let k : a ≡ b = eqb-true a b g.0 in
-    cc
-
 -- where one symbol stands, no other does
 pub other_symbol : (a b : List ℕ) (ls : List Lexeme) (ss : List Slot) (rest : List Lexeme) → pointwise nat_eq a b ≡ false → Takes ls (Mark a ∷ ss) rest → symbol_at b ls ≡ None
 other_symbol a b [] ss rest differ t = absurd t
 other_symbol a b (l ∷ ls) ss rest differ t =
-    let g = both (kind_is_symbol l.kind) (pointwise nat_eq l.text a) t.0 in
-    let h : l.text ≡ a = same_text l.text a g.1 in
+    let g = both_true (kind_is_symbol l.kind) (pointwise nat_eq l.text a) t.0 in
+    let h : l.text ≡ a = text_is l.text a g.1 in
     rw (g.0, h, differ) refl
 
 pub other_word : (a b : List ℕ) (ls : List Lexeme) (ss : List Slot) (rest : List Lexeme) → pointwise nat_eq a b ≡ false → Takes ls (Key a ∷ ss) rest → word_next b ls ≡ false
 other_word a b [] ss rest differ t = absurd t
 other_word a b (l ∷ ls) ss rest differ t =
-    let g = both (kind_is_word l.kind) (pointwise nat_eq l.text a) t.0 in
-    let h : l.text ≡ a = same_text l.text a g.1 in
+    let g = both_true (kind_is_word l.kind) (pointwise nat_eq l.text a) t.0 in
+    let h : l.text ≡ a = text_is l.text a g.1 in
     rw (g.0, h, differ) refl
 
 pub this_word : (a : List ℕ) (ls : List Lexeme) (ss : List Slot) (rest : List Lexeme) → Takes ls (Key a ∷ ss) rest → word_next a ls ≡ true
@@ -189,7 +188,7 @@ this_word a (l ∷ ls) ss rest t = t.0
 
 pub number_found : (ls : List Lexeme) (n : List ℕ) (rest : List Lexeme) (test : List ℕ → Bool) → test n ≡ true → number_at ls ≡ Some (n, rest) → Takes ls (Digits test ∷ []) rest
 number_found [] n rest test ok e = absurd cc
-number_found (l ∷ ls) n rest test ok e = let g = some_if (is_number l) (l.text, ls) (n, rest) e in ((g.0, ap test (ap (λ (p : List ℕ × List Lexeme). p.0) g.1) ∙ ok), ap (λ (p : List ℕ × List Lexeme). p.1) g.1)
+number_found (l ∷ ls) n rest test ok e = let g = cond_some (is_number l) (l.text, ls) (n, rest) e in ((g.0, ap test (ap (λ (p : List ℕ × List Lexeme). p.0) g.1) ∙ ok), ap (λ (p : List ℕ × List Lexeme). p.1) g.1)
 
 pub number_again : (ls : List Lexeme) (test : List ℕ → Bool) (ss : List Slot) (rest : List Lexeme) → Takes ls (Digits test ∷ ss) rest → (n : List ℕ) × (mid : List Lexeme) × (number_at ls ≡ Some (n, mid)) × (test n ≡ true) × Takes mid ss rest
 number_again [] test ss rest t = absurd t

@@ -6,6 +6,7 @@ use Rattle.std.specs.Fmt.{decimal}
 use Rattle.std.proofs.lemmas.Bool.{leb-true, le-leb, lt-leb, eqb-true, ne_eqb}
 use Rattle.std.proofs.lemmas.List.{map-append}
 use Rattle.std.proofs.lemmas.Fmt.{decimal_by_steps}
+use Rattle.lists.proofs.Booleans.{and_true, first_true, and_false, neither_true, second_false, first_false}
 use Rattle.pq_text.specs.declared.token.Style.TheVariants.{Lines}
 use Rattle.pq_text.specs.declared.token.TokenKind.TheVariants.{Word, Quoted, Number, Symbol}
 use Rattle.pq_text.specs.declared.scan.Found.TheVariants.{Begins}
@@ -16,47 +17,33 @@ use Rattle.pq_text.specs.Standing.{stands_for}
 use Rattle.pq_text.specs.Lexemes.{comma, kind_names, is_name}
 use Rattle.pq_text.specs.Forms.{Slot, Mark, Name, Value, Quote, Takes, further_form, list_form, IsSome}
 use Rattle.pq_text.specs.Printing.{is_small, all_small, is_bare, between, printed_name, printed_kind, Stops, follows_name, follows_value}
-use Rattle.pq_text.specs.Pieces.{Piece, behind_blank, text_of, piece_lexeme, IsLexed, AreLexed, AreInLine, word_piece, mark_piece, name_piece, value_piece, number_piece, further_pieces, list_pieces}
+use Rattle.pq_text.specs.Pieces.{Piece, text_of, piece_lexeme, IsLexed, AreLexed, AreInLine, word_piece, mark_piece, name_piece, value_piece, number_piece, further_pieces, list_pieces}
 use Rattle.pq_text.proofs.Printed.{name_lexed, name_stands, value_lexed, value_stands, bare_lexed}
 use Rattle.pq_text.proofs.Forms.{Takes-append}
+use Rattle.pq_text.proofs.Pieces.{text_of-append}
 
 -- what ends a name, a value, a word and a number: neither a word's byte nor a quote
 abbrev pub goes_on : ℕ → Bool
 goes_on b = is_word_byte b || (nat_eq b 34 || nat_eq b 39)
 
-or-first : (x y : Bool) → (x || y) ≡ false → x ≡ false
-or-first true y e = absurd cc
-or-first false y e = refl
-
-or-second : (x y : Bool) → (x || y) ≡ false → y ≡ false
-or-second true y e = absurd cc
-or-second false y e = e
-
-or-both : (x y : Bool) → x ≡ false → y ≡ false → (x || y) ≡ false
-or-both x y e f = cc
-
 clean_word : (rest : List ℕ) → Stops goes_on rest → Stops is_word_byte rest
 clean_word [] s = tt
-clean_word (b ∷ bs) s = or-first (is_word_byte b) (nat_eq b 34 || nat_eq b 39) s
+clean_word (b ∷ bs) s = first_false (is_word_byte b) (nat_eq b 34 || nat_eq b 39) s
 
 clean_digit : (rest : List ℕ) → Stops goes_on rest → Stops is_digit rest
 clean_digit [] s = tt
-clean_digit (b ∷ bs) s = or-second (is_letter b) (is_digit b) (or-first (is_word_byte b) (nat_eq b 34 || nat_eq b 39) s)
+clean_digit (b ∷ bs) s = second_false (is_letter b) (is_digit b) (first_false (is_word_byte b) (nat_eq b 34 || nat_eq b 39) s)
 
 clean_name : (rest : List ℕ) → Stops goes_on rest → Stops follows_name rest
 clean_name [] s = tt
 clean_name (b ∷ bs) s =
-    or-both (is_word_byte b) (nat_eq b 34) (or-first (is_word_byte b) (nat_eq b 34 || nat_eq b 39) s) (or-first (nat_eq b 34) (nat_eq b 39) (or-second (is_word_byte b) (nat_eq b 34 || nat_eq b 39) s))
+    neither_true (is_word_byte b) (nat_eq b 34) (first_false (is_word_byte b) (nat_eq b 34 || nat_eq b 39) s) (first_false (nat_eq b 34) (nat_eq b 39) (second_false (is_word_byte b) (nat_eq b 34 || nat_eq b 39) s))
 
 clean_value : (rest : List ℕ) → Stops goes_on rest → Stops follows_value rest
 clean_value [] s = tt
-clean_value (b ∷ bs) s = or-second (nat_eq b 34) (nat_eq b 39) (or-second (is_word_byte b) (nat_eq b 34 || nat_eq b 39) s)
+clean_value (b ∷ bs) s = second_false (nat_eq b 34) (nat_eq b 39) (second_false (is_word_byte b) (nat_eq b 34 || nat_eq b 39) s)
 
 -- ---- gaps
-
-and-first : (x y : Bool) → (x && y) ≡ true → x ≡ true
-and-first true y e = refl
-and-first false y e = absurd cc
 
 and-second : (x y : Bool) → (x && y) ≡ true → y ≡ true
 and-second true y e = e
@@ -68,14 +55,14 @@ far_gap n b bs far =
     rw (ne_eqb b 35 (λ e. omega (arith, far, e)), ne_eqb b 32 (λ e. omega (arith, far, e)), ne_eqb b 9 (λ e. omega (arith, far, e)), ne_eqb b 13 (λ e. omega (arith, far, e))) refl
 
 far_case : (t : Bool) (b : ℕ) → (nat_le 97 b && nat_le b 122) ≡ t → (t || nat_eq b 95) ≡ true → 36 ≤ b
-far_case true b e f = let h = leb-true 97 b (and-first (nat_le 97 b) (nat_le b 122) e) in omega (arith, h)
+far_case true b e f = let h = leb-true 97 b (first_true (nat_le 97 b) (nat_le b 122) e) in omega (arith, h)
 far_case false b e f = let h = eqb-true b 95 f in omega (arith, h)
 
 small_far : (b : ℕ) → is_small b ≡ true → 36 ≤ b
 small_far b small = far_case (nat_le 97 b && nat_le b 122) b refl small
 
 name_gap : (t : Bool) (n b : ℕ) (bs rest : List ℕ) → (is_small b && all_small bs) ≡ t → gap_from n Lines false (cond t (b ∷ bs) (between 34 (b ∷ bs)) ++ rest) ≡ n
-name_gap true n b bs rest e = far_gap n b (bs ++ rest) (small_far b (and-first (is_small b) (all_small bs) e))
+name_gap true n b bs rest e = far_gap n b (bs ++ rest) (small_far b (first_true (is_small b) (all_small bs) e))
 name_gap false n b bs rest e = refl
 
 -- ---- lexed
@@ -89,7 +76,7 @@ value_is_lexed t value rest stops = record { token = λ n. value_lexed Lines n v
 
 word_case : (t : Bool) (text rest : List ℕ) → is_bare text ≡ true → Stops goes_on rest → IsLexed Lines (word_piece t text) rest
 word_case t [] rest small stops = absurd cc
-word_case t (b ∷ bs) rest small stops = record { token = λ n. bare_lexed Lines n b bs rest small (clean_word rest stops); no_gap = λ n. far_gap n b (bs ++ rest) (small_far b (and-first (is_small b) (all_small bs) small)) }
+word_case t (b ∷ bs) rest small stops = record { token = λ n. bare_lexed Lines n b bs rest small (clean_word rest stops); no_gap = λ n. far_gap n b (bs ++ rest) (small_far b (first_true (is_small b) (all_small bs) small)) }
 
 pub word_is_lexed : (t : Bool) (text rest : List ℕ) → is_bare text ≡ true → Stops goes_on rest → IsLexed Lines (word_piece t text) rest
 word_is_lexed t text rest small stops = word_case t text rest small stops
@@ -121,11 +108,8 @@ all_digits : List ℕ → Bool
 all_digits [] = true
 all_digits (d ∷ ds) = is_digit d && all_digits ds
 
-and-true : (x y : Bool) → x ≡ true → y ≡ true → (x && y) ≡ true
-and-true x y e f = cc
-
-digit_byte : (n : ℕ) → n < 10 → is_digit (48 + n) ≡ true
-digit_byte n low = and-true (nat_le 48 (48 + n)) (nat_le (48 + n) 57) (le-leb 48 (48 + n) (omega arith)) (le-leb (48 + n) 57 (omega arith))
+pub digit_byte : (n : ℕ) → n < 10 → is_digit (48 + n) ≡ true
+digit_byte n low = and_true (nat_le 48 (48 + n)) (nat_le (48 + n) 57) (le-leb 48 (48 + n) (omega arith)) (le-leb (48 + n) 57 (omega arith))
 
 -- one digit or more
 abbrev AreDigits : List ℕ → Type 0
@@ -150,10 +134,6 @@ run-digits n (d ∷ ds) rest all stops =
     let again = run-digits (n + 1) ds rest all.1 stops in
     rw all.0 (again ∙ omega arith)
 
-and-false : (x : Bool) → (x && false) ≡ false
-and-false true = refl
-and-false false = refl
-
 below : (a b c : ℕ) → b < a → (nat_le a b && nat_le b c) ≡ false
 below a b c low = ap (λ (x : Bool). x && nat_le b c) (lt-leb a b low)
 
@@ -165,7 +145,7 @@ digit_no_letter d e =
 number_case : (t : Bool) (digits rest : List ℕ) → AreDigits digits → Stops goes_on rest → IsLexed Lines (record { spaced = t; kind = Number; bytes = digits }) rest
 number_case t [] rest all stops = absurd all
 number_case t (d ∷ ds) rest all stops =
-    let low = leb-true 48 d (and-first (nat_le 48 d) (nat_le d 57) all.0) in
+    let low = leb-true 48 d (first_true (nat_le 48 d) (nat_le d 57) all.0) in
     record {
       token = λ n.
           let k : n + 1 + length ds ≡ n + length (d ∷ ds) = omega arith in
@@ -178,14 +158,6 @@ pub number_is_lexed : (t : Bool) (n : ℕ) (rest : List ℕ) → n < 2 ^ 64 → 
 number_is_lexed t n rest fits stops = number_case t (decimal n) rest (decimal_digits n fits) stops
 
 -- ---- one behind another
-
-text_step : (t : Bool) (bytes rest more : List ℕ) → behind_blank t (bytes ++ (rest ++ more)) ≡ behind_blank t (bytes ++ rest) ++ more
-text_step true bytes rest more = ap (λ (xs : List ℕ). 32 ∷ xs) (sym (append_assoc bytes rest more))
-text_step false bytes rest more = sym (append_assoc bytes rest more)
-
-pub text_of-append : (xs ys : List Piece) → text_of (xs ++ ys) ≡ text_of xs ++ text_of ys
-text_of-append [] ys = refl
-text_of-append (x ∷ xs) ys = ap (λ (rest : List ℕ). behind_blank x.spaced (x.bytes ++ rest)) (text_of-append xs ys) ∙ text_step x.spaced x.bytes (text_of xs) (text_of ys)
 
 pub AreLexed-append : (xs ys : List Piece) (rest : List ℕ) → AreLexed Lines xs (text_of ys ++ rest) → AreLexed Lines ys rest → AreLexed Lines (xs ++ ys) rest
 AreLexed-append [] ys rest front behind = behind
@@ -221,7 +193,7 @@ some_length (x ∷ xs) some = ap not (ne_eqb (length (x ∷ xs)) 0 (λ e. omega 
 pub name_fits : (t : Bool) (name : List ℕ) → IsSome name → (is_name (piece_lexeme (name_piece t name)) ≡ true) × ((piece_lexeme (name_piece t name)).text ≡ name)
 name_fits t name some =
     let stands = name_stands name in (
-      and-true (kind_names (printed_kind name)) (not (length (stands_for (printed_kind name) (printed_name name)) == 0)) (names_are (is_bare name))
+      and_true (kind_names (printed_kind name)) (not (length (stands_for (printed_kind name) (printed_name name)) == 0)) (names_are (is_bare name))
           (ap (λ (xs : List ℕ). not (length xs == 0)) stands ∙ some_length name some),
       stands,
     )

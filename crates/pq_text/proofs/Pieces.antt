@@ -78,11 +78,11 @@ pieces_lexed style (x ∷ xs) front lexed =
 
 -- ---- pieces one behind another
 
-text_step : (t : Bool) (bytes rest more : List ℕ) → behind_blank t (bytes ++ (rest ++ more)) ≡ behind_blank t (bytes ++ rest) ++ more
+pub text_step : (t : Bool) (bytes rest more : List ℕ) → behind_blank t (bytes ++ (rest ++ more)) ≡ behind_blank t (bytes ++ rest) ++ more
 text_step true bytes rest more = ap (λ (xs : List ℕ). 32 ∷ xs) (sym (append_assoc bytes rest more))
 text_step false bytes rest more = sym (append_assoc bytes rest more)
 
-text_of-append : (xs ys : List Piece) → text_of (xs ++ ys) ≡ text_of xs ++ text_of ys
+pub text_of-append : (xs ys : List Piece) → text_of (xs ++ ys) ≡ text_of xs ++ text_of ys
 text_of-append [] ys = refl
 text_of-append (x ∷ xs) ys = ap (λ (rest : List ℕ). behind_blank x.spaced (x.bytes ++ rest)) (text_of-append xs ys) ∙ text_step x.spaced x.bytes (text_of xs) (text_of ys)
 
@@ -110,7 +110,7 @@ flat_all (line ∷ lines) printed =
 
 -- ---- slices
 
-feeds-append : (xs ys : List ℕ) → feeds (xs ++ ys) ≡ feeds xs + feeds ys
+pub feeds-append : (xs ys : List ℕ) → feeds (xs ++ ys) ≡ feeds xs + feeds ys
 feeds-append xs ys = sum_by-append (λ b. cond (nat_eq b 10) 1 0) xs ys
 
 -- slicing the text at a piece's place gives its bytes

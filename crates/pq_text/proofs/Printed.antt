@@ -1,8 +1,9 @@
 -- A printed name and a printed value are lexed as themselves.
-use Rattle.std.proofs.Common.{◌≡◌, ℕ, ◌+◌, ◌≤◌, Bool, true, false, cond, List, [], ◌∷◌, ◌++◌, length, Option, None, Some, refl, ap, ◌∙◌, append_assoc, arith, inl, inr}
-use Rattle.std.specs.Prelude.{◌⊎◌, ◌&&◌, ◌||◌, nat_eq, nat_le, map}
+use Rattle.std.proofs.Common.{◌≡◌, ℕ, ◌+◌, ◌≤◌, Bool, true, false, cond, List, [], ◌∷◌, ◌++◌, length, Option, None, Some, refl, ap, ◌∙◌, append_assoc, arith}
+use Rattle.std.specs.Prelude.{◌&&◌, ◌||◌, nat_eq, nat_le, map}
 use Rattle.std.proofs.lemmas.Bool.{eqb-true, leb-true, le-leb, lt-leb, ne_eqb}
 use Rattle.std.proofs.lemmas.List.{length-append}
+use Rattle.lists.proofs.Booleans.{both_true, one_true, second_false, first_false}
 use Rattle.pq_text.specs.declared.token.Style.{Style}
 use Rattle.pq_text.specs.declared.token.TokenKind.TheVariants.{Word, Quoted, Text}
 use Rattle.pq_text.specs.declared.scan.Found.TheVariants.{Begins}
@@ -53,14 +54,6 @@ value_stands value = single-doubled 39 value refl
 
 -- ---- names
 
-or-some : (x y : Bool) → (x || y) ≡ true → (x ≡ true) ⊎ (y ≡ true)
-or-some true y e = inl refl
-or-some false y e = inr e
-
-and-both : (x y : Bool) → (x && y) ≡ true → (x ≡ true) × (y ≡ true)
-and-both true y e = (refl, e)
-and-both false y e = absurd cc
-
 small_letter : (x u s : Bool) → (x || s) ≡ true → (x || (u || s)) ≡ true
 small_letter true u s e = refl
 small_letter false true s e = refl
@@ -75,7 +68,7 @@ run-small : (n : ℕ) (bs rest : List ℕ) → all_small bs ≡ true → Stops i
 run-small n [] [] small stops = omega arith
 run-small n [] (r ∷ rs) small stops = rw stops (omega arith)
 run-small n (b ∷ bs) rest small stops =
-    let g = and-both (is_small b || is_digit b) (all_small bs) small in
+    let g = both_true (is_small b || is_digit b) (all_small bs) small in
     let w : is_word_byte b ≡ true = small_word (nat_le 97 b && nat_le b 122) (nat_le 65 b && nat_le b 90) (nat_eq b 95) (is_digit b) g.0 in
     let again = run-small (n + 1) bs rest g.1 stops in
     rw w (again ∙ omega arith)
@@ -100,30 +93,22 @@ no_capital b e = capital_case (nat_le 65 b) (nat_le b 90) b e refl refl
 pub lowered-small : (bs : List ℕ) → all_small bs ≡ true → map lowered bs ≡ bs
 lowered-small [] e = refl
 lowered-small (b ∷ bs) e =
-    let g = and-both (is_small b || is_digit b) (all_small bs) e in
+    let g = both_true (is_small b || is_digit b) (all_small bs) e in
     let one : lowered b ≡ b = rw (no_capital b g.0) refl in
     let more = lowered-small bs g.1 in
     cc
 
-or-none-2 : (x y : Bool) → (x || y) ≡ false → y ≡ false
-or-none-2 true y e = absurd cc
-or-none-2 false y e = e
-
-or-none : (x y : Bool) → (x || y) ≡ false → x ≡ false
-or-none true y e = absurd cc
-or-none false y e = refl
-
 stops-word : (rest : List ℕ) → Stops follows_name rest → Stops is_word_byte rest
 stops-word [] h = tt
-stops-word (b ∷ bs) h = or-none (is_word_byte b) (nat_eq b 34) h
+stops-word (b ∷ bs) h = first_false (is_word_byte b) (nat_eq b 34) h
 
 stops-quote : (rest : List ℕ) → Stops follows_name rest → Stops (λ b. nat_eq b 34) rest
 stops-quote [] h = tt
-stops-quote (b ∷ bs) h = or-none-2 (is_word_byte b) (nat_eq b 34) h
+stops-quote (b ∷ bs) h = second_false (is_word_byte b) (nat_eq b 34) h
 
 pub bare_lexed : (style : Style) (n b : ℕ) (bs rest : List ℕ) → (is_small b && all_small bs) ≡ true → Stops is_word_byte rest → token_at style n ((b ∷ bs) ++ rest) ≡ Begins Word (n + length (b ∷ bs))
 bare_lexed style n b bs rest small stops =
-    let g = and-both (is_small b) (all_small bs) small in
+    let g = both_true (is_small b) (all_small bs) small in
     let l : is_letter b ≡ true = small_letter (nat_le 97 b && nat_le b 122) (nat_le 65 b && nat_le b 90) (nat_eq b 95) g.0 in
     let r = run-small (n + 1) bs rest g.1 stops in
     let k : n + 1 + length bs ≡ n + length (b ∷ bs) = omega arith in
@@ -159,7 +144,7 @@ name_lexed style n b bs rest stops = name_case (is_small b && all_small bs) styl
 stands_case : (t : Bool) (name : List ℕ) → is_bare name ≡ t → stands_for (cond t Word Quoted) (cond t name (between 34 name)) ≡ name
 stands_case true [] e = absurd cc
 stands_case true (b ∷ bs) e =
-    let g = and-both (is_small b) (all_small bs) e in
+    let g = both_true (is_small b) (all_small bs) e in
     let all : all_small (b ∷ bs) ≡ true = rw (g.0, g.1) refl in
     lowered-small (b ∷ bs) all
 stands_case false name e = single-doubled 34 name refl

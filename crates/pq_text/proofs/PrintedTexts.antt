@@ -8,9 +8,10 @@ use Rattle.std.proofs.lemmas.Bool.{leb-true, leb-false, ltb-true, ne_eqb}
 use Rattle.std.proofs.lemmas.Fmt.{IsAscii-decimal}
 use Rattle.std.proofs.lemmas.Str.{IsUtf8-nil, IsUtf8-append, IsUtf8-encode, IsUtf8-from_ascii, encode_ascii}
 use Rattle.std.proofs.Math.Utf8.{scalar, scalars, encode, encodes}
+use Rattle.lists.proofs.Booleans.{both_true}
 use Rattle.pq_text.specs.Pieces.{behind_blank}
 use Rattle.pq_text.specs.Printing.{is_bare, doubled, between, printed_name, printed_value}
-use Rattle.pq_text.proofs.Standing.{and-both, encode_high, cons_utf8}
+use Rattle.pq_text.proofs.Standing.{encode_high, cons_utf8}
 
 -- ---- quotes doubled
 
@@ -36,7 +37,7 @@ char_doubled quote c bs false e low ok u =
 chars_doubled : (quote : ℕ) (cs : List ℕ) → quote < 128 → scalars cs ≡ true → IsUtf8 (doubled quote (encodes cs))
 chars_doubled quote [] low ok = IsUtf8-nil
 chars_doubled quote (c ∷ cs) low ok =
-    let g = and-both (scalar c) (scalars cs) ok in
+    let g = both_true (scalar c) (scalars cs) ok in
     char_doubled quote c (encodes cs) (nat_le 128 c) refl low g.0 (chars_doubled quote cs low g.1)
 
 doubled_utf8 : (quote : ℕ) (bs : List ℕ) → quote < 128 → IsUtf8 bs → IsUtf8 (doubled quote bs)
@@ -69,7 +70,7 @@ are_ascii (b ∷ bs) = nat_lt b 128 && are_ascii bs
 
 pub ascii_utf8 : (bs : List ℕ) → are_ascii bs ≡ true → IsUtf8 bs
 ascii_utf8 [] e = IsUtf8-nil
-ascii_utf8 (b ∷ bs) e = let g = and-both (nat_lt b 128) (are_ascii bs) e in cons_utf8 b bs (ltb-true b 128 g.0) (ascii_utf8 bs g.1)
+ascii_utf8 (b ∷ bs) e = let g = both_true (nat_lt b 128) (are_ascii bs) e in cons_utf8 b bs (ltb-true b 128 g.0) (ascii_utf8 bs g.1)
 
 pub blank_utf8 : (spaced : Bool) → IsUtf8 (behind_blank spaced [])
 blank_utf8 true = cons_utf8 32 [] (omega arith) IsUtf8-nil

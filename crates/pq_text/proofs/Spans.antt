@@ -4,6 +4,7 @@ use Rattle.std.specs.Prelude.{◌&&◌, ◌||◌, nat_eq, nat_le, slice_index, I
 use Rattle.std.specs.List.{AllByRecursion}
 use Rattle.std.proofs.lemmas.Bool.{eqb-true, leb-true, leb-false, lt-leb, ne_eqb}
 use Rattle.std.proofs.lemmas.List.{length-drop, drop_more}
+use Rattle.lists.proofs.Booleans.{and_false}
 use Rattle.pq_text.specs.declared.token.Style.{Style}
 use Rattle.pq_text.specs.declared.token.Style.TheVariants.{Lines, Sql}
 use Rattle.pq_text.specs.declared.token.TokenKind.{TokenKind}
@@ -60,12 +61,8 @@ or-some : (x y : Bool) → (x || y) ≡ true → y ≡ false → x ≡ true
 or-some true y e f = refl
 or-some false y e f = absurd cc
 
-and-false : (x : Bool) → (x && false) ≡ false
-and-false true = refl
-and-false false = refl
-
 and-second : (x y : Bool) → y ≡ false → (x && y) ≡ false
-and-second x y e = ap (λ (z : Bool). x && z) e ∙ and-false x
+and-second x y e = ap (λ (z : Bool). x && z) e ∙ and_false x
 
 high_not : (b c : ℕ) → 128 ≤ b → c < 128 → nat_eq b c ≡ false
 high_not b c high low = ne_eqb b c (λ e. omega (arith, e))
@@ -81,7 +78,7 @@ digit_high b high = high_over b 48 57 high (omega arith)
 
 double_high : (b c : ℕ) → 128 ≤ b → is_double b c ≡ false
 double_high b c high =
-    rw (high_not b 60 high (omega arith), high_not b 62 high (omega arith), high_not b 33 high (omega arith), high_not b 45 high (omega arith), and-false (nat_eq c 61), and-false (nat_eq c 62)) refl
+    rw (high_not b 60 high (omega arith), high_not b 62 high (omega arith), high_not b 33 high (omega arith), high_not b 45 high (omega arith), and_false (nat_eq c 61), and_false (nat_eq c 62)) refl
 
 single_high : (b : ℕ) → 128 ≤ b → is_single b ≡ false
 single_high b high = rw (high_over b 40 47 high (omega arith), high_over b 58 62 high (omega arith), high_not b 124 high (omega arith), high_not b 36 high (omega arith)) refl

@@ -7,6 +7,7 @@ use Rattle.std.proofs.lemmas.Bool.{leb-true, leb-false, lt-leb, ne_eqb}
 use Rattle.std.proofs.lemmas.List.{append-nil, drop_more, map-append}
 use Rattle.std.proofs.lemmas.Str.{IsUtf8-nil, IsUtf8-append, IsUtf8-encode, IsUtf8-drop, IsUtf8-between, IsCharBoundary-before_ascii, IsCharBoundary-after_ascii, encode_ascii, inside_one, length-encode, len_utf8_bounds}
 use Rattle.std.proofs.Math.Utf8.{scalar, scalars, encode, encodes, low_scalar}
+use Rattle.lists.proofs.Booleans.{both_true, and_false}
 use Rattle.pq_text.specs.declared.token.TokenKind.{TokenKind}
 use Rattle.pq_text.specs.declared.token.TokenKind.TheVariants.{Word, Quoted, Text, Number, Symbol, Eol}
 use Rattle.pq_text.specs.declared.token.Token.{Token}
@@ -14,10 +15,6 @@ use Rattle.pq_text.specs.Spans.{IsSpan}
 use Rattle.pq_text.specs.Standing.{lowered, single, inside, stands_for}
 
 -- ---- characters
-
-pub and-both : (x y : Bool) → (x && y) ≡ true → (x ≡ true) × (y ≡ true)
-and-both true y e = (refl, e)
-and-both false y e = absurd cc
 
 high_from_index : (bs : List ℕ) → ((k : ℕ) → k < length bs → 128 ≤ get_or bs k 0) → AllByRecursion (λ b. 128 ≤ b) bs
 high_from_index [] h = tt
@@ -76,7 +73,7 @@ char_single quote c behind bs false e low ok go =
 single_chars : (quote : ℕ) (cs : List ℕ) → quote < 128 → scalars cs ≡ true → (behind : Bool) → IsUtf8 (single quote behind (encodes cs))
 single_chars quote [] low ok behind = IsUtf8-nil
 single_chars quote (c ∷ cs) low ok behind =
-    let g = and-both (scalar c) (scalars cs) ok in
+    let g = both_true (scalar c) (scalars cs) ok in
     char_single quote c behind (encodes cs) (nat_le 128 c) refl low g.0 (single_chars quote cs low g.1)
 
 single_utf8 : (quote : ℕ) (bs : List ℕ) → quote < 128 → IsUtf8 bs → IsUtf8 (single quote false bs)
@@ -97,16 +94,12 @@ capital_bound true true b e low = let h = leb-true b 90 e in omega arith
 lowered_low : (b : ℕ) → b < 128 → lowered b < 128
 lowered_low b low = capital_bound (nat_le 65 b) (nat_le b 90) b refl low
 
-and-false : (x : Bool) → (x && false) ≡ false
-and-false true = refl
-and-false false = refl
-
 lowered_high : (bs : List ℕ) → AllByRecursion (λ b. 128 ≤ b) bs → map lowered bs ≡ bs
 lowered_high [] high = refl
 lowered_high (b ∷ bs) high =
     let here = high.0 in
     let over : nat_le b 90 ≡ false = lt-leb b 90 (omega arith) in
-    let one : lowered b ≡ b = rw (over, and-false (nat_le 65 b)) refl in
+    let one : lowered b ≡ b = rw (over, and_false (nat_le 65 b)) refl in
     let more = lowered_high bs high.1 in
     cc
 
@@ -121,7 +114,7 @@ char_lowered c bs false e ok u =
 
 lowered_chars : (cs : List ℕ) → scalars cs ≡ true → IsUtf8 (map lowered (encodes cs))
 lowered_chars [] ok = IsUtf8-nil
-lowered_chars (c ∷ cs) ok = let g = and-both (scalar c) (scalars cs) ok in char_lowered c (encodes cs) (nat_le 128 c) refl g.0 (lowered_chars cs g.1)
+lowered_chars (c ∷ cs) ok = let g = both_true (scalar c) (scalars cs) ok in char_lowered c (encodes cs) (nat_le 128 c) refl g.0 (lowered_chars cs g.1)
 
 lowered_utf8 : (bs : List ℕ) → IsUtf8 bs → IsUtf8 (map lowered bs)
 lowered_utf8 bs u = subst (λ (xs : List ℕ). IsUtf8 (map lowered xs)) u.1.1 (lowered_chars u.0 u.1.0)

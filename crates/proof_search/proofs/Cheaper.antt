@@ -14,11 +14,11 @@ use Rattle.meaning.specs.Triggers.{IsFiringRun, IsQuiet, ground}
 use Rattle.meaning.specs.Runs.{Proof, IsRun, base_state, opening, frozen_head}
 use Rattle.meaning.specs.Fitting.{Fit, RulesFit, QueryFits, QueryHasConstants}
 use Rattle.meaning.specs.Extract.{IsBase, IsExposing, HasGoalAfter, exposures_cost}
+use Rattle.meaning.proofs.Steps.{cost_once}
 use Rattle.meaning_laws.proofs.Carrying.{run_fires}
 use Rattle.meaning_laws.proofs.Keeping.{run_keeps, named_more}
 use Rattle.meaning_laws.proofs.Kept.{kept_opening}
 use Rattle.meaning_laws.proofs.Rivals.{rival_exposes}
-use Rattle.access_cost.proofs.Summing.{one_cost}
 use Rattle.access_schema.specs.declared.schema.Schema.{Schema}
 use Rattle.access_schema.specs.Meaning.{meaning_of}
 use Rattle.access_schema.proofs.Keeping.{well_formed, rules_fit}
@@ -93,7 +93,7 @@ module _ (schema : SchemaParts) (queries : List Query) (query : Query) (firings 
         IsLeastFor schema space.constants queries query branch
     least_for well short best least branch (low, costs, cheap) rival cost other is_rival cost_is other_is =
         let (exposures, exposing, few, goal) = rival_exposes schema space.constants queries query space.base (frozen_head query) rival other well rules have base_is is_rival other_is in
-        let same : cost ≡ low = one_cost schema well branch.steps cost low cost_is costs in
+        let same : cost ≡ low = cost_once schema well branch.steps cost low cost_is costs in
         let here : IsExposing space.schema space.constants space.base.facts [] exposures = subst (λ s. IsExposing s space.constants space.base.facts [] exposures) (sym is.schema_is) exposing in
         let there : HasGoalAfter space.schema space.queries space.head space.base.next exposures =
         subst (λ s. HasGoalAfter s space.queries space.head space.base.next exposures) (sym is.schema_is)

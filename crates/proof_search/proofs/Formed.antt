@@ -1,11 +1,10 @@
 -- The queries of a select can be searched, stand for its statement, and their branches make its plan.
-use Rattle.std.proofs.Common.{◌≡◌, ◌↔◌, ℕ, ◌+◌, ◌*◌, ◌<◌, ◌≤◌, max, zero, suc, List, [], ◌∷◌, length, Result, Ok, Err, refl, sym, ap, ◌∙◌, subst, ⊎_elim, arith}
+use Rattle.std.proofs.Common.{◌≡◌, ◌↔◌, ℕ, ◌+◌, ◌*◌, ◌≤◌, zero, suc, List, [], ◌∷◌, length, Result, Ok, Err, refl, sym, ap, ◌∙◌, subst, ⊎_elim, arith}
 use Rattle.std.specs.Prelude.{Contains, slice_get, IfOk}
 use Rattle.std.specs.List.{AllZip}
-use Rattle.std.proofs.lemmas.List.{length-append, length-map}
+use Rattle.std.proofs.lemmas.List.{length-map}
 use Rattle.std.proofs.lemmas.Slice.Zip.{AllZip-long}
-use Rattle.lists.proofs.Members.{contains_here, contains_there, contains_cases, contains_got}
-use Rattle.meaning.specs.declared.types.Atom.{Atom}
+use Rattle.lists.proofs.Members.{contains_here, contains_there, contains_cases, contains_got, contains_one}
 use Rattle.meaning.specs.declared.types.Branch.{Branch}
 use Rattle.meaning.specs.declared.types.Fact.{Fact}
 use Rattle.meaning.specs.declared.types.Firing.{Firing}
@@ -13,8 +12,6 @@ use Rattle.meaning.specs.declared.types.Plan.{Plan}
 use Rattle.meaning.specs.declared.types.Query.{Query}
 use Rattle.meaning.specs.declared.types.Select.{Select}
 use Rattle.meaning.specs.declared.types.Statement.{Statement}
-use Rattle.meaning.specs.declared.types.Term.{Term}
-use Rattle.meaning.specs.declared.types.Term.TheVariants.{Var, Const as Said}
 use Rattle.meaning.specs.Values.{Value, Row}
 use Rattle.meaning.specs.Instances.{IsInstance}
 use Rattle.meaning.specs.declared.types.Val.TheVariants.{Const, Label}
@@ -34,7 +31,7 @@ use Rattle.meaning_laws.proofs.Monotone.{no_plan_lem}
 use Rattle.access_schema.specs.declared.schema.Schema.{Schema}
 use Rattle.access_schema.specs.Meaning.{meaning_of}
 use Rattle.access_schema.specs.Invariant.{terms_of}
-use Rattle.access_schema.proofs.Ordered.{OrderedFrom, ordered_from, bound_is}
+use Rattle.access_schema.proofs.Ordered.{ordered_from, bound_is}
 use Rattle.access_schema.proofs.Keeping.{well_formed, rules_fit}
 use Rattle.sql_conjunctive.specs.Form.{HaveLiterals, IsNumbered, Clashes}
 use Rattle.rule_pass.specs.declared.pass.TheConstants.{MOST_FIRINGS}
@@ -46,8 +43,8 @@ use Rattle.proof_search.specs.Outcomes.{IsFirstSpent}
 use Rattle.proof_search.specs.Plans.{known_of, AreQueriesOf, IsPlanFor, HasFewSteps}
 use Rattle.access_cost.specs.declared.least.Least.{Least}
 use Rattle.access_cost.specs.declared.least.Least.TheVariants.{Shown, SearchSpent, FiringsSpent}
-use Rattle.access_cost.specs.Named.{NamesMethods}
-use Rattle.access_cost.proofs.Summing.{lawful_named}
+use Rattle.meaning.specs.Plans.{NamesMethods}
+use Rattle.meaning.proofs.Steps.{lawful_named}
 use Rattle.no_plan_witness.specs.declared.decision.Chosen.{Chosen as Entry}
 use Rattle.no_plan_witness.specs.declared.decision.Chosen.TheVariants as chosen
 use Rattle.no_plan_witness.specs.declared.decision.Decision.{Decision}
@@ -59,8 +56,8 @@ use Rattle.proof_search.specs.Outcomes.{IsPlanOf}
 use Rattle.proof_search.specs.Decisions.{IsRefutation, IsUndecided, IsDecision}
 use Rattle.proof_search.specs.Decisions.IsDecision.{plan as of_plan}
 use Rattle.no_plan_witness.proofs.Refuting.{witnesses_refute}
-use Rattle.proof_search.proofs.Turns.{only_is}
 use Rattle.plan_extract.proofs.Read.{schema_narrow}
+use Rattle.sql_conjunctive.proofs.Counted.{bounded_terms, ordered_short, terms_few}
 
 -- ---- the queries of a select
 
@@ -98,30 +95,7 @@ one_query schema select query queries one form numbered fits free constants answ
 }
   where
     only : (other : Query) → Contains queries other → query ≡ other
-    only other among = only_is query other (subst (λ list. Contains list other) one among)
-
--- ---- their variables are counted and few
-
-bounded_terms : (n : ℕ) (terms : List Term) → ((x : ℕ) → Contains terms (Var x) → x < n) → terms_bound terms ≤ n
-bounded_terms n [] below = omega arith
-bounded_terms n (Said c ∷ terms) below = bounded_terms n terms (λ x among. below x (contains_there (Said c) terms (Var x) among))
-bounded_terms n (Var y ∷ terms) below =
-    let first = below y (contains_here (Var y) terms) in
-    let rest = bounded_terms n terms (λ x among. below x (contains_there (Var y) terms (Var x) among)) in
-    omega arith
-
-ordered_short : (n : ℕ) (terms : List Term) → OrderedFrom n terms → terms_bound terms ≤ n + length terms
-ordered_short n [] ordered = omega arith
-ordered_short n (Said c ∷ terms) ordered = let rest = ordered_short n terms ordered in omega arith
-ordered_short n (Var x ∷ terms) ordered = let first = ordered.0 in let rest = ordered_short (max (x + 1) n) terms ordered.1 in omega arith
-
-terms_few : (atoms : List Atom) → ((atom : Atom) → Contains atoms atom → length atom.terms ≤ 64) → length (terms_of atoms) ≤ 64 * length atoms
-terms_few [] narrow = omega arith
-terms_few (atom ∷ atoms) narrow =
-    let first = narrow atom (contains_here atom atoms) in
-    let rest = terms_few atoms (λ other among. narrow other (contains_there atom atoms other among)) in
-    let both = length-append atom.terms (terms_of atoms) in
-    omega arith
+    only other among = contains_one query other (subst (λ list. Contains list other) one among)
 
 -- ---- what is made of the search
 
@@ -170,7 +144,7 @@ module _ (schema : Schema) (statement : Statement) (select : Select) (queries : 
   stand = record {
     sound = λ facts row query is among answer. (select, of_statement, (are.answers facts is row).0 (query, among, answer));
     complete = λ facts row is (chosen, among, answer).
-        (are.answers facts is row).1 (subst (λ s. AnswersSelect s facts row) (sym (only_is select chosen (subst (λ list. Contains list chosen) one among))) answer);
+        (are.answers facts is row).1 (subst (λ s. AnswersSelect s facts row) (sym (contains_one select chosen (subst (λ list. Contains list chosen) one among))) answer);
   }
 
   wide : (branches : List Branch) (some : List Query) → ((query : Query) → Contains some query → Contains queries query) →
@@ -193,7 +167,7 @@ module _ (schema : Schema) (statement : Statement) (select : Select) (queries : 
       (λ branch among. wide branches queries (λ query there. there) all branch among) in
       record {
         lawful = both.0;
-        wide = λ other among. ap (λ (x : Select). length x.items) (only_is select other (subst (λ list. Contains list other) one among));
+        wide = λ other among. ap (λ (x : Select). length x.items) (contains_one select other (subst (λ list. Contains list other) one among));
         equivalent = both.1;
       }
 
@@ -223,7 +197,7 @@ module _ (schema : Schema) (statement : Statement) (select : Select) (queries : 
         none = no_plan_lem (meaning_of schema) known statement pair.first pair.second pair.answer (well_formed schema) refutes;
         wide = λ other there.
             ap length its.of_end.answer ∙ length-map (frozen_head query) (image (text_under its.of_end.names)) ∙ length-map query.head (value_of Const Label) ∙ ap length (are.form query among).head ∙ length-map select.items (term_of query.atoms)
-            ∙ ap (λ (x : Select). length x.items) (only_is select other (subst (λ list. Contains list other) one there));
+            ∙ ap (λ (x : Select). length x.items) (contains_one select other (subst (λ list. Contains list other) one there));
       }
 
   -- a query whose firings are spent

@@ -5,6 +5,7 @@ use Rattle.std.specs.List.{AllZip}
 use Rattle.std.specs.Option.{option_or}
 use Rattle.std.proofs.lemmas.List.{length-map}
 use Rattle.lists.proofs.Members.{contains_got}
+use Rattle.lists.proofs.Places.{take_got}
 use Rattle.meaning.specs.declared.types.SchemaParts.{SchemaParts}
 use Rattle.meaning.specs.declared.types.Query.{Query}
 use Rattle.meaning.specs.declared.types.Branch.{Branch}
@@ -15,7 +16,6 @@ use Rattle.meaning.specs.Runs.{Proof, IsOrderedRun, NoExposure, HasGoal, opening
 use Rattle.meaning.specs.Fitting.{QueryHasConstants}
 use Rattle.meaning_laws.proofs.Kept.{ordered_is_run}
 use Rattle.rule_pass.specs.declared.pass.TheConstants.{MOST_FIRINGS}
-use Rattle.accessible_copy.proofs.Listed.{take_got}
 use Rattle.accessible_copy.specs.declared.entry.Entry.{Entry}
 use Rattle.accessible_copy.specs.Proving.{Proving, log_of}
 use Rattle.accessible_copy.specs.Goals.{IsGoal}

@@ -1,34 +1,15 @@
 -- The known constants of a statement have each literal of its select.
-use Rattle.std.proofs.Common.{◌≡◌, ◌⊎◌, ◌↔◌, List, [], ◌∷◌, sym, subst, inr, ⊎_elim}
+use Rattle.std.proofs.Common.{◌≡◌, ◌⊎◌, ◌↔◌, List, [], ◌∷◌, sym, subst, inr}
 use Rattle.std.specs.Prelude.{Contains}
-use Rattle.std.specs.List.{flat_map}
-use Rattle.std.proofs.lemmas.List.Elements.{Contains-append_left, Contains-append_right}
 use Rattle.lists.proofs.Members.{contains_here}
-use Rattle.meaning.specs.declared.types.Condition.{Condition}
-use Rattle.meaning.specs.declared.types.Operand.TheVariants.{Literal}
 use Rattle.meaning.specs.declared.types.Select.{Select}
 use Rattle.meaning.specs.declared.types.Statement.{Statement}
 use Rattle.meaning.specs.Values.{Value}
 use Rattle.sql_conjunctive.specs.Form.{HaveLiterals}
-use Rattle.sql_select.specs.Known.{literal_in, literals_of_condition, literals_of, literals_in}
-use Rattle.proof_search.proofs.Turns.{among_all}
+use Rattle.sql_select.specs.Known.{literals_in}
+use Rattle.no_plan_witness.proofs.Literals.{have_literals}
 
-module _ (statement : Statement) (select : Select) (one : statement.selects ≡ select ∷ []) where
-  in_select : (c : Value) → Contains (literals_of select) c → Contains (literals_in statement.selects) c
-  in_select c i = among_all literals_of statement.selects select c (subst (λ list. Contains list select) (sym one) (contains_here select [])) i
-
-  in_items : (c : Value) → Contains select.items (Literal c) → Contains (literals_of select) c
-  in_items c i = Contains-append_left (flat_map literal_in select.items) (flat_map literals_of_condition select.conditions) c (among_all literal_in select.items (Literal c) c i (contains_here c []))
-
-  in_conditions : (condition : Condition) (c : Value) → Contains select.conditions condition → (condition.left ≡ Literal c) ⊎ (condition.right ≡ Literal c) → Contains (literals_of select) c
-  in_conditions condition c i side =
-      Contains-append_right (flat_map literal_in select.items) (flat_map literals_of_condition select.conditions) c
-      (among_all literals_of_condition select.conditions condition c i
-      (⊎_elim (λ left. Contains-append_left (literal_in condition.left) (literal_in condition.right) c (subst (λ o. Contains (literal_in o) c) (sym left) (contains_here c [])))
-      (λ right. Contains-append_right (literal_in condition.left) (literal_in condition.right) c (subst (λ o. Contains (literal_in o) c) (sym right) (contains_here c []))) side))
-
-  pub known_literals : (known constants : List Value) → ((text : Value) → Contains known text ↔ (Contains constants text ⊎ Contains (literals_in statement.selects) text)) → HaveLiterals known select
-  known_literals known constants members = record {
-    items = λ c i. (members c).1 (inr (in_select c (in_items c i)));
-    conditions = λ condition c i side. (members c).1 (inr (in_select c (in_conditions condition c i side)));
-  }
+pub known_literals : (statement : Statement) (select : Select) → statement.selects ≡ select ∷ [] → (known constants : List Value) →
+    ((text : Value) → Contains known text ↔ (Contains constants text ⊎ Contains (literals_in statement.selects) text)) → HaveLiterals known select
+known_literals statement select one known constants members =
+    have_literals statement.selects select (subst (λ list. Contains list select) (sym one) (contains_here select [])) known (λ c i. (members c).1 (inr i))

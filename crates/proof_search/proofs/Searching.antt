@@ -12,7 +12,7 @@ use Rattle.meaning.specs.declared.types.Firing.TheVariants.{Expose}
 use Rattle.meaning.specs.declared.types.Val.TheVariants.{Const}
 use Rattle.meaning.specs.Values.{Value}
 use Rattle.meaning.specs.Matching.{MeetsAll, GroundsOf}
-use Rattle.meaning.specs.Runs.{Proof, base_state, copy_state, part_of, last_part, IsOrderedRun, IsBaseQuiet, IsCopyQuiet, IsKnownValue, IsActiveExposure, NoExposure}
+use Rattle.meaning.specs.Runs.{Proof, base_state, copy_state, last_part, IsOrderedRun, IsBaseQuiet, IsCopyQuiet, IsKnownValue, IsActiveExposure, NoExposure}
 use Rattle.rule_pass.specs.States.{SomeActive}
 use Rattle.rule_pass.proofs.OnePass.{met_quiet}
 use Rattle.accessible_copy.specs.declared.entry.Entry.{Entry}
@@ -28,6 +28,7 @@ use Rattle.accessible_copy.specs.Listing.{CanFire}
 use Rattle.accessible_copy.proofs.BaseStaysMet.{exposure_stays}
 use Rattle.proof_search.specs.Searches.{IsSearch, IsExposure, Exposes}
 use Rattle.plan_extract.proofs.Shown.{end_exposed}
+use Rattle.plan_extract.proofs.GoingBack.{last_push}
 
 -- a proof of the empty log
 pub empty_ordered : (schema : SchemaParts) (proof : Proving) → IsProofOf schema proof → proof.entries ≡ [] → IsOrdered schema proof
@@ -85,10 +86,6 @@ module _ (schema : SchemaParts) (old new : Proving) (first : IsProofOf schema ol
   copies_go_on ordered some = goes_copy schema new second ordered base_quiet copies_bare some
 
 -- ---- exposures
-
-last_push : (part : ℕ) (log : List Firing) (firing : Firing) → last_part part (log ++ firing ∷ []) ≡ part_of firing
-last_push part [] firing = refl
-last_push part (other ∷ log) firing = last_push (part_of other) log firing
 
 pub exposes_none : (schema : SchemaParts) (firings : ℕ) (proof : Proving) → IsSearch schema firings proof.start proof.constants proof → last_part 0 (log_of proof) ≤ 1 → Exposes schema firings proof proof
 exposes_none schema firings proof search part = record { search = search; base = refl; part = part; more = λ fact among. among; longer = omega arith }

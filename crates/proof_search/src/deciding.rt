@@ -5,7 +5,7 @@ ghost use Rattle.access_schema.specs.Meaning.{meaning_of};
 ghost use Rattle.rule_pass.specs.declared.pass.TheConstants.{MOST_FIRINGS};
 ghost use Rattle.sql_select.specs.Statements.{StatementFits};
 ghost use Rattle.sql_select.specs.declared.limits.TheConstants.{MOST_FROMS};
-ghost use Rattle.access_cost.specs.Named.{NamesMethods};
+ghost use Rattle.meaning.specs.Plans.{NamesMethods};
 ghost use Rattle.proof_search.specs.declared.outcome.Choice.{Choice as TheChoice};
 ghost use Rattle.proof_search.specs.Plans.{AreQueriesOf};
 ghost use Rattle.proof_search.specs.Outcomes.{IsPlanOf, IsPlanWith};

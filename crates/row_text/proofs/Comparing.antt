@@ -9,6 +9,8 @@ use Rattle.std.specs.Cmp.{nat_cmp_is}
 use Rattle.std.proofs.lemmas.List.{append-nil, append_assoc, length-append, length-drop, length-map, length-take, take_all}
 use Rattle.std.proofs.lemmas.Option.{slice_get_within}
 use Rattle.lists.proofs.Members.{some_injective}
+use Rattle.lists.proofs.Places.{take_got, got_none}
+use Rattle.lists.proofs.Booleans.{denied_false}
 use Rattle.row_text.specs.RowText.{row_cmp}
 
 -- the member of a place stands before what follows it, and behind what goes before
@@ -16,11 +18,6 @@ pub drop_got : {X : Type 0} (xs : List X) (k : ℕ) (x : X) → slice_get xs k �
 drop_got [] k x e = absurd (cc)
 drop_got (y ∷ xs) zero x e = ap (λ z. z ∷ xs) (some_injective y x e)
 drop_got (y ∷ xs) (suc k) x e = let step : suc k + 1 ≡ suc (k + 1) = omega arith in rw step (drop_got xs k x e)
-
-pub take_got : {X : Type 0} (xs : List X) (k : ℕ) (x : X) → slice_get xs k ≡ Some x → take (k + 1) xs ≡ take k xs ++ x ∷ []
-take_got [] k x e = absurd (cc)
-take_got (y ∷ xs) zero x e = ap (λ z. z ∷ []) (some_injective y x e)
-take_got (y ∷ xs) (suc k) x e = let step : suc k + 1 ≡ suc (k + 1) = omega arith in rw step (ap (λ l. y ∷ l) (take_got xs k x e))
 
 -- rows compare as their values at a place do, and as the rest where these are equal
 pub rows_step : (left right : List (List ℕ)) (k : ℕ) (x y : List ℕ) → slice_get left k ≡ Some x → slice_get right k ≡ Some y
@@ -38,11 +35,6 @@ then_equal Equal p e = refl
 then_equal Greater p e = absurd (cc)
 
 -- no member stands at a place behind all
-pub got_none : {X : Type 0} (xs : List X) (k : ℕ) → slice_get xs k ≡ None → length xs ≤ k
-got_none [] k e = omega arith
-got_none (y ∷ xs) zero e = absurd (cc)
-got_none (y ∷ xs) (suc k) e = omega (arith, got_none xs k e)
-
 -- where one of the rests is empty, rows compare as their lengths do
 ended : (xs ys : List (List ℕ)) (m n k : ℕ) → m ≡ k + length xs → n ≡ k + length ys → (length xs ≡ 0) ⊎ (length ys ≡ 0) → row_cmp xs ys ≡ nat_cmp m n
 ended [] [] m n k l r e = nat_cmp_is m n Equal (omega (arith, l, r))
@@ -97,7 +89,3 @@ rest_head f all self (y ∷ rest) d k x begins got some same =
 pub not_true : (b : Bool) → true ≡ not b → false ≡ b
 not_true true e = absurd (cc)
 not_true false e = refl
-
-pub not_false : (b : Bool) → false ≡ not b → true ≡ b
-not_false true e = refl
-not_false false e = absurd (cc)

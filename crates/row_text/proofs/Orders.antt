@@ -7,19 +7,9 @@ use Rattle.std.specs.Ordering.{ordering_reverse}
 use Rattle.std.specs.declared.cmp.Ordering.{Ordering}
 use Rattle.std.specs.declared.cmp.Ordering.TheVariants.{Less, Equal}
 use Rattle.std.proofs.lemmas.Cmp.{tied_itself}
-use Rattle.lists.proofs.Members.{contains_cases, contains_there}
+use Rattle.lists.proofs.Members.{contains_cases, contains_there, contains_none, all_member}
 use Rattle.lists.proofs.Orders.{rows_total}
 use Rattle.row_text.specs.RowText.{row_cmp}
-
-none : {X : Type 0} (x : X) → Contains [] x → ⊥
-none x (k, l, e) = omega (arith, l)
-
-below : {X : Type 0} (P : X → Type 0) (xs : List X) (x : X) → AllByRecursion P xs → Contains xs x → P x
-below P [] x all c = absurd (none x c)
-below P (y ∷ xs) x all c = elim (contains_cases y xs x c) [
-  | inl here ↦ subst P here all.0
-  | inr there ↦ below P xs x all.1 there
-]
 
 not_both : (o p : Ordering) → p ≡ ordering_reverse o → o ≡ Less → p ≡ Less → ⊥
 not_both o p r e f = let g : ordering_reverse Less ≡ Less = sym (ap ordering_reverse e) ∙ sym r ∙ f in cc
@@ -33,7 +23,7 @@ heads_same x y xs ys low high there back = elim (contains_cases y ys x there) [
   | inl here ↦ sym here
   | inr above ↦ elim (contains_cases x xs y back) [
     | inl here ↦ here
-    | inr under ↦ absurd (not_both (row_cmp x y) (row_cmp y x) (rows_total.antisymm y x) (below (λ z. row_cmp x z ≡ Less) xs y low under) (below (λ z. row_cmp y z ≡ Less) ys x high above))
+    | inr under ↦ absurd (not_both (row_cmp x y) (row_cmp y x) (rows_total.antisymm y x) (all_member (λ z. row_cmp x z ≡ Less) xs y low under) (all_member (λ z. row_cmp y z ≡ Less) ys x high above))
   ]
 ]
 
@@ -41,7 +31,7 @@ heads_same x y xs ys low high there back = elim (contains_cases y ys x there) [
 behind : (x y row : List (List ℕ)) (xs ys : List (List (List ℕ))) → x ≡ y → AllByRecursion (λ z. row_cmp x z ≡ Less) xs
     → Contains (y ∷ ys) row → Contains xs row → Contains ys row
 behind x y row xs ys same low c among = elim (contains_cases y ys row c) [
-  | inl here ↦ absurd (not_itself x (subst (λ z. row_cmp x z ≡ Less) (sym here ∙ sym same) (below (λ z. row_cmp x z ≡ Less) xs row low among)))
+  | inl here ↦ absurd (not_itself x (subst (λ z. row_cmp x z ≡ Less) (sym here ∙ sym same) (all_member (λ z. row_cmp x z ≡ Less) xs row low among)))
   | inr there ↦ there
 ]
 
@@ -49,8 +39,8 @@ pub ascending_unique : (first second : List (List (List ℕ))) → IsStrictlySor
     → ((row : List (List ℕ)) → Contains first row ↔ Contains second row) → first ≡ second
 unfolding IsStrictlySortedBy
 ascending_unique [] [] s t same = refl
-ascending_unique [] (y ∷ ys) s t same = absurd (none y ((same y).1 (0, omega arith, refl)))
-ascending_unique (x ∷ xs) [] s t same = absurd (none x ((same x).0 (0, omega arith, refl)))
+ascending_unique [] (y ∷ ys) s t same = absurd (contains_none y ((same y).1 (0, omega arith, refl)))
+ascending_unique (x ∷ xs) [] s t same = absurd (contains_none x ((same x).0 (0, omega arith, refl)))
 ascending_unique (x ∷ xs) (y ∷ ys) s t same =
     let heads = heads_same x y xs ys s.0 t.0 ((same x).0 (0, omega arith, refl)) ((same y).1 (0, omega arith, refl)) in
     let tails = ascending_unique xs ys s.1 t.1 (λ row. (

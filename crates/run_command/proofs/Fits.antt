@@ -2,7 +2,7 @@
 use Rattle.std.proofs.Common.{◌≡◌, ℕ, ◌+◌, ◌*◌, ◌≤◌, List, [], ◌∷◌, length, refl, sym, ap, ◌∙◌, subst, arith}
 use Rattle.std.specs.Prelude.{Contains}
 use Rattle.std.specs.List.{AllByRecursion}
-use Rattle.lists.proofs.Members.{contains_here, contains_there, contains_got}
+use Rattle.lists.proofs.Members.{contains_here, contains_got, all_from}
 use Rattle.meaning.specs.declared.types.Place.{Place}
 use Rattle.meaning.specs.declared.types.Place.TheVariants.{Const, Col, New}
 use Rattle.meaning.specs.declared.types.Out.{Out}
@@ -15,6 +15,7 @@ use Rattle.meaning.specs.declared.types.Select.{Select}
 use Rattle.meaning.specs.declared.types.Statement.{Statement}
 use Rattle.meaning.specs.Values.{Value}
 use Rattle.meaning.specs.Plans.{made, AreLawfulPlaces, IsLawfulOut, IsLawfulStep, AreLawfulFrom, IsLawfulBranch}
+use Rattle.meaning_laws.proofs.Frozen.{made_few}
 use Rattle.access_schema.specs.declared.schema.Schema.{Schema}
 use Rattle.access_schema.specs.Meaning.{meaning_of}
 use Rattle.sql_select.specs.Statements.{StatementFits}
@@ -22,10 +23,6 @@ use Rattle.plan_form.specs.Fitting.{IsWritablePlace, IsWritableOut, IsWritableSt
 use Rattle.proof_search.specs.Plans.{IsPlanFor, HasFewSteps as HasFewPlanned, known_of}
 
 -- what holds of each member holds of all, and the other way round
-pub all_of : {X : Type 0} (P : X → Type 0) (xs : List X) → ((x : X) → Contains xs x → P x) → AllByRecursion P xs
-all_of P [] each = tt
-all_of P (x ∷ xs) each = (each x (contains_here x xs), all_of P xs (λ y among. each y (contains_there x xs y among)))
-
 -- lawful places name columns whose number can be written
 places_fit : (constants : List Value) (inputs : List ℕ) (began p columns : ℕ) (places : List Place) → columns + length places ≤ 4294967296 →
     AreLawfulPlaces constants inputs began p columns places → AllByRecursion IsWritablePlace places
@@ -36,12 +33,6 @@ places_fit constants inputs began p columns (Col k ∷ places) few lawful =
     (omega (arith, few, lawful.0), places_fit constants inputs began (p + 1) columns places (omega (arith, few)) lawful.2)
 places_fit constants inputs began p columns (New ∷ places) few lawful =
     (tt, places_fit constants inputs began (p + 1) (columns + 1) places (omega (arith, few)) lawful.1)
-
-made_few : (columns : ℕ) (places : List Place) → made columns places ≤ columns + length places
-made_few columns [] = omega arith
-made_few columns (Const c ∷ places) = let rest = made_few columns places in omega (arith, rest)
-made_few columns (Col k ∷ places) = let rest = made_few columns places in omega (arith, rest)
-made_few columns (New ∷ places) = let rest = made_few (columns + 1) places in omega (arith, rest)
 
 -- and so do lawful outputs
 out_fits : (constants : List Value) (columns : ℕ) (out : Out) → columns ≤ 4294967296 → IsLawfulOut constants columns out → IsWritableOut out
@@ -70,7 +61,7 @@ module _ (schema : Schema) (constants : List Value) where
   -- each step makes at most 64 columns
   steps_fit : (columns : ℕ) (steps : List Step) (outs : List Out) → columns + length steps * 64 ≤ 4294967296 → AreLawfulFrom (meaning_of schema) constants columns steps outs →
       AllByRecursion IsWritableStep steps × AllByRecursion IsWritableOut outs
-  steps_fit columns [] outs room lawful = (tt, all_of IsWritableOut outs (λ out among. out_fits constants columns out (omega (arith, room)) (lawful out among)))
+  steps_fit columns [] outs room lawful = (tt, all_from IsWritableOut outs (λ out among. out_fits constants columns out (omega (arith, room)) (lawful out among)))
   steps_fit columns (step ∷ steps) outs room (method, is, rest) =
       let few = few_places columns step method is in
       let bound = made_few columns step.places in
@@ -98,11 +89,11 @@ plan_fits schema statement plan fits is few_planned = of_selects statement.selec
       writable = record {
         some = some;
         most = most;
-        branches = all_of IsWritableBranch plan.branches (λ branch among.
+        branches = all_from IsWritableBranch plan.branches (λ branch among.
             let width = (is.lawful branch among).0 in
             branch_fits schema (known_of schema statement) branch (steps branch among) (omega (arith, some, width)) (is.lawful branch among).1);
       };
-      few = record { branches = let few = few_planned.branches in omega (arith, few); steps = all_of (λ branch. length branch.steps ≤ 1048576) plan.branches steps };
+      few = record { branches = let few = few_planned.branches in omega (arith, few); steps = all_from (λ branch. length branch.steps ≤ 1048576) plan.branches steps };
     }
 
     of_selects : (selects : List Select) → statement.selects ≡ selects → PlanFits plan

@@ -10,6 +10,7 @@ use Rattle.std.proofs.lemmas.List.Elements.{filter_more}
 use Rattle.std.proofs.lemmas.Bool.{cases_eq}
 use Rattle.std.proofs.lemmas.Bool.Decides.{nat_tests}
 use Rattle.lists.specs.Hash.{mix}
+use Rattle.lists.proofs.Booleans.{both_true}
 use Rattle.source_trait.specs.Asking.{RowList, agrees}
 use Rattle.source_trait.specs.Holding.{attachment_in, others_than}
 use Rattle.source_trait.specs.Index.{AreChains, AreIndexes, Indexes, IndexesOf, Leads, OneMore, chain_of, chains_of, codes_of, index_in, key_chain, key_hash, mix_some, row_hash, row_values}
@@ -17,10 +18,6 @@ use Rattle.source_trait.specs.declared.holding.Attachment.{Attachment}
 use Rattle.source_trait.specs.declared.crowded.Crowded.{Crowded}
 use Rattle.source_trait.specs.declared.index.Index.{Index}
 use Rattle.source_trait.proofs.Stores.{others_push, others_stay}
-
-and_true : (a b : Bool) → (a && b) ≡ true → (a ≡ true) × (b ≡ true)
-and_true true b e = (refl, e)
-and_true false b e = absurd (cc)
 
 -- with no position every row has the values
 pub all_agree : (ps : List ℕ) (vs : List (List ℕ)) (rows : RowList) → length ps ≡ 0 → rows ≡ filter (agrees ps vs) rows
@@ -38,7 +35,7 @@ agree_hash (p ∷ ps) (v ∷ vs) row h same = by (slice_get row p) refl (agree_h
     by None e later = let same2 = rw e at same in absurd (cc)
     by (Some w) e later =
         let same2 = rw e at same in
-        let both = and_true (pointwise nat_eq w v) (agrees ps vs row) same2 in
+        let both = both_true (pointwise nat_eq w v) (agrees ps vs row) same2 in
         let is : w ≡ v = (bytes_decides w v).0 both.0 in
         later (mix h v) both.1 ∙ ap (λ x. row_hash (mix h x) ps row) (sym is) ∙ ap (λ o. row_hash (mix_some h o) ps row) (sym e)
 
@@ -52,7 +49,7 @@ agree_values (p ∷ ps) (v ∷ vs) row same = by (slice_get row p) refl (agree_v
     by None e later = let same2 = rw e at same in absurd (cc)
     by (Some w) e later =
         let same2 = rw e at same in
-        let both = and_true (pointwise nat_eq w v) (agrees ps vs row) same2 in
+        let both = both_true (pointwise nat_eq w v) (agrees ps vs row) same2 in
         let is : w ≡ v = (bytes_decides w v).0 both.0 in
         ap (λ (l : List (List ℕ)). v ∷ l) (later both.1) ∙ ap (λ (x : List ℕ). x ∷ row_values ps row) (sym is) ∙ ap (λ (o : Option (List ℕ)). unwrap_or o [] ∷ row_values ps row) (sym e)
 
@@ -269,7 +266,7 @@ index_found (y ∷ ys) rel rows ps x h at = by (nat_eq y.rel rel && pointwise na
   where
     by : (b : Bool) → (nat_eq y.rel rel && pointwise nat_eq y.positions ps) ≡ b → (index_in ys rel ps ≡ Some x → Indexes x rows × (x.positions ≡ ps)) → Indexes x rows × (x.positions ≡ ps)
     by true test later =
-        let both = and_true (nat_eq y.rel rel) (pointwise nat_eq y.positions ps) test in
+        let both = both_true (nat_eq y.rel rel) (pointwise nat_eq y.positions ps) test in
         let same : y.rel ≡ rel = grind (arith, nat_tests, both.0) in
         let at2 = rw test at at in
         let is : y ≡ x = cc in

@@ -24,8 +24,8 @@ use Rattle.meaning_laws.proofs.Choosing.{select_sound, select_complete}
 use Rattle.access_schema.specs.declared.schema.Schema.{Schema}
 use Rattle.access_schema.specs.Invariant.{terms_of}
 use Rattle.access_schema.proofs.Ordered.{OrderedFrom, in_order, bound_is, occurs_in}
-use Rattle.access_schema.proofs.Texts.{got_contained}
 use Rattle.lists.proofs.Members.{contains_got, contains_mapped, got_below, some_injective}
+use Rattle.lists.proofs.Places.{got_contained}
 use Rattle.sql_conjunctive.specs.Form.{Clashes, IsNever, IfQuery, IsNumbered, HaveLiterals, AnswersForm}
 use Rattle.sql_conjunctive.specs.Making.{numbered_atoms, made_query, form_from, made_form}
 use Rattle.sql_conjunctive.specs.Merging.{AreNarrow, opening_from, with_terms, met_all}

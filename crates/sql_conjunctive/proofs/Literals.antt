@@ -14,8 +14,8 @@ use Rattle.meaning.specs.Values.{Value}
 use Rattle.meaning.specs.Instances.{FitsRelation}
 use Rattle.meaning.specs.Conjunctive.{AreJoined, given, alike, turned, chained, OperandFits, SelectFits, or_empty, term_in, term_of, IsAtomFor, IsConjunctive}
 use Rattle.meaning.specs.Fitting.{HaveConstants, QueryHasConstants}
-use Rattle.access_schema.proofs.Texts.{got_contained}
 use Rattle.lists.proofs.Members.{contains_mapped, some_injective}
+use Rattle.lists.proofs.Places.{got_contained}
 use Rattle.sql_conjunctive.specs.Form.{HaveLiterals}
 
 -- the operand is a side of a condition

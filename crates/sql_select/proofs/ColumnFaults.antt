@@ -2,7 +2,7 @@
 use Rattle.std.proofs.Common.{◌≡◌, ◌⊎◌, ℕ, List, [], ◌∷◌, ◌++◌, ap, subst, sym, ◌∙◌, refl, inl, inr, ⊎_elim, arith}
 use Rattle.std.specs.Prelude.{Contains, Option, Some, None, slice_get}
 use Rattle.std.specs.List.{AllZip}
-use Rattle.lists.proofs.Members.{contains_here, contains_there, contains_cases, contains_got}
+use Rattle.lists.proofs.Members.{contains_here, contains_there, contains_cases, contains_got, contains_none}
 use Rattle.meaning.specs.declared.types.Relation.{Relation}
 use Rattle.meaning.specs.declared.types.Operand.{Operand}
 use Rattle.meaning.specs.declared.types.Operand.TheVariants.{Column, Literal}
@@ -24,7 +24,7 @@ use Rattle.sql_select.specs.declared.resolve.Meant.TheVariants as meant
 use Rattle.sql_select.specs.Names.{from_names, HasColumn, IsColumnAt, IsMeant, IsUnknown, IsAmbiguous, IsColumnFault, operands_of}
 use Rattle.sql_select.specs.Resolving.{place_from, place_at, plain_meant, column_meant, prefixed_meant, meant_of, fault_in, earlier, column_fault, item_operands, condition_operands, with_meant, meant_items, with_both, meant_conditions, found_in}
 use Rattle.sql_select.proofs.Earliest.{Answers, same_answer, either_answer}
-use Rattle.sql_select.proofs.FromFaults.{Placed, place_says, found_at, nothing_in}
+use Rattle.sql_select.proofs.FromFaults.{Placed, place_says, found_at}
 use Rattle.sql_select.proofs.Finding.{has_of, PlaceSays, place_at_says, IsFound, is_found}
 
 module _ (relations : List Relation) (rels : List ℕ) (froms : List NamedFrom) where
@@ -105,7 +105,7 @@ module _ (relations : List Relation) (rels : List ℕ) (froms : List NamedFrom) 
 
   module _ (differ : AllDiffer (from_names froms)) where
     all_answer : (os : List NamedOperand) (P : NameFault → Type 0) (first : Option NameFault) → Answers P first → Answers (λ f. P f ⊎ In os f) (column_fault relations rels froms first os)
-    all_answer [] P first said = same_answer P (λ f. P f ⊎ In [] f) (λ f p. inl p) (λ f is. ⊎_elim (λ p. p) (λ (o, c, _). absurd (nothing_in o c)) is) first said
+    all_answer [] P first said = same_answer P (λ f. P f ⊎ In [] f) (λ f p. inl p) (λ f is. ⊎_elim (λ p. p) (λ (o, c, _). absurd (contains_none o c)) is) first said
     all_answer (o ∷ os) P first said =
         let m : Meant = meant_of relations rels froms o in
         let one = either_answer (OperandFault o) P (fault_in m) first (fault_answer o m (meant_says differ o)) said in

@@ -4,16 +4,13 @@ use Rattle.std.specs.Prelude.{Contains, Option, Some, None, slice_get}
 use Rattle.std.proofs.lemmas.Bool.{cases_eq}
 use Rattle.std.proofs.lemmas.List.{length_push, append-nil}
 use Rattle.std.proofs.lemmas.Option.{slice_get_within}
-use Rattle.lists.proofs.Members.{contains_got, some_injective}
+use Rattle.lists.proofs.Members.{contains_got, some_injective, none_some}
 use Rattle.meaning.specs.declared.types.Relation.{Relation}
 use Rattle.sql_select.specs.declared.columns.Found.{Found}
 use Rattle.sql_select.specs.declared.columns.Found.TheVariants as found
 use Rattle.sql_select.specs.Names.{HasColumn, IsColumnAt}
 use Rattle.sql_select.specs.Resolving.{place_from, place_in, place_at, found_in, joined}
 use Rattle.sql_select.proofs.FromFaults.{Placed, place_says, found_at}
-
-none_some : {X : Type 0} (x : X) → None ≡ Some x → ⊥
-none_some x e = cc
 
 -- a place of a column is one of a FROM item that has it
 pub has_of : (relations : List Relation) (rels : List ℕ) (name : List ℕ) (from column : ℕ) → IsColumnAt relations rels from column name → HasColumn relations rels name from

@@ -1,10 +1,11 @@
 -- A statement that is read fits the schema and the limits.
-use Rattle.std.proofs.Common.{◌≡◌, ℕ, suc, ◌≤◌, ◌+◌, List, [], ◌∷◌, length, map, ap, subst, sym, ◌∙◌, refl, arith, ⊎_elim}
+use Rattle.std.proofs.Common.{◌≡◌, ℕ, suc, ◌≤◌, ◌+◌, List, [], ◌∷◌, length, ap, subst, sym, ◌∙◌, refl, arith, ⊎_elim}
 use Rattle.std.specs.Prelude.{Contains, Some, slice_get}
 use Rattle.std.specs.List.{AllZip}
 use Rattle.std.proofs.lemmas.Slice.Zip.{AllZip-long}
 use Rattle.std.proofs.lemmas.Option.{slice_get_within}
-use Rattle.lists.proofs.Members.{contains_here, contains_there, contains_cases, got_mapped}
+use Rattle.std.proofs.lemmas.List.{length-map}
+use Rattle.lists.proofs.Members.{contains_here, contains_there, contains_cases, got_mapped, contains_none}
 use Rattle.meaning.specs.declared.types.Relation.{Relation}
 use Rattle.meaning.specs.declared.types.Operand.{Operand}
 use Rattle.meaning.specs.declared.types.Operand.TheVariants.{Column, Literal}
@@ -27,11 +28,6 @@ use Rattle.sql_select.specs.Naming.{named_from, named_items, named_condition, na
 use Rattle.sql_select.specs.Names.{IsMeant, IsMeaning}
 use Rattle.sql_select.specs.Limits.{IsWithinLimits}
 use Rattle.sql_select.specs.Statements.{Means, IsStatementText, IsBounded, StatementFits}
-use Rattle.sql_select.proofs.FromFaults.{nothing_in}
-
-map_long : {X Y : Type 0} (f : X → Y) (xs : List X) → length (map f xs) ≡ length xs
-map_long f [] = refl
-map_long f (x ∷ xs) = ap (λ n. suc n) (map_long f xs)
 
 items_long : (text : List ℕ) (place : ℕ) (items : List RawItem) → length (named_items text place items) ≡ length items
 items_long text place [] = refl
@@ -50,7 +46,7 @@ module _ (schema : Schema) (parts : NamedSelect) (select : Select) (is : IsMeani
 
   froms_fit : (froms : List NamedFrom) (rels : List ℕ) (rel : ℕ) → AllZip (λ (from : NamedFrom) (rel : ℕ). slice_get (relation_names schema.relations) rel ≡ Some from.relation.text) froms rels → Contains rels rel →
       (relation : Relation) × (slice_get schema.relations rel ≡ Some relation)
-  froms_fit froms [] rel zip c = absurd (nothing_in rel c)
+  froms_fit froms [] rel zip c = absurd (contains_none rel c)
   froms_fit [] (r ∷ rels) rel zip c = absurd zip
   froms_fit (from ∷ froms) (r ∷ rels) rel (at, zip) c = ⊎_elim
       (λ e. let (relation, got, _) = got_mapped (λ (relation : Relation). relation.name) schema.relations r from.relation.text at in (relation, subst (λ k. slice_get schema.relations k ≡ Some relation) e got))
@@ -58,14 +54,14 @@ module _ (schema : Schema) (parts : NamedSelect) (select : Select) (is : IsMeani
       (contains_cases r rels rel c)
 
   items_fit : (items : List NamedItem) (os : List Operand) (o : Operand) → AllZip (λ (item : NamedItem) (p : Operand). IsMeant schema.relations select.froms parts.froms item.operand p) items os → Contains os o → OperandFits (meaning_of schema) select o
-  items_fit items [] o zip c = absurd (nothing_in o c)
+  items_fit items [] o zip c = absurd (contains_none o c)
   items_fit [] (p ∷ os) o zip c = absurd zip
   items_fit (item ∷ items) (p ∷ os) o (h, zip) c = ⊎_elim (λ e. subst (λ (q : Operand). OperandFits (meaning_of schema) select q) e (operand_fits item.operand p h)) (λ later. items_fit items os o zip later) (contains_cases p os o c)
 
   conditions_fit : (cs : List NamedCondition) (ds : List Condition) (d : Condition) →
       AllZip (λ (c : NamedCondition) (d : Condition). IsMeant schema.relations select.froms parts.froms c.left d.left × IsMeant schema.relations select.froms parts.froms c.right d.right) cs ds → Contains ds d →
       OperandFits (meaning_of schema) select d.left × OperandFits (meaning_of schema) select d.right
-  conditions_fit cs [] d zip c = absurd (nothing_in d c)
+  conditions_fit cs [] d zip c = absurd (contains_none d c)
   conditions_fit [] (e ∷ ds) d zip c = absurd zip
   conditions_fit (c ∷ cs) (e ∷ ds) d (h, zip) m = ⊎_elim
       (λ same. subst (λ (q : Condition). OperandFits (meaning_of schema) select q.left × OperandFits (meaning_of schema) select q.right) same (operand_fits c.left e.left h.0, operand_fits c.right e.right h.1))
@@ -82,9 +78,9 @@ module _ (schema : Schema) (parts : NamedSelect) (select : Select) (is : IsMeani
 bounded : (schema : Schema) (bytes : List ℕ) (raw : RawSelect) (select : Select) → Means schema.relations bytes raw select → IsWithinLimits raw → (raw.items ≡ [] → ⊥) → (raw.froms ≡ [] → ⊥) → IsBounded select
 bounded schema bytes raw select means within has_items has_froms =
     let items : length select.items ≡ length raw.items = AllZip-long _ (named_select bytes raw).items select.items means.items ∙ items_long bytes 1 raw.items in
-    let froms : length select.froms ≡ length raw.froms = AllZip-long _ (named_select bytes raw).froms select.froms means.froms.relations_are ∙ map_long (named_from bytes) raw.froms in
-    let conditions : length select.conditions ≡ length raw.conditions = AllZip-long _ (named_select bytes raw).conditions select.conditions means.conditions ∙ map_long (named_condition bytes) raw.conditions in
-    let names : length select.names ≡ length raw.items = ap length means.names ∙ map_long (λ (item : NamedItem). item.name) (named_select bytes raw).items ∙ items_long bytes 1 raw.items in
+    let froms : length select.froms ≡ length raw.froms = AllZip-long _ (named_select bytes raw).froms select.froms means.froms.relations_are ∙ length-map raw.froms (named_from bytes) in
+    let conditions : length select.conditions ≡ length raw.conditions = AllZip-long _ (named_select bytes raw).conditions select.conditions means.conditions ∙ length-map raw.conditions (named_condition bytes) in
+    let names : length select.names ≡ length raw.items = ap length means.names ∙ length-map (named_select bytes raw).items (λ (item : NamedItem). item.name) ∙ items_long bytes 1 raw.items in
     let some_items = some_long raw.items has_items in
     let some_froms = some_long raw.froms has_froms in
     let few_items = within.items in
@@ -102,7 +98,7 @@ bounded schema bytes raw select means within has_items has_froms =
 -- each select of a statement is what a written one means
 meant : (schema : Schema) (bytes : List ℕ) (raws : List RawSelect) (selects : List Select) (select : Select) → AllZip (Means schema.relations bytes) raws selects → Contains selects select →
     (raw : RawSelect) × Contains raws raw × Means schema.relations bytes raw select
-meant schema bytes raws [] select z c = absurd (nothing_in select c)
+meant schema bytes raws [] select z c = absurd (contains_none select c)
 meant schema bytes [] (x ∷ xs) select z c = absurd z
 meant schema bytes (raw ∷ raws) (x ∷ xs) select (m, z) c = ⊎_elim
     (λ e. (raw, contains_here raw raws, subst (λ (s : Select). Means schema.relations bytes raw s) e m))

@@ -9,7 +9,7 @@ use Rattle.meaning.specs.declared.types.Relation.{Relation}
 use Rattle.access_schema.specs.Names.{relation_names, AllDiffer}
 use Rattle.access_schema.specs.Lists.{is_among}
 use Rattle.access_schema.proofs.Texts.{among_contains, not_among, differ_push}
-use Rattle.lists.proofs.Members.{contains_here, contains_there, contains_cases, contains_got}
+use Rattle.lists.proofs.Members.{contains_here, contains_there, contains_cases, contains_got, contains_none}
 use Rattle.sql_select.specs.declared.named.NamedFrom.{NamedFrom}
 use Rattle.sql_select.specs.declared.named.NameFault.{NameFault}
 use Rattle.sql_select.specs.declared.named.NameFault.TheVariants as fault
@@ -17,16 +17,13 @@ use Rattle.sql_select.specs.Names.{from_names, AreFroms, IsFromFault}
 use Rattle.sql_select.specs.Resolving.{place_from, unless_there, unknown_relation, used_name, from_fault, with_place, rels_of}
 use Rattle.sql_select.proofs.Earliest.{Answers, same_answer, either_answer}
 
-pub nothing_in : {X : Type 0} (x : X) → Contains [] x → ⊥
-nothing_in x c = omega arith
-
 -- what a search for a name says
 abbrev pub Placed : ℕ → List (List ℕ) → List ℕ → Option ℕ → Type 0
 Placed n xs name None = Contains xs name → ⊥
 Placed n xs name (Some j) = (i : ℕ) × (j ≡ n + i) × (slice_get xs i ≡ Some name)
 
 pub place_says : (n : ℕ) (xs : List (List ℕ)) (name : List ℕ) → Placed n xs name (place_from n xs name)
-place_says n [] name = λ c. nothing_in name c
+place_says n [] name = λ c. contains_none name c
 place_says n (x ∷ xs) name = go (pointwise nat_eq x name) (bytes_decides x name) (place_from (n + 1) xs name) (place_says (n + 1) xs name)
   where
     go : (same : Bool) → Decides same (x ≡ name) → (rest : Option ℕ) → Placed (n + 1) xs name rest → Placed n (x ∷ xs) name (if same then Some n else rest)
@@ -115,7 +112,7 @@ module _ (relations : List Relation) where
   from_whole froms (fault.Unknown offset) (from, among, e, absent) = unknown_in [] froms from offset among e absent
     where
       unknown_in : (before froms : List NamedFrom) (from : NamedFrom) (offset : ℕ) → Contains froms from → from.relation.offset ≡ offset → (Contains (relation_names relations) from.relation.text → ⊥) → In before froms (fault.Unknown offset)
-      unknown_in before [] from offset among e absent = absurd (nothing_in from among)
+      unknown_in before [] from offset among e absent = absurd (contains_none from among)
       unknown_in before (x ∷ froms) from offset among e absent = ⊎_elim (λ same. inl (inl (subst (λ (y : NamedFrom). UnknownAt y (fault.Unknown offset)) (sym same) (e, absent)))) (λ h. inr (unknown_in (before ++ x ∷ []) froms from offset h e absent)) (contains_cases x froms from among)
   from_whole froms (fault.Ambiguous offset) (before, from, after, whole, e, used) = subst (λ all. In [] all (fault.Ambiguous offset)) (sym whole) (used_in [] before used)
     where
@@ -168,7 +165,7 @@ module _ (relations : List Relation) where
   no_from_fault froms rels are (fault.Unknown offset) (from, among, e, absent) = there froms rels are.relations_are among
     where
       there : (froms : List NamedFrom) (rels : List ℕ) → AllZip (λ (from : NamedFrom) (rel : ℕ). slice_get (relation_names relations) rel ≡ Some from.relation.text) froms rels → Contains froms from → ⊥
-      there [] rels zip c = nothing_in from c
+      there [] rels zip c = contains_none from c
       there (x ∷ froms) [] zip c = zip
       there (x ∷ froms) (rel ∷ rels) (at, zip) c = ⊎_elim (λ same. absent (contains_got (relation_names relations) rel from.relation.text (at ∙ ap (λ (y : NamedFrom). Some y.relation.text) same))) (there froms rels zip) (contains_cases x froms from c)
   no_from_fault froms rels are (fault.Ambiguous offset) (before, from, after, whole, e, used) =
@@ -185,7 +182,7 @@ module _ (relations : List Relation) where
           zero_suc k e = absurd (omega arith)
 
       twice : (before : List NamedFrom) → Contains (from_names before) from.item.text → AllDiffer (from_names (before ++ from ∷ after)) → ⊥
-      twice [] used differ = nothing_in from.item.text used
+      twice [] used differ = contains_none from.item.text used
       twice (x ∷ before) used differ = ⊎_elim (λ same. head_again x before (sym same) differ)
           (λ rest. twice before rest (λ i j member at at'. let e = differ (suc i) (suc j) member at at' in omega (arith, e)))
           (contains_cases x.item.text (from_names before) from.item.text used)

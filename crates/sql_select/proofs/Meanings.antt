@@ -3,7 +3,7 @@ use Rattle.std.proofs.Common.{◌≡◌, ℕ, List, [], ◌∷◌, ap, subst, sy
 use Rattle.std.specs.Prelude.{Contains, Some, slice_get}
 use Rattle.std.specs.List.{AllZip}
 use Rattle.std.proofs.lemmas.List.Elements.{Contains-append_cases}
-use Rattle.lists.proofs.Members.{contains_cases, contains_got, some_injective}
+use Rattle.lists.proofs.Members.{contains_cases, contains_got, some_injective, contains_none}
 use Rattle.meaning.specs.declared.types.Relation.{Relation}
 use Rattle.meaning.specs.declared.types.Operand.{Operand}
 use Rattle.meaning.specs.declared.types.Condition.{Condition}
@@ -17,7 +17,7 @@ use Rattle.sql_select.specs.declared.named.NameFault.{NameFault}
 use Rattle.sql_select.specs.Names.{AreFroms, IsColumnAt, IsMeant, IsMeaning, IsFromFault, IsColumnFault, IsFirst, IsNameFault, operands_of}
 use Rattle.sql_select.specs.Resolving.{item_operands, condition_operands}
 use Rattle.sql_select.proofs.Earliest.{one_first}
-use Rattle.sql_select.proofs.FromFaults.{nothing_in, no_from_fault, one_rels}
+use Rattle.sql_select.proofs.FromFaults.{no_from_fault, one_rels}
 use Rattle.sql_select.proofs.ColumnFaults.{one_meaning, no_fault, from_columns}
 
 -- lists that are related place by place to one list are one, where the relation has one value
@@ -68,14 +68,14 @@ module _ (relations : List Relation) (are : AreRelations relations) where
     -- an operand of the select has a meaning
     item_meant : (rels : List ℕ) (items : List NamedItem) (os : List Operand) (o : NamedOperand) → AllZip (λ (item : NamedItem) (p : Operand). IsMeant relations rels parts.froms item.operand p) items os → Contains (item_operands items) o →
         (p : Operand) × IsMeant relations rels parts.froms o p
-    item_meant rels [] os o zip c = absurd (nothing_in o c)
+    item_meant rels [] os o zip c = absurd (contains_none o c)
     item_meant rels (item ∷ items) [] o zip c = absurd zip
     item_meant rels (item ∷ items) (p ∷ os) o (h, zip) c = ⊎_elim (λ e. (p, subst (λ (q : NamedOperand). IsMeant relations rels parts.froms q p) e h)) (λ later. item_meant rels items os o zip later) (contains_cases item.operand (item_operands items) o c)
 
     condition_meant : (rels : List ℕ) (cs : List NamedCondition) (ds : List Condition) (o : NamedOperand) →
         AllZip (λ (c : NamedCondition) (d : Condition). IsMeant relations rels parts.froms c.left d.left × IsMeant relations rels parts.froms c.right d.right) cs ds → Contains (condition_operands cs) o →
         (p : Operand) × IsMeant relations rels parts.froms o p
-    condition_meant rels [] ds o zip c = absurd (nothing_in o c)
+    condition_meant rels [] ds o zip c = absurd (contains_none o c)
     condition_meant rels (c ∷ cs) [] o zip m = absurd zip
     condition_meant rels (c ∷ cs) (d ∷ ds) o (h, zip) m =
         ⊎_elim (λ e. (d.left, subst (λ (q : NamedOperand). IsMeant relations rels parts.froms q d.left) e h.0))

@@ -1,14 +1,12 @@
 -- A query has one select, so what is said of selects is said of that one.
 use Rattle.std.proofs.Common.{◌≡◌, List, [], ◌∷◌, ◌++◌, refl, sym, ap, ◌∙◌, subst, ⊎_elim, inl, inr, arith}
-use Rattle.std.specs.Prelude.{Contains}
 use Rattle.std.proofs.lemmas.List.{append-nil}
-use Rattle.lists.proofs.Members.{contains_here, contains_cases}
+use Rattle.lists.proofs.Members.{contains_here, contains_none, contains_one}
 use Rattle.sql_select.specs.declared.piece.Piece.{Piece}
 use Rattle.sql_select.specs.declared.piece.Piece.TheVariants as piece
 use Rattle.sql_select.specs.declared.piece.RawSelect.{RawSelect}
 use Rattle.sql_select.specs.Grammar.{shown, HasItsSelects, IsText}
 use Rattle.sql_select.specs.Reading.{IsSelectText}
-use Rattle.sql_select.proofs.FromFaults.{nothing_in}
 use Rattle.sql_select.proofs.Complete as complete
 
 the_one : {X : Type 0} (xs : List X) → HasItsSelects xs → (x : X) × (xs ≡ x ∷ [])
@@ -16,15 +14,12 @@ the_one [] e = absurd (omega (arith, e))
 the_one (x ∷ []) e = (x, refl)
 the_one (x ∷ y ∷ xs) e = absurd (omega (arith, e))
 
-pub itself_alone : {X : Type 0} (x y : X) → Contains (x ∷ []) y → x ≡ y
-itself_alone x y c = ⊎_elim (λ e. e) (λ h. absurd (nothing_in y h)) (contains_cases x [] y c)
-
 -- a query of one select, and its select
 pub as_query : (raw : RawSelect) (pieces : List Piece) → IsSelectText raw pieces → IsText (raw ∷ []) pieces
 as_query raw pieces is = record {
   count = refl;
-  items = λ other c. subst (λ (r : RawSelect). r.items ≡ [] → ⊥) (itself_alone raw other c) is.items;
-  froms = λ other c. subst (λ (r : RawSelect). r.froms ≡ [] → ⊥) (itself_alone raw other c) is.froms;
+  items = λ other c. subst (λ (r : RawSelect). r.items ≡ [] → ⊥) (contains_one raw other c) is.items;
+  froms = λ other c. subst (λ (r : RawSelect). r.froms ≡ [] → ⊥) (contains_one raw other c) is.froms;
   written = ⊎_elim
       (λ e. inl (e ∙ sym (append-nil (shown raw))))
       (λ e. inr (e ∙ ap (λ ps. ps ++ piece.Semicolon ∷ []) (sym (append-nil (shown raw)))))

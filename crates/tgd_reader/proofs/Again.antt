@@ -1,5 +1,5 @@
 -- The text of a schema declares the schema again.
-use Rattle.std.proofs.Common.{◌≡◌, ℕ, zero, suc, ◌+◌, ◌<◌, ◌≤◌, max, Bool, true, false, not, ◌||◌, List, [], ◌∷◌, ◌++◌, length, take, drop, slice_get, Option, None, Some, refl, sym, ap, subst, ◌∙◌, arith, ⊎_elim, nat_le, nat_lt}
+use Rattle.std.proofs.Common.{◌≡◌, ℕ, zero, suc, ◌+◌, ◌<◌, ◌≤◌, max, Bool, true, false, not, List, [], ◌∷◌, ◌++◌, length, take, drop, slice_get, Option, None, Some, refl, sym, ap, subst, ◌∙◌, arith, ⊎_elim, nat_le, nat_lt}
 use Rattle.std.specs.Prelude.{Contains, map, filter, filter_map, flat_map, slice_index_or, ◌==◌}
 use Rattle.std.specs.Str.{IsUtf8}
 use Rattle.std.specs.List.{AllByRecursion, list_any, range_with_len}
@@ -9,7 +9,8 @@ use Rattle.std.proofs.lemmas.List.Elements.{Contains-append_left, Contains-appen
 use Rattle.meaning.specs.declared.types.Relation.{Relation}
 use Rattle.meaning.specs.declared.types.Method.{Method}
 use Rattle.meaning.specs.declared.types.Atom.{Atom}
-use Rattle.lists.proofs.Members.{contains_got, got_below}
+use Rattle.lists.proofs.Members.{contains_got, got_below, all_member, all_from}
+use Rattle.lists.proofs.Booleans.{neither_true}
 use Rattle.access_schema.specs.declared.part.NamedAtom.{NamedAtom}
 use Rattle.access_schema.specs.declared.part.Part.{Part}
 use Rattle.access_schema.specs.declared.part.Part.TheVariants.{Relation as RelationPart, Method as MethodPart, Rule as RulePart, ForeignKey as KeyPart, Constant as ConstantPart, Source as SourcePart}
@@ -33,12 +34,11 @@ use Rattle.tgd_reader.specs.SchemaText.{DeclaresSchema, IsSchemaText}
 use Rattle.tgd_reader.specs.Printed.{name_at, columns_at, columns_in, named_term, named_atom, variable_name, without_line, parts_of, placed_from, printed_parts, text_of_schema, AreSameButLines}
 use Rattle.tgd_reader.proofs.PrintedParts.{parts_again}
 use Rattle.tgd_reader.proofs.Plain.{schema_plain}
-use Rattle.tgd_reader.proofs.Writing.{by_recursion}
 use Rattle.tgd_reader.proofs.Rebuilt.{first_names, names_once, terms_named}
 use Rattle.tgd_reader.proofs.Redeclared.{relations_placed, methods_on_lines, sources_on_lines, rules_on_lines}
 use Rattle.tgd_reader.proofs.Sound.{none_repeats}
 use Rattle.tgd_reader.proofs.Places.{got_read}
-use Rattle.tgd_reader.proofs.Reprinted.{IsOf, all_member, placed_declared, constants_within, constants_on_lines}
+use Rattle.tgd_reader.proofs.Reprinted.{IsOf, placed_declared, constants_within, constants_on_lines}
 use Rattle.tgd_reader.proofs.Faultless.{room, stands_there, not_recursive, none_mapped, name_known, name_columns}
 
 le_false : (most count : ℕ) → count < most → nat_le most count ≡ false
@@ -49,9 +49,6 @@ lt_false most count le = grind (arith, nat_tests)
 
 outside_false : (most count : ℕ) → 1 ≤ count → count ≤ most → is_outside most count ≡ false
 outside_false most count some few = grind (arith, nat_tests)
-
-or_none : (a b : Bool) → a ≡ false → b ≡ false → (a || b) ≡ false
-or_none a b e f = cc
 
 same_lengths : (a b : ℕ) → a ≡ b → not (a == b) ≡ false
 same_lengths a b e = grind (arith, nat_tests)
@@ -72,7 +69,7 @@ module _ (s : Schema) where
   none_unknown (RulePart line body head) of =
       let fits = s.valid.rules_are.fit of.0 of.1 in
       let p : NamedAtom → Bool = λ atom. is_unknown s.relations atom.relation in
-      or_none (list_any p body) (list_any p head)
+      neither_true (list_any p body) (list_any p head)
       (ap (list_any p) of.2 ∙ none_mapped p (named_atom s.relations) of.0.body (λ atom there. atom_known atom (fits.atoms atom (Contains-append_left of.0.body of.0.head atom there))))
       (ap (list_any p) of.3 ∙ none_mapped p (named_atom s.relations) of.0.head (λ atom there. atom_known atom (fits.atoms atom (Contains-append_right of.0.body of.0.head atom there))))
   none_unknown (KeyPart line relation columns target target_columns) of = absurd of
@@ -85,7 +82,7 @@ module _ (s : Schema) where
   none_misfit (RulePart line body head) of =
       let fits = s.valid.rules_are.fit of.0 of.1 in
       let p : NamedAtom → Bool = is_misfit s.relations in
-      or_none (list_any p body) (list_any p head)
+      neither_true (list_any p body) (list_any p head)
       (ap (list_any p) of.2 ∙ none_mapped p (named_atom s.relations) of.0.body (λ atom there. atom_fit atom (fits.atoms atom (Contains-append_left of.0.body of.0.head atom there))))
       (ap (list_any p) of.3 ∙ none_mapped p (named_atom s.relations) of.0.head (λ atom there. atom_fit atom (fits.atoms atom (Contains-append_right of.0.body of.0.head atom there))))
   none_misfit (KeyPart line relation columns target target_columns) of = absurd of
@@ -148,7 +145,7 @@ module _ (s : Schema) (parts : List Part) (all : AllByRecursion (IsOf s) parts) 
       omega (arith, a, b, c, d)
 
   front_of : (front : List Part) → ((x : Part) → Contains front x → Contains parts x) → AllByRecursion (IsOf s) front
-  front_of front within = by_recursion (IsOf s) front (λ x there. all_member (IsOf s) parts x all (within x there))
+  front_of front within = all_from (IsOf s) front (λ x there. all_member (IsOf s) parts x all (within x there))
 
   no_many : (earlier : List Part) (part : Part) → ((x : Part) → Contains (earlier ++ part ∷ []) x → Contains parts x) → has_many_constants earlier part ≡ false
   no_many earlier part within =

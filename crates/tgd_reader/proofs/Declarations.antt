@@ -1,14 +1,16 @@
 -- A line is read as a declaration exactly where the grammar relates the two.
 use Rattle.std.proofs.Common.{◌≡◌, ℕ, Bool, true, false, cond, List, [], ◌∷◌, ◌++◌, Option, None, Some, refl, sym, ap, subst, append_assoc}
-use Rattle.std.specs.Prelude.{codes, nat_eq, ◌&&◌}
+use Rattle.std.specs.Prelude.{codes, nat_eq}
 use Rattle.std.specs.List.{AllByRecursion}
 use Rattle.std.proofs.lemmas.Bool.{eqb-true, eq-eqb}
+use Rattle.lists.proofs.Booleans.{first_true}
+use Rattle.lists.proofs.Members.{some_injective}
 use Rattle.pq_text.specs.declared.token.TokenKind.{TokenKind}
 use Rattle.pq_text.specs.declared.token.TokenKind.TheVariants.{Word, Quoted, Text, Number, Symbol, Eol}
 use Rattle.pq_text.specs.declared.lexeme.Lexeme.{Lexeme}
 use Rattle.pq_text.specs.Lexemes.{◌>>=◌, comma, kind_names, kind_is_symbol, symbol_at, word_at, name_at, value_at, text_at, number_at, names_at, end_at, word_next}
 use Rattle.pq_text.specs.Forms.{Slot, Key, Mark, Name, Value, Quote, Digits, Takes, list_form, further_form, name_form, IsSome}
-use Rattle.pq_text.proofs.Forms.{bind_some, some_is, Takes-append, Takes-split, symbol_found, symbol_again, word_found, word_again, name_found, name_again, value_found, value_again, text_found, text_again, number_found, number_again, names_found, names_again, other_symbol, other_word, this_word}
+use Rattle.pq_text.proofs.Forms.{bind_some, Takes-append, Takes-split, symbol_found, symbol_again, word_found, word_again, name_found, name_again, value_found, value_again, text_found, text_again, number_found, number_again, names_found, names_again, other_symbol, other_word, this_word, end_is}
 use Rattle.access_schema.specs.declared.part.NamedAtom.{NamedAtom}
 use Rattle.access_schema.specs.declared.part.Part.{Part}
 use Rattle.access_schema.specs.declared.part.Part.TheVariants.{Relation, Method, Rule, ForeignKey, Constant, Source}
@@ -27,7 +29,7 @@ relation_found number ls part rest e =
     let f = listing_found a.0 b.0.0 b.0.1 b.1 in
     let made : Part × List Lexeme = (Relation b.0.0.relation b.0.0.columns, b.0.1) in
     let whole = Takes-append ls (Key (codes "relation") ∷ []) (listing_form b.0.0.relation b.0.0.columns) a.0 b.0.1 (word_found (codes "relation") ls a.0 a.1) f.1 in
-    subst (λ (y : Part × List Lexeme). Declares number ls y.0 y.1) (some_is made (part, rest) b.2) (f.0, whole)
+    subst (λ (y : Part × List Lexeme). Declares number ls y.0 y.1) (some_injective made (part, rest) b.2) (f.0, whole)
 
 relation_again : (ls : List Lexeme) (name : List ℕ) (columns : List (List ℕ)) (rest : List Lexeme) → IsSome columns → Takes ls (relation_form name columns) rest → relation_at ls ≡ Some (Relation name columns, rest)
 unfolding relation_at
@@ -51,7 +53,7 @@ rule_found number ls part rest e =
     let inner = Takes-append a.0 (list_form atom_form b.0.0) (Mark (codes "->") ∷ list_form atom_form h.0.0) b.0.1 h.0.1 body.2 behind in
     let whole = Takes-append ls (Key (codes "rule") ∷ []) (list_form atom_form b.0.0 ++ Mark (codes "->") ∷ list_form atom_form h.0.0) a.0 h.0.1 (word_found (codes "rule") ls a.0 a.1) inner in
     let made : Part × List Lexeme = (Rule number b.0.0 h.0.0, h.0.1) in
-    subst (λ (y : Part × List Lexeme). Declares number ls y.0 y.1) (some_is made (part, rest) h.2) (body.0, body.1, head.0, head.1, refl, whole)
+    subst (λ (y : Part × List Lexeme). Declares number ls y.0 y.1) (some_injective made (part, rest) h.2) (body.0, body.1, head.0, head.1, refl, whole)
 
 rule_again : (number : ℕ) (ls : List Lexeme) (body head : List NamedAtom) → IsSome body → AllByRecursion IsAtom body → IsSome head → AllByRecursion IsAtom head → Takes ls (rule_form body head) [] → rule_at number ls ≡ Some (Rule number body head, [])
 unfolding rule_at
@@ -65,10 +67,6 @@ rule_again number ls body head w v w' v' t =
 
 -- ---- methods
 
-and-first : (x y : Bool) → (x && y) ≡ true → x ≡ true
-and-first true y e = refl
-and-first false y e = absurd cc
-
 name_is_no_symbol : (k : TokenKind) → kind_names k ≡ true → kind_is_symbol k ≡ false
 name_is_no_symbol Word e = refl
 name_is_no_symbol Quoted e = refl
@@ -80,19 +78,19 @@ name_is_no_symbol Eol e = absurd cc
 inputs_cases : (ls : List Lexeme) (o : Option (List Lexeme)) (xs : List (List ℕ)) (rest : List Lexeme) → symbol_at (codes ")") ls ≡ o → inputs_or ls o ≡ Some (xs, rest) → Takes ls (list_form name_form xs ++ Mark (codes ")") ∷ []) rest
 inputs_cases ls (Some after) xs rest next e =
     let none : List (List ℕ) × List Lexeme = ([], after) in
-    subst (λ (y : List (List ℕ) × List Lexeme). Takes ls (list_form name_form y.0 ++ Mark (codes ")") ∷ []) y.1) (some_is none (xs, rest) e) (symbol_found (codes ")") ls after next)
+    subst (λ (y : List (List ℕ) × List Lexeme). Takes ls (list_form name_form y.0 ++ Mark (codes ")") ∷ []) y.1) (some_injective none (xs, rest) e) (symbol_found (codes ")") ls after next)
 inputs_cases ls None xs rest next e =
     let a = bind_some (names_at ls) (λ (t : List (List ℕ) × List Lexeme). symbol_at (codes ")") t.1 >>= λ q. Some (t.0, q)) (xs, rest) e in
     let d = bind_some (symbol_at (codes ")") a.0.1) (λ (q : List Lexeme). Some (a.0.0, q)) (xs, rest) a.2 in
     let n = names_found ls a.0.0 a.0.1 a.1 in
     let made : List (List ℕ) × List Lexeme = (a.0.0, d.0) in
-    subst (λ (y : List (List ℕ) × List Lexeme). Takes ls (list_form name_form y.0 ++ Mark (codes ")") ∷ []) y.1) (some_is made (xs, rest) d.2)
+    subst (λ (y : List (List ℕ) × List Lexeme). Takes ls (list_form name_form y.0 ++ Mark (codes ")") ∷ []) y.1) (some_injective made (xs, rest) d.2)
     (Takes-append ls (list_form name_form a.0.0) (Mark (codes ")") ∷ []) a.0.1 d.0 n.1 (symbol_found (codes ")") a.0.1 d.0 d.1))
 
 -- where a name stands, no symbol does
 name_no_symbol : (text n : List ℕ) (ls : List Lexeme) (ss : List Slot) (rest : List Lexeme) → Takes ls (Name n ∷ ss) rest → symbol_at text ls ≡ None
 name_no_symbol text n [] ss rest t = absurd t
-name_no_symbol text n (l ∷ ls) ss rest t = let k = name_is_no_symbol l.kind (and-first (kind_names l.kind) _ t.0.0) in rw k refl
+name_no_symbol text n (l ∷ ls) ss rest t = let k = name_is_no_symbol l.kind (first_true (kind_names l.kind) _ t.0.0) in rw k refl
 
 inputs_again : (ls : List Lexeme) (xs : List (List ℕ)) (ss : List Slot) (rest : List Lexeme) → Takes ls (list_form name_form xs ++ Mark (codes ")") ∷ ss) rest → (mid : List Lexeme) × (inputs_at ls ≡ Some (xs, mid)) × Takes mid ss rest
 inputs_again ls [] ss rest t = let d = symbol_again (codes ")") ls ss rest t in (d.0, rw d.1 refl, d.2)
@@ -112,7 +110,7 @@ cost_found ls cost rest e =
     let c = bind_some (word_at (codes "cost") ls) (λ (c : List Lexeme). number_at c >>= λ d. Some (cost_of d.0, d.1)) (cost, rest) e in
     let d = bind_some (number_at c.0) (λ (d : List ℕ × List Lexeme). Some (cost_of d.0, d.1)) (cost, rest) c.2 in
     let made : ℕ × List Lexeme = (cost_of d.0.0, d.0.1) in
-    let same = some_is made (cost, rest) d.2 in
+    let same = some_injective made (cost, rest) d.2 in
     let is : cost_of d.0.0 ≡ cost = ap (λ (p : ℕ × List Lexeme). p.0) same in
     let t = number_found c.0 d.0.0 d.0.1 (λ digits. nat_eq (cost_of digits) cost) (eq-eqb (cost_of d.0.0) cost is) d.1 in
     let w = Takes-append ls (Key (codes "cost") ∷ []) (Digits (λ digits. nat_eq (cost_of digits) cost) ∷ []) c.0 d.0.1 (word_found (codes "cost") ls c.0 c.1) t in
@@ -143,7 +141,7 @@ inputs_found n r ls part rest e =
     let t = bind_some (inputs_at i.0) (λ (t : List (List ℕ) × List Lexeme). cost_at t.1 >>= λ c. Some (Method n r t.0 c.0, c.1)) (part, rest) i.2 in
     let c = bind_some (cost_at t.0.1) (λ (c : ℕ × List Lexeme). Some (Method n r t.0.0 c.0, c.1)) (part, rest) t.2 in
     let made : Part × List Lexeme = (Method n r t.0.0 c.0.0, c.0.1) in
-    let same = some_is made (part, rest) c.2 in
+    let same = some_injective made (part, rest) c.2 in
     let u = join_inputs i.0 t.0.0 c.0.0 t.0.1 c.0.1 (inputs_cases i.0 (symbol_at (codes ")") i.0) t.0.0 t.0.1 refl t.1) (cost_found t.0.1 c.0.0 c.0.1 c.1) in
     let w = Takes-append ls (Mark (codes "(") ∷ []) (list_form name_form t.0.0 ++ Mark (codes ")") ∷ cost_form c.0.0) i.0 c.0.1 (symbol_found (codes "(") ls i.0 i.1) u in
     (t.0.0, c.0.0, ap (λ (p : Part × List Lexeme). p.0) same, subst (λ (q : List Lexeme). Takes ls (inputs_form t.0.0 c.0.0) q) (ap (λ (p : Part × List Lexeme). p.1) same) w)
@@ -197,7 +195,7 @@ target_found number s ls part rest e =
     let t = bind_some (listing_at b.0) (λ (t : Listing × List Lexeme). Some (ForeignKey number s.relation s.columns t.0.relation t.0.columns, t.1)) (part, rest) b.2 in
     let f = listing_found b.0 t.0.0 t.0.1 t.1 in
     let made : Part × List Lexeme = (ForeignKey number s.relation s.columns t.0.0.relation t.0.0.columns, t.0.1) in
-    let same = some_is made (part, rest) t.2 in
+    let same = some_injective made (part, rest) t.2 in
     let w = Takes-append ls (Key (codes "references") ∷ []) (listing_form t.0.0.relation t.0.0.columns) b.0 t.0.1 (word_found (codes "references") ls b.0 b.1) f.1 in
     (t.0.0, ap (λ (p : Part × List Lexeme). p.0) same, f.0, subst (λ (q : List Lexeme). Takes ls (Key (codes "references") ∷ listing_form t.0.0.relation t.0.0.columns) q) (ap (λ (p : Part × List Lexeme). p.1) same) w)
 
@@ -238,7 +236,7 @@ constant_found number ls part rest e =
     let v = bind_some (value_at a.0) (λ (v : List ℕ × List Lexeme). Some (Constant v.0, v.1)) (part, rest) a.2 in
     let made : Part × List Lexeme = (Constant v.0.0, v.0.1) in
     let whole = Takes-append ls (Key (codes "constant") ∷ []) (Value v.0.0 ∷ []) a.0 v.0.1 (word_found (codes "constant") ls a.0 a.1) (value_found a.0 v.0.0 v.0.1 v.1) in
-    subst (λ (y : Part × List Lexeme). Declares number ls y.0 y.1) (some_is made (part, rest) v.2) whole
+    subst (λ (y : Part × List Lexeme). Declares number ls y.0 y.1) (some_injective made (part, rest) v.2) whole
 
 constant_again : (ls : List Lexeme) (value : List ℕ) → Takes ls (constant_form value) [] → constant_at ls ≡ Some (Constant value, [])
 unfolding constant_at
@@ -258,7 +256,7 @@ source_found number ls part rest e =
     let kinds = Takes-append r.0.1 (Name k.0.0 ∷ []) (Quote l.0.0 ∷ []) k.0.1 l.0.1 (name_found r.0.1 k.0.0 k.0.1 k.1) (text_found k.0.1 l.0.0 l.0.1 l.1) in
     let named = Takes-append a.0 (Name r.0.0 ∷ []) (Name k.0.0 ∷ Quote l.0.0 ∷ []) r.0.1 l.0.1 (name_found a.0 r.0.0 r.0.1 r.1) kinds in
     let whole = Takes-append ls (Key (codes "source") ∷ []) (Name r.0.0 ∷ Name k.0.0 ∷ Quote l.0.0 ∷ []) a.0 l.0.1 (word_found (codes "source") ls a.0 a.1) named in
-    subst (λ (y : Part × List Lexeme). Declares number ls y.0 y.1) (some_is made (part, rest) l.2) whole
+    subst (λ (y : Part × List Lexeme). Declares number ls y.0 y.1) (some_injective made (part, rest) l.2) whole
 
 source_again : (ls : List Lexeme) (relation kind locator : List ℕ) → Takes ls (source_form relation kind locator) [] → source_at ls ≡ Some (Source relation kind locator, [])
 unfolding source_at
@@ -280,10 +278,6 @@ part_found number ls false false false true f part rest e = foreign_found number
 part_found number ls false false false false true part rest e = constant_found number ls part rest e
 part_found number ls false false false false false part rest e = source_found number ls part rest e
 
-end_is : (ls rest : List Lexeme) → end_at ls ≡ Some rest → (ls ≡ []) × (rest ≡ [])
-end_is [] rest e = (refl, cc)
-end_is (l ∷ ls) rest e = absurd cc
-
 pub declaration_found : (number : ℕ) (ls : List Lexeme) (part : Part) (rest : List Lexeme) → declaration_at number ls ≡ Some (part, rest) → IsDeclaration number ls part
 declaration_found number ls part rest e =
     let a = bind_some (part_at number ls) (λ (p : Part × List Lexeme). end_at p.1 >>= λ n. Some (p.0, n)) (part, rest) e in
@@ -292,7 +286,7 @@ declaration_found number ls part rest e =
     let f = part_found number ls (word_next (codes "relation") ls) (word_next (codes "method") ls) (word_next (codes "rule") ls) (word_next (codes "foreign") ls) (word_next (codes "constant") ls) a.0.0 a.0.1 a.1 in
     let g : Declares number ls a.0.0 [] = subst (λ (r : List Lexeme). Declares number ls a.0.0 r) last.0 f in
     let made : Part × List Lexeme = (a.0.0, b.0) in
-    subst (λ (y : Part × List Lexeme). Declares number ls y.0 []) (some_is made (part, rest) b.2) g
+    subst (λ (y : Part × List Lexeme). Declares number ls y.0 []) (some_injective made (part, rest) b.2) g
 
 -- the declaration by its first word
 whole_line : (number : ℕ) (ls : List Lexeme) (part : Part) → part_at number ls ≡ Some (part, []) → declaration_at number ls ≡ Some (part, [])

@@ -1,5 +1,5 @@
 -- No declaration of a schema, on any line, has a fault.
-use Rattle.std.proofs.Common.{◌≡◌, ℕ, zero, suc, ◌+◌, ◌<◌, ◌≤◌, Bool, true, false, List, [], ◌∷◌, ◌++◌, length, slice_get, Option, Some, refl, sym, ap, subst, ◌∙◌, append_assoc, arith}
+use Rattle.std.proofs.Common.{◌≡◌, ℕ, zero, suc, ◌+◌, ◌<◌, ◌≤◌, Bool, false, List, [], ◌∷◌, ◌++◌, length, slice_get, Option, Some, refl, sym, ap, subst, ◌∙◌, append_assoc, arith}
 use Rattle.std.specs.Prelude.{Contains, map, filter_map, slice_index_or}
 use Rattle.std.specs.List.{cons_option, list_any}
 use Rattle.std.proofs.lemmas.List.{length-append}
@@ -8,6 +8,7 @@ use Rattle.meaning.specs.declared.types.Relation.{Relation}
 use Rattle.meaning.specs.declared.types.Rule.{Rule}
 use Rattle.meaning.specs.declared.types.Atom.{Atom}
 use Rattle.lists.proofs.Members.{contains_here, contains_there, contains_got, contains_map, contains_mapped, got_below, got_mapped}
+use Rattle.lists.proofs.Booleans.{never_true}
 use Rattle.access_schema.specs.declared.part.Part.{Part}
 use Rattle.access_schema.specs.declared.schema.Schema.{Schema}
 use Rattle.access_schema.specs.Names.{AllDiffer}
@@ -16,7 +17,7 @@ use Rattle.meaning.specs.RuleOrder.{Feeds}
 use Rattle.access_schema.specs.Feeding.{AreRecursive}
 use Rattle.access_schema.specs.Content.{columns_of, rule_of, rules_of}
 use Rattle.access_schema.specs.Faults.{is_unknown}
-use Rattle.access_schema.proofs.Texts.{among_contains, got_contained}
+use Rattle.access_schema.proofs.Texts.{among_contains, first_apart}
 use Rattle.access_schema.proofs.Prefixes.{given_by, given_from}
 use Rattle.access_schema.proofs.Circles.{chain_along}
 use Rattle.tgd_reader.specs.Printed.{name_in, name_at, without_line}
@@ -26,17 +27,10 @@ use Rattle.tgd_reader.proofs.Reprinted.{differ_split}
 
 -- ---- lists
 
-pub fails : (b : Bool) → (b ≡ true → ⊥) → b ≡ false
-fails true free = absurd (free refl)
-fails false free = refl
-
-first_apart : {X : Type 0} (x : X) (xs : List X) → AllDiffer (x ∷ xs) → Contains xs x → ⊥
-first_apart x xs differ there = let at = got_contained xs x there in let e = differ 0 (suc there.0) x refl at in omega arith
-
 pub repeats_none : (texts : List (List ℕ)) → AllDiffer texts → repeats texts ≡ false
 repeats_none [] differ = refl
 repeats_none (text ∷ texts) differ =
-    let apart : is_among texts text ≡ false = fails (is_among texts text) (λ yes. first_apart text texts differ (among_contains texts text yes)) in
+    let apart : is_among texts text ≡ false = never_true (is_among texts text) (λ yes. first_apart text texts differ (among_contains texts text yes)) in
     rw apart (repeats_none texts (λ i j member at_i at_j. let e = differ (suc i) (suc j) member at_i at_j in omega arith))
 
 pub none_mapped : {X Y : Type 0} (p : Y → Bool) (f : X → Y) (xs : List X) → ((x : X) → Contains xs x → p (f x) ≡ false) → list_any p (map f xs) ≡ false

@@ -1,5 +1,5 @@
 -- The declarations of a schema can be printed: no name is empty, and lists have members.
-use Rattle.std.proofs.Common.{◌≢◌, ℕ, ◌<◌, ◌≤◌, List, [], ◌∷◌, ◌++◌, length, get_or, Option, refl, sym, subst, arith}
+use Rattle.std.proofs.Common.{ℕ, ◌<◌, List, [], ◌∷◌, ◌++◌, length, get_or, Option, sym, subst, arith}
 use Rattle.std.specs.Prelude.{Contains, map, slice_index_or}
 use Rattle.std.specs.List.{AllByRecursion}
 use Rattle.std.proofs.lemmas.List.Elements.{All-contains_itself, Contains-append_left, Contains-append_right}
@@ -11,23 +11,15 @@ use Rattle.meaning.specs.declared.types.Atom.{Atom}
 use Rattle.meaning.specs.declared.types.Term.{Term}
 use Rattle.meaning.specs.declared.types.Term.TheVariants.{Var, Const}
 use Rattle.pq_text.specs.Forms.{IsSome}
-use Rattle.lists.proofs.Members.{contains_here, contains_there, contains_got, got_below}
+use Rattle.lists.proofs.Members.{contains_here, contains_there, contains_got, got_below, all_from}
+use Rattle.pq_text.proofs.Forms.{some_listed, some_long}
 use Rattle.access_schema.specs.declared.part.Part.{Part}
 use Rattle.access_schema.specs.declared.part.Part.TheVariants.{Constant as ConstantPart}
 use Rattle.access_schema.specs.declared.schema.SourceLine.{SourceLine}
 use Rattle.access_schema.specs.declared.schema.Schema.{Schema}
 use Rattle.access_schema.specs.Invariant.{AtomFits}
 use Rattle.tgd_reader.specs.Printed.{name_in, columns_in, name_at, columns_at, named_term, named_atom, relation_part, method_part, rule_part, source_part, parts_of}
-use Rattle.tgd_reader.proofs.Writing.{by_recursion}
 use Rattle.tgd_reader.proofs.PrintedParts.{IsPlainTerm, IsPlainAtom, IsPlain}
-
-some_of : {X : Type 0} (xs : List X) → xs ≢ [] → IsSome xs
-some_of [] some = some refl
-some_of (x ∷ xs) some = tt
-
-some_long : {X : Type 0} (xs : List X) → 1 ≤ length xs → IsSome xs
-some_long [] some = omega arith
-some_long (x ∷ xs) some = tt
 
 pub all_appended : {X : Type 0} (P : X → Type 0) (xs ys : List X) → AllByRecursion P xs → AllByRecursion P ys → AllByRecursion P (xs ++ ys)
 all_appended P [] ys front behind = behind
@@ -41,15 +33,15 @@ module _ (schema : Schema) where
   name_some : (number : ℕ) → number < length schema.relations → IsSome (name_at schema.relations number)
   name_some number lt =
       let (relation, at) = got_below schema.relations number lt in
-      let some : IsSome relation.name = some_of relation.name (schema.valid.relations_are.named relation (contains_got schema.relations number relation at)) in
+      let some : IsSome relation.name = some_listed relation.name (schema.valid.relations_are.named relation (contains_got schema.relations number relation at)) in
       subst (λ (o : Option Relation). IsSome (name_in o)) (sym at) some
 
   relation_plain : (relation : Relation) → Contains schema.relations relation → IsPlain (relation_part relation)
   relation_plain relation there =
       let columns = schema.valid.relations_are.columns relation there in (
-        some_of relation.name (schema.valid.relations_are.named relation there),
+        some_listed relation.name (schema.valid.relations_are.named relation there),
         some_long relation.columns columns.some,
-        by_recursion (λ (column : List ℕ). IsSome column) relation.columns (λ column among. some_of column (columns.named column among)),
+        all_from (λ (column : List ℕ). IsSome column) relation.columns (λ column among. some_listed column (columns.named column among)),
       )
 
   method_plain : (method : Method) → Contains schema.methods method → IsPlain (method_part schema.relations method)
@@ -60,10 +52,10 @@ module _ (schema : Schema) where
       let names : AllByRecursion IsSome (map (λ place. slice_index_or relation.columns place []) method.inputs) =
       all_mapped IsSome (λ place. slice_index_or relation.columns place []) method.inputs (λ place among.
       let lt = schema.valid.methods_are.inputs method relation place there at among in
-      some_of (get_or relation.columns place []) (columns.named (get_or relation.columns place []) (All-contains_itself relation.columns place [] lt))) in
+      some_listed (get_or relation.columns place []) (columns.named (get_or relation.columns place []) (All-contains_itself relation.columns place [] lt))) in
       let inputs : AllByRecursion IsSome (columns_at schema.relations method.rel method.inputs) =
       subst (λ (o : Option Relation). AllByRecursion IsSome (map (λ place. slice_index_or (columns_in o) place []) method.inputs)) (sym at) names in
-      (some_of method.name (schema.valid.methods_are.named method there), name_some method.rel placed, inputs, schema.valid.methods_are.cost method there)
+      (some_listed method.name (schema.valid.methods_are.named method there), name_some method.rel placed, inputs, schema.valid.methods_are.cost method there)
 
   term_plain : (term : Term) → IsPlainTerm (named_term term)
   term_plain (Var k) = tt
@@ -95,7 +87,7 @@ module _ (schema : Schema) where
       )
 
   source_plain : (source : SourceLine) → Contains schema.sources source → IsPlain (source_part schema.relations source)
-  source_plain source there = (name_some source.rel (schema.valid.sources_are.placed source there), some_of source.kind (schema.valid.sources_are.named source there))
+  source_plain source there = (name_some source.rel (schema.valid.sources_are.placed source there), some_listed source.kind (schema.valid.sources_are.named source there))
 
   pub schema_plain : AllByRecursion IsPlain (parts_of schema)
   schema_plain =

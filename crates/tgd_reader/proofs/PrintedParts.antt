@@ -1,18 +1,19 @@
 -- Parts that are printed are read as themselves, each on its line.
-use Rattle.std.proofs.Common.{◌≡◌, ℕ, ◌+◌, ◌-◌, ◌*◌, ◌%◌, ◌<◌, ◌≤◌, ◌^◌, Bool, true, false, List, [], ◌∷◌, ◌++◌, refl, ap, subst, append_assoc, arith}
+use Rattle.std.proofs.Common.{◌≡◌, ℕ, ◌+◌, ◌-◌, ◌*◌, ◌≤◌, Bool, true, false, List, [], ◌∷◌, ◌++◌, refl, ap, subst, append_assoc, arith}
 use Rattle.std.specs.Prelude.{codes, map, nat_eq}
 use Rattle.std.specs.Fmt.{decimal}
 use Rattle.std.specs.List.{AllByRecursion}
 use Rattle.std.proofs.lemmas.Bool.{eq-eqb}
-use Rattle.std.proofs.lemmas.Fmt.{decimal_by_steps}
 use Rattle.std.proofs.lemmas.List.{append-nil}
+use Rattle.lists.proofs.Members.{all_along}
 use Rattle.pq_text.specs.declared.token.Style.TheVariants.{Lines}
 use Rattle.pq_text.specs.declared.lexeme.Lexeme.{Lexeme}
-use Rattle.pq_text.specs.Numbers.{value_from, value_of}
+use Rattle.pq_text.specs.Numbers.{value_from}
 use Rattle.pq_text.specs.Forms.{Slot, Key, Mark, Name, Value, Quote, Digits, Takes, list_form, name_form, IsSome}
 use Rattle.pq_text.specs.Pieces.{Piece, text_of, piece_lexeme, AreLexed, AreInLine, ArePrintedLines, word_piece, mark_piece, name_piece, value_piece, number_piece, list_pieces, lines_text, numbered}
 use Rattle.pq_text.proofs.Pieces.{printed_lines}
 use Rattle.pq_text.proofs.PieceLaws.{name_is_lexed, value_is_lexed, word_is_lexed, open_is_lexed, close_is_lexed, arrow_is_lexed, number_is_lexed, AreLexed-append, AreInLine-append, Reads, Reads-append, name_reads, value_reads, quote_reads, name_in_line, IsPrinted, list_lexed, list_reads, list_in_line}
+use Rattle.pq_text.proofs.Digits.{decimal_value}
 use Rattle.access_schema.specs.declared.part.NamedTerm.{NamedTerm}
 use Rattle.access_schema.specs.declared.part.NamedTerm.TheVariants.{Var, Const}
 use Rattle.access_schema.specs.declared.part.NamedAtom.{NamedAtom}
@@ -38,10 +39,6 @@ IsPlain (Rule line body head) = IsSome body × AllByRecursion IsPlainAtom body �
 IsPlain (ForeignKey line relation columns target target_columns) = ⊥
 IsPlain (Constant text) = Unit {0}
 IsPlain (Source relation kind locator) = IsSome relation × IsSome kind
-
-all_along : {X : Type 0} (P Q : X → Type 0) → ((x : X) → P x → Q x) → (xs : List X) → AllByRecursion P xs → AllByRecursion Q xs
-all_along P Q go [] all = tt
-all_along P Q go (x ∷ xs) all = (go x all.0, all_along P Q go xs all.1)
 
 -- ---- members
 
@@ -115,15 +112,8 @@ listing_in_line name columns some all = bracket_in_line name_pieces name_form tr
 
 -- ---- numbers
 
-value-push : (n : ℕ) (ds : List ℕ) (d : ℕ) → value_from n (ds ++ d ∷ []) ≡ value_from n ds * 10 + (d - 48)
-value-push n [] d = refl
-value-push n (e ∷ ds) d = value-push (n * 10 + (e - 48)) ds d
-
-value-decimal : (n : ℕ) → n < 2 ^ 64 → value_of (decimal n) ≡ n
-value-decimal n fits = decimal_by_steps (λ m ds. value_of ds ≡ m) (λ m low. omega arith) (λ m ds high is. let e = value-push 0 ds (48 + m % 10) in omega (arith, e, is)) n fits
-
 cost_again : (cost : ℕ) → cost ≤ 1000000 → nat_eq (cost_of (decimal cost)) cost ≡ true
-cost_again cost few = let v = value-decimal cost (omega (arith, few)) in eq-eqb (cost_of (decimal cost)) cost (omega (arith, v, few))
+cost_again cost few = let v = decimal_value cost (omega (arith, few)) in eq-eqb (cost_of (decimal cost)) cost (omega (arith, v, few))
 
 -- ---- declarations
 

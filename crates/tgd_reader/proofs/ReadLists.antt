@@ -2,12 +2,13 @@
 use Rattle.std.proofs.Common.{◌≡◌, ℕ, ◌≤◌, Bool, true, false, cond, List, [], ◌∷◌, ◌++◌, length, Option, None, Some, refl, subst, arith, lit≤}
 use Rattle.std.specs.Prelude.{codes}
 use Rattle.std.specs.List.{AllByRecursion}
+use Rattle.lists.proofs.Members.{some_injective}
 use Rattle.pq_text.specs.declared.lexeme.Lexeme.{Lexeme}
 use Rattle.pq_text.specs.declared.token.TokenKind.{TokenKind}
 use Rattle.pq_text.specs.declared.token.TokenKind.TheVariants.{Word, Quoted, Text, Number, Symbol, Eol}
 use Rattle.pq_text.specs.Lexemes.{◌>>=◌, comma, kind_names, kind_is_value, is_name, is_value, symbol_at, name_at, names_at}
 use Rattle.pq_text.specs.Forms.{Mark, Name, Takes, list_form, name_form, IsSome}
-use Rattle.pq_text.proofs.Forms.{bind_some, some_is, Takes-append, Takes-split, symbol_found, symbol_again, name_found, name_again, Any, all_any, Finds, Rereads, list_found, list_again, names_found, names_again, other_symbol}
+use Rattle.pq_text.proofs.Forms.{bind_some, Takes-append, Takes-split, symbol_found, symbol_again, name_found, name_again, Any, all_any, Finds, Rereads, list_found, list_again, names_found, names_again, other_symbol}
 use Rattle.access_schema.specs.declared.part.NamedTerm.{NamedTerm}
 use Rattle.access_schema.specs.declared.part.NamedTerm.TheVariants.{Var, Const}
 use Rattle.access_schema.specs.declared.part.NamedAtom.{NamedAtom}
@@ -38,10 +39,10 @@ constant x = Some (Const x.0, x.1)
 term_choice : (l : Lexeme) (ls : List Lexeme) (b v : Bool) (x : NamedTerm) (rest : List Lexeme) → is_name l ≡ b → is_value l ≡ v →
     cond b (front l ls b >>= variable) (front l ls v >>= constant) ≡ Some (x, rest) → Takes (l ∷ ls) (term_form x) rest
 term_choice l ls true v x rest n p e =
-    let g = some_is (Var l.text, ls) (x, rest) e in
+    let g = some_injective (Var l.text, ls) (x, rest) e in
     subst (λ (y : NamedTerm × List Lexeme). Takes (l ∷ ls) (term_form y.0) y.1) g ((n, refl), refl)
 term_choice l ls false true x rest n p e =
-    let g = some_is (Const l.text, ls) (x, rest) e in
+    let g = some_injective (Const l.text, ls) (x, rest) e in
     subst (λ (y : NamedTerm × List Lexeme). Takes (l ∷ ls) (term_form y.0) y.1) g ((p, refl), refl)
 term_choice l ls false false x rest n p e = absurd cc
 
@@ -73,7 +74,7 @@ atoms_find ls x rest e =
     let opened = Takes-append a.0.1 (Mark (codes "(") ∷ []) (list_form term_form c.0.0 ++ Mark (codes ")") ∷ []) b.0 d.0 (symbol_found (codes "(") a.0.1 b.0 b.1) inner in
     let made : NamedAtom × List Lexeme = (record { relation = a.0.0; terms = c.0.0 }, d.0) in
     let whole : Takes ls (atom_form made.0) made.1 = Takes-append ls (Name a.0.0 ∷ []) (Mark (codes "(") ∷ (list_form term_form c.0.0 ++ Mark (codes ")") ∷ [])) a.0.1 d.0 (name_found ls a.0.0 a.0.1 a.1) opened in
-    subst (λ (y : NamedAtom × List Lexeme). Takes ls (atom_form y.0) y.1 × IsAtom y.0) (some_is made (x, rest) d.2) (whole, terms.0)
+    subst (λ (y : NamedAtom × List Lexeme). Takes ls (atom_form y.0) y.1 × IsAtom y.0) (some_injective made (x, rest) d.2) (whole, terms.0)
 
 atoms_reread : Rereads atom_at atom_form IsAtom
 unfolding atom_at
@@ -108,7 +109,7 @@ listing_found ls x rest e =
     let opened = Takes-append a.0.1 (Mark (codes "(") ∷ []) (list_form name_form c.0.0 ++ Mark (codes ")") ∷ []) b.0 d.0 (symbol_found (codes "(") a.0.1 b.0 b.1) inner in
     let made : Listing × List Lexeme = (record { relation = a.0.0; columns = c.0.0 }, d.0) in
     let whole : Takes ls (listing_form made.0.relation made.0.columns) made.1 = Takes-append ls (Name a.0.0 ∷ []) (Mark (codes "(") ∷ (list_form name_form c.0.0 ++ Mark (codes ")") ∷ [])) a.0.1 d.0 (name_found ls a.0.0 a.0.1 a.1) opened in
-    subst (λ (y : Listing × List Lexeme). IsSome y.0.columns × Takes ls (listing_form y.0.relation y.0.columns) y.1) (some_is made (x, rest) d.2) (columns.0, whole)
+    subst (λ (y : Listing × List Lexeme). IsSome y.0.columns × Takes ls (listing_form y.0.relation y.0.columns) y.1) (some_injective made (x, rest) d.2) (columns.0, whole)
 
 pub listing_again : (ls : List Lexeme) (relation : List ℕ) (columns : List (List ℕ)) (rest : List Lexeme) → IsSome columns → Takes ls (listing_form relation columns) rest → listing_at ls ≡ Some (record { relation = relation; columns = columns }, rest)
 unfolding listing_at

@@ -16,13 +16,15 @@ use Rattle.meaning.specs.declared.types.Term.{Term}
 use Rattle.meaning.specs.declared.types.Term.TheVariants.{Var, Const}
 use Rattle.meaning.specs.Triggers.{terms_bound}
 use Rattle.lists.proofs.Members.{contains_here, contains_there, contains_cases, contains_got, got_below, map_got, some_injective}
+use Rattle.lists.proofs.Places.{range_push}
+use Rattle.lists.proofs.Orders.{text_is}
 use Rattle.access_schema.specs.declared.part.NamedTerm.{NamedTerm}
 use Rattle.access_schema.specs.Names.{relation_names}
 use Rattle.access_schema.specs.Lists.{is_among, place_of, once_after}
 use Rattle.access_schema.specs.Invariant.{terms_of, AtomFits, AreRelations, IsRule}
 use Rattle.access_schema.specs.Content.{is_named, is_declared, number_of, columns_of, variable_of, named_terms, variables_of, term_of, atom_of, numbered_rule}
 use Rattle.access_schema.specs.Faults.{is_unknown}
-use Rattle.access_schema.proofs.Texts.{text_is, text_same, any_at, contains_among, among_contains}
+use Rattle.access_schema.proofs.Texts.{text_same, any_at, contains_among, none_among}
 use Rattle.access_schema.proofs.Built.{at_number}
 use Rattle.access_schema.proofs.Ordered.{OrderedFrom, ordered_from}
 use Rattle.tgd_reader.specs.Printed.{name_in, name_at, variable_name, named_term, named_atom}
@@ -56,18 +58,11 @@ module _ (relations : List Relation) (are : AreRelations relations) where
 abbrev pub first_names : ℕ → List (List ℕ)
 first_names n = map variable_name (range_with_len 0 n)
 
-range_end : (from count : ℕ) → range_with_len from (suc count) ≡ range_with_len from count ++ (from + count) ∷ []
-range_end from zero = let e : from ≡ from + 0 = omega arith in ap (λ n. n ∷ []) e
-range_end from (suc count) =
-    let rest : range_with_len (from + 1) (suc count) ≡ range_with_len (from + 1) count ++ (from + 1 + count) ∷ [] = range_end (from + 1) count in
-    let e : from + 1 + count ≡ from + suc count = omega arith in
-    ap (λ ns. from ∷ ns) (rest ∙ ap (λ n. range_with_len (from + 1) count ++ n ∷ []) e)
-
 names_push : (n : ℕ) → first_names (n + 1) ≡ first_names n ++ variable_name n ∷ []
 names_push n =
     let e : n + 1 ≡ suc n = omega arith in
     let z : 0 + n ≡ n = omega arith in
-    ap first_names e ∙ ap (map variable_name) (range_end 0 n) ∙ map-append variable_name (range_with_len 0 n) ((0 + n) ∷ []) ∙ ap (λ m. first_names n ++ variable_name m ∷ []) z
+    ap first_names e ∙ ap (map variable_name) (range_push 0 n) ∙ map-append variable_name (range_with_len 0 n) ((0 + n) ∷ []) ∙ ap (λ m. first_names n ++ variable_name m ∷ []) z
 
 same_variable : (m n : ℕ) → m < 2 ^ 64 → n < 2 ^ 64 → variable_name m ≡ variable_name n → m ≡ n
 same_variable m n low high e = let d : decimal m ≡ decimal n = cc in decimal_injective m n low high d
@@ -99,9 +94,6 @@ no_name from (suc count) x le fits there = ⊎_elim
     (λ same. let e : from ≡ x = same_variable from x (omega arith) fits same in omega arith)
     (λ later. no_name (from + 1) count x (omega arith) fits later)
     (contains_cases (variable_name from) (map variable_name (range_with_len (from + 1) count)) (variable_name x) there)
-
-none_among : (texts : List (List ℕ)) (text : List ℕ) → (Contains texts text → ⊥) → is_among texts text ≡ false
-none_among texts text none = ⊎_elim (λ (yes : is_among texts text ≡ true). absurd (none (among_contains texts text yes))) (λ no. no) (cases_Bool (is_among texts text))
 
 abbrev names_of : List Term → List (List ℕ)
 names_of terms = filter_map variable_of (map named_term terms)

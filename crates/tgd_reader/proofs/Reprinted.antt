@@ -2,7 +2,6 @@
 use Rattle.std.proofs.Common.{◌≡◌, ℕ, true, false, List, [], ◌∷◌, ◌++◌, length, slice_get, Some, refl, sym, ap, subst, ◌∙◌, append_assoc, arith, ⊎_elim}
 use Rattle.std.specs.Prelude.{Contains, map, filter_map, flat_map}
 use Rattle.std.specs.List.{AllByRecursion}
-use Rattle.std.proofs.lemmas.Bool.{cases_Bool}
 use Rattle.std.proofs.lemmas.List.{append-nil, map-append}
 use Rattle.std.proofs.lemmas.List.Concat.{flat_map-append}
 use Rattle.std.proofs.lemmas.List.Elements.{Contains-append_cases}
@@ -13,6 +12,7 @@ use Rattle.meaning.specs.declared.types.Atom.{Atom}
 use Rattle.meaning.specs.declared.types.Term.{Term}
 use Rattle.meaning.specs.declared.types.Term.TheVariants.{Var, Const}
 use Rattle.lists.proofs.Members.{contains_here, contains_there, contains_cases, got_before}
+use Rattle.lists.proofs.Places.{got_seam, got_contained}
 use Rattle.access_schema.specs.declared.part.NamedTerm.{NamedTerm}
 use Rattle.access_schema.specs.declared.part.NamedAtom.{NamedAtom}
 use Rattle.access_schema.specs.declared.part.Part.{Part}
@@ -23,7 +23,7 @@ use Rattle.access_schema.specs.Names.{AllDiffer}
 use Rattle.access_schema.specs.Lists.{is_among, once_after, each_once}
 use Rattle.access_schema.specs.Invariant.{terms_of}
 use Rattle.access_schema.specs.Content.{constant_of, named_terms, declared_constants, rule_constants, part_constants, constants_of}
-use Rattle.access_schema.proofs.Texts.{among_contains, contains_among, got_contained}
+use Rattle.access_schema.proofs.Texts.{among_contains, contains_among, none_among}
 use Rattle.access_schema.proofs.Collected.{once_on}
 use Rattle.tgd_reader.specs.Printed.{name_at, columns_at, named_term, named_atom, relation_part, method_part, rule_part, source_part, parts_of, on_line, line_behind, placed_from}
 use Rattle.tgd_reader.proofs.Plain.{all_appended, all_mapped}
@@ -67,10 +67,6 @@ declared_of s =
 pub placed_declared : (s : Schema) (n : ℕ) → AllByRecursion (IsOf s) (placed_from n (parts_of s))
 placed_declared s n = placed_of s n (parts_of s) (declared_of s)
 
-pub all_member : {X : Type 0} (P : X → Type 0) (xs : List X) (x : X) → AllByRecursion P xs → Contains xs x → P x
-all_member P [] x all there = absurd (omega arith)
-all_member P (y ∷ xs) x all there = ⊎_elim (λ same. subst P same all.0) (λ later. all_member P xs x all.1 later) (contains_cases y xs x there)
-
 -- ---- constants
 
 constant_in : (terms : List Term) (c : List ℕ) → Contains (filter_map constant_of (map named_term terms)) c → Contains terms (Const c)
@@ -113,10 +109,6 @@ flat_within s g go (part ∷ parts) all c there = ⊎_elim (λ here. go part all
 pub constants_within : (s : Schema) (parts : List Part) → AllByRecursion (IsOf s) parts → (c : List ℕ) → Contains (flat_map part_constants parts) c → Contains s.constants c
 constants_within s parts all c there = flat_within s part_constants (part_constant s) parts all c there
 
-got_seam : {X : Type 0} (xs : List X) (y : X) (ys : List X) → slice_get (xs ++ y ∷ ys) (length xs) ≡ Some y
-got_seam [] y ys = refl
-got_seam (x ∷ xs) y ys = got_seam xs y ys
-
 -- what stands before a member of a list without repetition is another
 pub differ_split : {X : Type 0} (xs : List X) (y : X) (ys : List X) → AllDiffer (xs ++ y ∷ ys) → Contains xs y → ⊥
 differ_split xs y ys differ there =
@@ -124,9 +116,6 @@ differ_split xs y ys differ there =
     let at : slice_get xs i ≡ Some y = got_contained xs y there in
     let e = differ i (length xs) y (got_before xs (y ∷ ys) i lt ∙ at) (got_seam xs y ys) in
     omega (arith, e, lt)
-
-none_among : (texts : List (List ℕ)) (text : List ℕ) → (Contains texts text → ⊥) → is_among texts text ≡ false
-none_among texts text none = ⊎_elim (λ (yes : is_among texts text ≡ true). absurd (none (among_contains texts text yes))) (λ no. no) (cases_Bool (is_among texts text))
 
 once_apart : (known texts : List (List ℕ)) → AllDiffer (known ++ texts) → once_after known texts ≡ known ++ texts
 once_apart known [] differ = sym (append-nil known)

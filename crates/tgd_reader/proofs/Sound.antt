@@ -5,6 +5,8 @@ use Rattle.std.specs.List.{list_any}
 use Rattle.meaning.specs.declared.types.Relation.{Relation}
 use Rattle.meaning.specs.declared.types.Method.{Method}
 use Rattle.lists.proofs.Members.{contains_got, got_below}
+use Rattle.lists.proofs.Booleans.{never_true}
+use Rattle.lists.proofs.Orders.{text_is}
 use Rattle.access_schema.specs.declared.part.Part.{Part}
 use Rattle.access_schema.specs.declared.part.Part.TheVariants.{Relation as RelationPart, Method as MethodPart, Rule as RulePart, ForeignKey as KeyPart, Constant as ConstantPart, Source as SourcePart}
 use Rattle.access_schema.specs.declared.schema.SourceLine.{SourceLine}
@@ -13,12 +15,12 @@ use Rattle.access_schema.specs.Content.{number_of, relation_of, relations_of, me
 use Rattle.access_schema.specs.Faults.{is_relation_named, is_method_named, is_source_of, repeats_name}
 use Rattle.access_schema.specs.Lists.{repeats}
 use Rattle.access_schema.specs.Names.{relation_names, method_names, AllDiffer}
-use Rattle.access_schema.proofs.Texts.{text_is, any_found}
+use Rattle.access_schema.proofs.Texts.{any_found}
 use Rattle.access_schema.proofs.Prefixes.{given_from, given_mapped}
 use Rattle.tgd_reader.specs.Printed.{columns_at, columns_in}
 use Rattle.tgd_reader.proofs.Places.{rising_of}
 use Rattle.tgd_reader.proofs.Reprinted.{IsOf}
-use Rattle.tgd_reader.proofs.Faultless.{fails, repeats_none, names_differ, fresh_key}
+use Rattle.tgd_reader.proofs.Faultless.{repeats_none, names_differ, fresh_key}
 
 -- ---- names that stand once
 
@@ -51,7 +53,7 @@ module _ (s : Schema) (parts earlier later : List Part) (rs : relations_of parts
   relation_new name columns split =
       let key : Part → Option (List ℕ) = λ part. option_map (λ (r : Relation). r.name) (relation_of part) in
       let differ : AllDiffer (filter_map key parts) = subst AllDiffer (sym (ap relation_names rs) ∙ given_mapped (λ (r : Relation). r.name) relation_of parts) s.valid.relations_are.differ in
-      fails (list_any (is_relation_named name) earlier) (λ yes.
+      never_true (list_any (is_relation_named name) earlier) (λ yes.
       let (other, there, holds) = any_found (is_relation_named name) earlier yes in
       fresh_key parts earlier later (RelationPart name columns) split key name differ refl (given_from key earlier other name there (relation_key other name holds)))
 
@@ -59,7 +61,7 @@ module _ (s : Schema) (parts earlier later : List Part) (rs : relations_of parts
   method_new name relation inputs cost split =
       let key : Part → Option (List ℕ) = λ part. option_map (λ (m : Method). m.name) (method_of s.relations part) in
       let differ : AllDiffer (filter_map key parts) = subst AllDiffer (sym (ap method_names ms) ∙ given_mapped (λ (m : Method). m.name) (method_of s.relations) parts) s.valid.methods_are.differ in
-      fails (list_any (is_method_named name) earlier) (λ yes.
+      never_true (list_any (is_method_named name) earlier) (λ yes.
       let (other, there, holds) = any_found (is_method_named name) earlier yes in
       fresh_key parts earlier later (MethodPart name relation inputs cost) split key name differ refl (given_from key earlier other name there (method_key s.relations other name holds)))
 
@@ -68,7 +70,7 @@ module _ (s : Schema) (parts earlier later : List Part) (rs : relations_of parts
       let key : Part → Option ℕ = λ part. option_map (λ (x : SourceLine). x.rel) (source_of s.relations part) in
       let numbers : List SourceLine → List ℕ = map (λ (x : SourceLine). x.rel) in
       let differ : AllDiffer (filter_map key parts) = subst AllDiffer (sym (ap numbers ss) ∙ given_mapped (λ (x : SourceLine). x.rel) (source_of s.relations) parts) s.valid.sources_are.differ in
-      fails (list_any (is_source_of relation) earlier) (λ yes.
+      never_true (list_any (is_source_of relation) earlier) (λ yes.
       let (other, there, holds) = any_found (is_source_of relation) earlier yes in
       fresh_key parts earlier later (SourcePart relation kind locator) split key (number_of s.relations relation) differ refl (given_from key earlier other (number_of s.relations relation) there (source_key s.relations other relation holds)))
 

@@ -1,22 +1,22 @@
 -- Pieces and declarations that are written one behind another.
 use Rattle.std.proofs.Common.{◌≡◌, ℕ, ◌+◌, ◌<◌, ◌^◌, ◌%◌, Bool, true, false, List, [], ◌∷◌, ◌++◌, length, slice_get, get_or, take, drop, ◌-◌, Option, Some, refl, sym, ap, subst, ◌∙◌, append_assoc, arith}
-use Rattle.std.specs.Prelude.{◌&&◌, ◌||◌, map, codes, Contains, slice_index_or}
+use Rattle.std.specs.Prelude.{◌&&◌, ◌||◌, map, codes, slice_index_or}
 use Rattle.std.specs.Fmt.{decimal}
 use Rattle.std.specs.List.{AllByRecursion}
-use Rattle.std.proofs.lemmas.Bool.{le-leb}
 use Rattle.std.proofs.lemmas.Fmt.{decimal_by_steps}
 use Rattle.std.proofs.lemmas.List.{append-nil, map-append}
 use Rattle.std.proofs.Math.Seq.{take-length}
 use Rattle.pq_text.specs.Tokens.{is_digit}
 use Rattle.pq_text.specs.Printing.{is_small, all_small, is_bare, printed_name}
 use Rattle.pq_text.specs.Pieces.{Piece, behind_blank, text_of, lines_text, name_piece, mark_piece, word_piece, number_piece, list_pieces, further_pieces}
-use Rattle.pq_text.proofs.PieceLaws.{text_of-append}
+use Rattle.pq_text.proofs.PieceLaws.{digit_byte}
 use Rattle.std.proofs.lemmas.List.Elements.{All-contains_itself, Contains-append_left, Contains-append_right}
 use Rattle.meaning.specs.declared.types.Relation.{Relation}
 use Rattle.meaning.specs.declared.types.Method.{Method}
 use Rattle.meaning.specs.declared.types.Rule.{Rule}
 use Rattle.meaning.specs.declared.types.Atom.{Atom}
-use Rattle.lists.proofs.Members.{contains_here, contains_there, got_below}
+use Rattle.lists.proofs.Members.{got_below, all_from}
+use Rattle.pq_text.proofs.Pieces.{text_of-append}
 use Rattle.access_schema.specs.declared.part.NamedAtom.{NamedAtom}
 use Rattle.access_schema.specs.declared.part.Part.{Part}
 use Rattle.access_schema.specs.declared.part.Part.TheVariants.{Method as MethodPart, Rule as RulePart, Constant as ConstantPart}
@@ -62,9 +62,6 @@ all_lines a b ps [] none h = sym (append-nil b) ∙ h
 all_lines a b ps (p ∷ left) none h = absurd (omega arith)
 
 -- ---- variables
-
-digit_byte : (m : ℕ) → m < 10 → is_digit (48 + m) ≡ true
-digit_byte m low = rw (le-leb 48 (48 + m) (omega arith), le-leb (48 + m) 57 (omega arith)) refl
 
 small_digit : (x d : Bool) → d ≡ true → (x || d) ≡ true
 small_digit true d e = refl
@@ -156,29 +153,25 @@ method_written relations method relation inputs a b c d e f g h is are p q r s t
 
 -- ---- a schema
 
-pub by_recursion : {X : Type 0} (P : X → Type 0) (xs : List X) → ((x : X) → Contains xs x → P x) → AllByRecursion P xs
-by_recursion P [] all = tt
-by_recursion P (x ∷ xs) all = (all x (contains_here x xs), by_recursion P xs (λ y there. all y (contains_there x xs y there)))
-
 relation_there : (relations : List Relation) (number : ℕ) → number < length relations → (relation : Relation) × (slice_get relations number ≡ Some relation)
 relation_there relations number lt = got_below relations number lt
 
 pub methods_placed : (schema : Schema) → AllByRecursion (IsMethodPlaced schema.relations) schema.methods
-methods_placed schema = by_recursion (IsMethodPlaced schema.relations) schema.methods (λ method there.
+methods_placed schema = all_from (IsMethodPlaced schema.relations) schema.methods (λ method there.
     let placed = schema.valid.methods_are.placed method there in
     let (relation, at) = relation_there schema.relations method.rel placed in
     let columns : relation.columns ≡ columns_in (slice_get schema.relations method.rel) = sym (ap columns_in at) in
     (placed, λ k d lt. subst (λ (cs : List (List ℕ)). get_or method.inputs k d < length cs) columns (schema.valid.methods_are.inputs method relation (get_or method.inputs k d) there at (All-contains_itself method.inputs k d lt))))
 
 pub rules_placed : (schema : Schema) → AllByRecursion (IsRulePlaced schema.relations) schema.rules
-rules_placed schema = by_recursion (IsRulePlaced schema.relations) schema.rules (λ rule there.
+rules_placed schema = all_from (IsRulePlaced schema.relations) schema.rules (λ rule there.
     let fits = schema.valid.rules_are.fit rule there in (
-      by_recursion (IsPlaced schema.relations) rule.body (λ atom among. (fits.atoms atom (Contains-append_left rule.body rule.head atom among)).placed),
-      by_recursion (IsPlaced schema.relations) rule.head (λ atom among. (fits.atoms atom (Contains-append_right rule.body rule.head atom among)).placed),
+      all_from (IsPlaced schema.relations) rule.body (λ atom among. (fits.atoms atom (Contains-append_left rule.body rule.head atom among)).placed),
+      all_from (IsPlaced schema.relations) rule.head (λ atom among. (fits.atoms atom (Contains-append_right rule.body rule.head atom among)).placed),
     ))
 
 pub sources_placed : (schema : Schema) → AllByRecursion (IsSourcePlaced schema.relations) schema.sources
-sources_placed schema = by_recursion (IsSourcePlaced schema.relations) schema.sources (λ source there. schema.valid.sources_are.placed source there)
+sources_placed schema = all_from (IsSourcePlaced schema.relations) schema.sources (λ source there. schema.valid.sources_are.placed source there)
 
 pub schema_written : (schema : Schema) (relations : List Relation) (methods : List Method) (rules : List Rule) (constants : List (List ℕ)) (sources : List SourceLine) (z a b c d e : List ℕ) →
     relations ≡ schema.relations → methods ≡ schema.methods → rules ≡ schema.rules → constants ≡ schema.constants → sources ≡ schema.sources → z ≡ [] →

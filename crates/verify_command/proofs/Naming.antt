@@ -2,11 +2,11 @@
 use Rattle.std.proofs.Common.{◌≡◌, ◌↔◌, inl, inr, ◌+◌, ◌≤◌, ◌<◌, ℕ, List, [], ◌∷◌, ◌++◌, length, take, get_or, sym, ◌∙◌, ap, subst, append_assoc}
 use Rattle.std.specs.Prelude.{Contains, flat_map}
 use Rattle.std.proofs.lemmas.List.{append-nil, take_more, take_all}
-use Rattle.lists.proofs.Members.{contains_map, contains_mapped}
+use Rattle.lists.proofs.Members.{contains_map, contains_mapped, contains_joined, joined_from}
 use Rattle.meaning.specs.declared.types.Atom.{Atom}
 use Rattle.meaning.specs.declared.types.Rule.{Rule}
 use Rattle.access_schema.specs.declared.schema.Schema.{Schema}
-use Rattle.middleware.proofs.Steps.{append_first, append_second, flat_in, in_append, in_flat}
+use Rattle.middleware.proofs.Steps.{append_first, append_second, in_append}
 use Rattle.verify_command.specs.RuleRelations.{RulesName}
 use Rattle.verify_command.specs.Listing.{relations_of, relations_in}
 
@@ -33,7 +33,7 @@ listing_more rules i rule less at body head b h list first second was one two =
 module _ (schema : Schema) (rel : ℕ) where
   listed_named : Contains (relations_in schema.rules) rel → RulesName schema rel
   listed_named c =
-      let (rule, among, inside) = in_flat of_rule schema.rules rel c in
+      let (rule, among, inside) = joined_from of_rule schema.rules rel c in
       elim (in_append (relations_of rule.body) (relations_of rule.head) rel inside) [
         | inl first ↦
             let (atom, there, e) = contains_mapped (λ (a : Atom). a.rel) rule.body rel first in
@@ -44,7 +44,7 @@ module _ (schema : Schema) (rel : ℕ) where
       ]
 
   named_listed : RulesName schema rel → Contains (relations_in schema.rules) rel
-  named_listed n = subst (λ r. Contains (relations_in schema.rules) r) n.of_relation (flat_in of_rule schema.rules n.rule n.atom.rel n.of_schema (elim (in_append n.rule.body n.rule.head n.atom n.of_rule) [
+  named_listed n = subst (λ r. Contains (relations_in schema.rules) r) n.of_relation (contains_joined of_rule schema.rules n.rule n.atom.rel n.of_schema (elim (in_append n.rule.body n.rule.head n.atom n.of_rule) [
     | inl first ↦ append_first (relations_of n.rule.body) (relations_of n.rule.head) n.atom.rel (contains_map (λ (a : Atom). a.rel) n.rule.body n.atom first)
     | inr second ↦ append_second (relations_of n.rule.body) (relations_of n.rule.head) n.atom.rel (contains_map (λ (a : Atom). a.rel) n.rule.head n.atom second)
   ]))

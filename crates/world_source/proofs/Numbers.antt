@@ -1,25 +1,21 @@
 -- Numbers and their digits, and the locators that they make.
-use Rattle.std.proofs.Common.{◌≡◌, ◌+◌, ◌^◌, ◌<◌, ◌≤◌, ◌⊎◌, inl, inr, ℕ, zero, suc, Bool, true, false, List, [], ◌∷◌, ◌++◌, length, get_or, take, drop, Option, None, Some, cond, refl, sym, ap, ◌∙◌, arith, rules, append_assoc}
+use Rattle.std.proofs.Common.{◌≡◌, ◌+◌, ◌^◌, ◌<◌, ◌≤◌, ◌⊎◌, inl, inr, ℕ, zero, suc, Bool, true, false, List, [], ◌∷◌, ◌++◌, length, get_or, take, drop, Option, None, Some, cond, refl, sym, ap, ◌∙◌, arith, append_assoc}
 use Rattle.std.specs.Prelude.{◌&&◌, ◌≢◌, not, nat_eq, nat_le}
 use Rattle.std.specs.Cmp.Lexicographic.{pointwise, bytes_decides}
 use Rattle.std.specs.Fmt.{decimal}
 use Rattle.std.specs.List.{position_or_len, before_first, after_first}
-use Rattle.std.specs.Str.{all_ascii_digits}
 use Rattle.std.proofs.lemmas.Bool.{cases_lt, eqb-true, ne_eqb}
 use Rattle.std.proofs.lemmas.Bool.Decides.{nat_tests}
 use Rattle.std.proofs.lemmas.Fmt.{decimal_digit, digits_value-decimal}
 use Rattle.std.proofs.lemmas.List.Sums.{split_at_first, passes_at_first}
-use Rattle.std.proofs.lemmas.Str.Parse.{IsNumeralModel, numerals_by_fold}
-use Rattle.pq_text.specs.Numbers.{value_from, value_of}
+use Rattle.pq_text.specs.Numbers.{value_of}
+use Rattle.pq_text.proofs.Digits.{value_numerals}
 use Rattle.world_source.specs.Formulas.{IsInRange, in_range, locator, number_of, numbers_of}
-
-own : IsNumeralModel (λ ds. all_ascii_digits ds ≡ true) value_of
-own = numerals_by_fold _ (search rules) value_from (search rules)
 
 -- a number that is written is the one that is read
 pub number_is : (ds : List ℕ) (n : ℕ) → n < 2 ^ 64 → ds ≡ decimal n → number_of ds ≡ Some n
 number_is ds n fits is =
-    let value : value_of ds ≡ n = ap value_of is ∙ digits_value-decimal own n fits in
+    let value : value_of ds ≡ n = ap value_of is ∙ digits_value-decimal value_numerals n fits in
     let same : pointwise nat_eq ds (decimal (value_of ds)) ≡ true = (bytes_decides ds (decimal (value_of ds))).1 (is ∙ ap decimal (sym value)) in
     ap (λ b. cond b (Some (value_of ds)) None) same ∙ ap Some value
 

@@ -6,21 +6,18 @@ use Rattle.std.specs.List.{filter, range_with_len}
 use Rattle.std.proofs.lemmas.Bool.{cases_eq}
 use Rattle.std.proofs.lemmas.Fmt.{decimal_injective}
 use Rattle.std.proofs.lemmas.Nat.{mod_below}
+use Rattle.lists.proofs.Booleans.{never_true}
 use Rattle.source_trait.specs.Asking.{HaveArity, agrees}
 use Rattle.world_source.specs.Formulas.{IsPairKey, row_of, rows_of}
 use Rattle.world_source.proofs.Rounds.{lead_apart}
 
 -- ---- members of a list of numbers that pass a test
 
-not_true : (b : Bool) → (b ≡ true → ⊥) → b ≡ false
-not_true true none = absurd (none refl)
-not_true false none = refl
-
 module _ {X : Type 0} (f : ℕ → X) (P : X → Bool) where
   none_pass : (a n : ℕ) → ((i : ℕ) → a ≤ i → i < a + n → P (f i) ≡ true → ⊥) → filter P (map f (range_with_len a n)) ≡ []
   none_pass a zero none = refl
   none_pass a (suc n) none =
-      ap (λ b. cond b (f a ∷ filter P (map f (range_with_len (a + 1) n))) (filter P (map f (range_with_len (a + 1) n)))) (not_true (P (f a)) (none a (omega arith) (omega arith)))
+      ap (λ b. cond b (f a ∷ filter P (map f (range_with_len (a + 1) n))) (filter P (map f (range_with_len (a + 1) n)))) (never_true (P (f a)) (none a (omega arith) (omega arith)))
       ∙ none_pass (a + 1) n (λ i low high. none i (omega (arith, low)) (omega (arith, high)))
 
   one_passes : (a n j : ℕ) → a ≤ j → j < a + n → P (f j) ≡ true → ((i : ℕ) → a ≤ i → i < a + n → P (f i) ≡ true → i ≡ j) → filter P (map f (range_with_len a n)) ≡ f j ∷ []
@@ -31,7 +28,7 @@ module _ {X : Type 0} (f : ℕ → X) (P : X → Bool) where
         ∙ ap (λ (l : List X). f a ∷ l) (none_pass (a + 1) n (λ i more less passes. let e = only i (omega (arith, more)) (omega (arith, less)) passes in omega (arith, e, same, more)))
         ∙ ap (λ m. f m ∷ []) same
     | inr apart ↦
-        ap (λ b. cond b (f a ∷ filter P (map f (range_with_len (a + 1) n))) (filter P (map f (range_with_len (a + 1) n)))) (not_true (P (f a)) (λ passes. apart (only a (omega arith) (omega arith) passes)))
+        ap (λ b. cond b (f a ∷ filter P (map f (range_with_len (a + 1) n))) (filter P (map f (range_with_len (a + 1) n)))) (never_true (P (f a)) (λ passes. apart (only a (omega arith) (omega arith) passes)))
         ∙ one_passes (a + 1) n j (omega (arith, low, apart)) (omega (arith, high)) is (λ i more less passes. only i (omega (arith, more)) (omega (arith, less)) passes)
   ]
 

@@ -1,5 +1,5 @@
 use Rattle.access_schema.specs.Meaning.{meaning_of}
-use Rattle.access_cost.proofs.Summing.{lawful_named}
+use Rattle.meaning.proofs.Steps.{lawful_named}
 use Rattle.access_cost.proofs.laws.lawful_branches_name_methods.Goals as goal
 
 pub returns : goal.returns

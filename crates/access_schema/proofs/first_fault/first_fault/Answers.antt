@@ -3,12 +3,13 @@ use Rattle.std.proofs.Common.{◌≡◌, List, Some, sym, subst, ap, arith, refl
 use Rattle.std.proofs.lemmas.Option.{slice_get_read}
 use Rattle.access_schema.specs.declared.part.Part.{Part}
 use Rattle.std.specs.Prelude.{Option, IfSome, IfNone, ◌++◌, ◌∷◌, []}
+use Rattle.lists.proofs.Places.{take_got}
 use Rattle.meaning.specs.declared.types.Relation.{Relation}
 use Rattle.access_schema.specs.declared.fault.SchemaFault.{SchemaFault}
 use Rattle.access_schema.specs.Content.{relations_of}
 use Rattle.access_schema.specs.Faults.{IsLeastFault, IsFaultless}
 use Rattle.access_schema.specs.Progress.{StandsFor}
-use Rattle.access_schema.proofs.FirstFault.{stands_none, faultless_more, first_is, faultless_all, relations_few, taken_on}
+use Rattle.access_schema.proofs.FirstFault.{stands_none, faultless_more, first_is, faultless_all, relations_few}
 use Rattle.access_schema.proofs.first_fault.first_fault.Goals as goal
 
 pub loop-index-init : goal.loop-index-init
@@ -43,7 +44,7 @@ loop-index-preserved c =
       faultless = faultless_more c.args.parts.now c.loop-index.index c.index-parts-index.result at c.loop-index.invariant.faultless
           (subst (λ (relations : List Relation). IsFaultless relations (take c.loop-index.index c.args.parts.now) c.index-parts-index.result) c.requires.relations free);
       stands = subst (λ (parts : List Part). StandsFor c.args.relations.now parts c.check_part.new.known.items c.check_part.new.links.items)
-          (sym (taken_on c.args.parts.now c.loop-index.index c.index-parts-index.result at)) stands;
+          (sym (take_got c.args.parts.now c.loop-index.index c.index-parts-index.result at)) stands;
     }
 
 pub returns-clause-ok : goal.returns-clause-ok

@@ -1,12 +1,12 @@
 use Rattle.std.proofs.Common.{◌≡◌, ◌<◌, ◌+◌, ◌++◌, ◌∷◌, [], Some, None, length, take, subst, rules, arith}
 use Rattle.std.specs.Prelude.{slice_get}
+use Rattle.lists.proofs.Places.{take_got, got_none}
 use Rattle.access_schema.specs.Meaning.{meaning_of}
 use Rattle.meaning.specs.Search.{AreDistinct}
 use Rattle.homomorphism.proofs.Members.{distinct_take}
 use Rattle.accessible_copy.specs.Proving.{Proving}
 use Rattle.accessible_copy.specs.Methods.{methods_of}
-use Rattle.accessible_copy.proofs.Lists.{none_beyond}
-use Rattle.accessible_copy.proofs.Listed.{take_got, from_more, fire_listed, proof_once}
+use Rattle.accessible_copy.proofs.Listed.{from_more, fire_listed, proof_once}
 use Rattle.accessible_copy.proofs.listing.indexed_exposures.Goals.{in-Some+in_ok-more+in_ok-append, in_default}
 use Rattle.accessible_copy.proofs.listing.indexed_exposures.Goals as goal
 
@@ -24,5 +24,5 @@ loop-number-preserved c =
           (λ number can. fire_listed (meaning_of c.args.schema.now) c.args.methods.now c.args.proof.now number w.in-Some.fact.now c.requires.methods can))
       | in_default w ↦
           let none : slice_get c.args.proof.now.end.base c.loop-number.number ≡ None = search rules in
-          let beyond = none_beyond c.args.proof.now.end.base c.loop-number.number none in absurd (omega arith)
+          let beyond = got_none c.args.proof.now.end.base c.loop-number.number none in absurd (omega arith)
     ]

@@ -1,9 +1,9 @@
 use Rattle.std.proofs.Common.{◌≡◌, ◌≤◌, length, sym, subst, rules}
 use Rattle.std.specs.Prelude.{Some, None, slice_get}
 use Rattle.std.proofs.lemmas.List.{take_all}
+use Rattle.lists.proofs.Places.{got_none}
 use Rattle.accessible_copy.specs.Proving.{Proving, IsProofOf, IsOrdered}
 use Rattle.accessible_copy.specs.contracts.proof.Proof.{the_view}
-use Rattle.accessible_copy.proofs.Lists.{none_beyond}
 use Rattle.accessible_copy.proofs.Undoing.{undoes, cut_ordered}
 use Rattle.accessible_copy.proofs.marks.undo.Goals as goal
 
@@ -45,5 +45,5 @@ returns-in-Some-clause-ordered c = λ schema of ordered.
 pub returns-in_default-clause-log : goal.returns-in_default-clause-log
 returns-in_default-clause-log c =
     let none : slice_get c.proof.inside.history.entries c.args.mark.firings ≡ None = search rules in
-    let beyond : length c.args.proof.now.entries ≤ c.args.mark.firings = subst (λ (p : Proving). length p.entries ≤ c.args.mark.firings) c.proof.view_is (none_beyond c.proof.inside.history.entries c.args.mark.firings none) in
+    let beyond : length c.args.proof.now.entries ≤ c.args.mark.firings = subst (λ (p : Proving). length p.entries ≤ c.args.mark.firings) c.proof.view_is (got_none c.proof.inside.history.entries c.args.mark.firings none) in
     sym (take_all c.args.mark.firings c.args.proof.now.entries beyond)

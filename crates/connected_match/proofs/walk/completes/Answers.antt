@@ -1,10 +1,10 @@
 use Rattle.std.proofs.Common.{◌≡◌, ◌++◌, ◌∷◌, [], Some, subst, sym, arith}
 use Rattle.std.specs.Prelude.{slice_get}
 use Rattle.std.proofs.lemmas.List.{nil_from_length}
+use Rattle.lists.proofs.Places.{got_indexed}
 use Rattle.connected_match.specs.Chains.{AreNexts}
 use Rattle.connected_match.specs.Walks.{IsSeen}
 use Rattle.connected_match.proofs.Walking.{Walking, walking_none, walking_end, walking_seen, walking_on}
-use Rattle.connected_match.proofs.Places.{standing}
 use Rattle.connected_match.proofs.Points.{seen_cases, seen_still, seen_here}
 use Rattle.connected_match.proofs.walk.completes.Goals.{then-not-contains+in_ok-rows+in_ok-wait_all+in_ok-insert, else-not-contains}
 use Rattle.connected_match.proofs.walk.completes.Goals as goal
@@ -26,7 +26,7 @@ loop-preserved c =
     let link = c.index-links-point.result in
     let point = c.in-Some.point in
     let r : Walking facts links (IsSeen c.loop.seen) (c.pop.new.self.items ++ point ∷ []) = subst (Walking facts links (IsSeen c.loop.seen)) c.in-Some.ensures.items c.loop.invariant in
-    let got : slice_get links point.place ≡ Some link = standing links point.place link c.if-point-links.false c.index-links-point.is in
+    let got : slice_get links point.place ≡ Some link = got_indexed links point.place link c.if-point-links.false c.index-links-point.is in
     elim c.if-not-contains.branch [
       | then-not-contains+in_ok-rows+in_ok-wait_all+in_ok-insert w ↦
           let are : AreNexts facts link point.row w.in_ok-rows.rows.items = rw w.as_slice.ensures at w.in_ok-rows.ensures in

@@ -5,7 +5,7 @@ use Rattle.std.proofs.lemmas.Cmp.{nat_list_eq_equiv}
 use Rattle.std.proofs.lemmas.List.Filters.{dedup_is}
 use Rattle.std.proofs.lemmas.List.Kept.{Contains-dedup, Contains-from_dedup}
 use Rattle.std.proofs.lemmas.List.Sorted.{Contains-permutation, IsPermutation-sym}
-use Rattle.access_schema.proofs.Texts.{text_is}
+use Rattle.lists.proofs.Orders.{text_is}
 use Rattle.exec_command.proofs.known.keep_once.Goals as goal
 
 pub returns : goal.returns

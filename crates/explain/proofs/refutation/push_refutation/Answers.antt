@@ -4,18 +4,18 @@ use Rattle.pq_text.specs.Printing.{printed_value}
 use Rattle.explain.specs.Lent.{lent_fact}
 use Rattle.explain.specs.Printing.{fact_text}
 use Rattle.std.proofs.lemmas.Result.{on_ok_weaker}
+use Rattle.lists.proofs.Members.{joined_twice}
 use Rattle.pq_text.specs.Utf8.{KeepsUtf8}
-use Rattle.explain.proofs.Joining.{then_more}
 use Rattle.explain.proofs.refutation.push_refutation.Goals as goal
 
 pub returns-clause-text : goal.returns-clause-text
 returns-clause-text c =
-    let part0 = then_more c.args.out.now.items c.push_str.new.out.items c.push_values.new.out.items (codes "no plan\nanswer ") (listed printed_value c.args.answer.now) c.in_ok-push_str.ensures.text c.in_ok-push_values.ensures.text in
-    let part1 = then_more c.args.out.now.items c.push_values.new.out.items c.push_str-2.new.out.items ((codes "no plan\nanswer ") ++ listed printed_value c.args.answer.now) (codes "\nfirst\n") part0 c.in_ok-push_str-2.ensures.text in
-    let part2 = then_more c.args.out.now.items c.push_str-2.new.out.items c.push_facts.new.out.items (((codes "no plan\nanswer ") ++ listed printed_value c.args.answer.now) ++ codes "\nfirst\n") (flat_map (fact_text c.args.schema.now.relations) (map lent_fact c.args.first.now)) part1 c.in_ok-push_facts.ensures.text in
-    let part3 = then_more c.args.out.now.items c.push_facts.new.out.items c.push_str-3.new.out.items ((((codes "no plan\nanswer ") ++ listed printed_value c.args.answer.now) ++ codes "\nfirst\n") ++ flat_map (fact_text c.args.schema.now.relations) (map lent_fact c.args.first.now)) (codes "second\n") part2 c.in_ok-push_str-3.ensures.text in
-    let part4 = then_more c.args.out.now.items c.push_str-3.new.out.items c.push_facts-2.new.out.items (((((codes "no plan\nanswer ") ++ listed printed_value c.args.answer.now) ++ codes "\nfirst\n") ++ flat_map (fact_text c.args.schema.now.relations) (map lent_fact c.args.first.now)) ++ codes "second\n") (flat_map (fact_text c.args.schema.now.relations) (map lent_fact c.args.second.now)) part3 c.in_ok-push_facts-2.ensures.text in
-    on_ok_weaker c.push_str-4.result (λ written. then_more c.args.out.now.items c.push_facts-2.new.out.items c.push_str-4.new.out.items ((((((codes "no plan\nanswer ") ++ listed printed_value c.args.answer.now) ++ codes "\nfirst\n") ++ flat_map (fact_text c.args.schema.now.relations) (map lent_fact c.args.first.now)) ++ codes "second\n") ++ flat_map (fact_text c.args.schema.now.relations) (map lent_fact c.args.second.now)) (codes "end\n") part4 written) c.push_str-4.ensures.text
+    let part0 = joined_twice c.args.out.now.items c.push_str.new.out.items c.push_values.new.out.items (codes "no plan\nanswer ") (listed printed_value c.args.answer.now) c.in_ok-push_str.ensures.text c.in_ok-push_values.ensures.text in
+    let part1 = joined_twice c.args.out.now.items c.push_values.new.out.items c.push_str-2.new.out.items ((codes "no plan\nanswer ") ++ listed printed_value c.args.answer.now) (codes "\nfirst\n") part0 c.in_ok-push_str-2.ensures.text in
+    let part2 = joined_twice c.args.out.now.items c.push_str-2.new.out.items c.push_facts.new.out.items (((codes "no plan\nanswer ") ++ listed printed_value c.args.answer.now) ++ codes "\nfirst\n") (flat_map (fact_text c.args.schema.now.relations) (map lent_fact c.args.first.now)) part1 c.in_ok-push_facts.ensures.text in
+    let part3 = joined_twice c.args.out.now.items c.push_facts.new.out.items c.push_str-3.new.out.items ((((codes "no plan\nanswer ") ++ listed printed_value c.args.answer.now) ++ codes "\nfirst\n") ++ flat_map (fact_text c.args.schema.now.relations) (map lent_fact c.args.first.now)) (codes "second\n") part2 c.in_ok-push_str-3.ensures.text in
+    let part4 = joined_twice c.args.out.now.items c.push_str-3.new.out.items c.push_facts-2.new.out.items (((((codes "no plan\nanswer ") ++ listed printed_value c.args.answer.now) ++ codes "\nfirst\n") ++ flat_map (fact_text c.args.schema.now.relations) (map lent_fact c.args.first.now)) ++ codes "second\n") (flat_map (fact_text c.args.schema.now.relations) (map lent_fact c.args.second.now)) part3 c.in_ok-push_facts-2.ensures.text in
+    on_ok_weaker c.push_str-4.result (λ written. joined_twice c.args.out.now.items c.push_facts-2.new.out.items c.push_str-4.new.out.items ((((((codes "no plan\nanswer ") ++ listed printed_value c.args.answer.now) ++ codes "\nfirst\n") ++ flat_map (fact_text c.args.schema.now.relations) (map lent_fact c.args.first.now)) ++ codes "second\n") ++ flat_map (fact_text c.args.schema.now.relations) (map lent_fact c.args.second.now)) (codes "end\n") part4 written) c.push_str-4.ensures.text
 
 pub returns-clause-utf8 : goal.returns-clause-utf8
 returns-clause-utf8 c =

@@ -1,8 +1,7 @@
 use Rattle.std.proofs.Common.{◌≡◌, ◌+◌, ◌∷◌, ◌++◌, [], ◌∙◌, Some, None, length, take, sym, ap, rules}
 use Rattle.std.specs.Prelude.{slice_get}
 use Rattle.std.proofs.lemmas.List.{length_push, take_all}
-use Rattle.accessible_copy.proofs.Lists.{none_beyond}
-use Rattle.accessible_copy.proofs.Listed.{take_got}
+use Rattle.lists.proofs.Places.{take_got, got_none}
 use Rattle.exposure_search.proofs.aiming.base_facts.Goals as goal
 
 pub loop-fact-preserved : goal.loop-fact-preserved
@@ -19,4 +18,4 @@ returns c =
     let all = c.args.proof.now.end.base in
     let count : c.len.result ≡ length c.loop-fact.facts.items = search rules in
     let none : slice_get all (length c.loop-fact.facts.items) ≡ None = ap (slice_get all) (sym count) ∙ sym c.in_default.ensures in
-    c.loop-fact.invariant ∙ take_all (length c.loop-fact.facts.items) all (none_beyond all (length c.loop-fact.facts.items) none)
+    c.loop-fact.invariant ∙ take_all (length c.loop-fact.facts.items) all (got_none all (length c.loop-fact.facts.items) none)

@@ -2,9 +2,10 @@ use Rattle.std.proofs.Common.{◌≡◌, ◌↔◌, ◌<◌, ◌≤◌, ℕ, Lis
 use Rattle.std.specs.Prelude.{slice_get, slice_index}
 use Rattle.std.proofs.lemmas.List.{take_all}
 use Rattle.std.proofs.lemmas.Option.{slice_get_within}
+use Rattle.lists.proofs.Places.{got_indexed}
 use Rattle.accessible_copy.specs.Known.{known_values}
 use Rattle.accessible_copy.specs.Listing.{AreInputs}
-use Rattle.accessible_copy.proofs.Listed.{at_index, got_here}
+use Rattle.accessible_copy.proofs.Listed.{at_index}
 use Rattle.exposure_search.specs.Candidates.{AreHeld}
 use Rattle.exposure_search.proofs.MovesFrom.{asked_more}
 use Rattle.exposure_search.proofs.candidates.asked_values.Goals as goal
@@ -20,7 +21,7 @@ returns-in_default-clause-none c exposed are =
 pub loop-place-preserved : goal.loop-place-preserved
 loop-place-preserved c exposed =
     let at : slice_get c.args.vals.now (slice_index c.args.inputs.now c.loop-place.place-index) ≡ Some c.in-Some.val.now =
-    got_here c.args.vals.now (slice_index c.args.inputs.now c.loop-place.place-index) c.in-Some.val.now c.in-Some.ensures.lookup.3.0 c.in-Some.ensures.lookup.1 in
+    got_indexed c.args.vals.now (slice_index c.args.inputs.now c.loop-place.place-index) c.in-Some.val.now c.in-Some.ensures.lookup.3.0 c.in-Some.ensures.lookup.1 in
     asked_more c.args.proof.now.constants exposed c.loop-place.asks.items c.add_new.new.values.items c.in-Some.val.now (c.in_ok-add_new.ensures exposed) c.args.inputs.now c.args.vals.now c.loop-place.place-index c.loop-place-test.true at (c.loop-place.invariant exposed)
 
 pub returns-clause-some : goal.returns-clause-some

@@ -1,7 +1,7 @@
 use Rattle.std.proofs.Common.{◌↔◌, List, ℕ, Bool, IsTrue, sym, subst}
 use Rattle.std.specs.Prelude.{Contains}
+use Rattle.lists.proofs.Places.{got_indexed}
 use Rattle.homomorphism.proofs.Covering.{told, denied}
-use Rattle.accessible_copy.proofs.Listed.{got_here}
 use Rattle.exposure_search.specs.Tries.{IsMarked}
 use Rattle.exposure_search.proofs.MovesFrom.{candidates_more, candidates_less, candidates_all}
 use Rattle.exposure_search.proofs.candidates.candidates_of.Goals as goal
@@ -17,7 +17,7 @@ loop-place-preserved c =
     elim c.if-is_marked.branch [
       | then-is_marked+in_ok-add_candidates w ↦
           rw w.candidates-is (candidates_more c.args.schema.now.methods c.args.proof.now.constants c.args.facts.now c.args.marks.now c.loop-place.candidates.items place c.loop-place.invariant c.args.methods.now c.requires.methods fact
-          (got_here c.args.facts.now place fact c.loop-place-test.true c.index-facts-place.is)
+          (got_indexed c.args.facts.now place fact c.loop-place-test.true c.index-facts-place.is)
           (subst (λ (marks : List Bool). IsMarked marks place) c.as_slice.ensures.value (told _ c.is_marked.ensures w.if-is_marked.true))
           w.is_marked-needed.result (subst (λ (marks : List Bool). IsTrue w.is_marked-needed.result ↔ IsMarked marks place) w.as_slice-then-is_marked.ensures.value w.is_marked-needed.ensures)
           w.add_candidates.new.candidates.items (record {

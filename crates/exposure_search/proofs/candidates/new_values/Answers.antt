@@ -1,9 +1,9 @@
 use Rattle.std.proofs.Common.{◌↔◌, List, subst}
 use Rattle.std.proofs.lemmas.List.{take_all}
+use Rattle.lists.proofs.Places.{got_indexed}
 use Rattle.meaning.specs.declared.types.Ground.{Ground}
 use Rattle.meaning.specs.declared.types.Val.{Val}
 use Rattle.accessible_copy.specs.Known.{known_values}
-use Rattle.accessible_copy.proofs.Listed.{got_here}
 use Rattle.exposure_search.specs.Candidates.{AreHeld, AreKnown}
 use Rattle.exposure_search.proofs.MovesFrom.{brought_more}
 use Rattle.exposure_search.proofs.candidates.new_values.Goals as goal
@@ -11,7 +11,7 @@ use Rattle.exposure_search.proofs.candidates.new_values.Goals as goal
 pub loop-val-preserved : goal.loop-val-preserved
 loop-val-preserved c exposed =
     brought_more c.args.proof.now.constants exposed c.loop-val.brings.items c.add_new.new.values.items c.val-item.result (c.in_ok-add_new.ensures exposed) c.args.vals.now c.loop-val.val-index
-    (got_here c.args.vals.now c.loop-val.val-index c.val-item.result c.loop-val-test.true c.val-item.is) (c.loop-val.invariant exposed)
+    (got_indexed c.args.vals.now c.loop-val.val-index c.val-item.result c.loop-val-test.true c.val-item.is) (c.loop-val.invariant exposed)
 
 pub returns : goal.returns
 returns c =

@@ -1,8 +1,8 @@
 use Rattle.std.proofs.Common.{List, length, subst}
 use Rattle.std.proofs.lemmas.List.{take_all}
 use Rattle.std.specs.Prelude.{Contains}
+use Rattle.lists.proofs.Places.{got_indexed}
 use Rattle.homomorphism.proofs.Extending.{atom_within}
-use Rattle.accessible_copy.proofs.Listed.{got_here}
 use Rattle.meaning.specs.declared.types.Atom.{Atom}
 use Rattle.exposure_search.proofs.Wanting.{front_each}
 use Rattle.exposure_search.proofs.Imaging.{NeverIs, never_made}
@@ -13,7 +13,7 @@ fits-requires c = atom_within c.args.atoms.now c.loop-atom.atom-index c.atom-ite
 
 pub loop-atom-preserved : goal.loop-atom-preserved
 loop-atom-preserved c =
-    front_each (NeverIs c.args.given.now c.args.fact.now) c.args.atoms.now c.loop-atom.atom-index c.atom-item.result (got_here c.args.atoms.now c.loop-atom.atom-index c.atom-item.result c.loop-atom-test.true c.atom-item.is)
+    front_each (NeverIs c.args.given.now c.args.fact.now) c.args.atoms.now c.loop-atom.atom-index c.atom-item.result (got_indexed c.args.atoms.now c.loop-atom.atom-index c.atom-item.result c.loop-atom-test.true c.atom-item.is)
     c.loop-atom.invariant (c.fits.ensures c.if-fits.false)
 
 pub returns : goal.returns

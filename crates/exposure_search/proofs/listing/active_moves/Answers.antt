@@ -2,21 +2,21 @@ use Rattle.std.proofs.Common.{◌≡◌, ◌<◌, ◌≤◌, List, Some, None, l
 use Rattle.std.specs.Prelude.{slice_get}
 use Rattle.std.proofs.lemmas.Option.{slice_get_within}
 use Rattle.lists.proofs.Members.{some_injective}
+use Rattle.lists.proofs.Places.{got_indexed}
 use Rattle.meaning.specs.declared.types.Ground.{Ground}
 use Rattle.least_search.specs.declared.space.Move.{Move}
 use Rattle.access_schema.specs.Meaning.{meaning_of}
-use Rattle.accessible_copy.proofs.Listed.{got_here}
 use Rattle.exposure_search.proofs.Offering.{served_more, served_less}
 use Rattle.exposure_search.proofs.listing.active_moves.Goals as goal
 use Rattle.exposure_search.proofs.listing.active_moves.Goals.{in-Some+in_ok-push, in_default}
 
 pub relevant_move-requires-clause-at : goal.relevant_move-requires-clause-at
 relevant_move-requires-clause-at c =
-    ap (λ (fs : List Ground). slice_get fs c.loop-place.place) (sym c.requires.facts) ∙ got_here c.args.facts.now c.loop-place.place c.index-facts-place.result c.loop-place-test.true c.index-facts-place.is
+    ap (λ (fs : List Ground). slice_get fs c.loop-place.place) (sym c.requires.facts) ∙ got_indexed c.args.facts.now c.loop-place.place c.index-facts-place.result c.loop-place-test.true c.index-facts-place.is
 
 pub loop-place-preserved : goal.loop-place-preserved
 loop-place-preserved c =
-    let at : slice_get c.args.proof.now.end.base c.loop-place.place ≡ Some c.index-facts-place.result = ap (λ (fs : List Ground). slice_get fs c.loop-place.place) (sym c.requires.facts) ∙ got_here c.args.facts.now c.loop-place.place c.index-facts-place.result c.loop-place-test.true c.index-facts-place.is in
+    let at : slice_get c.args.proof.now.end.base c.loop-place.place ≡ Some c.index-facts-place.result = ap (λ (fs : List Ground). slice_get fs c.loop-place.place) (sym c.requires.facts) ∙ got_indexed c.args.facts.now c.loop-place.place c.index-facts-place.result c.loop-place-test.true c.index-facts-place.is in
     elim c.match-relevant_move.branch [
       | in-Some+in_ok-push w ↦
           rw (w.moves-is, w.in_ok-push.ensures.items) (served_more (meaning_of c.args.schema.now) c.args.proof.now c.args.marks.now c.args.below c.loop-place.moves.items c.loop-place.place c.loop-place.invariant c.args.methods.now c.requires.methods c.index-facts-place.result at w.in-Some.step w.in-Some.ensures.active

@@ -1,7 +1,7 @@
 use Rattle.std.proofs.Common.{◌≡◌, ◌+◌, Some, sym, ap, subst}
 use Rattle.std.specs.Prelude.{slice_get, Ok}
 use Rattle.std.proofs.lemmas.List.{take_all}
-use Rattle.accessible_copy.proofs.Listed.{got_here}
+use Rattle.lists.proofs.Places.{got_indexed}
 use Rattle.exposure_search.specs.Relevance.{AllMarked}
 use Rattle.exposure_search.proofs.Wanting.{AreSet, set_grew, set_same}
 use Rattle.exposure_search.proofs.wanted.mark_all.Goals.{then-branch, else-branch}
@@ -14,7 +14,7 @@ loop-atom-preserved c =
     let old = c.args.marks.now.items in
     let now = c.loop-atom.marks.items in
     let new = c.mark_one.new.marks.items in
-    let got : slice_get atoms i ≡ Some c.atom-item.result = got_here atoms i c.atom-item.result c.loop-atom-test.true c.atom-item.is in
+    let got : slice_get atoms i ≡ Some c.atom-item.result = got_indexed atoms i c.atom-item.result c.loop-atom-test.true c.atom-item.is in
     elim c.if-branch.branch [
       | then-branch w ↦
           subst (λ grew. AreSet atoms (i + 1) old new grew) (sym w.grew-is)

@@ -1,8 +1,8 @@
 use Rattle.std.proofs.Common.{◌≡◌, Some, List, Bool, sym, ap, subst}
 use Rattle.std.specs.Prelude.{Contains, slice_get, Ok, false}
 use Rattle.std.proofs.lemmas.List.{take_all}
+use Rattle.lists.proofs.Places.{got_indexed}
 use Rattle.meaning.specs.declared.types.Atom.{Atom}
-use Rattle.accessible_copy.proofs.Listed.{got_here}
 use Rattle.exposure_search.specs.Tries.{IsMarked}
 use Rattle.exposure_search.specs.Relevance.{AllMarked}
 use Rattle.exposure_search.proofs.Wanting.{round_on, round_same, round_grew, ok_is}
@@ -16,7 +16,7 @@ loop-rule-preserved c =
     let rule = c.rule-item.result in
     let old = c.args.marks.now.items in
     let now = c.loop-rule.marks.items in
-    let got : slice_get rules i ≡ Some rule = got_here rules i rule c.loop-rule-test.true c.rule-item.is in
+    let got : slice_get rules i ≡ Some rule = got_indexed rules i rule c.loop-rule-test.true c.rule-item.is in
     elim c.if-has_marked.branch [
       | then-has_marked+in_ok-mark_all+then-branch w ↦
           rw (w.marks-is, w.grew-is) (round_grew rules i old now c.loop-rule.grew c.loop-rule.invariant rule got w.mark_all.new.marks.items w.in_ok-mark_all.ensures.stays)

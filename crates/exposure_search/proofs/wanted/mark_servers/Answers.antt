@@ -1,8 +1,8 @@
 use Rattle.std.proofs.Common.{◌≡◌, Some, List, subst}
 use Rattle.std.specs.Prelude.{slice_get}
 use Rattle.std.proofs.lemmas.List.{take_all}
+use Rattle.lists.proofs.Places.{got_indexed}
 use Rattle.meaning.specs.declared.types.Rule.{Rule}
-use Rattle.accessible_copy.proofs.Listed.{got_here}
 use Rattle.exposure_search.specs.Relevance.{AllMarked, BodiesMarked, IsMade}
 use Rattle.exposure_search.proofs.Served.{bodies_next, bodies_none}
 use Rattle.exposure_search.proofs.wanted.mark_servers.Goals.{then-serves_some+in_ok-mark_all, else-serves_some}
@@ -17,7 +17,7 @@ loop-rule-preserved c =
     let i = c.loop-rule.rule-index in
     let rule = c.rule-item.result in
     let now = c.loop-rule.marks.items in
-    let got : slice_get rules i ≡ Some rule = got_here rules i rule c.loop-rule-test.true c.rule-item.is in
+    let got : slice_get rules i ≡ Some rule = got_indexed rules i rule c.loop-rule-test.true c.rule-item.is in
     elim c.if-serves_some.branch [
       | then-serves_some+in_ok-mark_all w ↦
           rw w.marks-is (record {

@@ -1,8 +1,9 @@
-use Rattle.homomorphism.proofs.Covering.{told, denied, refuted, numbered_is}
+use Rattle.lists.proofs.Booleans.{test_fails}
+use Rattle.homomorphism.proofs.Covering.{told, denied, numbered_is}
 use Rattle.homomorphism.proofs.conditions.is_numbered.Goals as goal
 
 pub returns-then-not-all_occur : goal.returns-then-not-all_occur
-returns-then-not-all_occur c = refuted (λ is. denied _ c.all_occur.ensures c.if-not-all_occur.true ((numbered_is _ _ _ _ _ c.as_slice-body.ensures c.as_slice-head.ensures c.variables_width-width.ensures c.variables_width-end.ensures).0 is).0)
+returns-then-not-all_occur c = test_fails (λ is. denied _ c.all_occur.ensures c.if-not-all_occur.true ((numbered_is _ _ _ _ _ c.as_slice-body.ensures c.as_slice-head.ensures c.variables_width-width.ensures c.variables_width-end.ensures).0 is).0)
 
 pub returns : goal.returns
 returns c =

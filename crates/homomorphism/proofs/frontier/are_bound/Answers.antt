@@ -1,16 +1,16 @@
 use Rattle.std.proofs.Common.{◌∙◌, sym, ap, subst, ⊎_elim, Contains, take}
 use Rattle.std.proofs.lemmas.List.{take_all}
 use Rattle.std.proofs.lemmas.List.Elements.{Contains-push_cases}
+use Rattle.lists.proofs.Places.{take_indexed}
 use Rattle.meaning.specs.declared.types.Atom.{Atom}
 use Rattle.meaning.specs.declared.types.Term.TheVariants.{Var}
 use Rattle.meaning.specs.Matching.{OccursIn}
-use Rattle.homomorphism.proofs.Members.{turn}
 use Rattle.homomorphism.proofs.frontier.are_bound.Goals as goal
 
 pub loop-atom-preserved : goal.loop-atom-preserved
 loop-atom-preserved c = λ x (atom, h, o) none. ⊎_elim (λ before. c.loop-atom.invariant x (atom, before, o) none)
     (λ same. c.have_values.ensures c.if-not-have_values.false x (subst (λ z. Contains z (Var x)) (sym (c.as_slice.ensures ∙ ap (λ (t : Atom). t.terms) same)) o) none)
-    (Contains-push_cases (take c.loop-atom.atom-index c.args.atoms.now) c.atom-item.result atom (subst (λ z. Contains z atom) (turn c.args.atoms.now c.loop-atom.atom-index c.atom-item.result c.loop-atom-test.true c.atom-item.is) h))
+    (Contains-push_cases (take c.loop-atom.atom-index c.args.atoms.now) c.atom-item.result atom (subst (λ z. Contains z atom) (take_indexed c.args.atoms.now c.loop-atom.atom-index c.atom-item.result c.loop-atom-test.true c.atom-item.is) h))
 
 pub returns : goal.returns
 returns c = λ e x occurs none. c.loop-atom.invariant x (subst (λ z. OccursIn z x) (sym (take_all c.loop-atom.atom-index c.args.atoms.now c.loop-atom-test.false)) occurs) none

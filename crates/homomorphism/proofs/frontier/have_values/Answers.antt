@@ -1,13 +1,13 @@
 use Rattle.std.proofs.Common.{sym, subst, ⊎_elim, Contains, take}
 use Rattle.std.proofs.lemmas.List.{take_all}
 use Rattle.std.proofs.lemmas.List.Elements.{Contains-push_cases}
+use Rattle.lists.proofs.Places.{take_indexed}
 use Rattle.meaning.specs.declared.types.Term.TheVariants.{Var}
-use Rattle.homomorphism.proofs.Members.{turn}
 use Rattle.homomorphism.proofs.frontier.have_values.Goals as goal
 
 pub loop-term-preserved : goal.loop-term-preserved
 loop-term-preserved c = λ x h none. ⊎_elim (λ before. c.loop-term.invariant x before none) (λ same. c.has_value.ensures c.if-not-has_value.false x same none)
-    (Contains-push_cases (take c.loop-term.term-index c.args.terms.now) c.term-item.result (Var x) (subst (λ z. Contains z (Var x)) (turn c.args.terms.now c.loop-term.term-index c.term-item.result c.loop-term-test.true c.term-item.is) h))
+    (Contains-push_cases (take c.loop-term.term-index c.args.terms.now) c.term-item.result (Var x) (subst (λ z. Contains z (Var x)) (take_indexed c.args.terms.now c.loop-term.term-index c.term-item.result c.loop-term-test.true c.term-item.is) h))
 
 pub returns : goal.returns
 returns c = λ e x h none. c.loop-term.invariant x (subst (λ z. Contains z (Var x)) (sym (take_all c.loop-term.term-index c.args.terms.now c.loop-term-test.false)) h) none

@@ -2,7 +2,7 @@ use Rattle.std.proofs.Common.{◌∙◌, ◌++◌, ◌∷◌, [], ap}
 use Rattle.source_trait.specs.Asking.{RowList}
 use Rattle.std.specs.Prelude.{slice_set}
 use Rattle.std.proofs.lemmas.List.{get_or_default}
-use Rattle.middleware.proofs.Parting.{set_twice}
+use Rattle.lists.proofs.Places.{set_twice}
 use Rattle.middleware.proofs.parts.with_part_row.Goals as goal
 
 pub returns : goal.returns

@@ -3,8 +3,9 @@ use Rattle.std.proofs.lemmas.List.{drop_more, drop_all}
 use Rattle.meaning.specs.declared.types.Step.{Step}
 use Rattle.meaning.specs.Judge.{columns_of}
 use Rattle.meaning.specs.Plans.{made}
+use Rattle.meaning_laws.proofs.Frozen.{columns_grow}
 use Rattle.access_schema.specs.Meaning.{meaning_of}
-use Rattle.plan_check.proofs.Branching.{columns_up, atoms_more, atoms_all}
+use Rattle.plan_check.proofs.Branching.{atoms_more, atoms_all}
 use Rattle.plan_check.proofs.branch_query.atoms.Goals as goal
 
 pub step_atom-requires-clause-named : goal.step_atom-requires-clause-named
@@ -16,7 +17,7 @@ step_atom-requires-clause-few c =
     let at : drop c.loop-step.step-index c.args.steps.now ≡ c.step-item.result ∷ rest =
     drop_more c.args.steps.now c.loop-step.step-index c.step-item.result c.loop-step-test.true ∙ ap (λ step. step ∷ rest) (sym c.step-item.is) in
     let same = c.loop-step.invariant.columns ∙ ap (columns_of c.loop-step.columns) at in
-    let up = columns_up (made c.loop-step.columns c.step-item.result.places) rest in
+    let up = columns_grow (made c.loop-step.columns c.step-item.result.places) rest in
     omega (arith, c.requires.few)
 
 pub loop-step-preserved : goal.loop-step-preserved

@@ -3,7 +3,7 @@ use Rattle.std.specs.Prelude.{Contains, Some}
 use Rattle.meaning.specs.declared.types.Branch.{Branch}
 use Rattle.access_schema.specs.Meaning.{meaning_of}
 use Rattle.plan_check.specs.Forms.{IsBranchForm}
-use Rattle.plan_check.proofs.Zips.{zip_more}
+use Rattle.plan_extract.proofs.Zips.{zip_more}
 use Rattle.plan_check.proofs.forms.branch_forms.Goals as goal
 
 pub branch_query-requires : goal.branch_query-requires

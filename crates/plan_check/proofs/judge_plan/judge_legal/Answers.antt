@@ -6,7 +6,7 @@ use Rattle.sql_select.specs.Known.{literals_in}
 use Rattle.plan_check.specs.Forms.{IsSelectForm, IsBranchForm}
 use Rattle.plan_check.specs.Trials.{AreTriable}
 use Rattle.plan_check.specs.Verdicts.{IsLegalOver}
-use Rattle.plan_check.proofs.Zips.{zip_length}
+use Rattle.plan_extract.proofs.Zips.{zip_length}
 use Rattle.plan_check.proofs.Fitting.{selects_triable, branches_triable, named_methods}
 use Rattle.plan_check.proofs.Concluding.{verdict_is}
 use Rattle.plan_check.proofs.judge_plan.judge_legal.Goals as goal

@@ -1,6 +1,6 @@
 use Rattle.std.proofs.Common.{take, sym}
 use Rattle.std.proofs.lemmas.List.{take_all}
-use Rattle.accessible_copy.proofs.Listed.{got_here}
+use Rattle.lists.proofs.Places.{got_indexed}
 use Rattle.plan_check.proofs.Trying.{none_more, none_all}
 use Rattle.plan_check.proofs.rows.some_has.Goals as goal
 
@@ -12,7 +12,7 @@ returns-then-found-clause-yes c = λ _. (c.form-item.result, (c.loop-form.form-i
 
 pub loop-form-preserved : goal.loop-form-preserved
 loop-form-preserved c =
-    none_more c.args.store.now c.args.head.now c.args.forms.now c.loop-form.form-index c.form-item.result (got_here c.args.forms.now c.loop-form.form-index c.form-item.result c.loop-form-test.true c.form-item.is)
+    none_more c.args.store.now c.args.head.now c.args.forms.now c.loop-form.form-index c.form-item.result (got_indexed c.args.forms.now c.loop-form.form-index c.form-item.result c.loop-form-test.true c.form-item.is)
     c.loop-form.invariant (c.in_ok-found.ensures.no c.if-found.false)
 
 pub returns-clause-no : goal.returns-clause-no

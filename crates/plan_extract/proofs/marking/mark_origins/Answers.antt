@@ -3,10 +3,10 @@ use Rattle.std.specs.Prelude.{slice_get}
 use Rattle.std.proofs.lemmas.List.{length-map}
 use Rattle.std.proofs.lemmas.Option.{slice_get-get_or, slice_get_within}
 use Rattle.lists.proofs.Members.{map_got, got_below}
+use Rattle.lists.proofs.Places.{got_indexed}
 use Rattle.meaning.specs.Extract.{Exposure}
 use Rattle.plan_extract.specs.Lent.{exposure_of, exposures_of}
 use Rattle.plan_extract.specs.Passes.{IsMarked}
-use Rattle.accessible_copy.proofs.Listed.{got_here}
 use Rattle.plan_extract.proofs.Marked.{close_skip, close_held, close_keep}
 use Rattle.plan_extract.proofs.marking.mark_origins.Goals as goal
 
@@ -44,7 +44,7 @@ loop-left-preserved-then-marks-left c =
     let low : 0 < c.loop-left.left = c.loop-left-test.true in
     let e : Exposure = exposure_of c.index-exposures-left.result in
     let got : slice_get all (c.loop-left.left - 1) ≡ Some e =
-    map_got exposure_of c.args.exposures.now (c.loop-left.left - 1) c.index-exposures-left.result (got_here c.args.exposures.now (c.loop-left.left - 1) c.index-exposures-left.result (omega arith) c.index-exposures-left.is) in
+    map_got exposure_of c.args.exposures.now (c.loop-left.left - 1) c.index-exposures-left.result (got_indexed c.args.exposures.now (c.loop-left.left - 1) c.index-exposures-left.result (omega arith) c.index-exposures-left.is) in
     let on : IsMarked c.loop-left.marks (c.loop-left.left - 1) = slice_get-get_or c.loop-left.marks (c.loop-left.left - 1) false (omega arith) ∙ ap (λ b. Some b) c.if-marks-left.true in
     record {
       within = omega arith;

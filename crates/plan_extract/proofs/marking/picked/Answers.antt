@@ -3,10 +3,10 @@ use Rattle.std.specs.Prelude.{slice_get}
 use Rattle.std.proofs.lemmas.Option.{slice_get-get_or}
 use Rattle.std.proofs.lemmas.List.{length-map, map-append, append-nil}
 use Rattle.lists.proofs.Members.{map_got, got_below}
+use Rattle.lists.proofs.Places.{got_indexed}
 use Rattle.meaning.specs.Extract.{Exposure}
 use Rattle.plan_extract.specs.Lent.{exposure_of, exposures_of}
 use Rattle.plan_extract.specs.Trimmed.{picked}
-use Rattle.accessible_copy.proofs.Listed.{got_here}
 use Rattle.plan_extract.proofs.Marked.{picked_taken}
 use Rattle.plan_extract.proofs.marking.picked.Goals.{then-marks-number+in_ok-push, else-marks-number}
 use Rattle.plan_extract.proofs.marking.picked.Goals as goal
@@ -23,7 +23,7 @@ loop-number-preserved c =
     elim c.if-marks-number.branch [
       | then-marks-number+in_ok-push w ↦
           let x : Exposure = exposure_of w.index-exposures-number.result in
-          let got : slice_get all n ≡ Some x = map_got exposure_of lent n w.index-exposures-number.result (got_here lent n w.index-exposures-number.result low w.index-exposures-number.is) in
+          let got : slice_get all n ≡ Some x = map_got exposure_of lent n w.index-exposures-number.result (got_indexed lent n w.index-exposures-number.result low w.index-exposures-number.is) in
           let mark : slice_get marks n ≡ Some true = slice_get-get_or marks n false (omega arith) ∙ ap (λ b. Some b) w.if-marks-number.true in
           ap (λ kept. exposures_of kept.items) w.kept-is ∙ ap exposures_of w.in_ok-push.ensures.items ∙ map-append exposure_of c.loop-number.kept.items (w.index-exposures-number.result ∷ [])
           ∙ ap (λ list. list ++ x ∷ []) c.loop-number.invariant ∙ sym (picked_taken all marks n x true got mark)

@@ -1,5 +1,5 @@
 use Rattle.std.proofs.Common.{◌≡◌, ◌++◌, ◌∷◌, ◌+◌, [], take, sym, ap, ◌∙◌, subst}
-use Rattle.homomorphism.proofs.Members.{turn}
+use Rattle.lists.proofs.Places.{take_indexed}
 use Rattle.meaning.specs.declared.types.Val.TheVariants.{Const, Label}
 use Rattle.plan_extract.proofs.Noting.{Noted, noted_label, noted_const}
 use Rattle.plan_extract.proofs.origins.note_all.Goals.{in-Label+in_ok-note, in_default}
@@ -11,7 +11,7 @@ loop-value-preserved c =
     let now = c.loop-value.origins in
     let vals = c.args.vals.now in
     let i = c.loop-value.value-index in
-    let more : take (i + 1) vals ≡ take i vals ++ c.value-item.result ∷ [] = turn vals i c.value-item.result c.loop-value-test.true c.value-item.is in
+    let more : take (i + 1) vals ≡ take i vals ++ c.value-item.result ∷ [] = take_indexed vals i c.value-item.result c.loop-value-test.true c.value-item.is in
     elim c.match-value.branch [
       | in-Label+in_ok-note w ↦
           let front : take (i + 1) vals ≡ take i vals ++ Label w.in-Label.label ∷ [] = more ∙ ap (λ v. take i vals ++ v ∷ []) w.in-Label.is in

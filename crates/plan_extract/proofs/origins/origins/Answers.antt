@@ -2,8 +2,8 @@ use Rattle.std.proofs.Common.{◌≡◌, Some, length, take, sym, subst, arith}
 use Rattle.std.specs.Prelude.{slice_get}
 use Rattle.std.proofs.lemmas.List.{length-map, length-take-le}
 use Rattle.lists.proofs.Members.{map_got}
+use Rattle.lists.proofs.Places.{take_got, got_indexed}
 use Rattle.meaning.specs.Extract.{Exposure}
-use Rattle.accessible_copy.proofs.Listed.{got_here, take_got}
 use Rattle.plan_extract.specs.Lent.{exposure_of, exposures_of}
 use Rattle.plan_extract.specs.Passes.{AreOrigins}
 use Rattle.plan_extract.proofs.Noting.{Noted, origins_more}
@@ -16,7 +16,7 @@ loop-number-preserved c =
     let n = c.loop-number.number in
     let x : Exposure = exposure_of c.index-exposures-number.result in
     let low = c.loop-number-test.true in
-    let got : slice_get all n ≡ Some x = map_got exposure_of lent n c.index-exposures-number.result (got_here lent n c.index-exposures-number.result low c.index-exposures-number.is) in
+    let got : slice_get all n ≡ Some x = map_got exposure_of lent n c.index-exposures-number.result (got_indexed lent n c.index-exposures-number.result low c.index-exposures-number.is) in
     let long = length-map lent exposure_of in
     let whole : length (take n all) ≡ n = length-take-le n all (omega arith) in
     let vals : c.as_slice.result.now ≡ x.fact.vals = c.as_slice.ensures in

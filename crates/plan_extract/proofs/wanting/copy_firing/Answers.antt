@@ -1,6 +1,6 @@
 use Rattle.std.proofs.Common.{◌≡◌, ◌≤◌, ◌-◌, length, sym, ap, arith}
+use Rattle.lists.proofs.Places.{got_none}
 use Rattle.meaning.specs.Runs.{part_of}
-use Rattle.accessible_copy.proofs.Lists.{none_beyond}
 use Rattle.plan_extract.proofs.GoingBack.{early_entry}
 use Rattle.plan_extract.proofs.wanting.copy_firing.Goals as goal
 
@@ -16,5 +16,5 @@ returns-in-Expose-clause-none c =
 
 pub returns-in-None-clause-none : goal.returns-in-None-clause-none
 returns-in-None-clause-none c =
-    let beyond : length c.args.proof.now.entries ≤ c.args.left - 1 = none_beyond c.args.proof.now.entries (c.args.left - 1) (sym c.in-None.ensures) in
+    let beyond : length c.args.proof.now.entries ≤ c.args.left - 1 = got_none c.args.proof.now.entries (c.args.left - 1) (sym c.in-None.ensures) in
     absurd (omega arith)

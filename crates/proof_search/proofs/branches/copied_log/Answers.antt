@@ -1,9 +1,8 @@
 use Rattle.std.proofs.Common.{◌≡◌, ◌+◌, ◌∷◌, ◌++◌, [], ◌∙◌, Some, None, length, take, sym, ap}
 use Rattle.std.specs.Prelude.{slice_get}
 use Rattle.std.proofs.lemmas.List.{length_push, take_all}
+use Rattle.lists.proofs.Places.{take_got, got_none}
 use Rattle.accessible_copy.specs.Proving.{log_of}
-use Rattle.accessible_copy.proofs.Lists.{none_beyond}
-use Rattle.accessible_copy.proofs.Listed.{take_got}
 use Rattle.proof_search.proofs.branches.copied_log.Goals as goal
 
 pub loop-log-preserved : goal.loop-log-preserved
@@ -18,4 +17,4 @@ pub returns : goal.returns
 returns c =
     let all = log_of c.args.proof.now in
     let none : slice_get all (length c.loop-log.log) ≡ None = ap (slice_get all) (sym c.len.ensures) ∙ sym c.in_default.ensures in
-    c.loop-log.invariant ∙ take_all (length c.loop-log.log) all (none_beyond all (length c.loop-log.log) none)
+    c.loop-log.invariant ∙ take_all (length c.loop-log.log) all (got_none all (length c.loop-log.log) none)

@@ -1,7 +1,7 @@
 use Rattle.std.proofs.Common.{◌≡◌, Option, Some, None, rules, ap, sym, ◌∙◌, subst, arith}
 use Rattle.std.specs.Prelude.{Contains}
 use Rattle.access_schema.specs.Meaning.{meaning_of}
-use Rattle.access_cost.proofs.Summing.{lawful_named}
+use Rattle.meaning.proofs.Steps.{lawful_named}
 use Rattle.least_search.specs.declared.node.Node.{Node}
 use Rattle.least_search.specs.Walks.{CanGain}
 use Rattle.least_search.specs.Costs.{IsLeastCost, best_cost}

@@ -1,5 +1,5 @@
 use Rattle.access_schema.specs.Meaning.{meaning_of}
-use Rattle.access_cost.proofs.Summing.{lawful_named}
+use Rattle.meaning.proofs.Steps.{lawful_named}
 use Rattle.proof_search.specs.Branches.{IsQueryBranch}
 use Rattle.proof_search.proofs.sparing.spare.Goals as goal
 

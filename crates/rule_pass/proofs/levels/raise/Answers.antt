@@ -1,7 +1,7 @@
 use Rattle.std.proofs.Common.{◌≡◌, ◌++◌, ◌∷◌, [], ◌<◌, ◌≤◌, ◌+◌, take, length, arith, refl}
 use Rattle.std.specs.Prelude.{slice_index}
+use Rattle.lists.proofs.Places.{take_indexed}
 use Rattle.homomorphism.proofs.AtomByAtom.{is_among}
-use Rattle.homomorphism.proofs.Members.{turn}
 use Rattle.rule_pass.proofs.Tables.{raises_none, raises_over, raises_more, sum_rises, sum_kept}
 use Rattle.rule_pass.proofs.levels.raise.Goals.{then-levels-rel, else-levels-rel}
 use Rattle.rule_pass.proofs.levels.raise.Goals as goal
@@ -18,7 +18,7 @@ loop-atom-init c = record { raises = raises_none c.args.least c.args.levels.now;
 pub loop-atom-preserved : goal.loop-atom-preserved
 loop-atom-preserved c =
     let fits : c.atom-item.result.rel < length c.loop-atom.levels = rw c.loop-atom.auto.levels (c.requires c.atom-item.result (is_among c.args.atoms.now c.loop-atom.atom-index c.atom-item.result c.loop-atom-test.true c.atom-item.is)) in
-    let one_more : take (c.loop-atom.atom-index + 1) c.args.atoms.now ≡ take c.loop-atom.atom-index c.args.atoms.now ++ c.atom-item.result ∷ [] = turn c.args.atoms.now c.loop-atom.atom-index c.atom-item.result c.loop-atom-test.true c.atom-item.is in
+    let one_more : take (c.loop-atom.atom-index + 1) c.args.atoms.now ≡ take c.loop-atom.atom-index c.args.atoms.now ++ c.atom-item.result ∷ [] = take_indexed c.args.atoms.now c.loop-atom.atom-index c.atom-item.result c.loop-atom-test.true c.atom-item.is in
     elim c.if-levels-rel.branch [
       | then-levels-rel w ↦
           let low : slice_index c.loop-atom.levels c.atom-item.result.rel < c.args.least = w.if-levels-rel.true in

@@ -1,9 +1,9 @@
 use Rattle.std.proofs.Common.{◌≡◌, ◌++◌, ◌∷◌, [], ◌<◌, ◌+◌, take, arith, subst, sym, ◌∙◌}
 use Rattle.std.specs.Prelude.{Contains, sum}
 use Rattle.std.proofs.lemmas.List.{take_all}
+use Rattle.lists.proofs.Places.{take_indexed}
 use Rattle.rule_pass.specs.Levels.{AreReached, Raises, Rise, greatest_level}
 use Rattle.homomorphism.proofs.AtomByAtom.{is_among}
-use Rattle.homomorphism.proofs.Members.{turn}
 use Rattle.rule_pass.proofs.Tables.{few_steps, reached_more, sum_kept, rise_more}
 use Rattle.rule_pass.proofs.levels.raise_all.Goals.{then-raise, else-raise}
 use Rattle.rule_pass.proofs.levels.raise_all.Goals as goal
@@ -28,7 +28,7 @@ raise-requires c =
 pub loop-rule-preserved : goal.loop-rule-preserved
 loop-rule-preserved c =
     let among : Contains c.args.rules.now c.rule-item.result = is_among c.args.rules.now c.loop-rule.rule-index c.rule-item.result c.loop-rule-test.true c.rule-item.is in
-    let one_more : take (c.loop-rule.rule-index + 1) c.args.rules.now ≡ take c.loop-rule.rule-index c.args.rules.now ++ c.rule-item.result ∷ [] = turn c.args.rules.now c.loop-rule.rule-index c.rule-item.result c.loop-rule-test.true c.rule-item.is in
+    let one_more : take (c.loop-rule.rule-index + 1) c.args.rules.now ≡ take c.loop-rule.rule-index c.args.rules.now ++ c.rule-item.result ∷ [] = take_indexed c.args.rules.now c.loop-rule.rule-index c.rule-item.result c.loop-rule-test.true c.rule-item.is in
     let is : c.greatest_level-least.result ≡ greatest_level c.loop-rule.levels c.rule-item.result.body = rw c.as_slice.ensures at c.greatest_level-least.ensures in
     let raises : Raises c.rule-item.result.head (greatest_level c.loop-rule.levels c.rule-item.result.body + 1) c.loop-rule.levels c.raise.new.levels = rw (c.as_slice-in-loop-rule.ensures, is) at c.raise.ensures.raises in
     let reached : AreReached c.args.rules.now c.raise.new.levels = reached_more c.args.rules.now c.rule-item.result c.loop-rule.levels c.raise.new.levels among (c.requires.orderly.bodies c.rule-item.result among) c.loop-rule.invariant.reached raises in

@@ -1,10 +1,9 @@
 use Rattle.std.proofs.Common.{◌≡◌, ◌+◌, ◌≤◌, ◌∷◌, [], ◌++◌, Some, None, length, take, sym, subst, rules, arith}
 use Rattle.std.specs.Prelude.{slice_get}
 use Rattle.std.proofs.lemmas.List.{take_all, length-take-le}
+use Rattle.lists.proofs.Places.{take_got, got_none}
 use Rattle.accessible_copy.specs.OpenFacts.{AreHolders}
 use Rattle.accessible_copy.proofs.HeldValues.{holders_more}
-use Rattle.accessible_copy.proofs.Lists.{none_beyond}
-use Rattle.accessible_copy.proofs.Listed.{take_got}
 use Rattle.accessible_copy.proofs.holders.Holders.of.Goals.{in-Some+in_ok-add_all, in_default}
 use Rattle.accessible_copy.proofs.holders.Holders.of.Goals as goal
 
@@ -21,7 +20,7 @@ loop-number-preserved c =
           (rw w.as_slice.ensures at w.in_ok-add_all.ensures.here) w.in_ok-add_all.ensures.kept)
       | in_default w ↦
           let none : slice_get c.args.facts.now c.loop-number.number ≡ None = search rules in
-          let beyond = none_beyond c.args.facts.now c.loop-number.number none in
+          let beyond = got_none c.args.facts.now c.loop-number.number none in
           let t = c.loop-number-test.true in let n = c.len-number-end.ensures in absurd (omega arith)
     ]
 

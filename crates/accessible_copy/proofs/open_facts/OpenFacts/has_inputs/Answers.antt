@@ -1,6 +1,6 @@
 use Rattle.std.proofs.Common.{◌≡◌, Some, None, rules}
 use Rattle.std.specs.Prelude.{slice_get}
-use Rattle.homomorphism.proofs.Covering.{refuted}
+use Rattle.lists.proofs.Booleans.{test_fails}
 use Rattle.accessible_copy.proofs.WayLists.{inputs_at, no_inputs_at}
 use Rattle.accessible_copy.proofs.open_facts.OpenFacts.has_inputs.Goals as goal
 
@@ -12,4 +12,4 @@ returns-in-Some c =
 pub returns-in-None : goal.returns-in-None
 returns-in-None c =
     let none : slice_get c.args.self.now.ways.items c.args.number ≡ None = search rules in
-    refuted (λ some. no_inputs_at c.args.self.now.ways.items c.args.number _ c.args.fact.now.vals none some)
+    test_fails (λ some. no_inputs_at c.args.self.now.ways.items c.args.number _ c.args.fact.now.vals none some)

@@ -1,11 +1,11 @@
 use Rattle.std.proofs.Common.{◌≡◌, ◌+◌, ◌<◌, ◌≤◌, ◌∷◌, [], ◌++◌, Some, length, take, inl, inr, sym, subst, ⊎_elim, rules, arith}
 use Rattle.std.specs.Prelude.{Contains, slice_get}
 use Rattle.std.proofs.lemmas.List.{take_all}
-use Rattle.lists.proofs.Members.{got_below}
+use Rattle.lists.proofs.Members.{got_below, contains_take}
+use Rattle.lists.proofs.Places.{take_got}
 use Rattle.accessible_copy.specs.Known.{known_values, facts_of}
 use Rattle.accessible_copy.specs.OpenFacts.{IsOpen}
-use Rattle.accessible_copy.proofs.Listed.{take_got}
-use Rattle.accessible_copy.proofs.WayLists.{open_among, open_split, open_same, of_front}
+use Rattle.accessible_copy.proofs.WayLists.{open_among, open_split, open_same}
 use Rattle.accessible_copy.proofs.open_facts.OpenFacts.newly_open.Goals.{in-Some+in_ok-add_open, in_default}
 use Rattle.accessible_copy.proofs.open_facts.OpenFacts.newly_open.Goals as goal
 
@@ -23,7 +23,7 @@ loop-place-preserved c =
           let turn : take (place + 1) values ≡ take place values ++ val ∷ [] = take_got values place val got in
           rw w.numbers-is (λ n is.
           ⊎_elim (λ old. ⊎_elim (λ h. inl h) (λ h. inr (w.in_ok-add_open.ensures.kept n h)) (c.loop-place.invariant n old))
-          (λ (fact, at, holds). inr (w.in_ok-add_open.ensures.added n (c.requires.holders n fact val at holds) (open_among ways facts (take (place + 1) values) values exposed n (of_front (place + 1) values) is)))
+          (λ (fact, at, holds). inr (w.in_ok-add_open.ensures.added n (c.requires.holders n fact val at holds) (open_among ways facts (take (place + 1) values) values exposed n (contains_take (place + 1) values) is)))
           (open_split ways facts (take place values) val exposed n (subst (λ l. IsOpen ways facts l exposed n) turn is)))
       | in_default w ↦
           let low : place < length values = let t = c.loop-place-test.true in let wide = c.width-place-end.ensures in omega arith in

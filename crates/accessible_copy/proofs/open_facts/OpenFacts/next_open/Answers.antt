@@ -1,8 +1,7 @@
 use Rattle.std.proofs.Common.{◌≡◌, ◌+◌, ◌<◌, ◌∷◌, drop, length, Some, sym, ◌∙◌, subst, ⊎_elim, rules, arith}
 use Rattle.std.specs.Prelude.{Contains, slice_get, slice_index_or}
 use Rattle.std.proofs.lemmas.List.{drop_more, drop_all}
-use Rattle.lists.proofs.Members.{contains_cases}
-use Rattle.homomorphism.proofs.Members.{contains_none}
+use Rattle.lists.proofs.Members.{contains_cases, contains_none}
 use Rattle.accessible_copy.proofs.open_facts.OpenFacts.next_open.Goals as goal
 
 pub loop-place-preserved : goal.loop-place-preserved

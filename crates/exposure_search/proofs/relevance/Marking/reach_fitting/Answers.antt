@@ -2,8 +2,8 @@ use Rattle.std.proofs.Common.{◌≡◌, ◌+◌, ◌<◌, Some, length, sym, ap
 use Rattle.std.specs.Prelude.{slice_get}
 use Rattle.std.proofs.lemmas.Option.{slice_get_within}
 use Rattle.lists.proofs.Members.{some_injective}
+use Rattle.lists.proofs.Places.{got_indexed}
 use Rattle.meaning.specs.declared.types.Ground.{Ground}
-use Rattle.accessible_copy.proofs.Listed.{got_here}
 use Rattle.exposure_search.specs.Relevance.{IsMade}
 use Rattle.exposure_search.specs.Tries.{IsMarked}
 use Rattle.exposure_search.proofs.Following.{IsReached, IsFront, reached_more, reached_none, front_next}
@@ -15,7 +15,7 @@ loop-number-preserved c =
     let facts = c.args.facts.now in
     let i = c.loop-number.number in
     let fact = c.index-facts-number.result in
-    let got : slice_get facts i ≡ Some fact = got_here facts i fact c.loop-number-test.true c.index-facts-number.is in
+    let got : slice_get facts i ≡ Some fact = got_indexed facts i fact c.loop-number-test.true c.index-facts-number.is in
     elim c.if-fits_some.branch [
       | then-fits_some+in_ok-reach w ↦
           subst (λ s. IsReached (IsFront facts (IsMade c.args.given.now c.args.atoms.now) (i + 1)) c.args.self.now s) (sym w.self-is)

@@ -1,7 +1,7 @@
 use Rattle.std.proofs.Common.{◌+◌, List, [], take, subst, sym}
 use Rattle.std.proofs.lemmas.List.{take_all}
+use Rattle.lists.proofs.Places.{got_indexed}
 use Rattle.meaning.specs.declared.types.Query.{Query}
-use Rattle.accessible_copy.proofs.Listed.{got_here}
 use Rattle.exposure_search.specs.Relevance.{IsOfKind, IsImageAmong, IsImageOf}
 use Rattle.exposure_search.proofs.Following.{reached_more, reached_none, image_kinds, no_image_kinds}
 use Rattle.exposure_search.proofs.relevance.Marking.reach_images.Goals as goal
@@ -17,7 +17,7 @@ loop-query-preserved c =
     let i = c.loop-query.query-index in
     reached_more (IsOfKind facts (IsImageAmong (take i queries) head)) (IsOfKind facts (IsImageOf c.query-item.result head)) (IsOfKind facts (IsImageAmong (take (i + 1) queries) head)) c.args.self.now c.loop-query.self c.reach_query.new.self c.loop-query.invariant
     (record { grows = c.in_ok-reach_query.ensures.grows; reached = c.in_ok-reach_query.ensures.reached })
-    (λ n kind. image_kinds facts queries head i c.query-item.result n (got_here queries i c.query-item.result c.loop-query-test.true c.query-item.is) kind)
+    (λ n kind. image_kinds facts queries head i c.query-item.result n (got_indexed queries i c.query-item.result c.loop-query-test.true c.query-item.is) kind)
 
 pub returns-clause-reached : goal.returns-clause-reached
 returns-clause-reached c number kind =

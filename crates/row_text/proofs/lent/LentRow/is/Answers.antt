@@ -2,7 +2,9 @@ use Rattle.std.proofs.Common.{◌≡◌, ◌∙◌, Some, ap, sym, slice_get, op
 use Rattle.std.specs.Cmp.Lexicographic.{same_text, other_text}
 use Rattle.std.proofs.lemmas.Bool.{eqb-true, eqb-false}
 use Rattle.std.proofs.lemmas.Option.{slice_get_within}
-use Rattle.row_text.proofs.Comparing.{got_none, not_false, not_true, prefix_all, prefix_step, rest_head, rest_length}
+use Rattle.lists.proofs.Places.{got_none}
+use Rattle.lists.proofs.Booleans.{denied_false}
+use Rattle.row_text.proofs.Comparing.{not_true, prefix_all, prefix_step, rest_head, rest_length}
 use Rattle.row_text.proofs.lent.LentRow.is.Goals as goal
 use Rattle.row_text.proofs.lent.LentRow.is.Goals.{in_default, in_default-2}
 
@@ -13,7 +15,7 @@ loop-left-preserved c =
     record {
       within = omega (arith, slice_get_within c.args.self.now c.loop-left.column c.in-len1-up-Some.value.now got);
       same = prefix_step (λ s. s.now) _ c.args.self.now c.loop-left.left.now _ c.loop-left.column c.in-len1-up-Some.value.now
-          c.loop-left.invariant.same got c.in-len1-up-Some.len_at_least (same_text _ _ (not_false _ c.if-ne.ensures));
+          c.loop-left.invariant.same got c.in-len1-up-Some.len_at_least (same_text _ _ (denied_false _ c.if-ne.ensures));
     }
 
 pub returns-then-ne : goal.returns-then-ne
