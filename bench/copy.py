@@ -1,13 +1,14 @@
 #!/usr/bin/env python3
 """How the calls of accessible_copy grow: a tree of rules, a chain of relations, and a star whose sets are exposed and undone.
 
-usage: bench/copy.py [--scratch FOLDER] [--program FILE]
+usage: bench/copy.py [--scratch FOLDER] [--program FILE] [--plain FILE]
 
 Copies the crates that it needs to a scratch folder, adds the program of bench/copy_speed.main with the helpers of planner_cases' tests, and
 proves and builds it by `rt run`: most of that is the proof of the libraries below. Then counts the instructions of each measurement by
-`valgrind --tool=callgrind`, which a busy machine does not move, and reads its CPU time. --program is one that was built before.
+`valgrind --tool=callgrind`, which a busy machine does not move, and reads its CPU time, the median of fifteen runs. --program is one that was built
+before. --plain is a program that takes the same words and does the same, and is measured beside it, run by run in turn.
 """
-import argparse, glob, math, os, re, resource, shutil, subprocess, sys, tempfile
+import argparse, glob, math, os, re, resource, shutil, statistics, subprocess, sys, tempfile
 
 TOP = os.path.realpath(f"{os.path.dirname(os.path.realpath(__file__))}/..")
 NAME = "copy_speed"
@@ -72,20 +73,31 @@ def main():
     asked = argparse.ArgumentParser()
     asked.add_argument("--scratch")
     asked.add_argument("--program")
+    asked.add_argument("--plain")
     asked = asked.parse_args()
     if not shutil.which("valgrind"):
         sys.exit("valgrind is not there")
     program = os.path.abspath(asked.program or built(asked.scratch or tempfile.mkdtemp(prefix=NAME)))
-    print("| measurement | size | million instructions | exponent | CPU s |\n| --- | --- | --- | --- | --- |")
+    programs = [program] + ([os.path.abspath(asked.plain)] if asked.plain else [])
+    heads = ["measurement", "size"] + ["million instructions", "exponent", "CPU ms"] * len(programs)
+    if asked.plain:
+        heads += ["times the instructions", "the CPU time"]
+    print(f"| {' | '.join(heads)} |\n|{' --- |' * len(heads)}")
     for name, sizes in MEASURED:
         last = None
         for size in sizes:
-            command = [program, name, str(size)]
-            cpu = used(command)
-            count = instructions(command)
-            grows = "" if last is None else f"{math.log(count / last[1]) / math.log(size / last[0]):.2f}"
-            print(f"| {name} | {size} | {count / 1e6:.1f} | {grows} | {cpu:.2f} |", flush=True)
-            last = (size, count)
+            commands = [[one, name, str(size)] for one in programs]
+            runs = [[used(command) for command in commands] for _ in range(15)]
+            times = [statistics.median(run[n] for run in runs) * 1000 for n in range(len(commands))]
+            counts = [instructions(command) for command in commands]
+            cells = []
+            for n in range(len(commands)):
+                grows = "" if last is None else f"{math.log(counts[n] / last[1][n]) / math.log(size / last[0]):.2f}"
+                cells += [f"{counts[n] / 1e6:.1f}", grows, f"{times[n]:.1f}"]
+            if asked.plain:
+                cells += [f"{counts[0] / counts[1]:.1f}", f"{times[0] / times[1]:.1f}"]
+            print(f"| {name} | {size} | {' | '.join(cells)} |", flush=True)
+            last = (size, counts)
 
 
 main()

@@ -1,11 +1,12 @@
 #!/usr/bin/env python3
 """How long the pass over the rules takes, alone: trees of rules, joins over their paths, joins of many facts, and joins with few firings.
 
-usage: bench/fire.py [--scratch FOLDER] [--only NAME]
+usage: bench/fire.py [--scratch FOLDER] [--only NAME] [--plain PROGRAM]
 
 Copies the crates that it needs to a scratch folder, adds the program of bench/fire_speed.main there, and for each schema puts its text in, proves
-and builds the program by `rt run`, and counts its firings, its instructions (`valgrind --tool=callgrind`) and its CPU time, the median of nine
-runs. Most of the first build is the proof of the libraries below; each further one takes a minute.
+and builds the program by `rt run`, and counts its firings, its instructions (`valgrind --tool=callgrind`), its CPU time, the median of fifteen
+runs, and its peak memory. Most of the first build is the proof of the libraries below; each further one takes a minute. --plain is a program that
+does the same for the schema in a file, and is measured beside it, run by run in turn.
 """
 import argparse, os, re, resource, shutil, statistics, subprocess, sys, tempfile
 
@@ -105,31 +106,64 @@ def built(crate, schema, columns):
     return f"{crate}/out/{NAME}"
 
 
-def cpu(program):
+def cpu(command):
     """CPU milliseconds of a run."""
     before = resource.getrusage(resource.RUSAGE_CHILDREN)
-    subprocess.run([program], check=True, stdout=subprocess.DEVNULL)
+    subprocess.run(command, check=True, stdout=subprocess.DEVNULL)
     after = resource.getrusage(resource.RUSAGE_CHILDREN)
     return (after.ru_utime + after.ru_stime - before.ru_utime - before.ru_stime) * 1000
+
+
+def instructions(command):
+    """Millions of instructions of a run."""
+    counted = subprocess.run(["valgrind", "--tool=callgrind", "--callgrind-out-file=/dev/null"] + command, capture_output=True, text=True).stderr
+    number = re.search(r"Collected : (\d+)", counted)
+    if not number:
+        sys.exit(f"{command[0]} was not counted: {counted[-300:]}")
+    return int(number[1]) / 1e6
+
+
+def memory(command):
+    """Peak memory in MiB, of a run below a small parent."""
+    told = subprocess.run(["/usr/bin/time", "-f", "%M"] + command, capture_output=True, text=True, check=True).stderr
+    return int(told.split()[-1]) / 1024
+
+
+def figures(commands):
+    """Instructions, CPU milliseconds and memory of each command; their runs come in turn."""
+    runs = [[cpu(command) for command in commands] for _ in range(15)]
+    times = [statistics.median(run[n] for run in runs) for n in range(len(commands))]
+    return [(instructions(command), times[n], memory(command)) for n, command in enumerate(commands)]
 
 
 def main():
     asked = argparse.ArgumentParser()
     asked.add_argument("--scratch")
     asked.add_argument("--only")
+    asked.add_argument("--plain")
     asked = asked.parse_args()
     crate = prepared(asked.scratch or tempfile.mkdtemp(prefix=NAME))
-    print("| rules | firings | million instructions | CPU ms |\n| --- | --- | --- | --- |")
+    heads = ["rules", "firings", "million instructions", "CPU ms", "MiB"]
+    if asked.plain:
+        heads += ["plain program's million instructions", "CPU ms", "MiB", "times the instructions", "the CPU time", "the memory"]
+    print(f"| {' | '.join(heads)} |\n|{' --- |' * len(heads)}")
     for name, schema, columns in MEASURED:
         if asked.only and asked.only != name:
             continue
         program = built(crate, schema, columns)
-        firings = subprocess.run([program], capture_output=True, text=True, check=True).stdout.strip()
-        counted = subprocess.run(["valgrind", "--tool=callgrind", "--callgrind-out-file=/dev/null", program], capture_output=True, text=True).stderr
-        number = re.search(r"Collected : (\d+)", counted)
-        if not number:
-            sys.exit(f"{program} was not counted: {counted[-300:]}")
-        print(f"| {name} | {firings} | {int(number[1]) / 1e6:.1f} | {statistics.median(cpu(program) for _ in range(9)):.1f} |", flush=True)
+        commands = [[program]]
+        if asked.plain:
+            with open(f"{crate}/{name}.schema", "w") as out:
+                out.write(schema)
+            commands.append([os.path.abspath(asked.plain), f"{crate}/{name}.schema"])
+        firings = {subprocess.run(command, capture_output=True, text=True, check=True).stdout.strip() for command in commands}
+        if len(firings) > 1:
+            sys.exit(f"{name}: the programs made {' and '.join(sorted(firings))} firings")
+        measured = figures(commands)
+        cells = [f"{number:.1f}" for one in measured for number in one]
+        if asked.plain:
+            cells += [f"{own / other:.1f}" for own, other in zip(*measured)]
+        print(f"| {name} | {firings.pop()} | {' | '.join(cells)} |", flush=True)
 
 
 main()
