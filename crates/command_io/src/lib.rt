@@ -1,5 +1,5 @@
-//! What every command shares: exit statuses, why a command stops and the line that says so, the texts of its files, and
-//! writing whole texts.
+//! What every command shares: its files and outputs as one value, exit statuses, why a command stops and the line that says so,
+//! the texts of its files, and writing whole texts.
 //!
 //! Crates above use this: each stop has one status and one line, a text is read exactly as its grammar says or refused by
 //! its cause, and a sink takes all of a text or a first part of it. Begin at `specs/Inputs.antt`.
@@ -10,6 +10,7 @@ mod exit_status;
 mod inputs;
 mod line;
 mod outcome;
+mod outside;
 mod query_lines;
 mod schema_lines;
 mod source_lines;
@@ -25,6 +26,7 @@ pub use inputs::{
 };
 pub use line::{FileNames, line_of};
 pub use outcome::Outcome;
+pub use outside::{Outputs, Outside};
 pub use stop::{Input, Stop, status};
 pub use telling::{print, say, tell};
 pub use write::write_all;
