@@ -35,7 +35,7 @@ def built(folder):
     if not os.path.exists(f"{folder}/crates"):
         shutil.copytree(f"{TOP}/crates", f"{folder}/crates", ignore=shutil.ignore_patterns("must-fail", "out"))
         shutil.copy2(f"{TOP}/HANDLES", folder)
-    uses = "pdq_core system_io world_source source_trait row_text meaning lists"
+    uses = "pdq_core command_io system_io world_source source_trait row_text meaning lists"
     with open(f"{TOP}/crates.txt") as known, open(f"{folder}/crates.txt", "w") as out:
         out.write(known.read() + f"{NAME}: {uses}\n")
     crate = f"{folder}/crates/{NAME}"

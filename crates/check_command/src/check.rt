@@ -1,17 +1,18 @@
 // A plan, from the texts of the files to the text of the verdict.
 ghost use Rattle.std.specs.Prelude.{◌≡◌, ◌≤◌, IfOk, IfErr};
-ghost use Rattle.source_trait.specs.Causes.{Rose};
 ghost use Rattle.sql_select.specs.Statements.{StatementFits};
 ghost use Rattle.plan_form.specs.Fitting.{HasFewSteps};
 ghost use Rattle.rule_pass.specs.declared.pass.TheConstants.{MOST_FIRINGS};
 ghost use Rattle.plan_check.specs.Forms.{HasFewColumns};
 ghost use Rattle.plan_check.specs.Verdicts.{IsVerdict};
 ghost use Rattle.explain.specs.Verdicts.{IsVerdictText};
-ghost use Rattle.command_io.specs.Moments.{Moment, Outputs, Stays};
+ghost use Rattle.command_io.specs.Moments.{Stays};
 ghost use Rattle.check_command.specs.Ends.{outcome_of, JudgeEnds, CheckEnds};
 
 use access_schema::Schema;
-use command_io::{FileNames, Outcome, Stop, plan_of_file, print, read_texts, tell};
+use command_io::{
+    FileNames, Outcome, Outputs, Outside, Stop, plan_of_file, print, read_texts, tell,
+};
 use explain::verdict_text;
 use lists::{Bytes, Text};
 use meaning::types::{Plan, Statement};
@@ -27,33 +28,34 @@ pub fn check_plan<F: Files, O: Sink, E: Sink>(
     query_name: &Text,
     plan_name: &Text,
     firings: u32,
-    files: &mut F,
-    out: &mut O,
-    err: &mut E,
+    outside: &mut Outside<F, O, E>,
 ) -> Result<Outcome, Stop>
     requires { firings ≤ MOST_FIRINGS }
-    ensures ends { CheckEnds schema_name.now query_name.now plan_name.now firings
-        (record { files = F.contents files.old; file_faults = F.faults files.old; out = O.taken out.old; out_faults = O.faults out.old; err = E.taken err.old; err_faults = E.faults err.old })
-        (record { files = F.contents files.new; file_faults = F.faults files.new; out = O.taken out.new; out_faults = O.faults out.new; err = E.taken err.new; err_faults = E.faults err.new })
-        result }
-    ensures stays { Stays
-        (record { files = F.contents files.old; file_faults = F.faults files.old; out = O.taken out.old; out_faults = O.faults out.old; err = E.taken err.old; err_faults = E.faults err.old })
-        (record { files = F.contents files.new; file_faults = F.faults files.new; out = O.taken out.new; out_faults = O.faults out.new; err = E.taken err.new; err_faults = E.faults err.new }) }
+    ensures ends { CheckEnds schema_name.now query_name.now plan_name.now firings outside.old outside.new result }
+    ensures stays { Stays outside.old outside.new }
 {
     let names = FileNames {
         schema: schema_name,
         query: query_name,
         plan: plan_name,
     };
-    let (schema, statement) = match read_texts(alloc, files, schema_name, query_name) {
+    let (schema, statement) = match read_texts(alloc, &mut outside.files, schema_name, query_name) {
         Ok(both) => both,
-        Err(stop) => return Err(tell(alloc, err, stop, names, &[])),
+        Err(stop) => return Err(tell(alloc, &mut outside.outputs.err, stop, names, &[])),
     };
-    let plan = match plan_of_file(alloc, files, plan_name) {
+    let plan = match plan_of_file(alloc, &mut outside.files, plan_name) {
         Ok(plan) => plan,
-        Err(stop) => return Err(tell(alloc, err, stop, names, &[])),
+        Err(stop) => return Err(tell(alloc, &mut outside.outputs.err, stop, names, &[])),
     };
-    show(alloc, names, &schema, &statement, &plan, firings, out, err)
+    show(
+        alloc,
+        names,
+        &schema,
+        &statement,
+        &plan,
+        firings,
+        &mut outside.outputs,
+    )
 }
 
 // Judges the plan, and writes the text of the verdict.
@@ -64,28 +66,24 @@ fn show<O: Sink, E: Sink>(
     statement: &Statement,
     plan: &Plan,
     firings: u32,
-    out: &mut O,
-    err: &mut E,
+    outputs: &mut Outputs<O, E>,
 ) -> Result<Outcome, Stop>
     requires fits { StatementFits schema.now statement.now }
     requires few { HasFewSteps plan.now }
     requires columns { HasFewColumns plan.now }
     requires budget { firings ≤ MOST_FIRINGS }
-    ensures ends { JudgeEnds schema.now statement.now plan.now firings (record { schema = names.entry.schema.now; query = names.entry.query.now; plan = names.entry.plan.now; relations = schema.now.relations })
-        (record { out = O.taken out.old; out_faults = O.faults out.old; err = E.taken err.old; err_faults = E.faults err.old })
-        (record { out = O.taken out.new; out_faults = O.faults out.new; err = E.taken err.new; err_faults = E.faults err.new })
-        result }
-    ensures later_out { O.faults out.old ≤ O.faults out.new }
-    ensures later_err { E.faults err.old ≤ E.faults err.new }
+    ensures ends { JudgeEnds schema.now statement.now plan.now firings (record { schema = names.entry.schema.now; query = names.entry.query.now; plan = names.entry.plan.now; relations = schema.now.relations }) outputs.old outputs.new result }
+    ensures later_out { outputs.old.out_faults ≤ outputs.new.out_faults }
+    ensures later_err { outputs.old.err_faults ≤ outputs.new.err_faults }
 {
     let relations = schema.relations.as_slice();
     let (verdict, text) = match judged(alloc, schema, statement, plan, firings) {
         Ok(both) => both,
-        Err(stop) => return Err(tell(alloc, err, stop, names, relations)),
+        Err(stop) => return Err(tell(alloc, &mut outputs.err, stop, names, relations)),
     };
-    match print(out, text.as_slice(), Stop::ResultWrite) {
+    match print(&mut outputs.out, text.as_slice(), Stop::ResultWrite) {
         Ok(()) => Ok(outcome(&verdict)),
-        Err(stop) => Err(tell(alloc, err, stop, names, relations)),
+        Err(stop) => Err(tell(alloc, &mut outputs.err, stop, names, relations)),
     }
 }
 

@@ -1,14 +1,15 @@
 // A plan, from the texts of its files to its rows.
-ghost use Rattle.std.specs.Prelude.{◌≡◌, ◌≤◌, OnOk, IfErr, length};
-ghost use Rattle.source_trait.specs.Causes.{Rose};
+ghost use Rattle.std.specs.Prelude.{◌≤◌, OnOk, IfErr, length};
 ghost use Rattle.source_trait.specs.Lanes.{LanesStay};
 ghost use Rattle.plan_form.specs.Fitting.{PlanFits, HasFewSteps};
-ghost use Rattle.command_io.specs.Moments.{Moment, Outputs, Stays};
+ghost use Rattle.command_io.specs.Moments.{Stays};
 ghost use Rattle.exec_command.specs.Ends.{MayRun, IdleStop, PlanEnds, ExecEnds};
 
 use crate::known::{column_names, known};
 use access_schema::Schema;
-use command_io::{FileNames, Outcome, Report, Stop, deliver, plan_of_file, schema_of, tell};
+use command_io::{
+    FileNames, Outcome, Outputs, Outside, Report, Stop, deliver, plan_of_file, schema_of, tell,
+};
 use lists::Text;
 use meaning::types::Plan;
 use plan_form::lawful;
@@ -26,19 +27,12 @@ pub fn exec_plan<R: Threads + Sync, F: Files, S: Source + Send + Drop, O: Sink, 
     alloc: Global,
     schema_name: &Text,
     plan_name: &Text,
-    files: &mut F,
+    outside: &mut Outside<F, O, E>,
     lanes: &mut [Lane<S>],
-    out: &mut O,
-    err: &mut E,
 ) -> Result<Outcome, Stop>
     requires { length lanes.old ≤ 8 }
-    ensures ends { ExecEnds S.seen schema_name.now plan_name.now
-        (record { files = F.contents files.old; file_faults = F.faults files.old; out = O.taken out.old; out_faults = O.faults out.old; err = E.taken err.old; err_faults = E.faults err.old })
-        (record { files = F.contents files.new; file_faults = F.faults files.new; out = O.taken out.new; out_faults = O.faults out.new; err = E.taken err.new; err_faults = E.faults err.new })
-        lanes.old lanes.new result }
-    ensures stays { Stays
-        (record { files = F.contents files.old; file_faults = F.faults files.old; out = O.taken out.old; out_faults = O.faults out.old; err = E.taken err.old; err_faults = E.faults err.old })
-        (record { files = F.contents files.new; file_faults = F.faults files.new; out = O.taken out.new; out_faults = O.faults out.new; err = E.taken err.new; err_faults = E.faults err.new }) }
+    ensures ends { ExecEnds S.seen schema_name.now plan_name.now outside.old outside.new lanes.old lanes.new result }
+    ensures stays { Stays outside.old outside.new }
     ensures lanes { LanesStay S.seen lanes.old lanes.new }
 {
     let none = Text::new(String::new(alloc));
@@ -47,15 +41,23 @@ pub fn exec_plan<R: Threads + Sync, F: Files, S: Source + Send + Drop, O: Sink, 
         query: &none,
         plan: plan_name,
     };
-    let schema = match schema_of(alloc, files, schema_name) {
+    let schema = match schema_of(alloc, &mut outside.files, schema_name) {
         Ok(schema) => schema,
-        Err(stop) => return Err(tell(alloc, err, stop, names, &[])),
+        Err(stop) => return Err(tell(alloc, &mut outside.outputs.err, stop, names, &[])),
     };
-    let plan = match plan_of_file(alloc, files, plan_name) {
+    let plan = match plan_of_file(alloc, &mut outside.files, plan_name) {
         Ok(plan) => plan,
-        Err(stop) => return Err(tell(alloc, err, stop, names, &[])),
+        Err(stop) => return Err(tell(alloc, &mut outside.outputs.err, stop, names, &[])),
     };
-    carry_out(rt, alloc, names, &schema, &plan, lanes, out, err)
+    carry_out(
+        rt,
+        alloc,
+        names,
+        &schema,
+        &plan,
+        &mut outside.outputs,
+        lanes,
+    )
 }
 
 // Tests that the plan is lawful, executes it and writes its rows.
@@ -65,32 +67,36 @@ fn carry_out<R: Threads + Sync, S: Source + Send + Drop, O: Sink, E: Sink>(
     names: FileNames<'_>,
     schema: &Schema,
     plan: &Plan,
+    outputs: &mut Outputs<O, E>,
     lanes: &mut [Lane<S>],
-    out: &mut O,
-    err: &mut E,
 ) -> Result<Outcome, Stop>
     requires fits { PlanFits plan.now }
     requires lanes { length lanes.old ≤ 8 }
-    ensures ends { PlanEnds S.seen schema.now plan.now (record { schema = names.entry.schema.now; query = names.entry.query.now; plan = names.entry.plan.now; relations = schema.now.relations })
-        (record { out = O.taken out.old; out_faults = O.faults out.old; err = E.taken err.old; err_faults = E.faults err.old })
-        (record { out = O.taken out.new; out_faults = O.faults out.new; err = E.taken err.new; err_faults = E.faults err.new })
-        lanes.old lanes.new result }
+    ensures ends { PlanEnds S.seen schema.now plan.now (record { schema = names.entry.schema.now; query = names.entry.query.now; plan = names.entry.plan.now; relations = schema.now.relations }) outputs.old outputs.new lanes.old lanes.new result }
     ensures lanes { LanesStay S.seen lanes.old lanes.new }
-    ensures later_out { O.faults out.old ≤ O.faults out.new }
-    ensures later_err { E.faults err.old ≤ E.faults err.new }
+    ensures later_out { outputs.old.out_faults ≤ outputs.new.out_faults }
+    ensures later_err { outputs.old.err_faults ≤ outputs.new.err_faults }
 {
     let relations = schema.relations.as_slice();
     match may_run(alloc, schema, plan) {
         Ok(()) => {}
-        Err(stop) => return Err(tell(alloc, err, stop, names, relations)),
+        Err(stop) => return Err(tell(alloc, &mut outputs.err, stop, names, relations)),
     }
     let columns = match column_names(alloc, plan.width) {
         Ok(columns) => columns,
-        Err(_) => return Err(tell(alloc, err, Stop::Memory, names, relations)),
+        Err(_) => return Err(tell(alloc, &mut outputs.err, Stop::Memory, names, relations)),
     };
-    match deliver(rt, alloc, schema, plan, Report::Rows(&columns), lanes, out) {
+    match deliver(
+        rt,
+        alloc,
+        schema,
+        plan,
+        Report::Rows(&columns),
+        lanes,
+        &mut outputs.out,
+    ) {
         Ok(()) => Ok(Outcome::Done),
-        Err(stop) => Err(tell(alloc, err, stop, names, relations)),
+        Err(stop) => Err(tell(alloc, &mut outputs.err, stop, names, relations)),
     }
 }
 

@@ -1,4 +1,5 @@
 // A run of the program's top call on two lanes, whose look-ups wait for one another.
+use command_io::{Outputs, Outside};
 use lists::{Bytes, Places, Row, Seq, Text, Texts};
 use meaning::types::Requests;
 use pdq_core::{Status, run_words};
@@ -157,12 +158,10 @@ fn ran<R: Threads + Sync, F: Files, S: Source + Send + Drop, O: Sink, E: Sink>(
     rt: &R,
     alloc: Global,
     words: &[Text],
-    files: &mut F,
+    outside: &mut Outside<F, O, E>,
     lanes: &mut Vec<Lane<S>>,
-    out: &mut O,
-    err: &mut E,
 ) -> bool {
-    match run_words(rt, alloc, words, files, lanes, out, err) {
+    match run_words(rt, alloc, words, outside, lanes) {
         Status::Done => true,
         _ => false,
     }
@@ -178,19 +177,16 @@ fn answers<R: Threads + Sync, S: Source + Send + Drop>(
     for word in ["run", "s", "q", "--workers", "2"] {
         words.push(Text::from_str(alloc, word)?)?;
     }
-    let mut files = texts(alloc)?;
-    let mut out = MemorySink::new(alloc, 1000, Seq::new(alloc));
-    let mut err = MemorySink::new(alloc, 1000, Seq::new(alloc));
-    let done = ran(
-        rt,
-        alloc,
-        words.as_slice(),
-        &mut files,
-        lanes,
-        &mut out,
-        &mut err,
-    );
-    Ok(done && out.bytes() == ROWS.as_bytes() && err.bytes() == PLAN.as_bytes())
+    let mut outside = Outside {
+        files: texts(alloc)?,
+        outputs: Outputs {
+            out: MemorySink::new(alloc, 1000, Seq::new(alloc)),
+            err: MemorySink::new(alloc, 1000, Seq::new(alloc)),
+        },
+    };
+    let done = ran(rt, alloc, words.as_slice(), &mut outside, lanes);
+    let wrote = &outside.outputs;
+    Ok(done && wrote.out.bytes() == ROWS.as_bytes() && wrote.err.bytes() == PLAN.as_bytes())
 }
 
 // Whether a run with two workers writes the plan and the rows, on two lanes whose look-ups raise these counts.

@@ -1,7 +1,7 @@
 //! The program: the top call over the files of the system, standard output and standard error.
 //!
-//! `main` makes the files, eight lanes whose kind `csv` is a folder of data files and whose kind `world` is a source of
-//! generated rows, and the two outputs, and ends with the exit status of `run_words`, which says what the program does.
+//! `main` makes the files and the two outputs, and eight lanes whose kind `csv` is a folder of data files and whose kind `world` is a
+//! source of generated rows, and ends with the exit status of `run_words`, which says what the program does.
 //! Begin at `main`; `system_io` has the adapters.
 #![tactic(auto)]
 
@@ -12,6 +12,7 @@ ghost use Rattle.std.specs.Process.{exit_status};
 ghost use Rattle.source_trait.specs.Lanes.{names_of};
 ghost use Rattle.command_io.specs.Status.{code_of};
 
+use command_io::{Outputs, Outside};
 use csv_sources::CsvFolder;
 use lists::{NoMemory, Text};
 use pdq_core::{Status, run_words};
@@ -30,10 +31,15 @@ const LANES: usize = 8;
 
 fn main(rt: HostRuntime) -> ExitCode {
     let alloc = rt.alloc();
-    let mut out = RealOut::new(rt.stdout());
-    let mut err = RealErr::new(rt.stderr());
+    let mut outside = Outside {
+        files: RealFiles::new(System::new(rt)),
+        outputs: Outputs {
+            out: RealOut::new(rt.stdout()),
+            err: RealErr::new(rt.stderr()),
+        },
+    };
     let Ok(words) = words_of(&rt) else {
-        return want_of_memory(&mut err);
+        return want_of_memory(&mut outside.outputs.err);
     };
     let mut lanes = Vec::new(alloc);
     for _ in 0..LANES {
@@ -41,21 +47,18 @@ fn main(rt: HostRuntime) -> ExitCode {
             alloc,
             CsvFolder::new(alloc, RealFiles::new(System::new(rt))),
         ) else {
-            return want_of_memory(&mut err);
+            return want_of_memory(&mut outside.outputs.err);
         };
         let Ok(generator) = Box::new(alloc, WorldSource::new(alloc)) else {
-            return want_of_memory(&mut err);
+            return want_of_memory(&mut outside.outputs.err);
         };
         let (folder, generator) = (Boxed { object: folder }, Boxed { object: generator });
         let Ok(()) = add_lane(alloc, &mut lanes, folder, generator) else {
-            return want_of_memory(&mut err);
+            return want_of_memory(&mut outside.outputs.err);
         };
     }
-    let mut files = RealFiles::new(System::new(rt));
     let words = words.as_slice();
-    let status = run_words(
-        &rt, alloc, words, &mut files, &mut lanes, &mut out, &mut err,
-    );
+    let status = run_words(&rt, alloc, words, &mut outside, &mut lanes);
     // the rows are not freed one by one: the system takes them back with the process
     forget(lanes);
     exit(status)

@@ -4,12 +4,12 @@ ghost use Rattle.std.specs.Borrow.{sem, LendsBoth, Array};
 ghost use Rattle.source_trait.specs.Lanes.{LanesStay};
 ghost use Rattle.rule_pass.specs.declared.pass.TheConstants.{MOST_FIRINGS};
 ghost use Rattle.proof_search.specs.declared.deciding.TheConstants.{MOST_UNITS};
-ghost use Rattle.command_io.specs.Moments.{Moment, Outputs, Stays};
+ghost use Rattle.command_io.specs.Moments.{Stays};
 ghost use Rattle.run_command.specs.Ends.{RunEnds};
 ghost use Rattle.run_command.specs.World.{WorldEnds};
 ghost use Rattle.exec_command.specs.Ends.{ExecEnds};
 
-use command_io::{Outcome, Stop};
+use command_io::{Outcome, Outputs, Outside, Stop};
 use exec_command::exec_plan;
 use lists::Text;
 use run_command::{run_query, run_world};
@@ -26,28 +26,19 @@ pub fn run_on_first<R: Threads + Sync, F: Files, S: Source + Send + Drop, O: Sin
     firings: u32,
     search: u32,
     workers: u32,
-    files: &mut F,
+    outside: &mut Outside<F, O, E>,
     lanes: &mut Vec<Lane<S>>,
-    out: &mut O,
-    err: &mut E,
 ) -> Result<Outcome, Stop>
     requires budget { firings ≤ MOST_FIRINGS }
     requires units { search ≤ MOST_UNITS }
     requires workers { workers ≤ 8 }
-    ensures ends { RunEnds S.seen schema.now query.now firings search
-        (record { files = F.contents files.old; file_faults = F.faults files.old; out = O.taken out.old; out_faults = O.faults out.old; err = E.taken err.old; err_faults = E.faults err.old })
-        (record { files = F.contents files.new; file_faults = F.faults files.new; out = O.taken out.new; out_faults = O.faults out.new; err = E.taken err.new; err_faults = E.faults err.new })
-        (take workers lanes.old.items) (take workers lanes.new.items) result }
+    ensures ends { RunEnds S.seen schema.now query.now firings search outside.old outside.new (take workers lanes.old.items) (take workers lanes.new.items) result }
     ensures behind { drop workers lanes.new.items ≡ drop workers lanes.old.items }
-    ensures stays { Stays
-        (record { files = F.contents files.old; file_faults = F.faults files.old; out = O.taken out.old; out_faults = O.faults out.old; err = E.taken err.old; err_faults = E.faults err.old })
-        (record { files = F.contents files.new; file_faults = F.faults files.new; out = O.taken out.new; out_faults = O.faults out.new; err = E.taken err.new; err_faults = E.faults err.new }) }
+    ensures stays { Stays outside.old outside.new }
     ensures lanes { LanesStay S.seen lanes.old.items lanes.new.items }
 {
     let (used, _behind) = first_and_behind(lanes.as_mut_slice(), workers as usize);
-    run_query(
-        rt, alloc, schema, query, firings, search, files, used, out, err,
-    )
+    run_query(rt, alloc, schema, query, firings, search, outside, used)
 }
 
 /// `exec` on the first lanes. Those behind stay.
@@ -57,24 +48,17 @@ pub fn exec_on_first<R: Threads + Sync, F: Files, S: Source + Send + Drop, O: Si
     schema: &Text,
     plan: &Text,
     workers: u32,
-    files: &mut F,
+    outside: &mut Outside<F, O, E>,
     lanes: &mut Vec<Lane<S>>,
-    out: &mut O,
-    err: &mut E,
 ) -> Result<Outcome, Stop>
     requires workers { workers ≤ 8 }
-    ensures ends { ExecEnds S.seen schema.now plan.now
-        (record { files = F.contents files.old; file_faults = F.faults files.old; out = O.taken out.old; out_faults = O.faults out.old; err = E.taken err.old; err_faults = E.faults err.old })
-        (record { files = F.contents files.new; file_faults = F.faults files.new; out = O.taken out.new; out_faults = O.faults out.new; err = E.taken err.new; err_faults = E.faults err.new })
-        (take workers lanes.old.items) (take workers lanes.new.items) result }
+    ensures ends { ExecEnds S.seen schema.now plan.now outside.old outside.new (take workers lanes.old.items) (take workers lanes.new.items) result }
     ensures behind { drop workers lanes.new.items ≡ drop workers lanes.old.items }
-    ensures stays { Stays
-        (record { files = F.contents files.old; file_faults = F.faults files.old; out = O.taken out.old; out_faults = O.faults out.old; err = E.taken err.old; err_faults = E.faults err.old })
-        (record { files = F.contents files.new; file_faults = F.faults files.new; out = O.taken out.new; out_faults = O.faults out.new; err = E.taken err.new; err_faults = E.faults err.new }) }
+    ensures stays { Stays outside.old outside.new }
     ensures lanes { LanesStay S.seen lanes.old.items lanes.new.items }
 {
     let (used, _behind) = first_and_behind(lanes.as_mut_slice(), workers as usize);
-    exec_plan(rt, alloc, schema, plan, files, used, out, err)
+    exec_plan(rt, alloc, schema, plan, outside, used)
 }
 
 /// `world` on the first lanes. Those behind stay.
@@ -83,23 +67,19 @@ pub fn world_on_first<R: Threads + Sync, S: Source + Send + Drop, O: Sink, E: Si
     alloc: Global,
     size: u32,
     workers: u32,
+    outputs: &mut Outputs<O, E>,
     lanes: &mut Vec<Lane<S>>,
-    out: &mut O,
-    err: &mut E,
 ) -> Result<Outcome, Stop>
     requires small { size ≤ 10000 }
     requires workers { workers ≤ 8 }
-    ensures ends { WorldEnds S.seen size
-        (record { out = O.taken out.old; out_faults = O.faults out.old; err = E.taken err.old; err_faults = E.faults err.old })
-        (record { out = O.taken out.new; out_faults = O.faults out.new; err = E.taken err.new; err_faults = E.faults err.new })
-        (take workers lanes.old.items) (take workers lanes.new.items) result }
+    ensures ends { WorldEnds S.seen size outputs.old outputs.new (take workers lanes.old.items) (take workers lanes.new.items) result }
     ensures behind { drop workers lanes.new.items ≡ drop workers lanes.old.items }
     ensures lanes { LanesStay S.seen lanes.old.items lanes.new.items }
-    ensures later_out { O.faults out.old ≤ O.faults out.new }
-    ensures later_err { E.faults err.old ≤ E.faults err.new }
+    ensures later_out { outputs.old.out_faults ≤ outputs.new.out_faults }
+    ensures later_err { outputs.old.err_faults ≤ outputs.new.err_faults }
 {
     let (used, _behind) = first_and_behind(lanes.as_mut_slice(), workers as usize);
-    run_world(rt, alloc, size, used, out, err)
+    run_world(rt, alloc, size, outputs, used)
 }
 
 // The first of the items, so many or all where there are fewer, and those behind them.

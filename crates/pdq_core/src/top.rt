@@ -1,13 +1,13 @@
 // The top call.
 ghost use Rattle.std.specs.Prelude.{◌≡◌};
 ghost use Rattle.source_trait.specs.Lanes.{LanesStay};
-ghost use Rattle.command_io.specs.Moments.{Moment, Stays};
+ghost use Rattle.command_io.specs.Moments.{Stays};
 ghost use Rattle.pdq_core.specs.Runs.{Runs, ended as ended_by};
 
 use crate::first_lanes::{exec_on_first, run_on_first, world_on_first};
 use crate::help::print_usage;
 use check_command::check_plan;
-use command_io::{Outcome, Status, Stop, say, status};
+use command_io::{Outcome, Outside, Status, Stop, say, status};
 use command_words::{Command, read_words};
 use lists::Text;
 use run_command::explain_query;
@@ -26,28 +26,25 @@ pub fn run_words<R: Threads + Sync, F: Files, S: Source + Send + Drop, O: Sink, 
     rt: &R,
     alloc: Global,
     words: &[Text],
-    files: &mut F,
+    outside: &mut Outside<F, O, E>,
     lanes: &mut Vec<Lane<S>>,
-    out: &mut O,
-    err: &mut E,
 ) -> Status
     // The run ends in one of the ways of `Runs`, each of which says what was read, planned, attached, asked and written, and
     // why it ended as it did; and the status is that of the way.
-    ensures run { Runs S.seen words.now
-        (record { files = F.contents files.old; file_faults = F.faults files.old; out = O.taken out.old; out_faults = O.faults out.old; err = E.taken err.old; err_faults = E.faults err.old })
-        (record { files = F.contents files.new; file_faults = F.faults files.new; out = O.taken out.new; out_faults = O.faults out.new; err = E.taken err.new; err_faults = E.faults err.new })
-        lanes.old.items lanes.new.items result }
+    ensures run { Runs S.seen words.now outside.old outside.new lanes.old.items lanes.new.items result }
     // The contents of the files stay, and no count of faults falls.
-    ensures stays { Stays
-        (record { files = F.contents files.old; file_faults = F.faults files.old; out = O.taken out.old; out_faults = O.faults out.old; err = E.taken err.old; err_faults = E.faults err.old })
-        (record { files = F.contents files.new; file_faults = F.faults files.new; out = O.taken out.new; out_faults = O.faults out.new; err = E.taken err.new; err_faults = E.faults err.new }) }
+    ensures stays { Stays outside.old outside.new }
     // Lanes and kinds keep their order, and no count of faults of a source falls.
     ensures lanes { LanesStay S.seen lanes.old.items lanes.new.items }
 {
     match read_words(words) {
-        None => status(&say(err, b"words: not understood\n", Stop::Words)),
-        Some(Command::Help) => ended(print_usage(alloc, out, err)),
-        Some(Command::Schema { schema }) => ended(print_schema(alloc, schema, files, out, err)),
+        None => status(&say(
+            &mut outside.outputs.err,
+            b"words: not understood\n",
+            Stop::Words,
+        )),
+        Some(Command::Help) => ended(print_usage(alloc, &mut outside.outputs)),
+        Some(Command::Schema { schema }) => ended(print_schema(alloc, schema, outside)),
         Some(
             Command::Explain {
                 schema,
@@ -55,7 +52,7 @@ pub fn run_words<R: Threads + Sync, F: Files, S: Source + Send + Drop, O: Sink, 
                 firings,
                 search,
             },
-        ) => ended(explain_query(alloc, schema, query, firings, search, files, out, err)),
+        ) => ended(explain_query(alloc, schema, query, firings, search, outside)),
         Some(
             Command::Run {
                 schema,
@@ -65,7 +62,7 @@ pub fn run_words<R: Threads + Sync, F: Files, S: Source + Send + Drop, O: Sink, 
                 workers,
             },
         ) => ended(run_on_first(
-            rt, alloc, schema, query, firings, search, workers, files, lanes, out, err,
+            rt, alloc, schema, query, firings, search, workers, outside, lanes,
         )),
         Some(
             Command::Exec {
@@ -73,7 +70,7 @@ pub fn run_words<R: Threads + Sync, F: Files, S: Source + Send + Drop, O: Sink, 
                 plan,
                 workers,
             },
-        ) => ended(exec_on_first(rt, alloc, schema, plan, workers, files, lanes, out, err)),
+        ) => ended(exec_on_first(rt, alloc, schema, plan, workers, outside, lanes)),
         Some(
             Command::Check {
                 schema,
@@ -81,12 +78,10 @@ pub fn run_words<R: Threads + Sync, F: Files, S: Source + Send + Drop, O: Sink, 
                 plan,
                 firings,
             },
-        ) => ended(check_plan(alloc, schema, query, plan, firings, files, out, err)),
-        Some(Command::Verify { schema }) => {
-            ended(verify_rules(alloc, schema, files, lanes, out, err))
-        }
+        ) => ended(check_plan(alloc, schema, query, plan, firings, outside)),
+        Some(Command::Verify { schema }) => ended(verify_rules(alloc, schema, outside, lanes)),
         Some(Command::World { size, workers }) => {
-            ended(world_on_first(rt, alloc, size, workers, lanes, out, err))
+            ended(world_on_first(rt, alloc, size, workers, &mut outside.outputs, lanes))
         }
     }
 }

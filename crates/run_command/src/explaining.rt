@@ -1,15 +1,14 @@
 // A query, from the texts of its files to the text of what is decided.
-ghost use Rattle.std.specs.Prelude.{◌≡◌, ◌≤◌};
-ghost use Rattle.source_trait.specs.Causes.{Rose};
+ghost use Rattle.std.specs.Prelude.{◌≤◌};
 ghost use Rattle.sql_select.specs.Statements.{StatementFits};
 ghost use Rattle.rule_pass.specs.declared.pass.TheConstants.{MOST_FIRINGS};
 ghost use Rattle.proof_search.specs.declared.deciding.TheConstants.{MOST_UNITS};
-ghost use Rattle.command_io.specs.Moments.{Moment, Outputs, Stays};
+ghost use Rattle.command_io.specs.Moments.{Stays};
 ghost use Rattle.run_command.specs.Explained.{DecisionEnds, ExplainEnds};
 
 use crate::deciding::{decided, outcome, write_decision};
 use access_schema::Schema;
-use command_io::{FileNames, Outcome, Stop, read_texts, tell};
+use command_io::{FileNames, Outcome, Outputs, Outside, Stop, read_texts, tell};
 use lists::Text;
 use meaning::types::Statement;
 use source_trait::{Files, Sink};
@@ -23,19 +22,12 @@ pub fn explain_query<F: Files, O: Sink, E: Sink>(
     query_name: &Text,
     firings: u32,
     search: u32,
-    files: &mut F,
-    out: &mut O,
-    err: &mut E,
+    outside: &mut Outside<F, O, E>,
 ) -> Result<Outcome, Stop>
     requires budget { firings ≤ MOST_FIRINGS }
     requires units { search ≤ MOST_UNITS }
-    ensures ends { ExplainEnds schema_name.now query_name.now firings search
-        (record { files = F.contents files.old; file_faults = F.faults files.old; out = O.taken out.old; out_faults = O.faults out.old; err = E.taken err.old; err_faults = E.faults err.old })
-        (record { files = F.contents files.new; file_faults = F.faults files.new; out = O.taken out.new; out_faults = O.faults out.new; err = E.taken err.new; err_faults = E.faults err.new })
-        result }
-    ensures stays { Stays
-        (record { files = F.contents files.old; file_faults = F.faults files.old; out = O.taken out.old; out_faults = O.faults out.old; err = E.taken err.old; err_faults = E.faults err.old })
-        (record { files = F.contents files.new; file_faults = F.faults files.new; out = O.taken out.new; out_faults = O.faults out.new; err = E.taken err.new; err_faults = E.faults err.new }) }
+    ensures ends { ExplainEnds schema_name.now query_name.now firings search outside.old outside.new result }
+    ensures stays { Stays outside.old outside.new }
 {
     let none = Text::new(String::new(alloc));
     let names = FileNames {
@@ -43,11 +35,17 @@ pub fn explain_query<F: Files, O: Sink, E: Sink>(
         query: query_name,
         plan: &none,
     };
-    match read_texts(alloc, files, schema_name, query_name) {
+    match read_texts(alloc, &mut outside.files, schema_name, query_name) {
         Ok((schema, statement)) => show(
-            alloc, names, &schema, &statement, firings, search, out, err,
+            alloc,
+            names,
+            &schema,
+            &statement,
+            firings,
+            search,
+            &mut outside.outputs,
         ),
-        Err(stop) => Err(tell(alloc, err, stop, names, &[])),
+        Err(stop) => Err(tell(alloc, &mut outside.outputs.err, stop, names, &[])),
     }
 }
 
@@ -59,26 +57,28 @@ fn show<O: Sink, E: Sink>(
     statement: &Statement,
     firings: u32,
     search: u32,
-    out: &mut O,
-    err: &mut E,
+    outputs: &mut Outputs<O, E>,
 ) -> Result<Outcome, Stop>
     requires fits { StatementFits schema.now statement.now }
     requires budget { firings ≤ MOST_FIRINGS }
     requires units { search ≤ MOST_UNITS }
-    ensures ends { DecisionEnds schema.now statement.now firings search (record { schema = names.entry.schema.now; query = names.entry.query.now; plan = names.entry.plan.now; relations = schema.now.relations })
-        (record { out = O.taken out.old; out_faults = O.faults out.old; err = E.taken err.old; err_faults = E.faults err.old })
-        (record { out = O.taken out.new; out_faults = O.faults out.new; err = E.taken err.new; err_faults = E.faults err.new })
-        result }
-    ensures later_out { O.faults out.old ≤ O.faults out.new }
-    ensures later_err { E.faults err.old ≤ E.faults err.new }
+    ensures ends { DecisionEnds schema.now statement.now firings search (record { schema = names.entry.schema.now; query = names.entry.query.now; plan = names.entry.plan.now; relations = schema.now.relations }) outputs.old outputs.new result }
+    ensures later_out { outputs.old.out_faults ≤ outputs.new.out_faults }
+    ensures later_err { outputs.old.err_faults ≤ outputs.new.err_faults }
 {
     let relations = schema.relations.as_slice();
     let decision = match decided(alloc, schema, statement, firings, search) {
         Ok(decision) => decision,
-        Err(stop) => return Err(tell(alloc, err, stop, names, relations)),
+        Err(stop) => return Err(tell(alloc, &mut outputs.err, stop, names, relations)),
     };
-    match write_decision(alloc, schema, &decision, out, Stop::ResultWrite) {
+    match write_decision(
+        alloc,
+        schema,
+        &decision,
+        &mut outputs.out,
+        Stop::ResultWrite,
+    ) {
         Ok(()) => Ok(outcome(&decision)),
-        Err(stop) => Err(tell(alloc, err, stop, names, relations)),
+        Err(stop) => Err(tell(alloc, &mut outputs.err, stop, names, relations)),
     }
 }

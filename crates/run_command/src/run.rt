@@ -1,17 +1,16 @@
 // A query, from the texts of its files to its answer.
-ghost use Rattle.std.specs.Prelude.{◌≡◌, ◌≤◌, length};
-ghost use Rattle.source_trait.specs.Causes.{Rose};
+ghost use Rattle.std.specs.Prelude.{◌≤◌, length};
 ghost use Rattle.source_trait.specs.Lanes.{LanesStay};
 ghost use Rattle.sql_select.specs.Statements.{StatementFits};
 ghost use Rattle.rule_pass.specs.declared.pass.TheConstants.{MOST_FIRINGS};
 ghost use Rattle.proof_search.specs.declared.deciding.TheConstants.{MOST_UNITS};
-ghost use Rattle.command_io.specs.Moments.{Moment, Outputs, Stays};
+ghost use Rattle.command_io.specs.Moments.{Stays};
 ghost use Rattle.command_io.specs.Reports.{IsReport};
 ghost use Rattle.run_command.specs.Ends.{StatementEnds, RunEnds};
 
 use crate::deciding::{decided, write_decision};
 use access_schema::Schema;
-use command_io::{FileNames, Outcome, Report, Stop, deliver, read_texts, tell};
+use command_io::{FileNames, Outcome, Outputs, Outside, Report, Stop, deliver, read_texts, tell};
 use lists::Text;
 use meaning::types::Statement;
 use no_plan_witness::Decision;
@@ -31,21 +30,14 @@ pub fn run_query<R: Threads + Sync, F: Files, S: Source + Send + Drop, O: Sink, 
     query_name: &Text,
     firings: u32,
     search: u32,
-    files: &mut F,
+    outside: &mut Outside<F, O, E>,
     lanes: &mut [Lane<S>],
-    out: &mut O,
-    err: &mut E,
 ) -> Result<Outcome, Stop>
     requires budget { firings ≤ MOST_FIRINGS }
     requires units { search ≤ MOST_UNITS }
     requires lanes { length lanes.old ≤ 8 }
-    ensures ends { RunEnds S.seen schema_name.now query_name.now firings search
-        (record { files = F.contents files.old; file_faults = F.faults files.old; out = O.taken out.old; out_faults = O.faults out.old; err = E.taken err.old; err_faults = E.faults err.old })
-        (record { files = F.contents files.new; file_faults = F.faults files.new; out = O.taken out.new; out_faults = O.faults out.new; err = E.taken err.new; err_faults = E.faults err.new })
-        lanes.old lanes.new result }
-    ensures stays { Stays
-        (record { files = F.contents files.old; file_faults = F.faults files.old; out = O.taken out.old; out_faults = O.faults out.old; err = E.taken err.old; err_faults = E.faults err.old })
-        (record { files = F.contents files.new; file_faults = F.faults files.new; out = O.taken out.new; out_faults = O.faults out.new; err = E.taken err.new; err_faults = E.faults err.new }) }
+    ensures ends { RunEnds S.seen schema_name.now query_name.now firings search outside.old outside.new lanes.old lanes.new result }
+    ensures stays { Stays outside.old outside.new }
     ensures lanes { LanesStay S.seen lanes.old lanes.new }
 {
     let none = Text::new(String::new(alloc));
@@ -54,14 +46,23 @@ pub fn run_query<R: Threads + Sync, F: Files, S: Source + Send + Drop, O: Sink, 
         query: query_name,
         plan: &none,
     };
-    match read_texts(alloc, files, schema_name, query_name) {
+    match read_texts(alloc, &mut outside.files, schema_name, query_name) {
         Ok((schema, statement)) => {
             let report = Report::Rows(result_names(&statement));
             answer(
-                rt, alloc, names, &schema, &statement, firings, search, report, lanes, out, err,
+                rt,
+                alloc,
+                names,
+                &schema,
+                &statement,
+                firings,
+                search,
+                report,
+                &mut outside.outputs,
+                lanes,
             )
         }
-        Err(stop) => Err(tell(alloc, err, stop, names, &[])),
+        Err(stop) => Err(tell(alloc, &mut outside.outputs.err, stop, names, &[])),
     }
 }
 
@@ -75,38 +76,40 @@ pub fn answer<R: Threads + Sync, S: Source + Send + Drop, O: Sink, E: Sink>(
     firings: u32,
     search: u32,
     report: Report<'_>,
+    outputs: &mut Outputs<O, E>,
     lanes: &mut [Lane<S>],
-    out: &mut O,
-    err: &mut E,
 ) -> Result<Outcome, Stop>
     requires fits { StatementFits schema.now statement.now }
     requires budget { firings ≤ MOST_FIRINGS }
     requires units { search ≤ MOST_UNITS }
     requires lanes { length lanes.old ≤ 8 }
-    ensures ends { StatementEnds S.seen schema.now statement.now firings search (λ plan. IsReport report.entry) (record { schema = names.entry.schema.now; query = names.entry.query.now; plan = names.entry.plan.now; relations = schema.now.relations })
-        (record { out = O.taken out.old; out_faults = O.faults out.old; err = E.taken err.old; err_faults = E.faults err.old })
-        (record { out = O.taken out.new; out_faults = O.faults out.new; err = E.taken err.new; err_faults = E.faults err.new })
-        lanes.old lanes.new result }
+    ensures ends { StatementEnds S.seen schema.now statement.now firings search (λ plan. IsReport report.entry) (record { schema = names.entry.schema.now; query = names.entry.query.now; plan = names.entry.plan.now; relations = schema.now.relations }) outputs.old outputs.new lanes.old lanes.new result }
     ensures lanes { LanesStay S.seen lanes.old lanes.new }
-    ensures later_out { O.faults out.old ≤ O.faults out.new }
-    ensures later_err { E.faults err.old ≤ E.faults err.new }
+    ensures later_out { outputs.old.out_faults ≤ outputs.new.out_faults }
+    ensures later_err { outputs.old.err_faults ≤ outputs.new.err_faults }
 {
     let relations = schema.relations.as_slice();
     let decision = match decided(alloc, schema, statement, firings, search) {
         Ok(decision) => decision,
-        Err(stop) => return Err(tell(alloc, err, stop, names, relations)),
+        Err(stop) => return Err(tell(alloc, &mut outputs.err, stop, names, relations)),
     };
-    match write_decision(alloc, schema, &decision, err, Stop::DecisionWrite) {
+    match write_decision(
+        alloc,
+        schema,
+        &decision,
+        &mut outputs.err,
+        Stop::DecisionWrite,
+    ) {
         Ok(()) => {}
-        Err(stop) => return Err(tell(alloc, err, stop, names, relations)),
+        Err(stop) => return Err(tell(alloc, &mut outputs.err, stop, names, relations)),
     }
     let plan = match &decision {
         Decision::Plan { plan, selects: _ } => plan,
         Decision::NoPlan(_) => return Ok(Outcome::No),
         Decision::Undecided { select: _, log: _ } => return Ok(Outcome::Undecided),
     };
-    match deliver(rt, alloc, schema, plan, report, lanes, out) {
+    match deliver(rt, alloc, schema, plan, report, lanes, &mut outputs.out) {
         Ok(()) => Ok(Outcome::Done),
-        Err(stop) => Err(tell(alloc, err, stop, names, relations)),
+        Err(stop) => Err(tell(alloc, &mut outputs.err, stop, names, relations)),
     }
 }

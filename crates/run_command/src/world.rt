@@ -3,13 +3,12 @@ ghost use Rattle.std.specs.Prelude.{◌≡◌, ◌≤◌, IfErr, IfOk, length};
 ghost use Rattle.source_trait.specs.Lanes.{LanesStay};
 ghost use Rattle.tgd_reader.specs.SchemaText.{IsSchemaText};
 ghost use Rattle.sql_select.specs.Statements.{IsStatementText, StatementFits};
-ghost use Rattle.command_io.specs.Moments.{Outputs};
 ghost use Rattle.world_source.specs.Texts.{query_text, schema_text};
 ghost use Rattle.run_command.specs.World.{WorldEnds, WorldStop};
 
 use crate::run::answer;
 use access_schema::Schema;
-use command_io::{FileNames, Outcome, Report, Stop, tell};
+use command_io::{FileNames, Outcome, Outputs, Report, Stop, tell};
 use lists::Text;
 use meaning::types::Statement;
 use source_trait::{Lane, Sink, Source};
@@ -33,19 +32,15 @@ pub fn run_world<R: Threads + Sync, S: Source + Send + Drop, O: Sink, E: Sink>(
     rt: &R,
     alloc: Global,
     size: u32,
+    outputs: &mut Outputs<O, E>,
     lanes: &mut [Lane<S>],
-    out: &mut O,
-    err: &mut E,
 ) -> Result<Outcome, Stop>
     requires small { size ≤ 10000 }
     requires lanes { length lanes.old ≤ 8 }
-    ensures ends { WorldEnds S.seen size
-        (record { out = O.taken out.old; out_faults = O.faults out.old; err = E.taken err.old; err_faults = E.faults err.old })
-        (record { out = O.taken out.new; out_faults = O.faults out.new; err = E.taken err.new; err_faults = E.faults err.new })
-        lanes.old lanes.new result }
+    ensures ends { WorldEnds S.seen size outputs.old outputs.new lanes.old lanes.new result }
     ensures lanes { LanesStay S.seen lanes.old lanes.new }
-    ensures later_out { O.faults out.old ≤ O.faults out.new }
-    ensures later_err { E.faults err.old ≤ E.faults err.new }
+    ensures later_out { outputs.old.out_faults ≤ outputs.new.out_faults }
+    ensures later_err { outputs.old.err_faults ≤ outputs.new.err_faults }
 {
     let none = Text::new(String::new(alloc));
     let names = FileNames {
@@ -63,11 +58,10 @@ pub fn run_world<R: Threads + Sync, S: Source + Send + Drop, O: Sink, E: Sink>(
             FIRINGS,
             UNITS,
             Report::Summary(size),
+            outputs,
             lanes,
-            out,
-            err,
         ),
-        Err(stop) => Err(tell(alloc, err, stop, names, &[])),
+        Err(stop) => Err(tell(alloc, &mut outputs.err, stop, names, &[])),
     }
 }
 

@@ -2,12 +2,12 @@
 ghost use Rattle.std.specs.Prelude.{◌≡◌, ◌⊎◌, OnOk, OnErr, IfErr, ◌≤◌};
 ghost use Rattle.source_trait.specs.Causes.{Rose};
 ghost use Rattle.tgd_reader.specs.Printed.{text_of_schema};
-ghost use Rattle.command_io.specs.Moments.{Moment, Stays, ResultStop};
+ghost use Rattle.command_io.specs.Moments.{Stays, ResultStop};
 ghost use Rattle.command_io.specs.Writing.{TookAll, TookPart};
 ghost use Rattle.schema_command.specs.Ends.{SchemaEnds};
 
 use access_schema::Schema;
-use command_io::{FileNames, Outcome, Stop, print, schema_of, tell};
+use command_io::{FileNames, Outcome, Outside, Stop, print, schema_of, tell};
 use lists::Text;
 use source_trait::{Files, Sink};
 use std::alloc::Global;
@@ -17,17 +17,10 @@ use tgd_reader::schema_text;
 pub fn print_schema<F: Files, O: Sink, E: Sink>(
     alloc: Global,
     name: &Text,
-    files: &mut F,
-    out: &mut O,
-    err: &mut E,
+    outside: &mut Outside<F, O, E>,
 ) -> Result<Outcome, Stop>
-    ensures ends { SchemaEnds name.now
-        (record { files = F.contents files.old; file_faults = F.faults files.old; out = O.taken out.old; out_faults = O.faults out.old; err = E.taken err.old; err_faults = E.faults err.old })
-        (record { files = F.contents files.new; file_faults = F.faults files.new; out = O.taken out.new; out_faults = O.faults out.new; err = E.taken err.new; err_faults = E.faults err.new })
-        result }
-    ensures stays { Stays
-        (record { files = F.contents files.old; file_faults = F.faults files.old; out = O.taken out.old; out_faults = O.faults out.old; err = E.taken err.old; err_faults = E.faults err.old })
-        (record { files = F.contents files.new; file_faults = F.faults files.new; out = O.taken out.new; out_faults = O.faults out.new; err = E.taken err.new; err_faults = E.faults err.new }) }
+    ensures ends { SchemaEnds name.now outside.old outside.new result }
+    ensures stays { Stays outside.old outside.new }
 {
     let none = Text::new(String::new(alloc));
     let names = FileNames {
@@ -35,13 +28,19 @@ pub fn print_schema<F: Files, O: Sink, E: Sink>(
         query: &none,
         plan: &none,
     };
-    let schema = match schema_of(alloc, files, name) {
+    let schema = match schema_of(alloc, &mut outside.files, name) {
         Ok(schema) => schema,
-        Err(stop) => return Err(tell(alloc, err, stop, names, &[])),
+        Err(stop) => return Err(tell(alloc, &mut outside.outputs.err, stop, names, &[])),
     };
-    match write_schema(alloc, &schema, out) {
+    match write_schema(alloc, &schema, &mut outside.outputs.out) {
         Ok(()) => Ok(Outcome::Done),
-        Err(stop) => Err(tell(alloc, err, stop, names, schema.relations.as_slice())),
+        Err(stop) => Err(tell(
+            alloc,
+            &mut outside.outputs.err,
+            stop,
+            names,
+            schema.relations.as_slice(),
+        )),
     }
 }
 

@@ -3,13 +3,13 @@ ghost use Rattle.std.specs.Prelude.{◌≡◌, ◌⊎◌, OnOk, OnErr, IfErr, �
 ghost use Rattle.source_trait.specs.Causes.{Rose};
 ghost use Rattle.source_trait.specs.Lanes.{LanesStay};
 ghost use Rattle.data_verify.specs.Telling.{verification_text as text_of};
-ghost use Rattle.command_io.specs.Moments.{Moment, Stays, ResultStop};
+ghost use Rattle.command_io.specs.Moments.{Stays, ResultStop};
 ghost use Rattle.command_io.specs.Writing.{TookAll, TookPart};
 ghost use Rattle.verify_command.specs.Ends.{VerifyEnds, outcome_of};
 
 use crate::verifying::first_broken;
 use access_schema::Schema;
-use command_io::{FileNames, Outcome, Stop, print, schema_of, tell};
+use command_io::{FileNames, Outcome, Outside, Stop, print, schema_of, tell};
 use data_verify::{Broken, verification_text};
 use lists::Text;
 use source_trait::{Files, Lane, Sink, Source};
@@ -23,18 +23,11 @@ use std::alloc::Global;
 pub fn verify_rules<F: Files, S: Source + Send + Drop, O: Sink, E: Sink>(
     alloc: Global,
     schema_name: &Text,
-    files: &mut F,
+    outside: &mut Outside<F, O, E>,
     lanes: &mut Vec<Lane<S>>,
-    out: &mut O,
-    err: &mut E,
 ) -> Result<Outcome, Stop>
-    ensures ends { VerifyEnds S.seen schema_name.now
-        (record { files = F.contents files.old; file_faults = F.faults files.old; out = O.taken out.old; out_faults = O.faults out.old; err = E.taken err.old; err_faults = E.faults err.old })
-        (record { files = F.contents files.new; file_faults = F.faults files.new; out = O.taken out.new; out_faults = O.faults out.new; err = E.taken err.new; err_faults = E.faults err.new })
-        lanes.old.items lanes.new.items result }
-    ensures stays { Stays
-        (record { files = F.contents files.old; file_faults = F.faults files.old; out = O.taken out.old; out_faults = O.faults out.old; err = E.taken err.old; err_faults = E.faults err.old })
-        (record { files = F.contents files.new; file_faults = F.faults files.new; out = O.taken out.new; out_faults = O.faults out.new; err = E.taken err.new; err_faults = E.faults err.new }) }
+    ensures ends { VerifyEnds S.seen schema_name.now outside.old outside.new lanes.old.items lanes.new.items result }
+    ensures stays { Stays outside.old outside.new }
     ensures lanes { LanesStay S.seen lanes.old.items lanes.new.items }
 {
     let none = Text::new(String::new(alloc));
@@ -43,18 +36,18 @@ pub fn verify_rules<F: Files, S: Source + Send + Drop, O: Sink, E: Sink>(
         query: &none,
         plan: &none,
     };
-    let schema = match schema_of(alloc, files, schema_name) {
+    let schema = match schema_of(alloc, &mut outside.files, schema_name) {
         Ok(schema) => schema,
-        Err(stop) => return Err(tell(alloc, err, stop, names, &[])),
+        Err(stop) => return Err(tell(alloc, &mut outside.outputs.err, stop, names, &[])),
     };
     let relations = schema.relations.as_slice();
     let found = match first_broken(alloc, &schema, lanes) {
         Ok(found) => found,
-        Err(stop) => return Err(tell(alloc, err, stop, names, relations)),
+        Err(stop) => return Err(tell(alloc, &mut outside.outputs.err, stop, names, relations)),
     };
-    match write_found(alloc, &schema, &found, out) {
+    match write_found(alloc, &schema, &found, &mut outside.outputs.out) {
         Ok(()) => Ok(outcome(&found)),
-        Err(stop) => Err(tell(alloc, err, stop, names, relations)),
+        Err(stop) => Err(tell(alloc, &mut outside.outputs.err, stop, names, relations)),
     }
 }
 

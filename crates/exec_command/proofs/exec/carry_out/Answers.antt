@@ -10,21 +10,21 @@ use Rattle.exec_command.proofs.Results.{delivered}
 use Rattle.exec_command.proofs.exec.carry_out.Goals as goal
 
 pub returns-in-Err-clause-ends : goal.returns-in-Err-clause-ends
-returns-in-Err-clause-ends g c = idle c.tell.result (record {
+returns-in-Err-clause-ends g c = rw (← c.outputs.view_is) (idle c.tell.result (record {
   given = c.in-Err.stop;
   cause = c.in-Err.ensures.cause;
   tells = rw c.as_slice-relations.ensures at c.tell.ensures.tells;
-}) refl refl
+}) refl refl)
 
 pub returns-in-Err-clause-lanes : goal.returns-in-Err-clause-lanes
 returns-in-Err-clause-lanes g c = LanesStay-refl g.S.Source.seen c.args.lanes.now
 
 pub returns-in-Err-column_names-clause-ends : goal.returns-in-Err-column_names-clause-ends
-returns-in-Err-column_names-clause-ends g c = idle c.tell-in-Err-column_names.result (record {
+returns-in-Err-column_names-clause-ends g c = rw (← c.outputs.view_is) (idle c.tell-in-Err-column_names.result (record {
   given = stop.Memory;
   cause = no_memory;
   tells = c.tell-in-Err-column_names.ensures.tells;
-}) refl refl
+}) refl refl)
 
 pub returns-in-Err-column_names-clause-lanes : goal.returns-in-Err-column_names-clause-lanes
 returns-in-Err-column_names-clause-lanes g c = LanesStay-refl g.S.Source.seen c.args.lanes.now
@@ -37,14 +37,14 @@ deliver-requires-clause-short g c κs within = short c.args.plan.now c.requires.
 
 pub returns-in-Ok-deliver-clause-ends : goal.returns-in-Ok-deliver-clause-ends
 returns-in-Ok-deliver-clause-ends g c =
-    done c.in-Ok.ensures.lawful
-    (delivered g.S.Source.seen c.args.schema.now c.args.plan.now _ _ _ _ _ (Ok tt) (rw c.in-Ok-column_names.ensures at c.in-Ok-deliver.ensures.delivers)) refl
+    rw (← c.outputs.view_is) (done c.in-Ok.ensures.lawful
+    (delivered g.S.Source.seen c.args.schema.now c.args.plan.now _ _ _ _ _ (Ok tt) (rw c.in-Ok-column_names.ensures at c.in-Ok-deliver.ensures.delivers)) refl)
 
 pub returns-clause-ends : goal.returns-clause-ends
 returns-clause-ends g c =
-    stopped c.in-Err-deliver.stop c.tell-in-Err-deliver.result c.in-Ok.ensures.lawful
+    rw (← c.outputs.view_is) (stopped c.in-Err-deliver.stop c.tell-in-Err-deliver.result c.in-Ok.ensures.lawful
     (delivered g.S.Source.seen c.args.schema.now c.args.plan.now _ _ _ _ _ (Err c.in-Err-deliver.stop) (rw c.in-Ok-column_names.ensures at c.in-Err-deliver.ensures.delivers)) (record {
       given = c.in-Err-deliver.stop;
       cause = refl;
       tells = rw c.as_slice-relations.ensures at c.tell-in-Err-deliver.ensures.tells;
-    })
+    }))

@@ -10,7 +10,7 @@ use Rattle.pdq_core.proofs.Ways.{few_explained, few_run, few_checked, units_expl
 use Rattle.pdq_core.proofs.top.run_words.Goals as goal
 
 pub returns-in-None-clause-run : goal.returns-in-None-clause-run
-returns-in-None-clause-run g c = rw c.status.ensures (no_command c.say.result c.in-None.ensures.none (record {
+returns-in-None-clause-run g c = rw (c.status.ensures, ← c.outside.view_is, ← c.outside-inside.view_is) (no_command c.say.result c.in-None.ensures.none (record {
   given = stop.Words;
   cause = refl;
   tells = said_tells _ _ _ (record { schema = []; query = []; plan = []; relations = [] }) stop.Words c.say.result c.say.ensures.said;
@@ -22,7 +22,7 @@ returns-in-None-clause-lanes g c = LanesStay-refl g.S.Source.seen c.args.lanes.n
 pub returns-in-Some-Help-clause-run : goal.returns-in-Some-Help-clause-run
 returns-in-Some-Help-clause-run g c =
     let is : IsCommand c.args.words.now Help = rw c.in-Some-Help.field-0-is at c.in-Some-Help.ensures.some in
-    rw c.ended.ensures (help c.print_usage.result is c.print_usage.ensures.ends refl)
+    rw (c.ended.ensures, ← c.outside-in-Some-Help.view_is) (help c.print_usage.result is c.print_usage.ensures.ends refl)
 
 pub returns-in-Some-Help-clause-lanes : goal.returns-in-Some-Help-clause-lanes
 returns-in-Some-Help-clause-lanes g c = LanesStay-refl g.S.Source.seen c.args.lanes.now.items
@@ -125,7 +125,7 @@ returns-in-Some-Verify-clause-lanes g c = c.verify_rules.ensures.lanes
 pub returns-in-Some-World-clause-run : goal.returns-in-Some-World-clause-run
 returns-in-Some-World-clause-run g c =
     let is : IsCommand c.args.words.now (World c.in-Some-World.size c.in-Some-World.workers) = rw c.in-Some-World.field-0-is at c.in-Some-World.ensures.some in
-    rw c.ended-in-Some-World.ensures
+    rw (c.ended-in-Some-World.ensures, ← c.outside-in-Some-World.view_is)
     (world c.in-Some-World.size c.in-Some-World.workers c.world_on_first.result is c.world_on_first.ensures.ends c.world_on_first.ensures.behind)
 
 pub returns-in-Some-World-clause-lanes : goal.returns-in-Some-World-clause-lanes

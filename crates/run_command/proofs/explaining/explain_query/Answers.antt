@@ -5,12 +5,12 @@ use Rattle.run_command.proofs.explaining.explain_query.Goals as goal
 
 pub returns-in-Ok-clause-ends : goal.returns-in-Ok-clause-ends
 returns-in-Ok-clause-ends g c =
-    read c.in-Ok.schema c.in-Ok.statement c.show.result c.in-Ok.ensures.schema c.in-Ok.ensures.statement
-    (rw (c.new-none.ensures, c.new.ensures.bytes) at c.show.ensures.ends)
+    rw (← c.outside.view_is, ← c.outside-inside.view_is) (read c.in-Ok.schema c.in-Ok.statement c.show.result c.in-Ok.ensures.schema c.in-Ok.ensures.statement
+    (rw (c.new-none.ensures, c.new.ensures.bytes) at c.show.ensures.ends))
 
 pub returns-clause-ends : goal.returns-clause-ends
-returns-clause-ends g c = refused c.tell.result (record {
+returns-clause-ends g c = rw (← c.outside.view_is, ← c.outside-inside.view_is) (refused c.tell.result (record {
   given = c.in-Err.stop;
   cause = c.in-Err.ensures.cause;
   tells = rw (c.new-none.ensures, c.new.ensures.bytes) at c.tell.ensures.tells;
-}) refl
+}) refl)

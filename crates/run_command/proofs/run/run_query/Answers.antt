@@ -7,18 +7,18 @@ use Rattle.run_command.proofs.run.run_query.Goals as goal
 
 pub returns-in-Ok-clause-ends : goal.returns-in-Ok-clause-ends
 returns-in-Ok-clause-ends g c =
-    read c.in-Ok.schema c.in-Ok.statement c.answer.result c.in-Ok.ensures.schema c.in-Ok.ensures.statement
+    rw (← c.outside.view_is, ← c.outside-inside.view_is) (read c.in-Ok.schema c.in-Ok.statement c.answer.result c.in-Ok.ensures.schema c.in-Ok.ensures.statement
     (with_text g.S.Source.seen c.in-Ok.schema c.in-Ok.statement c.args.firings c.args.search _ _ _ _ _ _ _
     (λ plan entries run text is executes given.
     result_of g.S.Source.seen c.in-Ok.schema c.in-Ok.statement c.args.firings c.args.search plan entries is c.result_names.result.now (sym c.result_names.ensures) _ _ run text executes given)
-    c.answer.result (rw (c.new-none.ensures, c.new.ensures.bytes) at c.answer.ensures.ends))
+    c.answer.result (rw (c.new-none.ensures, c.new.ensures.bytes) at c.answer.ensures.ends)))
 
 pub returns-clause-ends : goal.returns-clause-ends
-returns-clause-ends g c = refused c.tell.result (record {
+returns-clause-ends g c = rw (← c.outside.view_is, ← c.outside-inside.view_is) (refused c.tell.result (record {
   given = c.in-Err.stop;
   cause = c.in-Err.ensures.cause;
   tells = rw (c.new-none.ensures, c.new.ensures.bytes) at c.tell.ensures.tells;
-}) refl refl
+}) refl refl)
 
 pub returns-clause-lanes : goal.returns-clause-lanes
 returns-clause-lanes g c = LanesStay-refl g.S.Source.seen c.args.lanes.now

@@ -14,11 +14,11 @@ returns-in-Ok-clause-ends g c =
     c.answer.result (rw (c.new-none.ensures, c.new.ensures.bytes) at c.answer.ensures.ends))
 
 pub returns-clause-ends : goal.returns-clause-ends
-returns-clause-ends g c = refused c.tell.result (record {
+returns-clause-ends g c = rw (← c.outputs.view_is) (refused c.tell.result (record {
   given = c.in-Err.stop;
   cause = c.in-Err.ensures.stops;
   tells = rw (c.new-none.ensures, c.new.ensures.bytes) at c.tell.ensures.tells;
-}) refl refl
+}) refl refl)
 
 pub returns-clause-lanes : goal.returns-clause-lanes
 returns-clause-lanes g c = LanesStay-refl g.S.Source.seen c.args.lanes.now
