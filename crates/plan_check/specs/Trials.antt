@@ -14,15 +14,17 @@ use Rattle.meaning.specs.Fitting.{QueryFits, QueryHasConstants}
 use Rattle.meaning.specs.Claims.{IsModel}
 use Rattle.meaning.specs.Triggers.{State, IsQuiet}
 use Rattle.meaning.specs.Runs.{IsBaseRun, opening_state, frozen_head}
+use Rattle.access_schema.specs.Meaning.{meaning_of}
 use Rattle.accessible_copy.specs.Goals.{IsCounted}
 use Rattle.no_plan_witness.specs.Texts.{Names, text_under, AreNamesFor}
-use Rattle.rule_pass.specs.declared.pass.TheConstants.{HIGHEST_FIRST_LABEL}
+use Rattle.rule_pass.specs.declared.pass.TheConstants.{HIGHEST_FIRST_LABEL, MOST_FIRINGS}
 use Rattle.rule_pass.specs.declared.pass.Stopped.{Stopped}
 use Rattle.rule_pass.specs.declared.pass.Stopped.TheVariants.{Ended, Spent as Stops}
 use Rattle.rule_pass.specs.States.{SomeActive}
 use Rattle.plan_check.specs.declared.chase.Chase.{Chase}
 use Rattle.plan_check.specs.declared.trial.Outcome.{Outcome}
 use Rattle.plan_check.specs.declared.trial.Outcome.TheVariants as one
+use Rattle.plan_check.specs.declared.trial.Trial.{Trial}
 use Rattle.plan_check.specs.declared.trial.Tried.{Tried}
 use Rattle.plan_check.specs.declared.trial.Tried.TheVariants as all
 
@@ -52,6 +54,13 @@ FormIsCounted (Some query) = IsCounted query
 -- The variables of each of the queries are counted.
 abbrev pub AreCounted : List (Option Query) → Type 0
 AreCounted forms = (form : Option Query) → Contains forms form → FormIsCounted form
+
+-- What queries are tried against can be tried itself, each constant of the schema is known, and the firings are no more than a proof may
+-- have.
+pub record IsTrial (trial : Trial) : Type 0 where
+  pub others : AreTriable (meaning_of trial.schema.now) trial.known.now trial.others.now
+  pub known : (c : Value) → Contains trial.schema.now.constants c → Contains trial.known.now c
+  pub firings : trial.firings ≤ MOST_FIRINGS
 
 -- ---- rows
 

@@ -11,7 +11,7 @@ ghost use Rattle.plan_check.specs.Verdicts.{known_of, IsLegalOver, IsVerdict, Is
 use crate::conclude::conclude;
 use crate::forms::{branch_forms, select_forms};
 use crate::legality::fault_of;
-use crate::trial::{Tried, try_each};
+use crate::trial::{Trial, Tried, try_each};
 use crate::verdict::Verdict;
 use access_schema::Schema;
 use lists::{NoMemory, Texts};
@@ -92,11 +92,23 @@ fn try_both(
     requires budget { firings ≤ MOST_FIRINGS }
     ensures { IfOk result (IsConclusion (meaning_of schema.now) selects.now branches.now firings) }
 {
-    let lost = try_each(alloc, schema, selects, branches, known, firings)?;
+    let by_branches = Trial {
+        schema,
+        others: branches,
+        known,
+        firings,
+    };
+    let by_selects = Trial {
+        schema,
+        others: selects,
+        known,
+        firings,
+    };
+    let lost = try_each(alloc, &by_branches, selects)?;
     match lost {
         Tried::Separated(instance, row) => Ok(Verdict::Loses(instance, row)),
         kept => {
-            let added = try_each(alloc, schema, branches, selects, known, firings)?;
+            let added = try_each(alloc, &by_selects, branches)?;
             Ok(conclude(kept, added))
         }
     }

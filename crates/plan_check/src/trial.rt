@@ -1,9 +1,8 @@
 // One query against others, and a list of queries one after the other.
-ghost use Rattle.std.specs.Prelude.{◌≡◌, ◌≤◌, ◌^◌, ℕ, List, IfOk, Contains, length, true, false};
+ghost use Rattle.std.specs.Prelude.{◌≡◌, ◌≤◌, ◌^◌, IfOk, length, true, false};
 ghost use Rattle.access_schema.specs.Meaning.{meaning_of};
-ghost use Rattle.rule_pass.specs.declared.pass.TheConstants.{MOST_FIRINGS};
 ghost use Rattle.meaning.specs.Runs.{frozen_head, opening_state};
-ghost use Rattle.plan_check.specs.Trials.{IsTriable, AreTriable, FormIsTriable, AreCounted, SomeHas, IsChase, IsOutcome, FormOutcome, AreTried, or_spent, and_outcome};
+ghost use Rattle.plan_check.specs.Trials.{IsTriable, AreTriable, FormIsTriable, AreCounted, IsTrial, SomeHas, IsChase, IsOutcome, FormOutcome, AreTried, or_spent, and_outcome};
 
 use crate::chase::{Chase, chase_from, looked_for, named_end};
 use crate::rows::some_has;
@@ -34,25 +33,29 @@ pub enum Tried {
     Spent(u32, Triggers),
 }
 
-/// Tries each of the queries against the others, each with a budget of its own.
+/// What queries are tried against: these others, over a schema, with these known constants, and with a budget of `firings` for each.
+#[derive(Drop)]
+pub struct Trial<'a> {
+    pub schema: &'a Schema,
+    pub others: &'a [Option<Query>],
+    pub known: &'a Texts,
+    pub firings: u32,
+}
+
+/// Tries each of the queries against the others.
 pub fn try_each(
     alloc: Global,
-    schema: &Schema,
+    trial: &Trial<'_>,
     forms: &[Option<Query>],
-    others: &[Option<Query>],
-    known: &Texts,
-    firings: u32,
 ) -> Result<Tried, NoMemory>
-    requires forms { AreTriable (meaning_of schema.now) known.now forms.now }
-    requires others { AreTriable (meaning_of schema.now) known.now others.now }
+    requires trial { IsTrial trial.now }
+    requires forms { AreTriable (meaning_of trial.now.schema.now) trial.now.known.now forms.now }
     requires few { length forms.now ≤ 2 ^ 32 }
-    requires known { (c : List ℕ) → Contains schema.now.constants c → Contains known.now c }
-    requires firings { firings ≤ MOST_FIRINGS }
-    ensures { IfOk result (AreTried (meaning_of schema.now) forms.now others.now firings) }
+    ensures { IfOk result (AreTried (meaning_of trial.now.schema.now) forms.now trial.now.others.now trial.now.firings) }
 {
     let mut tried = Tried::Contained;
     for number in 0..forms.len() {
-        let outcome = try_form(alloc, schema, &forms[number], others, known, firings)?;
+        let outcome = try_form(alloc, trial, &forms[number])?;
         match outcome {
             Outcome::Separated(instance, row) => return Ok(Tried::Separated(instance, row)),
             other => tried = with_outcome(tried, number as u32, other),
@@ -83,49 +86,31 @@ fn first_spent(tried: Tried, number: u32, log: Triggers) -> Tried
 }
 
 // Where there is no query, nothing has to be contained.
-fn try_form(
-    alloc: Global,
-    schema: &Schema,
-    form: &Option<Query>,
-    others: &[Option<Query>],
-    known: &Texts,
-    firings: u32,
-) -> Result<Outcome, NoMemory>
-    requires form { FormIsTriable (meaning_of schema.now) known.now form.now }
-    requires others { AreTriable (meaning_of schema.now) known.now others.now }
-    requires known { (c : List ℕ) → Contains schema.now.constants c → Contains known.now c }
-    requires firings { firings ≤ MOST_FIRINGS }
-    ensures { IfOk result (FormOutcome (meaning_of schema.now) others.now firings form.now) }
+fn try_form(alloc: Global, trial: &Trial<'_>, form: &Option<Query>) -> Result<Outcome, NoMemory>
+    requires trial { IsTrial trial.now }
+    requires form { FormIsTriable (meaning_of trial.now.schema.now) trial.now.known.now form.now }
+    ensures { IfOk result (FormOutcome (meaning_of trial.now.schema.now) trial.now.others.now trial.now.firings form.now) }
 {
     match form {
-        Some(query) => try_query(alloc, schema, query, others, known, firings),
+        Some(query) => try_query(alloc, trial, query),
         None => Ok(Outcome::Contained),
     }
 }
 
 // Where one of the others has the frozen head before any firing, it has it at the end of the chase too, so there is no need of a chase.
-fn try_query(
-    alloc: Global,
-    schema: &Schema,
-    query: &Query,
-    others: &[Option<Query>],
-    known: &Texts,
-    firings: u32,
-) -> Result<Outcome, NoMemory>
-    requires query { IsTriable (meaning_of schema.now) known.now query.now }
-    requires others { AreTriable (meaning_of schema.now) known.now others.now }
-    requires known { (c : List ℕ) → Contains schema.now.constants c → Contains known.now c }
-    requires firings { firings ≤ MOST_FIRINGS }
-    ensures { IfOk result (IsOutcome (meaning_of schema.now) others.now firings query.now) }
+fn try_query(alloc: Global, trial: &Trial<'_>, query: &Query) -> Result<Outcome, NoMemory>
+    requires trial { IsTrial trial.now }
+    requires query { IsTriable (meaning_of trial.now.schema.now) trial.now.known.now query.now }
+    ensures { IfOk result (IsOutcome (meaning_of trial.now.schema.now) trial.now.others.now trial.now.firings query.now) }
 {
-    let positions = looked_for(alloc, schema, others)?;
+    let positions = looked_for(alloc, trial.schema, trial.others)?;
     let start = opening_state(alloc, query, positions)?;
-    let found = has_head_soon(alloc, query, others, start.store())?;
+    let found = has_head_soon(alloc, query, trial.others, start.store())?;
     if found {
         return Ok(Outcome::Contained);
     }
-    let chased = chase_from(alloc, schema, start, firings)?;
-    shown_by(alloc, schema, query, others, known, firings, chased)
+    let chased = chase_from(alloc, trial.schema, start, trial.firings)?;
+    shown_by(alloc, trial, query, chased)
 }
 
 // Whether one of the others has the frozen head of the query on the facts. It is looked for only where the others have no more atoms than the
@@ -176,32 +161,28 @@ fn has_head(
 // What the end of a chase of the query shows.
 fn shown_by(
     alloc: Global,
-    schema: &Schema,
+    trial: &Trial<'_>,
     query: &Query,
-    others: &[Option<Query>],
-    known: &Texts,
-    firings: u32,
     chased: Chase,
 ) -> Result<Outcome, NoMemory>
-    requires query { IsTriable (meaning_of schema.now) known.now query.now }
-    requires others { AreTriable (meaning_of schema.now) known.now others.now }
-    requires known { (c : List ℕ) → Contains schema.now.constants c → Contains known.now c }
-    requires chase { IsChase (meaning_of schema.now) (opening_state query.now) firings chased }
-    ensures { IfOk result (IsOutcome (meaning_of schema.now) others.now firings query.now) }
+    requires trial { IsTrial trial.now }
+    requires query { IsTriable (meaning_of trial.now.schema.now) trial.now.known.now query.now }
+    requires chase { IsChase (meaning_of trial.now.schema.now) (opening_state query.now) trial.now.firings chased }
+    ensures { IfOk result (IsOutcome (meaning_of trial.now.schema.now) trial.now.others.now trial.now.firings query.now) }
 {
     let Chase {
         state,
         log,
         stopped,
     } = chased;
-    let found = has_head(alloc, query, others, state.store())?;
+    let found = has_head(alloc, query, trial.others, state.store())?;
     if found {
         return Ok(Outcome::Contained);
     }
     match stopped {
         Stopped::Ended => {
             let head = frozen_values(alloc, query.head.as_slice())?;
-            let (instance, row) = named_end(alloc, state.store(), head.as_slice(), known)?;
+            let (instance, row) = named_end(alloc, state.store(), head.as_slice(), trial.known)?;
             Ok(Outcome::Separated(instance, row))
         }
         Stopped::Spent => Ok(Outcome::Spent(log)),

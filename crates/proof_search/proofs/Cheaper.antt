@@ -1,8 +1,7 @@
 -- What a search over the space of a query's base firings says of the query's branches.
-use Rattle.std.proofs.Common.{◌≡◌, ◌⊎◌, ℕ, ◌+◌, ◌<◌, ◌≤◌, List, [], ◌∷◌, Bool, length, Some, refl, sym, ap, ◌∙◌, subst, ⊎_elim, arith}
-use Rattle.std.specs.Prelude.{Contains, slice_get}
+use Rattle.std.proofs.Common.{◌≡◌, ◌⊎◌, ℕ, ◌<◌, ◌≤◌, List, [], Bool, length, refl, sym, ap, ◌∙◌, subst, ⊎_elim, arith}
+use Rattle.std.specs.Prelude.{Contains}
 use Rattle.std.specs.List.{AllZip}
-use Rattle.lists.proofs.Members.{contains_got}
 use Rattle.meaning.specs.declared.types.SchemaParts.{SchemaParts}
 use Rattle.meaning.specs.declared.types.Query.{Query}
 use Rattle.meaning.specs.declared.types.Branch.{Branch}
@@ -19,7 +18,6 @@ use Rattle.meaning_laws.proofs.Carrying.{run_fires}
 use Rattle.meaning_laws.proofs.Keeping.{run_keeps, named_more}
 use Rattle.meaning_laws.proofs.Kept.{kept_opening}
 use Rattle.meaning_laws.proofs.Rivals.{rival_exposes}
-use Rattle.access_schema.specs.declared.schema.Schema.{Schema}
 use Rattle.access_schema.specs.Meaning.{meaning_of}
 use Rattle.access_schema.proofs.Keeping.{well_formed, rules_fit}
 use Rattle.rule_pass.specs.Levels.{AreShort}
@@ -33,19 +31,19 @@ use Rattle.least_search.specs.declared.search.Ended.{Ended}
 use Rattle.least_search.specs.declared.search.Ended.TheVariants as ended
 use Rattle.least_search.specs.Walks.{CanGain, IsNode, walk_cost}
 use Rattle.least_search.specs.Costs.{IsLeastCost, IsEnough as ServesRuns}
-use Rattle.exposure_search.specs.Exploring.{Exploring, space_size, CanExpose, GainsAt, HasGoalAt, HasMatchAt, HasTry, IsRunBeyond, HasRunBeyond}
+use Rattle.exposure_search.specs.Exploring.{Exploring, exploring_of, IsFounded, space_size, CanExpose, GainsAt, HasGoalAt, HasMatchAt, HasTry, IsRunBeyond, HasRunBeyond}
 use Rattle.exposure_search.proofs.Explored.{least_found, tries_within, match_goal}
 use Rattle.accessible_copy.specs.Proving.{Proving, IsProofOf}
-use Rattle.rule_pass.specs.declared.pass.TheConstants.{MOST_FIRINGS}
 use Rattle.accessible_copy.specs.Goals.{IsGoal}
 use Rattle.exposure_search.specs.Visiting.{IsReached}
-use Rattle.plan_extract.specs.Branches.{IsBranchFor, IsProofFor}
+use Rattle.plan_extract.specs.Branches.{IsProofFor}
 use Rattle.plan_extract.specs.Trimmed.{IsShown, IsTrimmedBranch}
 use Rattle.plan_extract.proofs.Shown.{same_shown}
 use Rattle.proof_search.specs.Searches.{AreSearchable}
-use Rattle.proof_search.specs.Branches.{IsQueryBranch}
 use Rattle.proof_search.specs.Chosen.{IsRunOf, NoneIsEnough, HasLongRun}
 use Rattle.proof_search.specs.Choices.{IsLeastFor, CostsAtMost, IsSpaceOf, IsSaidFor}
+use Rattle.proof_search.specs.declared.question.Question.{Question}
+use Rattle.proof_search.specs.Questions.{IsQuestion, IsBranchOn, IsSpaceOn, IsChoiceOn}
 
 module _ (schema : SchemaParts) (queries : List Query) (query : Query) (firings : ℕ) (space : Exploring) (is : IsSpaceOf schema queries query firings space) where
   -- a run from the space's start is one of the query
@@ -120,82 +118,98 @@ base_long schema known query firings beyond = (beyond.log, (beyond.end, beyond.r
 
 -- ---- what a search says of a branch
 
-module _ (schema : Schema) (queries : List Query) (query : Query) (firings search : ℕ) (space : Exploring) (is : IsSpaceOf (meaning_of schema) queries query firings space) where
-  fits_rules : ((c : Value) → Contains schema.constants c → Contains space.constants c) → RulesFit (meaning_of schema) space.constants
-  fits_rules have = rules_fit schema space.constants have
+-- the space of a proof of base firings
+pub space_on : (question : Question) → IsQuestion question → (base : Proving) → base.start ≡ opening question.query.now → base.constants ≡ question.known.now →
+    (space : Exploring) → space ≡ exploring_of (meaning_of question.schema.now) base question.queries.now question.head.now question.firings space.marks → IsFounded space → IsSpaceOn question space
+space_on question is base start constants space e founded = record {
+  of_query = record {
+    schema_is = ap (λ (x : Exploring). x.schema) e;
+    start = ap (λ (x : Exploring). x.start) e ∙ start;
+    queries_are = ap (λ (x : Exploring). x.queries) e;
+    head = ap (λ (x : Exploring). x.head) e ∙ is.head;
+    budget = ap (λ (x : Exploring). x.budget) e;
+    founded = founded;
+  };
+  constants = ap (λ (x : Exploring). x.constants) e ∙ constants;
+}
 
-  said_here : AreSearchable (meaning_of schema) space.constants queries → Contains queries query → ((c : Value) → Contains schema.constants c → Contains space.constants c) →
-      (branch : Branch) (best : ℕ) → CostsAtMost (meaning_of schema) branch best → (end : Ended) (least : Least) →
-      (end ≡ ended.Shown → least ≡ known_cost.Shown) → ((units : ℕ) → end ≡ ended.SearchSpent units → least ≡ known_cost.SearchSpent search) → (end ≡ ended.FiringsSpent → least ≡ known_cost.FiringsSpent firings) →
+module _ (question : Question) (is : IsQuestion question) (space : Exploring) (its : IsSpaceOn question space) where
+  searchable : AreSearchable (meaning_of question.schema.now) space.constants question.queries.now
+  searchable = subst (λ known. AreSearchable (meaning_of question.schema.now) known question.queries.now) (sym its.constants) is.queries
+
+  have : (c : Value) → Contains question.schema.now.constants c → Contains space.constants c
+  have c among = subst (λ known. Contains known c) (sym its.constants) (is.known c among)
+
+  fits_rules : RulesFit (meaning_of question.schema.now) space.constants
+  fits_rules = rules_fit question.schema.now space.constants have
+
+  said_here : (search : ℕ) (branch : Branch) (best : ℕ) → CostsAtMost (meaning_of question.schema.now) branch best → (end : Ended) (least : Least) →
+      (end ≡ ended.Shown → least ≡ known_cost.Shown) → ((units : ℕ) → end ≡ ended.SearchSpent units → least ≡ known_cost.SearchSpent search) → (end ≡ ended.FiringsSpent → least ≡ known_cost.FiringsSpent question.firings) →
       (end ≡ ended.Shown → IsLeastCost (space_size space) (CanGain (CanExpose space) (GainsAt space)) (HasGoalAt space) best) →
       ((units : ℕ) → end ≡ ended.SearchSpent units → (m n : ℕ) → ServesRuns (HasTry space) search m n → ⊥) →
       (end ≡ ended.FiringsSpent → HasRunBeyond space) →
-      IsSaidFor (meaning_of schema) space.constants queries firings search query branch least
-  said_here searchable among have branch best costs ended.Shown least shown spent long is_least none beyond =
-      subst (IsSaidFor (meaning_of schema) space.constants queries firings search query branch) (sym (shown refl))
-      (least_for (meaning_of schema) queries query firings space is (fits_rules have) (λ q there. (searchable q there).constants) (searchable query among).fits (searchable query among).constants (well_formed schema) (are_short schema.rules (orderly schema).non_recursive) best (is_least refl) branch costs)
-  said_here searchable among have branch best costs (ended.SearchSpent units) least shown spent long is_least none beyond =
-      subst (IsSaidFor (meaning_of schema) space.constants queries firings search query branch) (sym (spent units refl))
-      (refl, none_enough (meaning_of schema) queries query firings space is search (none units refl))
-  said_here searchable among have branch best costs ended.FiringsSpent least shown spent long is_least none beyond =
-      subst (IsSaidFor (meaning_of schema) space.constants queries firings search query branch) (sym (long refl))
-      (refl, long_run (meaning_of schema) queries query firings space is (beyond refl))
+      IsSaidFor (meaning_of question.schema.now) space.constants question.queries.now question.firings search question.query.now branch least
+  said_here search branch best costs ended.Shown least shown spent long is_least none beyond =
+      let can = searchable question.query.now is.among in
+      subst (IsSaidFor (meaning_of question.schema.now) space.constants question.queries.now question.firings search question.query.now branch) (sym (shown refl))
+      (least_for (meaning_of question.schema.now) question.queries.now question.query.now question.firings space its.of_query fits_rules (λ q there. (searchable q there).constants) can.fits can.constants (well_formed question.schema.now) (are_short question.schema.now.rules (orderly question.schema.now).non_recursive) best (is_least refl) branch costs)
+  said_here search branch best costs (ended.SearchSpent units) least shown spent long is_least none beyond =
+      subst (IsSaidFor (meaning_of question.schema.now) space.constants question.queries.now question.firings search question.query.now branch) (sym (spent units refl))
+      (refl, none_enough (meaning_of question.schema.now) question.queries.now question.query.now question.firings space its.of_query search (none units refl))
+  said_here search branch best costs ended.FiringsSpent least shown spent long is_least none beyond =
+      subst (IsSaidFor (meaning_of question.schema.now) space.constants question.queries.now question.firings search question.query.now branch) (sym (long refl))
+      (refl, long_run (meaning_of question.schema.now) question.queries.now question.query.now question.firings space its.of_query (beyond refl))
 
-  pub said : (known : List Value) → space.constants ≡ known → AreSearchable (meaning_of schema) known queries → Contains queries query → ((c : Value) → Contains schema.constants c → Contains known c) →
-      (branch : Branch) (best : ℕ) → CostsAtMost (meaning_of schema) branch best → (end : Ended) (least : Least) →
-      (end ≡ ended.Shown → least ≡ known_cost.Shown) → ((units : ℕ) → end ≡ ended.SearchSpent units → least ≡ known_cost.SearchSpent search) → (end ≡ ended.FiringsSpent → least ≡ known_cost.FiringsSpent firings) →
+  -- what is said of a branch is so
+  pub chosen_on : (search : ℕ) (branch : Branch) (least : Least) → IsBranchOn question branch → (best : ℕ) → CostsAtMost (meaning_of question.schema.now) branch best → (end : Ended) →
+      (end ≡ ended.Shown → least ≡ known_cost.Shown) → ((units : ℕ) → end ≡ ended.SearchSpent units → least ≡ known_cost.SearchSpent search) → (end ≡ ended.FiringsSpent → least ≡ known_cost.FiringsSpent question.firings) →
       (end ≡ ended.Shown → IsLeastCost (space_size space) (CanGain (CanExpose space) (GainsAt space)) (HasGoalAt space) best) →
       ((units : ℕ) → end ≡ ended.SearchSpent units → (m n : ℕ) → ServesRuns (HasTry space) search m n → ⊥) →
       (end ≡ ended.FiringsSpent → HasRunBeyond space) →
-      IsSaidFor (meaning_of schema) known queries firings search query branch least
-  said known same searchable among have branch best costs end least shown spent long is_least none beyond =
-      subst (λ k. IsSaidFor (meaning_of schema) k queries firings search query branch least) same
-      (said_here (subst (λ k. AreSearchable (meaning_of schema) k queries) (sym same) searchable) among (λ c there. subst (λ k. Contains k c) (sym same) (have c there)) branch best costs end least shown spent long is_least none beyond)
+      IsChoiceOn question search (record { branch = branch; least = least })
+  chosen_on search branch least one best costs end shown spent long is_least none beyond = record {
+    branch = one;
+    said = subst (λ known. IsSaidFor (meaning_of question.schema.now) known question.queries.now question.firings search question.query.now branch least) its.constants
+        (said_here search branch best costs end least shown spent long is_least none beyond);
+  }
 
   -- a set with a match that is not reached
-  pub not_reached_here : AreSearchable (meaning_of schema) space.constants queries → Contains queries query → ((c : Value) → Contains schema.constants c → Contains space.constants c) →
-      (set : List Bool) → HasMatchAt space set → HasRunBeyond space ⊎ (HasGoalAt space set → ⊥) → HasLongRun (meaning_of schema) space.constants firings query
-  not_reached_here searchable among have set has none =
-      not_reached (meaning_of schema) queries query firings space is (fits_rules have) (λ q there. (searchable q there).constants) (searchable query among).fits (searchable query among).constants set has none
+  pub not_reached_here : (set : List Bool) → HasMatchAt space set → HasRunBeyond space ⊎ (HasGoalAt space set → ⊥) → HasLongRun (meaning_of question.schema.now) question.known.now question.firings question.query.now
+  not_reached_here set has none =
+      let can = searchable question.query.now is.among in
+      subst (λ known. HasLongRun (meaning_of question.schema.now) known question.firings question.query.now) its.constants
+      (not_reached (meaning_of question.schema.now) question.queries.now question.query.now question.firings space its.of_query fits_rules (λ q there. (searchable q there).constants) can.fits can.constants set has none)
 
   module _ (path : List Move) (proof : Proving) (reached : IsReached space path proof) where
-    reached_run : IsProofOf (meaning_of schema) proof
-    reached_run = subst (λ s. IsProofOf s proof) is.schema_is reached.run
+    reached_run : IsProofOf (meaning_of question.schema.now) proof
+    reached_run = subst (λ s. IsProofOf s proof) its.of_query.schema_is reached.run
 
-    pub reached_for : AreSearchable (meaning_of schema) space.constants queries → Contains queries query → (head : List Val) → head ≡ frozen_head query → IsProofFor (meaning_of schema) proof head query
-    reached_for searchable among head same = record {
-      run = reached_run;
-      begun = reached.start ∙ is.start;
-      fits = (searchable query among).fits;
-      constants = subst (λ constants. QueryHasConstants constants query) (sym reached.constants) (searchable query among).constants;
-      head_is = same;
-    }
+    pub reached_constants : proof.constants ≡ question.known.now
+    reached_constants = reached.constants ∙ its.constants
 
-    pub reached_goal : (head : List Val) → head ≡ frozen_head query → (number : ℕ) (values : List Val) → IsGoal space.queries proof.end.copy space.head number values → IsGoal queries proof.end.copy head number values
-    reached_goal head same number values found =
-        subst (λ vals. IsGoal queries proof.end.copy vals number values) (is.head ∙ sym same) (subst (λ list. IsGoal list proof.end.copy space.head number values) is.queries_are found)
+    pub reached_few : length proof.entries ≤ question.firings
+    reached_few = subst (λ n. length proof.entries ≤ n) its.of_query.budget reached.few
 
-    pub reached_branch : AreSearchable (meaning_of schema) space.constants queries → Contains queries query → (head values : List Val) (number : ℕ) (branch : Branch) → head ≡ frozen_head query → length proof.entries ≤ firings → firings ≤ MOST_FIRINGS →
-        IsGoal queries proof.end.copy head number values →
-        ((query goal : Query) → IsProofFor (meaning_of schema) proof head query → slice_get queries number ≡ Some goal → IsBranchFor (meaning_of schema) proof.constants query goal branch) →
-        length branch.steps ≤ length proof.entries → IsQueryBranch (meaning_of schema) space.constants queries query branch
-    reached_branch searchable among head values number branch same few low (goal, got, match) read short =
-        let its = subst (λ constants. IsBranchFor (meaning_of schema) constants query goal branch) reached.constants (read query goal (reached_for searchable among head same) got) in
+    pub reached_for : IsProofFor (meaning_of question.schema.now) proof question.head.now question.query.now
+    reached_for =
+        let can = searchable question.query.now is.among in
         record {
-          rival = record {
-            lawful = its.lawful;
-            sound = λ facts row model rows. (goal, contains_got queries number goal got, its.sound facts row model.meets rows);
-            complete = λ facts row model answer. its.complete facts row model.meets answer;
-          };
-          width = its.width;
-          few = omega arith;
+          run = reached_run;
+          begun = reached.start ∙ its.of_query.start;
+          fits = can.fits;
+          constants = subst (λ constants. QueryHasConstants constants question.query.now) (sym reached.constants) can.constants;
+          head_is = is.head;
         }
 
-    pub reached_cost : (node : Node) → IsNode (space_size space) (CanExpose space) node → path ≡ node.path.items → (head values : List Val) (number : ℕ) (branch : Branch) →
-        IsTrimmedBranch (meaning_of schema) proof queries head number values branch → CostsAtMost (meaning_of schema) branch node.cost
-    reached_cost node node_is same head values number branch trimmed =
-        let shown : AllZip (IsShown (meaning_of schema)) proof.exposed reached.made = subst (λ s. AllZip (IsShown s) proof.exposed reached.made) is.schema_is reached.shown in
-        let made : trimmed.exposures ≡ reached.made = same_shown (meaning_of schema) proof.exposed trimmed.exposures reached.made trimmed.shown shown in
+    pub reached_goal : (number : ℕ) (values : List Val) → IsGoal space.queries proof.end.copy space.head number values → IsGoal question.queries.now proof.end.copy question.head.now number values
+    reached_goal number values found =
+        subst (λ vals. IsGoal question.queries.now proof.end.copy vals number values) (its.of_query.head ∙ sym is.head) (subst (λ list. IsGoal list proof.end.copy space.head number values) its.of_query.queries_are found)
+
+    pub reached_cost : (node : Node) → IsNode (space_size space) (CanExpose space) node → path ≡ node.path.items → (values : List Val) (number : ℕ) (branch : Branch) →
+        IsTrimmedBranch (meaning_of question.schema.now) proof question.queries.now question.head.now number values branch → CostsAtMost (meaning_of question.schema.now) branch node.cost
+    reached_cost node node_is same values number branch trimmed =
+        let shown : AllZip (IsShown (meaning_of question.schema.now)) proof.exposed reached.made = subst (λ s. AllZip (IsShown s) proof.exposed reached.made) its.of_query.schema_is reached.shown in
+        let made : trimmed.exposures ≡ reached.made = same_shown (meaning_of question.schema.now) proof.exposed trimmed.exposures reached.made trimmed.shown shown in
         let all : exposures_cost trimmed.exposures ≡ node.cost = ap exposures_cost made ∙ reached.cost ∙ ap walk_cost same ∙ sym node_is.cost in
         let cheap = trimmed.cheap in
         (exposures_cost trimmed.kept, trimmed.cost, omega arith)

@@ -15,21 +15,23 @@ use Rattle.meaning.specs.Values.{Value}
 use Rattle.meaning.specs.Runs.{Proof, IsOrderedRun, NoExposure, HasGoal, opening, frozen_head}
 use Rattle.meaning.specs.Fitting.{QueryHasConstants}
 use Rattle.meaning_laws.proofs.Kept.{ordered_is_run}
-use Rattle.rule_pass.specs.declared.pass.TheConstants.{MOST_FIRINGS}
+use Rattle.access_schema.specs.Meaning.{meaning_of}
 use Rattle.accessible_copy.specs.declared.entry.Entry.{Entry}
 use Rattle.accessible_copy.specs.Proving.{Proving, log_of}
 use Rattle.accessible_copy.specs.Goals.{IsGoal}
 use Rattle.accessible_copy.specs.Rounds.{IsAllQuiet, GoesOn}
 use Rattle.no_plan_witness.specs.declared.refutation.Witness.{Witness}
 use Rattle.no_plan_witness.specs.Witnesses.{IsWitnessOf}
-use Rattle.proof_search.specs.Searches.{IsSearchable, IsSearch}
+use Rattle.proof_search.specs.Searches.{IsSearch}
 use Rattle.plan_extract.specs.Branches.{IsBranchFor, IsProofFor}
-use Rattle.proof_search.specs.Branches.{IsQueryBranch, IsStuckPair, IsSpentLog}
+use Rattle.proof_search.specs.Branches.{IsStuckPair, IsSpentLog}
 use Rattle.proof_search.specs.Choices.{IsChoice}
 use Rattle.proof_search.specs.Outcomes.{IsQueryOutcome, IsWithoutGoal, IsFirstSpent}
 use Rattle.proof_search.specs.declared.outcome.Choice.{Choice}
 use Rattle.proof_search.specs.declared.outcome.QueryOutcome.{QueryOutcome}
 use Rattle.proof_search.specs.declared.outcome.QueryOutcome.TheVariants as one
+use Rattle.proof_search.specs.declared.question.Question.{Question}
+use Rattle.proof_search.specs.Questions.{IsQuestion, IsSearchFor, IsBranchOn}
 use Rattle.plan_extract.proofs.Zips.{zip_push}
 
 module _ (schema : SchemaParts) (known : List Value) (queries : List Query) (firings units : ℕ) (query : Query) (proof : Proving) (search : IsSearch schema firings (opening query) known proof)
@@ -76,32 +78,36 @@ module _ (schema : SchemaParts) (known : List Value) (queries : List Query) (fir
   ended quiet all on head same (Ok outcome) is = without quiet all on head same outcome is
   ended quiet all on head same (Err e) is = tt
 
--- a proof of a search is one for its query
-pub proof_for : (schema : SchemaParts) (known : List Value) (firings : ℕ) (query : Query) (proof : Proving) → IsSearchable schema known query → IsSearch schema firings (opening query) known proof → (head : List Val) → head ≡ frozen_head query → IsProofFor schema proof head query
-proof_for schema known firings query proof searchable search head same = record {
-  run = search.run;
-  begun = search.begun;
-  fits = searchable.fits;
-  constants = subst (λ constants. QueryHasConstants constants query) (sym search.constants) searchable.constants;
-  head_is = same;
-}
+module _ (question : Question) (is : IsQuestion question) where
+  -- a proof of a search is one for its query
+  pub proof_for : (proof : Proving) → IsSearchFor question proof → IsProofFor (meaning_of question.schema.now) proof question.head.now question.query.now
+  proof_for proof search =
+      let searchable = is.queries question.query.now is.among in
+      record {
+        run = search.run;
+        begun = search.begun;
+        fits = searchable.fits;
+        constants = subst (λ constants. QueryHasConstants constants question.query.now) (sym search.constants) searchable.constants;
+        head_is = is.head;
+      }
 
--- a goal: the branch that is extracted is a rival
-pub goal_branch : (schema : SchemaParts) (known : List Value) (queries : List Query) (firings : ℕ) (query : Query) (proof : Proving) (head values : List Val) (number : ℕ) (branch : Branch) →
-    IsSearch schema firings (opening query) known proof → firings ≤ MOST_FIRINGS → IsProofFor schema proof head query → IsGoal queries proof.end.copy head number values →
-    ((query goal : Query) → IsProofFor schema proof head query → slice_get queries number ≡ Some goal → IsBranchFor schema proof.constants query goal branch) → length branch.steps ≤ length proof.entries → IsQueryBranch schema known queries query branch
-goal_branch schema known queries firings query proof head values number branch search low its (goal, got, match) read few =
-    let is = subst (λ constants. IsBranchFor schema constants query goal branch) search.constants (read query goal its got) in
-    let most = search.few in
-    record {
-      rival = record {
-        lawful = is.lawful;
-        sound = λ facts row model rows. (goal, contains_got queries number goal got, is.sound facts row model.meets rows);
-        complete = λ facts row model answer. is.complete facts row model.meets answer;
-      };
-      width = is.width;
-      few = omega arith;
-    }
+  -- a goal: the branch that is extracted is a rival
+  pub goal_branch : (proof : Proving) → proof.constants ≡ question.known.now → length proof.entries ≤ question.firings → IsProofFor (meaning_of question.schema.now) proof question.head.now question.query.now →
+      (values : List Val) (number : ℕ) (branch : Branch) → IsGoal question.queries.now proof.end.copy question.head.now number values →
+      ((query goal : Query) → IsProofFor (meaning_of question.schema.now) proof question.head.now query → slice_get question.queries.now number ≡ Some goal → IsBranchFor (meaning_of question.schema.now) proof.constants query goal branch) →
+      length branch.steps ≤ length proof.entries → IsBranchOn question branch
+  goal_branch proof constants most of_query values number branch (goal, got, match) read few =
+      let its = subst (λ known. IsBranchFor (meaning_of question.schema.now) known question.query.now goal branch) constants (read question.query.now goal of_query got) in
+      let low = is.firings in
+      record {
+        rival = record {
+          lawful = its.lawful;
+          sound = λ facts row model rows. (goal, contains_got question.queries.now number goal got, its.sound facts row model.meets rows);
+          complete = λ facts row model answer. its.complete facts row model.meets answer;
+        };
+        width = its.width;
+        few = omega arith;
+      }
 
 -- ---- the queries so far
 

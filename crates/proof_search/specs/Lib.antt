@@ -4,4 +4,5 @@ pub mod Plans
 pub mod Chosen
 pub mod Choices
 pub mod Outcomes
+pub mod Questions
 pub mod Decisions

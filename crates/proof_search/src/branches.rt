@@ -1,17 +1,18 @@
 // The branches of queries.
 ghost use Rattle.std.specs.Prelude.{◌≡◌, ◌≤◌, ◌^◌, ℕ, true, false, List, IfOk, IfSome, Contains, length};
-ghost use Rattle.meaning.specs.Runs.{opening};
 ghost use Rattle.access_schema.specs.Meaning.{meaning_of};
 ghost use Rattle.rule_pass.specs.declared.pass.TheConstants.{MOST_FIRINGS};
 ghost use Rattle.accessible_copy.specs.Proving.{log_of};
 ghost use Rattle.accessible_copy.specs.Rounds.{IsAllQuiet, GoesOn};
-ghost use Rattle.proof_search.specs.Searches.{AreSearchable, IsSearch};
+ghost use Rattle.proof_search.specs.Searches.{AreSearchable};
 ghost use Rattle.proof_search.specs.Outcomes.{IsQueryOutcome, IsWithoutGoal, IsOutcome};
+ghost use Rattle.proof_search.specs.Questions.{IsQuestion, IsSearchFor, IsOutcomeOn};
 
 use crate::choosing::choose;
 use crate::exposing::Turn;
 use crate::outcome::{Outcome, QueryOutcome};
 use crate::proving::prove;
+use crate::question::Question;
 use crate::reading::branch_in;
 use crate::sparing::spare;
 use access_schema::Schema;
@@ -73,47 +74,40 @@ fn branch_for(
     requires firings { firings ≤ MOST_FIRINGS }
     ensures { IfOk result (IsQueryOutcome (meaning_of schema.now) known.now queries.now firings search query.now) }
 {
-    let (proof, quiet) = prove(alloc, schema, query, queries, known, firings, Turn::All)?;
-    outcome_of(
-        alloc, schema, query, queries, known, &proof, quiet, firings, search,
-    )
+    let head = Seq::from_vec(frozen_values(alloc, query.head.as_slice())?);
+    let question = Question {
+        schema,
+        query,
+        queries,
+        known,
+        head: &head,
+        firings,
+    };
+    let (proof, quiet) = prove(alloc, &question, Turn::All)?;
+    outcome_of(alloc, &question, &proof, quiet, search)
 }
 
 /// What a search of the query comes to, and whether nothing is active at its end.
 fn outcome_of(
     alloc: Global,
-    schema: &Schema,
-    query: &Query,
-    queries: &Queries,
-    known: &Texts,
+    question: &Question<'_>,
     proof: &Proof,
     quiet: bool,
-    firings: u32,
     search: u32,
 ) -> Result<QueryOutcome, NoMemory>
-    requires queries { AreSearchable (meaning_of schema.now) known.now queries.now }
-    requires few { length queries.now ≤ 2 ^ 32 }
-    requires among { Contains queries.now query.now }
-    requires known { (c : List ℕ) → Contains schema.now.constants c → Contains known.now c }
-    requires firings { firings ≤ MOST_FIRINGS }
-    requires search { IsSearch (meaning_of schema.now) firings (opening query.now) known.now proof.now }
-    requires quiet { quiet ≡ true → IsAllQuiet (meaning_of schema.now) proof.now }
-    requires spent { quiet ≡ false → (firings ≤ length proof.now.entries) × GoesOn (meaning_of schema.now) proof.now }
-    ensures { IfOk result (IsQueryOutcome (meaning_of schema.now) known.now queries.now firings search query.now) }
+    requires question { IsQuestion question.now }
+    requires search { IsSearchFor question.now proof.now }
+    requires quiet { quiet ≡ true → IsAllQuiet (meaning_of question.now.schema.now) proof.now }
+    requires spent { quiet ≡ false → (question.now.firings ≤ length proof.now.entries) × GoesOn (meaning_of question.now.schema.now) proof.now }
+    ensures { IfOk result (IsOutcomeOn question.now search) }
 {
-    let head = Seq::from_vec(frozen_values(alloc, query.head.as_slice())?);
-    match branch_in(alloc, schema, query, queries, known, &head, proof, firings)? {
+    match branch_in(alloc, question, proof)? {
         Some(first) => {
-            let facts = proof.sizes().base;
-            let branch = spare(
-                alloc, schema, query, queries, known, &head, first, facts, firings, search,
-            )?;
-            let choice = choose(
-                alloc, schema, query, queries, known, &head, branch, firings, search,
-            )?;
+            let branch = spare(alloc, question, first, proof.sizes().base, search)?;
+            let choice = choose(alloc, question, branch, search)?;
             Ok(QueryOutcome::Branch(choice))
         }
-        None => without_goal(alloc, proof, quiet, known, &head),
+        None => without_goal(alloc, proof, quiet, question.known, question.head),
     }
 }
 

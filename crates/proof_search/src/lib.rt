@@ -10,6 +10,7 @@ mod deciding;
 mod exposing;
 mod outcome;
 mod proving;
+mod question;
 mod reading;
 mod sparing;
 

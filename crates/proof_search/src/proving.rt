@@ -2,41 +2,39 @@
 ghost use Rattle.std.specs.Prelude.{◌≡◌, ◌≤◌, [], Ok, true, false, IfOk, OnOk, length};
 ghost use Rattle.meaning.specs.declared.types.Val.TheVariants.{Const};
 ghost use Rattle.meaning.specs.Matching.{MeetsAll, GroundsOf};
-ghost use Rattle.meaning.specs.Runs.{NoExposure, opening, last_part};
+ghost use Rattle.meaning.specs.Runs.{NoExposure, last_part};
 ghost use Rattle.access_schema.specs.Meaning.{meaning_of};
 ghost use Rattle.rule_pass.specs.declared.pass.TheConstants.{MOST_FIRINGS};
 ghost use Rattle.accessible_copy.specs.Proving.{log_of};
 ghost use Rattle.accessible_copy.specs.Rounds.{IsAllQuiet, GoesOn};
-ghost use Rattle.proof_search.specs.Searches.{IsSearchable, IsSearch};
+ghost use Rattle.proof_search.specs.Searches.{IsSearch};
+ghost use Rattle.proof_search.specs.Questions.{IsQuestion, IsSearchFor};
 
 use crate::exposing::{Turn, expose_all};
+use crate::question::Question;
 use access_schema::Schema;
 use accessible_copy::{Proof, Round, settle};
-use lists::{NoMemory, Texts};
-use meaning::types::{Queries, Query};
+use lists::NoMemory;
 use std::alloc::Global;
 
 /// The proof of a query: base firings, exposures and copy firings, those of each kind while they are active and the log has
 /// fewer than `firings`, and exposures in turns of this kind. Whether nothing is active at the end.
 ///
-/// Its copy is made for matches of the goals.
-pub fn prove(
-    alloc: Global,
-    schema: &Schema,
-    query: &Query,
-    goals: &Queries,
-    known: &Texts,
-    firings: u32,
-    turn: Turn,
-) -> Result<(Proof, bool), NoMemory>
-    requires query { IsSearchable (meaning_of schema.now) known.now query.now }
-    requires firings { firings ≤ MOST_FIRINGS }
-    ensures search { IfOk result (λ made. IsSearch (meaning_of schema.now) firings (opening query.now) known.now made.0) }
-    ensures quiet { IfOk result (λ made. made.1 ≡ true → IsAllQuiet (meaning_of schema.now) made.0) }
-    ensures spent { IfOk result (λ made. made.1 ≡ false → (firings ≤ length made.0.entries) × GoesOn (meaning_of schema.now) made.0) }
+/// Its copy is made for matches of the queries.
+pub fn prove(alloc: Global, question: &Question<'_>, turn: Turn) -> Result<(Proof, bool), NoMemory>
+    requires { IsQuestion question.now }
+    ensures search { IfOk result (λ made. IsSearchFor question.now made.0) }
+    ensures quiet { IfOk result (λ made. made.1 ≡ true → IsAllQuiet (meaning_of question.now.schema.now) made.0) }
+    ensures spent { IfOk result (λ made. made.1 ≡ false → (question.now.firings ≤ length made.0.entries) × GoesOn (meaning_of question.now.schema.now) made.0) }
 {
-    let mut proof = Proof::start(alloc, schema, query, goals, known)?;
-    let quiet = fire_all(alloc, &mut proof, schema, firings, turn)?;
+    let mut proof = Proof::start(
+        alloc,
+        question.schema,
+        question.query,
+        question.queries,
+        question.known,
+    )?;
+    let quiet = fire_all(alloc, &mut proof, question.schema, question.firings, turn)?;
     Ok((proof, quiet))
 }
 

@@ -5,4 +5,4 @@ use Rattle.plan_check.proofs.trial.try_each.Given as goal
 
 -- what the queries so far come to
 abbrev pub invariant-loop-number : goal.invariant-loop-number
-invariant-loop-number l = AreTried (meaning_of l.schema) (take l.number l.forms) l.others l.firings l.tried
+invariant-loop-number l = AreTried (meaning_of l.trial.schema.now) (take l.number l.forms) l.trial.others.now l.trial.firings l.tried

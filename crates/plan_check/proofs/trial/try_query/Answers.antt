@@ -9,12 +9,12 @@ use Rattle.plan_check.proofs.Ending.{all_contained}
 use Rattle.plan_check.proofs.trial.try_query.Goals as goal
 
 pub has_head_soon-requires : goal.has_head_soon-requires
-has_head_soon-requires c = triable_counted (meaning_of c.args.schema.now) c.args.known.now c.args.others.now c.requires.others
+has_head_soon-requires c = triable_counted (meaning_of c.args.trial.now.schema.now) c.args.trial.now.known.now c.args.trial.now.others.now c.requires.trial.others
 
 pub returns-then-found : goal.returns-then-found
 returns-then-found c =
     let start : State = opening_state c.args.query.now in
-    let has : SomeHas start.facts c.args.others.now (frozen_head c.args.query.now) =
+    let has : SomeHas start.facts c.args.trial.now.others.now (frozen_head c.args.query.now) =
     rw (c.store.ensures, c.in_ok-start.ensures) at (c.in_ok-found.ensures c.if-found.true) in
-    all_contained (meaning_of c.args.schema.now) c.args.known.now (rules_fit c.args.schema.now c.args.known.now c.requires.known) c.args.query.now c.requires.query c.args.others.now
+    all_contained (meaning_of c.args.trial.now.schema.now) c.args.trial.now.known.now (rules_fit c.args.trial.now.schema.now c.args.trial.now.known.now c.requires.trial.known) c.args.query.now c.requires.query c.args.trial.now.others.now
     [] start refl has

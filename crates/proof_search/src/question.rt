@@ -1,0 +1,17 @@
+// What is asked of a query.
+
+use access_schema::Schema;
+use lists::Texts;
+use meaning::types::{Queries, Query, Vals};
+
+/// Which branch answers a query, among all the queries of its select: over this schema, with these known constants, by proofs of at
+/// most `firings` firings. The head is the query's frozen one.
+#[derive(Drop)]
+pub struct Question<'a> {
+    pub schema: &'a Schema,
+    pub query: &'a Query,
+    pub queries: &'a Queries,
+    pub known: &'a Texts,
+    pub head: &'a Vals,
+    pub firings: u32,
+}
