@@ -1,0 +1,11 @@
+pub mod Parts
+pub mod Read
+pub mod Query
+pub mod Paths
+pub mod Weights
+pub mod Chases
+pub mod Models
+pub mod Flipped
+pub mod Counting
+pub mod Rounds
+pub mod Counts

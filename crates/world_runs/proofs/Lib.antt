@@ -1,0 +1,4 @@
+pub mod Deciding
+pub mod Generators
+pub mod Ends
+pub mod Runs
