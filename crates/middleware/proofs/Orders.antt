@@ -1,8 +1,8 @@
 -- Rows in order: the place that a bisection finds.
-use Rattle.std.proofs.Common.{◌≡◌, ◌<◌, ◌≤◌, ◌+◌, ℕ, List, [], length, get_or, map, Some, Bor, inl, inr, sym, ◌∙◌, ap, arith}
+use Rattle.std.proofs.Common.{◌≡◌, ◌<◌, ◌≤◌, ◌+◌, ℕ, List, [], length, get_or, map, Some, Bor, true, inl, inr, refl, sym, ◌∙◌, ap, arith}
 use Rattle.std.specs.Prelude.{Contains, slice_get}
 use Rattle.std.specs.List.Sorted.{IsStrictlySortedBy}
-use Rattle.std.specs.Ordering.{ordering_reverse}
+use Rattle.std.specs.Ordering.{ordering_reverse, is_lt, is_gt}
 use Rattle.std.specs.declared.cmp.Ordering.{Ordering}
 use Rattle.std.specs.declared.cmp.Ordering.TheVariants.{Less, Equal, Greater}
 use Rattle.std.proofs.lemmas.Cmp.{tied_itself}
@@ -17,6 +17,16 @@ use Rattle.row_text.specs.RowText.{row_cmp}
 -- the text at a place of lent texts
 pub text_got : (texts : List (Bor (List ℕ))) (k : ℕ) (text : Bor (List ℕ)) → k < length texts → text ≡ get_or texts k text → slice_get (map (λ s. s.now) texts) k ≡ Some text.now
 text_got texts k text less at = map_got (λ s. s.now) texts k text (slice_get-get_or texts k text less ∙ ap (λ v. Some v) (sym at))
+
+pub less_of : (o : Ordering) → is_lt o ≡ true → o ≡ Less
+less_of Less e = refl
+less_of Equal e = absurd (cc)
+less_of Greater e = absurd (cc)
+
+pub greater_of : (o : Ordering) → is_gt o ≡ true → o ≡ Greater
+greater_of Less e = absurd (cc)
+greater_of Equal e = absurd (cc)
+greater_of Greater e = refl
 
 turned : (x y : List (List ℕ)) (o : Ordering) → row_cmp x y ≡ o → row_cmp y x ≡ ordering_reverse o
 turned x y o e = rows_total.antisymm y x ∙ ap ordering_reverse e

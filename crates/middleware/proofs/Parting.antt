@@ -5,13 +5,15 @@ use Rattle.std.specs.List.Sorted.{IsStrictlySortedBy}
 use Rattle.std.specs.declared.cmp.Ordering.TheVariants.{Less, Equal}
 use Rattle.std.proofs.lemmas.Cmp.{tied_itself}
 use Rattle.std.proofs.lemmas.List.{append-nil, take_more}
+use Rattle.std.proofs.lemmas.List.Concat.{flat_map-append}
 use Rattle.std.proofs.lemmas.List.Elements.{filter-append}
-use Rattle.lists.proofs.Members.{contains_here, contains_there, contains_cases, contains_got, map_same, contains_none, all_member}
+use Rattle.std.proofs.lemmas.Option.{slice_get-get_or}
+use Rattle.lists.proofs.Members.{contains_here, contains_there, contains_cases, contains_got, contains_map, map_same, contains_none, all_member}
 use Rattle.lists.proofs.Orders.{rows_equiv, rows_same_equal, rows_total}
 use Rattle.meaning.specs.declared.types.Place.{Place}
 use Rattle.source_trait.specs.Asking.{RowList}
 use Rattle.row_text.specs.RowText.{row_cmp, row_eq}
-use Rattle.middleware.specs.Joining.{joined, listed, grown, text_or, input_value_or, input_row_of}
+use Rattle.middleware.specs.Joining.{OthersAreEmpty, joined, listed, grown, text_or, input_value_or, input_row_of}
 use Rattle.middleware.specs.Branches.{IsInput}
 use Rattle.middleware.specs.Parts.{key_of, part_of}
 use Rattle.middleware.proofs.Steps.{joins_joined, joins_input}
@@ -100,6 +102,30 @@ module _ (positions : List ℕ) (answer keys : RowList) (i : ℕ) (row values : 
       is ∙ so_far ∙ parts_same positions (take i answer) row keys (subst (λ (v : List (List ℕ)). Contains keys v → ⊥) key absent)
       ∙ ap (λ (l : RowList). map (part_of positions l) keys) (sym taken)
 
+-- a key that no row of the answer has
+part_less : (positions : List ℕ) (row : List (List ℕ)) (answer : RowList) (key : List (List ℕ)) (b : Bool) → row_eq (key_of positions row) key ≡ b → (key_of positions row ≡ key → ⊥)
+    → part_of positions answer key ≡ [] → cond b (row ∷ part_of positions answer key) (part_of positions answer key) ≡ []
+part_less positions row answer key true e other rest = absurd (other (rows_same_equal (key_of positions row) key e))
+part_less positions row answer key false e other rest = rest
+
+pub part_none : (positions : List ℕ) (answer : RowList) (key : List (List ℕ)) → (Contains (map (key_of positions) answer) key → ⊥) → part_of positions answer key ≡ []
+part_none positions [] key absent = refl
+part_none positions (row ∷ answer) key absent =
+    let first = key_of positions row in
+    let keys = map (key_of positions) answer in
+    part_less positions row answer key (row_eq first key) refl (λ e. absent (subst (λ k. Contains (first ∷ keys) k) e (contains_here first keys)))
+    (part_none positions answer key (λ c. absent (contains_there first keys key c)))
+
+pub others_of_keys : (places : List Place) (positions : List ℕ) (answer rows list : RowList) → list ≡ map (key_of positions) answer → OthersAreEmpty places positions list rows (part_of positions answer)
+others_of_keys places positions answer rows list is = λ row among absent.
+    let key = input_row_of places positions row in
+    part_none positions answer key (subst (λ (l : RowList). Contains l key → ⊥) is absent)
+
+pub others_of_rows : (places : List Place) (positions : List ℕ) (answer rows list : RowList) → list ≡ map (input_row_of places positions) rows → OthersAreEmpty places positions list rows (part_of positions answer)
+others_of_rows places positions answer rows list is = λ row among absent.
+    let key = input_row_of places positions row in
+    absurd (absent (subst (λ (l : RowList). Contains l key) (sym is) (contains_map (input_row_of places positions) rows row among)))
+
 -- ---- the rows that a partial row grows to
 
 module _ (places : List Place) (known : List ℕ) (row : List (List ℕ)) (are : (p : ℕ) → Contains known p → IsInput (length row) (slice_get places p)) where
@@ -142,3 +168,29 @@ pub only_grown : (places : List Place) (inputs : List ℕ) (requests rows : RowL
 only_grown places inputs requests rows answers only f one is asked =
     flat_same (grown places only) (λ row. grown places (f (input_row_of places inputs row)) row) rows
     (λ row c. ap (λ (l : RowList). grown places l row) (answer_is f requests only (input_row_of places inputs row) (sym one ∙ is) (asked row c)))
+
+-- ---- the partial rows joined one by one
+
+module _ (places : List Place) (inputs : List ℕ) (f : List (List ℕ) → RowList) (rows : RowList) (n : ℕ) (row values : List (List ℕ)) (less : n < length rows) (at : row ≡ get_or rows n [])
+    (key : values ≡ input_row_of places inputs row) (old new : RowList) where
+  abbrev to : List (List ℕ) → RowList
+  to r = grown places (f (input_row_of places inputs r)) r
+
+  one_more : flat_map to (take (n + 1) rows) ≡ flat_map to (take n rows) ++ to row
+  one_more =
+      ap (flat_map to) (take_more rows n [] less) ∙ flat_map-append to (take n rows) (get_or rows n [] ∷ [])
+      ∙ ap (λ (l : RowList). flat_map to (take n rows) ++ l) (append-nil (to (get_or rows n [])) ∙ ap to (sym at))
+
+  -- the row's request has this answer
+  pub joined_there : old ≡ flat_map to (take n rows) → (found : RowList) → found ≡ f values → new ≡ old ++ grown places found row → new ≡ flat_map to (take (n + 1) rows)
+  joined_there so_far found same is =
+      is ∙ ap (λ (l : RowList). l ++ grown places found row) so_far
+      ∙ ap (λ (l : RowList). flat_map to (take n rows) ++ grown places l row) (same ∙ ap f key) ∙ sym one_more
+
+  -- the row's request is not there
+  pub joined_absent : old ≡ flat_map to (take n rows) → (requests : RowList) → OthersAreEmpty places inputs requests rows f → (Contains requests values → ⊥) → new ≡ old
+      → new ≡ flat_map to (take (n + 1) rows)
+  joined_absent so_far requests others absent is =
+      let among : Contains rows row = contains_got rows n row (slice_get-get_or rows n [] less ∙ ap (λ v. Some v) (sym at)) in
+      let none : f (input_row_of places inputs row) ≡ [] = others row among (subst (λ v. Contains requests v → ⊥) key absent) in
+      is ∙ so_far ∙ sym (append-nil (flat_map to (take n rows))) ∙ ap (λ (l : RowList). flat_map to (take n rows) ++ grown places l row) (sym none) ∙ sym one_more

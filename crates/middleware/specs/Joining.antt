@@ -1,5 +1,5 @@
 -- Partial rows joined with the rows of answers.
-use Rattle.std.specs.Prelude.{ℕ, List, [], ◌∷◌, ◌++◌, map, flat_map, slice_get, Option, Some, None, Bool, false, nat_eq, if◌then◌else◌}
+use Rattle.std.specs.Prelude.{◌≡◌, ℕ, List, [], ◌∷◌, ◌++◌, Contains, map, flat_map, slice_get, Option, Some, None, Bool, false, nat_eq, if◌then◌else◌}
 use Rattle.std.specs.Cmp.Lexicographic.{pointwise}
 use Rattle.meaning.specs.declared.types.Place.{Place}
 use Rattle.meaning.specs.declared.types.Place.TheVariants.{Const, Col, New}
@@ -43,3 +43,7 @@ input_value_or row (Some New) = []
 -- the values that a partial row has at the input positions
 abbrev pub input_row_of : List Place → List ℕ → List (List ℕ) → List (List ℕ)
 input_row_of places inputs row = map (λ p. input_value_or row (slice_get places p)) inputs
+
+-- the answer to the request of a partial row is empty where it is none of the requests
+abbrev pub OthersAreEmpty : List Place → List ℕ → RowList → RowList → (List (List ℕ) → RowList) → Type 0
+OthersAreEmpty places inputs requests rows answer = (row : List (List ℕ)) → Contains rows row → (Contains requests (input_row_of places inputs row) → ⊥) → answer (input_row_of places inputs row) ≡ []

@@ -1,12 +1,14 @@
 // A round's answers joined with the partial rows.
-ghost use Rattle.std.specs.Prelude.{◌≡◌, ◌++◌, List, ℕ, Contains, IfOk, IfSome, IsNone, IsTrue, OnOk, Some, None, if◌then◌else◌, map, flat_map, option_copied, slice_get};
+ghost use Rattle.std.specs.Prelude.{◌≡◌, ◌≤◌, ◌<◌, ◌++◌, [], List, ℕ, Contains, IfOk, IsErr, IsTrue, MatchOption, OnOk, Some, None, if◌then◌else◌, length, map, flat_map, option_copied, slice_get, slice_index_or};
 ghost use Rattle.std.specs.List.Sorted.{IsStrictlySortedBy};
+ghost use Rattle.std.specs.declared.cmp.Ordering.TheVariants.{Less, Greater};
 ghost use Rattle.source_trait.specs.Asking.{RowList};
 ghost use Rattle.row_text.specs.RowText.{row_cmp};
-ghost use Rattle.middleware.specs.Joining.{joined, grown, is_at, input_row_of, input_value_or, text_or};
+ghost use Rattle.middleware.specs.Joining.{OthersAreEmpty, joined, grown, is_at, input_row_of, input_value_or, text_or};
+ghost use Rattle.middleware.specs.Parts.{part_of};
 
 use crate::ascending::distinct_rows;
-use crate::parts::{known_places, parts_by_key};
+use crate::parts::{key_rows, known_places, parts_by_key};
 use crate::whole_answer::{grows_to_answer, only_answer};
 use meaning::types::Place;
 use row_text::{LentRow, PackedRows};
@@ -54,28 +56,47 @@ fn join_only(
 {
     let known = known_places(alloc, places, rows)?;
     let positions = known.as_slice();
-    let keys = keys_of(alloc, places, positions, rows)?;
+    let keys = keys_of(alloc, places, positions, answer, rows)?;
     let parts = parts_by_key(alloc, positions, &keys, answer)?;
     let next = join_each(alloc, places, positions, &keys, parts.as_slice(), rows)?;
     Ok(next)
 }
 
-// The distinct input rows of the partial rows, ascending.
+// The keys to part the answer by, ascending. A partial row whose input row is none of them has no part of the answer.
 fn keys_of(
     alloc: Global,
     places: &[Place],
     positions: &[u32],
+    answer: &PackedRows,
     rows: &PackedRows,
 ) -> Result<PackedRows, AllocError>
     ensures ascends { IfOk result (λ keys. IsStrictlySortedBy row_cmp keys) }
-    ensures there { IfOk result (λ keys. (row : List (List ℕ)) → Contains rows.now row → Contains keys (input_row_of places.now positions.now row)) }
+    ensures others { IfOk result (λ keys. OthersAreEmpty places.now positions.now keys rows.now (part_of positions.now answer.now)) }
 {
-    let list = input_rows(alloc, places, positions, rows)?;
+    let list = key_list(alloc, places, positions, answer, rows)?;
     let keys = distinct_rows(alloc, list)?;
     Ok(keys)
 }
 
-// Each partial row joined with the answer to its request.
+// The values at the positions of the rows of the answer, or of the partial rows where these are not more.
+fn key_list(
+    alloc: Global,
+    places: &[Place],
+    positions: &[u32],
+    answer: &PackedRows,
+    rows: &PackedRows,
+) -> Result<PackedRows, AllocError>
+    ensures { IfOk result (λ list. OthersAreEmpty places.now positions.now list rows.now (part_of positions.now answer.now)) }
+{
+    if answer.len() < rows.len() {
+        let of_answer = key_rows(alloc, positions, answer)?;
+        return Ok(of_answer);
+    }
+    let of_rows = input_rows(alloc, places, positions, rows)?;
+    Ok(of_rows)
+}
+
+// Each partial row joined with the answer to its request, where this is among the requests.
 fn join_each(
     alloc: Global,
     places: &[Place],
@@ -85,8 +106,7 @@ fn join_each(
     rows: &PackedRows,
 ) -> Result<PackedRows, AllocError>
     requires ascends { IsStrictlySortedBy row_cmp requests.now }
-    requires asked { (row : List (List ℕ)) → Contains rows.now row → Contains requests.now (input_row_of places.now inputs.now row) }
-    ensures { (answer : List (List ℕ) → RowList) → answers.now ≡ map answer requests.now
+    ensures { (answer : List (List ℕ) → RowList) → answers.now ≡ map answer requests.now → OthersAreEmpty places.now inputs.now requests.now rows.now answer
         → IfOk result (λ next. next ≡ flat_map (λ row. grown places.now (answer (input_row_of places.now inputs.now row)) row) rows.now) }
 {
     let mut values = Vec::new(alloc);
@@ -95,15 +115,8 @@ fn join_each(
     let mut near = 0;
     for number in 0..rows.len() {
         let row = rows.at(number);
-        match answer_to(
-            places,
-            inputs,
-            requests,
-            answers,
-            &row,
-            &mut near,
-            &mut values,
-        )? {
+        input_texts(places, inputs, &row, &mut values)?;
+        match answer_for(requests, answers, values.as_slice(), &mut near) {
             Some(answer) => {
                 next = join_answer(places, answer, &row, &mut values, &mut texts, next)?;
             }
@@ -111,29 +124,6 @@ fn join_each(
         }
     }
     Ok(next)
-}
-
-// The answer to the request of the partial row. An only answer is not searched for. `near` is where to look first, which may be
-// any number, and becomes the place of the request. `values` is room for texts: what stood in it may be dropped.
-fn answer_to<'a>(
-    places: &'a [Place],
-    inputs: &[u32],
-    requests: &PackedRows,
-    answers: &'a [PackedRows],
-    row: &LentRow<'a>,
-    near: &mut usize,
-    values: &mut Vec<&'a str>,
-) -> Result<Option<&'a PackedRows>, AllocError>
-    requires ascends { IsStrictlySortedBy row_cmp requests.now }
-    requires asked { Contains requests.now (input_row_of places.now inputs.now row.now) }
-    ensures { (answer : List (List ℕ) → RowList) → answers.now ≡ map answer requests.now
-        → IfOk result (λ found. option_copied found ≡ Some (answer (input_row_of places.now inputs.now row.now))) }
-{
-    if let [only] = answers {
-        return Ok(Some(only));
-    }
-    input_texts(places, inputs, row, values)?;
-    Ok(answer_for(requests, answers, values.as_slice(), near))
 }
 
 /// The input row of each partial row.
@@ -191,8 +181,8 @@ pub fn text_at<'a>(row: &LentRow<'a>, column: u32) -> &'a str
     }
 }
 
-// The answer to the request with these values, found by its place among the ascending requests. `near` is where to look first, and
-// becomes this place.
+// The answer to the request with these values, found by its place among the ascending requests, if it is there. `near` is where to look
+// first, which may be any number, and becomes this place, or the one where the request would stand.
 fn answer_for<'a>(
     requests: &PackedRows,
     answers: &'a [PackedRows],
@@ -200,14 +190,18 @@ fn answer_for<'a>(
     near: &mut usize,
 ) -> Option<&'a PackedRows>
     requires ascends { IsStrictlySortedBy row_cmp requests.now }
-    ensures { (answer : List (List ℕ) → RowList) → answers.now ≡ map answer requests.now → Contains requests.now (map (λ s. s.now) values.now) → option_copied result ≡ Some (answer (map (λ s. s.now) values.now)) }
+    ensures { (answer : List (List ℕ) → RowList) → answers.now ≡ map answer requests.now
+        → MatchOption (option_copied result) (Contains requests.now (map (λ s. s.now) values.now) → ⊥) (λ found. found ≡ answer (map (λ s. s.now) values.now)) }
 {
     match place_near(requests, values, *near) {
-        Some(number) => {
+        Ok(number) => {
             *near = number;
             answer_at(answers, number)
         }
-        None => None,
+        Err(number) => {
+            *near = number;
+            None
+        }
     }
 }
 
@@ -217,19 +211,22 @@ fn answer_at(answers: &[PackedRows], number: usize) -> Option<&PackedRows>
     answers.get(number)
 }
 
-// The place among ascending rows of the one with these values, if it is there. The place `near` and the next one are looked at before
-// the others: requests mostly rise with the partial rows, one by one.
-fn place_near(rows: &PackedRows, values: &[&str], near: usize) -> Option<usize>
+// The place among ascending rows of the one with these values, or else where it would stand. The place `near`, the next one and
+// what lies before `near` are looked at before the others: requests mostly rise with the partial rows, one by one.
+fn place_near(rows: &PackedRows, values: &[&str], near: usize) -> Result<usize, usize>
     requires ascends { IsStrictlySortedBy row_cmp rows.now }
-    ensures there { IfSome result (λ number. slice_get rows.now number ≡ Some (map (λ s. s.now) values.now)) }
-    ensures absent { IsNone result → Contains rows.now (map (λ s. s.now) values.now) → ⊥ }
+    ensures there { IfOk result (λ number. slice_get rows.now number ≡ Some (map (λ s. s.now) values.now)) }
+    ensures absent { IsErr result → Contains rows.now (map (λ s. s.now) values.now) → ⊥ }
 {
     if is_at_place(rows, near, values) {
-        return Some(near);
+        return Ok(near);
     }
     let next = near.saturating_add(1);
     if is_at_place(rows, next, values) {
-        return Some(next);
+        return Ok(next);
+    }
+    if is_gap(rows, near, values) {
+        return Err(near);
     }
     place_of(rows, values)
 }
@@ -241,11 +238,49 @@ fn is_at_place(rows: &PackedRows, place: usize, values: &[&str]) -> bool
     place < rows.len() && rows.at(place).is(values)
 }
 
-/// The place among ascending rows of the one with these values, if it is there.
-pub fn place_of(rows: &PackedRows, values: &[&str]) -> Option<usize>
+// Whether a row with these values would stand between the row before a place and the row at it.
+fn is_gap(rows: &PackedRows, place: usize, values: &[&str]) -> bool
     requires ascends { IsStrictlySortedBy row_cmp rows.now }
-    ensures there { IfSome result (λ number. slice_get rows.now number ≡ Some (map (λ s. s.now) values.now)) }
-    ensures absent { IsNone result → Contains rows.now (map (λ s. s.now) values.now) → ⊥ }
+    ensures { IsTrue result → Contains rows.now (map (λ s. s.now) values.now) → ⊥ }
+{
+    if rows.len() < place {
+        return false;
+    }
+    if !are_above(rows, place, values) {
+        return false;
+    }
+    are_below(rows, place, values)
+}
+
+// Whether the rows before a place are below these values.
+fn are_below(rows: &PackedRows, place: usize, values: &[&str]) -> bool
+    requires ascends { IsStrictlySortedBy row_cmp rows.now }
+    requires within { place ≤ length rows.now }
+    ensures { IsTrue result → (k : ℕ) → k < place → row_cmp (slice_index_or rows.now k []) (map (λ s. s.now) values.now) ≡ Less }
+{
+    if place == 0 {
+        return true;
+    }
+    compare(&rows.at(place - 1), values).is_lt()
+}
+
+// Whether the rows from a place on are above these values.
+fn are_above(rows: &PackedRows, place: usize, values: &[&str]) -> bool
+    requires ascends { IsStrictlySortedBy row_cmp rows.now }
+    requires within { place ≤ length rows.now }
+    ensures { IsTrue result → (k : ℕ) → place ≤ k → k < length rows.now → row_cmp (slice_index_or rows.now k []) (map (λ s. s.now) values.now) ≡ Greater }
+{
+    if place == rows.len() {
+        return true;
+    }
+    compare(&rows.at(place), values).is_gt()
+}
+
+/// The place among ascending rows of the one with these values, or else where it would stand.
+pub fn place_of(rows: &PackedRows, values: &[&str]) -> Result<usize, usize>
+    requires ascends { IsStrictlySortedBy row_cmp rows.now }
+    ensures there { IfOk result (λ number. slice_get rows.now number ≡ Some (map (λ s. s.now) values.now)) }
+    ensures absent { IsErr result → Contains rows.now (map (λ s. s.now) values.now) → ⊥ }
 {
     let mut low = 0;
     let mut high = rows.len();
@@ -253,11 +288,11 @@ pub fn place_of(rows: &PackedRows, values: &[&str]) -> Option<usize>
         let middle = low + (high - low) / 2;
         match compare(&rows.at(middle), values) {
             Ordering::Less => low = middle + 1,
-            Ordering::Equal => return Some(middle),
+            Ordering::Equal => return Ok(middle),
             Ordering::Greater => high = middle,
         }
     }
-    None
+    Err(low)
 }
 
 // Compares a row with the row of these texts, column by column.

@@ -73,11 +73,11 @@ pub fn parts_by_key(
         let row = answer.at(number);
         key_texts(positions, &row, &mut values)?;
         parts = match place_of(keys, values.as_slice()) {
-            Some(place) => {
+            Ok(place) => {
                 let more = with_part_row(alloc, parts, place, &row)?;
                 more
             }
-            None => parts,
+            Err(_) => parts,
         };
     }
     Ok(parts)
@@ -92,6 +92,23 @@ fn no_parts(alloc: Global, keys: &PackedRows) -> Result<Vec<PackedRows>, AllocEr
         parts.push(PackedRows::new(alloc))?;
     }
     Ok(parts)
+}
+
+/// The values of each row at the positions.
+pub fn key_rows(
+    alloc: Global,
+    positions: &[u32],
+    rows: &PackedRows,
+) -> Result<PackedRows, AllocError>
+    ensures { IfOk result (λ list. list ≡ map (key_of positions.now) rows.now) }
+{
+    let mut texts = Vec::new(alloc);
+    let mut list = PackedRows::new(alloc);
+    for number in 0..rows.len() {
+        key_texts(positions, &rows.at(number), &mut texts)?;
+        list = list.with_texts(texts.as_slice())?;
+    }
+    Ok(list)
 }
 
 // The texts at the positions, in place of those that were there.

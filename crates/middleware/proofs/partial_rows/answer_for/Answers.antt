@@ -2,8 +2,8 @@ use Rattle.std.proofs.Common.{refl}
 use Rattle.lists.proofs.Members.{map_got}
 use Rattle.middleware.proofs.partial_rows.answer_for.Goals as goal
 
-pub returns-in-Some : goal.returns-in-Some
-returns-in-Some c = λ answer is among. rw c.answer_at.ensures (rw is (map_got answer c.args.requests.now _ _ c.in-Some.ensures.there))
+pub returns-in-Ok : goal.returns-in-Ok
+returns-in-Ok c = λ answer is. rw c.answer_at.ensures (rw is (rw (map_got answer c.args.requests.now _ _ c.in-Ok.ensures.there) refl))
 
-pub returns-in-None : goal.returns-in-None
-returns-in-None c = λ answer is among. absurd (c.in-None.ensures.absent refl among)
+pub returns-in-Err : goal.returns-in-Err
+returns-in-Err c = λ answer is. c.in-Err.ensures.absent refl

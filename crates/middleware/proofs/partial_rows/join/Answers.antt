@@ -17,4 +17,4 @@ returns c = λ answer is.
     c.in_ok-joined.ensures ∙ only_grown c.args.places.now c.args.inputs.now c.args.requests.now c.args.rows.now c.args.answers.items c.only-item.result answer one is c.requires.asked
 
 pub returns-2 : goal.returns-2
-returns-2 c = λ answer is. c.in_ok-next.ensures answer (rw c.as_slice-3.ensures.value is)
+returns-2 c = λ answer is. c.in_ok-next.ensures answer (rw c.as_slice-3.ensures.value is) (λ row among absent. absurd (absent (c.requires.asked row among)))
