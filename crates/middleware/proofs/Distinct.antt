@@ -1,11 +1,12 @@
 -- Partial rows without doubles want the same requests and give the same next rows.
-use Rattle.std.proofs.Common.{◌≡◌, ◌↔◌, ℕ, List, map, subst}
+use Rattle.std.proofs.Common.{◌≡◌, ◌↔◌, ℕ, List, [], map, inr, ⊎_elim, subst}
 use Rattle.std.specs.Prelude.{Contains, flat_map}
 use Rattle.std.specs.List.Sorted.{IsStrictlySortedBy}
-use Rattle.lists.proofs.Members.{contains_map, contains_mapped, contains_joined, joined_from}
+use Rattle.lists.proofs.Members.{contains_map, contains_mapped, contains_joined, contains_none, joined_from}
 use Rattle.meaning.specs.declared.types.Place.{Place}
 use Rattle.source_trait.specs.Asking.{RowList}
 use Rattle.row_text.specs.RowText.{row_cmp}
+use Rattle.middleware.specs.Branches.{HasAdded}
 use Rattle.middleware.specs.Joining.{input_row_of}
 use Rattle.middleware.specs.Rounds.{IsWanted}
 
@@ -34,9 +35,12 @@ module _ (rows distinct : RowList) (same : (row : List (List ℕ)) → Contains 
   joined_same f row = ((λ c. flat_within f distinct rows (λ r. (same r).0) row c), (λ c. flat_within f rows distinct (λ r. (same r).1) row c))
 
 -- the distinct ones of the requests of some rows
-pub wanted_of : (places : List Place) (inputs : List ℕ) (rows asked list : RowList) → asked ≡ map (input_row_of places inputs) rows
+pub wanted_of : (places : List Place) (inputs : List ℕ) (rows asked list : RowList) → HasAdded [] (map (input_row_of places inputs) rows) asked
     → IsStrictlySortedBy row_cmp list → ((values : List (List ℕ)) → Contains list values ↔ Contains asked values) → IsWanted places inputs rows list
 wanted_of places inputs rows asked list is ascends members = record {
   ascends = ascends;
-  same = λ values. subst (λ (l : RowList). Contains list values ↔ Contains l values) is (members values);
+  same = λ values. (
+    (λ c. ⊎_elim (λ none. absurd (contains_none values none)) (λ d. d) ((is values).0 ((members values).0 c))),
+    (λ d. (members values).1 ((is values).1 (inr d))),
+  );
 }

@@ -14,7 +14,7 @@ use Rattle.meaning.specs.declared.types.Place.{Place}
 use Rattle.source_trait.specs.Asking.{RowList}
 use Rattle.row_text.specs.RowText.{row_cmp, row_eq}
 use Rattle.middleware.specs.Joining.{OthersAreEmpty, joined, listed, grown, text_or, input_value_or, input_row_of}
-use Rattle.middleware.specs.Branches.{IsInput}
+use Rattle.middleware.specs.Branches.{HasAdded, IsInput}
 use Rattle.middleware.specs.Parts.{key_of, part_of}
 use Rattle.middleware.proofs.Steps.{joins_joined, joins_input}
 use Rattle.middleware.proofs.Whole.{answer_is}
@@ -121,10 +121,10 @@ others_of_keys places positions answer rows list is = λ row among absent.
     let key = input_row_of places positions row in
     part_none positions answer key (subst (λ (l : RowList). Contains l key → ⊥) is absent)
 
-pub others_of_rows : (places : List Place) (positions : List ℕ) (answer rows list : RowList) → list ≡ map (input_row_of places positions) rows → OthersAreEmpty places positions list rows (part_of positions answer)
+pub others_of_rows : (places : List Place) (positions : List ℕ) (answer rows list : RowList) → HasAdded [] (map (input_row_of places positions) rows) list → OthersAreEmpty places positions list rows (part_of positions answer)
 others_of_rows places positions answer rows list is = λ row among absent.
     let key = input_row_of places positions row in
-    absurd (absent (subst (λ (l : RowList). Contains l key) (sym is) (contains_map (input_row_of places positions) rows row among)))
+    absurd (absent ((is key).1 (inr (contains_map (input_row_of places positions) rows row among))))
 
 -- ---- the rows that a partial row grows to
 

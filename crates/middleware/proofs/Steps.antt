@@ -6,7 +6,7 @@ use Rattle.std.specs.Cmp.Lexicographic.{pointwise, nat_list_eq_equiv}
 use Rattle.std.proofs.lemmas.Bool.Decides.{nat_tests}
 use Rattle.std.proofs.lemmas.List.{length_push, append-nil, map-append, take_more}
 use Rattle.std.specs.declared.cmp.Ordering.TheVariants.{Less}
-use Rattle.lists.proofs.Members.{contains_here, contains_there, contains_cases, contains_map, contains_mapped, got_before, got_below, got_mapped, contains_joined, joined_from, filter_from, contains_filter}
+use Rattle.lists.proofs.Members.{contains_here, contains_there, contains_cases, contains_map, contains_mapped, contains_one, got_before, got_below, got_mapped, contains_joined, joined_from, filter_from, contains_filter}
 use Rattle.meaning.specs.declared.types.Fact.{Fact}
 use Rattle.meaning.specs.declared.types.Method.{Method}
 use Rattle.meaning.specs.declared.types.SchemaParts.{SchemaParts}
@@ -294,6 +294,16 @@ pub added_next : (f : List (List ℕ) → List (List ℕ)) (rows : RowList) (n :
 added_next f rows n row before middle after less at first next =
     let taken : take (n + 1) rows ≡ take n rows ++ row ∷ [] = take_more rows n [] less ∙ ap (λ (r : List (List ℕ)). take n rows ++ r ∷ []) (sym at) in
     subst (λ (l : RowList). HasAdded before (map f l) after) (sym taken) (added_one f (take n rows) row before middle after first next)
+
+pub added_none : HasAdded [] [] []
+added_none = λ row. ((λ c. inl c), (λ c. ⊎_elim (λ h. h) (λ h. h) c))
+
+-- a row that is there already
+pub added_double : (before : RowList) (row : List (List ℕ)) → Contains before row → HasAdded before (row ∷ []) before
+added_double before row there = λ other. (
+  (λ c. inl c),
+  (λ c. ⊎_elim (λ h. h) (λ d. subst (Contains before) (contains_one row other d) there) c),
+)
 
 pub added_last : (before : RowList) (row : List (List ℕ)) (after : RowList) → after ≡ before ++ row ∷ [] → HasAdded before (row ∷ []) after
 added_last before row after is x = (

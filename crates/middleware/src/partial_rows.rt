@@ -1,10 +1,11 @@
 // A round's answers joined with the partial rows.
-ghost use Rattle.std.specs.Prelude.{◌≡◌, ◌≤◌, ◌<◌, ◌++◌, [], List, ℕ, Contains, IfOk, IsErr, IsTrue, MatchOption, OnOk, Some, None, if◌then◌else◌, length, map, flat_map, option_copied, slice_get, slice_index_or};
+ghost use Rattle.std.specs.Prelude.{◌≡◌, ◌≤◌, ◌<◌, ◌++◌, ◌∷◌, [], List, ℕ, Contains, IfOk, IsErr, IsTrue, MatchOption, OnOk, Some, None, if◌then◌else◌, length, map, flat_map, option_copied, slice_get, slice_index_or};
 ghost use Rattle.std.specs.List.Sorted.{IsStrictlySortedBy};
 ghost use Rattle.std.specs.declared.cmp.Ordering.TheVariants.{Less, Greater};
 ghost use Rattle.source_trait.specs.Asking.{RowList};
 ghost use Rattle.row_text.specs.RowText.{row_cmp};
 ghost use Rattle.middleware.specs.Joining.{OthersAreEmpty, joined, grown, is_at, input_row_of, input_value_or, text_or};
+ghost use Rattle.middleware.specs.Branches.{HasAdded};
 ghost use Rattle.middleware.specs.Parts.{part_of};
 
 use crate::ascending::distinct_rows;
@@ -126,22 +127,33 @@ fn join_each(
     Ok(next)
 }
 
-/// The input row of each partial row.
+/// The input row of each partial row, but for one that the partial row before it has, too.
 pub fn input_rows(
     alloc: Global,
     places: &[Place],
     inputs: &[u32],
     rows: &PackedRows,
 ) -> Result<PackedRows, AllocError>
-    ensures { IfOk result (λ list. list ≡ map (input_row_of places.now inputs.now) rows.now) }
+    ensures { IfOk result (λ list. HasAdded [] (map (input_row_of places.now inputs.now) rows.now) list) }
 {
     let mut texts = Vec::new(alloc);
     let mut list = PackedRows::new(alloc);
     for number in 0..rows.len() {
         input_texts(places, inputs, &rows.at(number), &mut texts)?;
-        list = list.with_texts(texts.as_slice())?;
+        list = add_unless_last(texts.as_slice(), list)?;
     }
     Ok(list)
+}
+
+// Adds the row of these texts, where it is no double of the last one.
+fn add_unless_last(texts: &[&str], into: PackedRows) -> Result<PackedRows, AllocError>
+    ensures { IfOk result (λ more. HasAdded into (map (λ s. s.now) texts.now ∷ []) more) }
+{
+    let last = into.len().saturating_sub(1);
+    if is_at_place(&into, last, texts) {
+        return Ok(into);
+    }
+    into.with_texts(texts)
 }
 
 /// The texts that the partial row has at the input positions, in place of those that were there.
