@@ -35,9 +35,9 @@ pub fn check_plan<F: Files, O: Sink, E: Sink>(
     ensures stays { Stays outside.old outside.new }
 {
     let names = FileNames {
-        schema: schema_name,
-        query: query_name,
-        plan: plan_name,
+        schema: schema_name.as_str(),
+        query: query_name.as_str(),
+        plan: plan_name.as_str(),
     };
     let (schema, statement) = match read_texts(alloc, &mut outside.files, schema_name, query_name) {
         Ok(both) => both,

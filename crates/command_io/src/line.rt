@@ -6,7 +6,6 @@ use crate::query_lines::query_line;
 use crate::schema_lines::{plan_line, schema_line};
 use crate::source_lines::{relation_line, run_line};
 use crate::stop::{Input, Stop};
-use lists::Text;
 use meaning::types::Relation;
 use plan_form::illegal_text;
 use source_trait::FileFault;
@@ -15,9 +14,9 @@ use std::alloc::{AllocError, Global};
 /// The names of the files that the words name; a name that a command does not have is the empty text.
 #[derive(Clone, Copy)]
 pub struct FileNames<'a> {
-    pub schema: &'a Text,
-    pub query: &'a Text,
-    pub plan: &'a Text,
+    pub schema: &'a str,
+    pub query: &'a str,
+    pub plan: &'a str,
 }
 
 /// The line of a stop, where these are the schema's relations.
@@ -59,7 +58,7 @@ pub fn plain(alloc: Global, text: &[u8]) -> Result<Vec<u8>, AllocError>
     Ok(line)
 }
 
-fn named<'a>(input: Input, files: FileNames<'a>) -> &'a Text
+fn named<'a>(input: Input, files: FileNames<'a>) -> &'a str
     ensures { result.now ≡ file_name (record { schema = files.entry.schema.now; query = files.entry.query.now; plan = files.entry.plan.now; relations = [] }) input }
 {
     match input {
@@ -69,7 +68,7 @@ fn named<'a>(input: Input, files: FileNames<'a>) -> &'a Text
     }
 }
 
-fn file_line(alloc: Global, name: &Text, fault: FileFault) -> Result<Vec<u8>, AllocError>
+fn file_line(alloc: Global, name: &str, fault: FileFault) -> Result<Vec<u8>, AllocError>
     ensures { IfOk result (λ line. line.items ≡ codes "read " ++ name.now ++ line_of_file fault) }
 {
     let rest: &[u8] = match fault {

@@ -35,11 +35,10 @@ pub fn exec_plan<R: Threads + Sync, F: Files, S: Source + Send + Drop, O: Sink, 
     ensures stays { Stays outside.old outside.new }
     ensures lanes { LanesStay S.seen lanes.old lanes.new }
 {
-    let none = Text::new(String::new(alloc));
     let names = FileNames {
-        schema: schema_name,
-        query: &none,
-        plan: plan_name,
+        schema: schema_name.as_str(),
+        query: "",
+        plan: plan_name.as_str(),
     };
     let schema = match schema_of(alloc, &mut outside.files, schema_name) {
         Ok(schema) => schema,

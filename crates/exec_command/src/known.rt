@@ -112,5 +112,5 @@ fn column_name(alloc: Global, number: u32) -> Result<Text, AllocError>
     requires { number ≤ 64 }
     ensures { IfOk result (λ name. name ≡ name_of_column number) }
 {
-    Ok(Text::new(format!(in alloc; "column{}", number + 1)?))
+    Text::from_string(format!(in alloc; "column{}", number + 1)?)
 }

@@ -1,5 +1,6 @@
 // A name or a value.
 ghost use Rattle.std.specs.Prelude.{◌≡◌, ◌↔◌, List, ℕ, IfOk, string_bytes, Some, refl, IsTrue, nat_eq};
+ghost use Rattle.std.specs.Arc.{arc_str_bytes};
 ghost use Rattle.std.specs.Cmp;
 ghost use Rattle.std.specs.Cmp.Lexicographic.{pointwise, slice_cmp, nat_list_eq_equiv, nat_list_cmp_total, texts_ties, texts_po};
 ghost use Rattle.std.specs.Ordering.{nat_cmp};
@@ -10,27 +11,33 @@ use std::alloc::{AllocError, Global};
 use std::cmp::Ordering;
 use std::fmt;
 use std::marker::Model;
+use std::sync::ArcStr;
 
 /// A UTF-8 text that contracts see as its bytes. Texts are compared byte by byte.
+///
+/// A text never changes, so all its copies share its bytes: a copy takes no memory, however long the text is.
 #[derive(Drop)]
 pub struct Text {
-    inner: String,
+    inner: ArcStr,
 }
 
 impl Model for Text {
-    ghost use Rattle.std.specs.Prelude.{List, ℕ, string_bytes};
+    ghost use Rattle.std.specs.Prelude.{List, ℕ};
+    ghost use Rattle.std.specs.Arc.{arc_str_bytes};
 
     ghost Value = { List ℕ };
 
-    ghost view = { λ t. string_bytes t.inner };
+    ghost view = { λ t. arc_str_bytes t.inner };
 }
 
 impl Text {
-    /// The text of a string. Takes no memory.
-    pub fn new(inner: String) -> Text
-        ensures { result ≡ string_bytes inner }
+    /// The text of a string, which is taken over.
+    pub fn from_string(text: String) -> Result<Text, AllocError>
+        ensures { IfOk result (λ t. t ≡ string_bytes text) }
     {
-        Text { inner }
+        Ok(Text {
+            inner: ArcStr::from_string(text)?,
+        })
     }
 
     /// A text with a copy of these characters.
@@ -38,7 +45,7 @@ impl Text {
         ensures { IfOk result (λ t. t ≡ text.now) }
     {
         Ok(Text {
-            inner: String::from_str(alloc, text)?,
+            inner: ArcStr::from_str(alloc, text)?,
         })
     }
 
@@ -53,20 +60,15 @@ impl Text {
     pub fn as_bytes(&self) -> &[u8]
         ensures { result.now ≡ self.now }
     {
-        self.inner.as_bytes()
-    }
-
-    /// The string of the text. Takes no memory.
-    pub fn into_string(self) -> String
-        ensures { string_bytes result ≡ self }
-    {
-        self.inner
+        self.as_str().as_bytes()
     }
 }
 
 impl Copies for Text {
-    fn copy(&self, alloc: Global) -> Result<Text, AllocError> {
-        Text::from_str(alloc, self.as_str())
+    fn copy(&self, _alloc: Global) -> Result<Text, AllocError> {
+        Ok(Text {
+            inner: self.inner.clone()?,
+        })
     }
 }
 

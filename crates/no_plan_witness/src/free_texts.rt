@@ -28,5 +28,5 @@ pub fn free_texts(alloc: Global, known: &Texts, labels: &[u32]) -> Result<Vec<Te
 fn numbered_text(alloc: Global, number: u64) -> Result<Text, NoMemory>
     ensures { IfOk result (λ text. text ≡ numbered_text number) }
 {
-    Ok(Text::new(format!(in alloc; "_{number}")?))
+    Text::from_string(format!(in alloc; "_{number}")?)
 }

@@ -95,7 +95,7 @@ fn words_after_first<I: Iterator<Item = String> + Drop>(
         if is_first {
             is_first = false;
         } else {
-            words.push(Text::new(word))?;
+            words.push(Text::from_string(word)?)?;
         }
     }
     Ok(words)

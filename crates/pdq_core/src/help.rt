@@ -4,7 +4,6 @@ ghost use Rattle.pdq_core.specs.Help.{HelpEnds};
 
 use command_io::{FileNames, Outcome, Outputs, Stop, print, tell};
 use command_words::usage_text;
-use lists::Text;
 use source_trait::Sink;
 use std::alloc::Global;
 
@@ -20,11 +19,10 @@ pub fn print_usage<O: Sink, E: Sink>(
     match print(&mut outputs.out, usage_text(), Stop::ResultWrite) {
         Ok(()) => Ok(Outcome::Done),
         Err(stop) => {
-            let none = Text::new(String::new(alloc));
             let names = FileNames {
-                schema: &none,
-                query: &none,
-                plan: &none,
+                schema: "",
+                query: "",
+                plan: "",
             };
             Err(tell(alloc, &mut outputs.err, stop, names, &[]))
         }

@@ -67,11 +67,11 @@ fn stands_for(alloc: Global, kind: TokenKind, bytes: &[u8]) -> Result<Vec<u8>, A
 }
 
 // The bytes as a text, which they are.
-fn text_of(bytes: Vec<u8>) -> Text
+fn text_of(bytes: Vec<u8>) -> Result<Text, AllocError>
     requires { IsUtf8 bytes.items }
-    ensures { result ≡ bytes.items }
+    ensures { IfOk result (λ text. text ≡ bytes.items) }
 {
-    Text::new(String::from_utf8(bytes).unwrap())
+    Text::from_string(String::from_utf8(bytes).unwrap())
 }
 
 /// A token as it is written.
@@ -90,7 +90,7 @@ pub fn lexeme_of(alloc: Global, text: &str, token: Token) -> Result<Lexeme, Allo
     let bytes = written(text, token).as_bytes();
     Ok(Lexeme {
         kind: token.kind,
-        text: text_of(stands_for(alloc, token.kind, bytes)?),
+        text: text_of(stands_for(alloc, token.kind, bytes)?)?,
     })
 }
 

@@ -29,11 +29,10 @@ pub fn explain_query<F: Files, O: Sink, E: Sink>(
     ensures ends { ExplainEnds schema_name.now query_name.now firings search outside.old outside.new result }
     ensures stays { Stays outside.old outside.new }
 {
-    let none = Text::new(String::new(alloc));
     let names = FileNames {
-        schema: schema_name,
-        query: query_name,
-        plan: &none,
+        schema: schema_name.as_str(),
+        query: query_name.as_str(),
+        plan: "",
     };
     match read_texts(alloc, &mut outside.files, schema_name, query_name) {
         Ok((schema, statement)) => show(

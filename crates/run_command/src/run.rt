@@ -40,11 +40,10 @@ pub fn run_query<R: Threads + Sync, F: Files, S: Source + Send + Drop, O: Sink, 
     ensures stays { Stays outside.old outside.new }
     ensures lanes { LanesStay S.seen lanes.old lanes.new }
 {
-    let none = Text::new(String::new(alloc));
     let names = FileNames {
-        schema: schema_name,
-        query: query_name,
-        plan: &none,
+        schema: schema_name.as_str(),
+        query: query_name.as_str(),
+        plan: "",
     };
     match read_texts(alloc, &mut outside.files, schema_name, query_name) {
         Ok((schema, statement)) => {

@@ -42,11 +42,10 @@ pub fn run_world<R: Threads + Sync, S: Source + Send + Drop, O: Sink, E: Sink>(
     ensures later_out { outputs.old.out_faults ≤ outputs.new.out_faults }
     ensures later_err { outputs.old.err_faults ≤ outputs.new.err_faults }
 {
-    let none = Text::new(String::new(alloc));
     let names = FileNames {
-        schema: &none,
-        query: &none,
-        plan: &none,
+        schema: "",
+        query: "",
+        plan: "",
     };
     match read_world(alloc, size) {
         Ok((schema, statement)) => answer(

@@ -22,11 +22,10 @@ pub fn print_schema<F: Files, O: Sink, E: Sink>(
     ensures ends { SchemaEnds name.now outside.old outside.new result }
     ensures stays { Stays outside.old outside.new }
 {
-    let none = Text::new(String::new(alloc));
     let names = FileNames {
-        schema: name,
-        query: &none,
-        plan: &none,
+        schema: name.as_str(),
+        query: "",
+        plan: "",
     };
     let schema = match schema_of(alloc, &mut outside.files, name) {
         Ok(schema) => schema,

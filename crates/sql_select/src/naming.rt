@@ -67,7 +67,7 @@ fn named_from(alloc: Global, text: &str, from: RawFrom) -> Result<NamedFrom, All
 fn column_name(alloc: Global, place: u64) -> Result<Text, AllocError>
     ensures { IfOk result (λ name. name ≡ codes "column" ++ decimal place) }
 {
-    Ok(Text::new(format!(in alloc; "column{place}")?))
+    Text::from_string(format!(in alloc; "column{place}")?)
 }
 
 fn operand_name(

@@ -9,7 +9,7 @@ pub returns-in-Err-clause-ends : goal.returns-in-Err-clause-ends
 returns-in-Err-clause-ends g c = rw (← c.outside.view_is, ← c.outside-inside.view_is) (no_schema c.tell.result (record {
   given = c.in-Err.stop;
   cause = c.in-Err.ensures.cause;
-  tells = rw (c.new-none.ensures, c.new.ensures.bytes) at c.tell.ensures.tells;
+  tells = rw (c.as_str.ensures, c.as_str-2.ensures) at c.tell.ensures.tells;
 }) refl refl)
 
 pub returns-in-Err-clause-lanes : goal.returns-in-Err-clause-lanes
@@ -21,7 +21,7 @@ returns-in-Err-plan_of_file-clause-ends g c =
     rw (← c.outside.view_is, ← c.outside-inside.view_is) (no_plan c.in-Ok.schema c.tell-in-Err-plan_of_file.result c.in-Ok.ensures.read (record {
       given = c.in-Err-plan_of_file.stop;
       cause = plan_later _ _ _ _ c.in-Err-plan_of_file.stop (rose_between _ _ _ _ begun (omega arith)) (rw c.schema_of.ensures.same at c.in-Err-plan_of_file.ensures.cause);
-      tells = rw (c.new-none.ensures, c.new.ensures.bytes) at c.tell-in-Err-plan_of_file.ensures.tells;
+      tells = rw (c.as_str.ensures, c.as_str-2.ensures) at c.tell-in-Err-plan_of_file.ensures.tells;
     }) refl refl)
 
 pub returns-in-Err-plan_of_file-clause-lanes : goal.returns-in-Err-plan_of_file-clause-lanes
@@ -30,4 +30,4 @@ returns-in-Err-plan_of_file-clause-lanes g c = LanesStay-refl g.S.Source.seen c.
 pub returns-clause-ends : goal.returns-clause-ends
 returns-clause-ends g c =
     rw (← c.outside.view_is, ← c.outside-inside.view_is) (read c.in-Ok.schema c.in-Ok-plan_of_file.plan c.carry_out.result c.in-Ok.ensures.read (rw c.schema_of.ensures.same at c.in-Ok-plan_of_file.ensures.read)
-    (rw (c.new-none.ensures, c.new.ensures.bytes) at c.carry_out.ensures.ends))
+    (rw (c.as_str.ensures, c.as_str-2.ensures) at c.carry_out.ensures.ends))

@@ -11,5 +11,5 @@ pub returns-in-Err-clause-ends : goal.returns-in-Err-clause-ends
 returns-in-Err-clause-ends g c = rw (← c.outputs.view_is) (cut c.tell.result (rw c.usage_text.ensures at c.in-Err.ensures.part) (record {
   given = c.in-Err.stop;
   cause = result_stop _ c.in-Err.stop c.in-Err.ensures.cause;
-  tells = rw (c.new-none.ensures, c.new.ensures.bytes) at c.tell.ensures.tells;
+  tells = c.tell.ensures.tells;
 }))

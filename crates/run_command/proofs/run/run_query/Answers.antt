@@ -11,14 +11,14 @@ returns-in-Ok-clause-ends g c =
     (with_text g.S.Source.seen c.in-Ok.schema c.in-Ok.statement c.args.firings c.args.search _ _ _ _ _ _ _
     (λ plan entries run text is executes given.
     result_of g.S.Source.seen c.in-Ok.schema c.in-Ok.statement c.args.firings c.args.search plan entries is c.result_names.result.now (sym c.result_names.ensures) _ _ run text executes given)
-    c.answer.result (rw (c.new-none.ensures, c.new.ensures.bytes) at c.answer.ensures.ends)))
+    c.answer.result (rw (c.as_str.ensures, c.as_str-2.ensures) at c.answer.ensures.ends)))
 
-pub returns-clause-ends : goal.returns-clause-ends
-returns-clause-ends g c = rw (← c.outside.view_is, ← c.outside-inside.view_is) (refused c.tell.result (record {
+pub returns-in-Err-clause-ends : goal.returns-in-Err-clause-ends
+returns-in-Err-clause-ends g c = rw (← c.outside.view_is, ← c.outside-inside.view_is) (refused c.tell.result (record {
   given = c.in-Err.stop;
   cause = c.in-Err.ensures.cause;
-  tells = rw (c.new-none.ensures, c.new.ensures.bytes) at c.tell.ensures.tells;
+  tells = rw (c.as_str.ensures, c.as_str-2.ensures) at c.tell.ensures.tells;
 }) refl refl)
 
-pub returns-clause-lanes : goal.returns-clause-lanes
-returns-clause-lanes g c = LanesStay-refl g.S.Source.seen c.args.lanes.now
+pub returns-in-Err-clause-lanes : goal.returns-in-Err-clause-lanes
+returns-in-Err-clause-lanes g c = LanesStay-refl g.S.Source.seen c.args.lanes.now

@@ -11,14 +11,14 @@ returns-in-Ok-clause-ends g c =
     read c.in-Ok.schema c.in-Ok.statement c.answer.result c.in-Ok.ensures.schema c.in-Ok.ensures.statement
     (with_text g.S.Source.seen c.in-Ok.schema c.in-Ok.statement FIRINGS UNITS _ _ _ _ _ _ _
     (λ plan entries run text is executes given. summary_of g.S.Source.seen c.in-Ok.schema c.in-Ok.statement FIRINGS UNITS plan entries is c.args.size _ _ run text executes given)
-    c.answer.result (rw (c.new-none.ensures, c.new.ensures.bytes) at c.answer.ensures.ends))
+    c.answer.result c.answer.ensures.ends)
 
-pub returns-clause-ends : goal.returns-clause-ends
-returns-clause-ends g c = rw (← c.outputs.view_is) (refused c.tell.result (record {
+pub returns-in-Err-clause-ends : goal.returns-in-Err-clause-ends
+returns-in-Err-clause-ends g c = rw (← c.outputs.view_is) (refused c.tell.result (record {
   given = c.in-Err.stop;
   cause = c.in-Err.ensures.stops;
-  tells = rw (c.new-none.ensures, c.new.ensures.bytes) at c.tell.ensures.tells;
+  tells = c.tell.ensures.tells;
 }) refl refl)
 
-pub returns-clause-lanes : goal.returns-clause-lanes
-returns-clause-lanes g c = LanesStay-refl g.S.Source.seen c.args.lanes.now
+pub returns-in-Err-clause-lanes : goal.returns-in-Err-clause-lanes
+returns-in-Err-clause-lanes g c = LanesStay-refl g.S.Source.seen c.args.lanes.now
