@@ -82,13 +82,14 @@ module _ (facts : List Ground) (fact : Ground) (number : ℕ) (is : number ≡ l
       wider there = ⊎_elim (λ first. inl (first_stays other (λ n at. ap (λ es. lookup (is_at (nat_cmp (fact_code other))) es) same ∙ at) first))
           (λ among. inr (put other ∙ before (is_at (ground_cmp fact) other) among)) there
 
-  -- the last fact is taken out
-  pub removed : ((code n : ℕ) → n < number → get nat_cmp was.firsts code ≡ Some n → get nat_cmp now.firsts code ≡ Some n) →
+-- the last fact is taken out
+module _ (facts : List Ground) (fact : Ground) (was now : Presence) where
+  removed : ((other : Ground) (n : ℕ) → Contains facts other → get nat_cmp was.firsts (fact_code other) ≡ Some n → slice_get (facts ++ fact ∷ []) n ≡ Some other → get nat_cmp now.firsts (fact_code other) ≡ Some n) →
       ((other : Ground) → contains ground_cmp now.others other ≡ cond (is_at (ground_cmp fact) other) false (contains ground_cmp was.others other)) →
       (Contains facts fact → ⊥) → IsPresence (facts ++ fact ∷ []) was → IsPresence facts now
   removed kept put new r other = (
     (λ there. ⊎_elim (λ (n, at, got). contains_got facts n other got) (λ among. by (ground_cmp fact other) refl (sym (put other) ∙ among)) there),
-    (λ c. ⊎_elim (λ (n, at, got). let l = below n got c in inl (n, kept (fact_code other) n l at, sym (got_before facts (fact ∷ []) n (omega arith)) ∙ got))
+    (λ c. ⊎_elim (λ (n, at, got). let l = below n got c in inl (n, kept other n c at got, sym (got_before facts (fact ∷ []) n l) ∙ got))
         (λ among. inr (put other ∙ stays (ground_cmp fact other) refl among c)) ((r other).1 (Contains-append_left facts (fact ∷ []) other c))),
   )
     where
@@ -112,9 +113,31 @@ module _ (facts : List Ground) (fact : Ground) (number : ℕ) (is : number ≡ l
       stays Equal e t c = absurd (new (subst (Contains facts) (sym (ground_exact fact other e)) c))
 
       -- another fact has a smaller number
-      below : (n : ℕ) → slice_get (facts ++ fact ∷ []) n ≡ Some other → Contains facts other → n < number
+      below : (n : ℕ) → slice_get (facts ++ fact ∷ []) n ≡ Some other → Contains facts other → n < length facts
       below n got c = ⊎_elim (λ e. absurd (new (subst (Contains facts) (some_injective other fact (sym got ∙ ap (slice_get (facts ++ fact ∷ [])) e ∙ got_push facts fact)) c)))
           (λ differ. let l = slice_get_within (facts ++ fact ∷ []) n other got in let p = length_push facts fact in omega arith) (cases_eq n (length facts))
+
+  -- it was one of the others
+  pub removed_late : now.firsts ≡ was.firsts →
+      ((other : Ground) → contains ground_cmp now.others other ≡ cond (is_at (ground_cmp fact) other) false (contains ground_cmp was.others other)) →
+      (Contains facts fact → ⊥) → IsPresence (facts ++ fact ∷ []) was → IsPresence facts now
+  removed_late same put new r = removed (λ other n c at got. ap (λ m. get nat_cmp m (fact_code other)) same ∙ at) put new r
+
+  -- it was none of the others, so the first one of its code, and no other fact was that
+  pub removed_first : contains ground_cmp was.others fact ≡ false →
+      ((code : ℕ) → (code ≡ fact_code fact → ⊥) → get nat_cmp now.firsts code ≡ get nat_cmp was.firsts code) →
+      ((other : Ground) → contains ground_cmp now.others other ≡ cond (is_at (ground_cmp fact) other) false (contains ground_cmp was.others other)) →
+      (Contains facts fact → ⊥) → IsPresence (facts ++ fact ∷ []) was → IsPresence facts now
+  removed_first late same put new r = removed (λ other n c at got. same (fact_code other) (differ other n c at got) ∙ at) put new r
+    where
+      clash : false ≡ true → ⊥
+      clash e = cc
+
+      differ : (other : Ground) (n : ℕ) → Contains facts other → get nat_cmp was.firsts (fact_code other) ≡ Some n → slice_get (facts ++ fact ∷ []) n ≡ Some other → fact_code other ≡ fact_code fact → ⊥
+      differ other n c at got e =
+          ⊎_elim (λ (m, first, there). let same_number : m ≡ n = some_injective m n (sym first ∙ ap (get nat_cmp was.firsts) (sym e) ∙ at) in
+          new (subst (Contains facts) (some_injective other fact (sym got ∙ ap (slice_get (facts ++ fact ∷ [])) (sym same_number) ∙ there)) c))
+          (λ among. clash (sym late ∙ among)) ((r fact).1 (Contains-push facts fact))
 
 -- the same by a code and a copy that the code has made
 module _ (facts : List Ground) (fact : Ground) (number : ℕ) (is : number ≡ length facts) (was now : Presence) where

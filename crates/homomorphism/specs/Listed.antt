@@ -1,8 +1,7 @@
 -- The numbers of the facts that have a key, which is a relation, or a relation with a value at a position.
-use Rattle.std.specs.Prelude.{◌≡◌, ◌⊎◌, ℕ, ◌+◌, List, [], ◌∷◌, ◌++◌, Option, Some, None, Bool, true, false, ◌&&◌, ◌||◌, nat_eq, slice_get, if◌then◌else◌, unwrap_or}
+use Rattle.std.specs.Prelude.{◌≡◌, ◌⊎◌, ℕ, ◌+◌, ◌*◌, List, [], ◌∷◌, ◌++◌, Option, Some, None, Bool, true, false, ◌&&◌, ◌||◌, nat_eq, nat_lt, slice_get, slice_index_or, if◌then◌else◌, unwrap_or}
 use Rattle.std.specs.declared.cmp.Ordering.{Ordering}
 use Rattle.std.specs.BTreeMap.{BTreeMap, get, is_at}
-use Rattle.std.specs.BTreeSet.{contains}
 use Rattle.std.specs.Ordering.{nat_cmp}
 use Rattle.meaning.specs.declared.types.Val.{Val}
 use Rattle.meaning.specs.declared.types.Ground.{Ground}
@@ -10,7 +9,7 @@ use Rattle.meaning.specs.declared.types.Atom.{Atom}
 use Rattle.meaning.specs.Added.{is_same_val}
 use Rattle.meaning.specs.Triggers.{ground}
 use Rattle.homomorphism.specs.Bindings.{Agrees}
-use Rattle.homomorphism.specs.Codes.{place_code, key_code}
+use Rattle.homomorphism.specs.Codes.{key_code}
 use Rattle.homomorphism.specs.Present.{IsPresence}
 use Rattle.homomorphism.specs.declared.key.Key.{Key}
 use Rattle.homomorphism.specs.declared.key.Key.TheVariants.{Relation, Value}
@@ -30,9 +29,13 @@ value_keys rel position (val ∷ vals) = Value rel position val ∷ value_keys r
 abbrev pub keys_of : Ground → List Key
 keys_of fact = Relation fact.rel ∷ value_keys fact.rel 0 fact.vals
 
+-- Whether the position of the relation is marked: each relation has 64 marks.
+abbrev pub has_mark : List Bool → ℕ → ℕ → Bool
+has_mark marked rel position = nat_lt position 64 && slice_index_or marked (rel * 64 + position) false
+
 -- Whether facts are found by their values at the position of the relation.
 abbrev pub has_position : Positions → ℕ → ℕ → Bool
-has_position positions rel position = positions.all || contains nat_cmp positions.marked (place_code rel position)
+has_position positions rel position = positions.all || has_mark positions.marked.items rel position
 
 -- Whether facts are found by the key: by each relation, and by values at these positions.
 abbrev pub is_found_by : Positions → Key → Bool

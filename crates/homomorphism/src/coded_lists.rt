@@ -7,7 +7,8 @@ ghost use Rattle.homomorphism.specs.Listed.{key_cmp, own_list, coded_list, found
 
 use crate::code::key_code;
 use crate::key::Key;
-use lists::{NoMemory, Seq};
+use crate::number_list::NumberList;
+use lists::NoMemory;
 use std::alloc::Global;
 use std::collections::BTreeMap;
 use std::collections::btree_map::Entry;
@@ -16,7 +17,7 @@ use std::collections::btree_map::Entry;
 #[derive(Drop)]
 struct KeyList {
     key: Key,
-    numbers: Seq<usize>,
+    numbers: NumberList,
 }
 
 /// For each code the list of the first key that has it; and the lists of the keys whose code an earlier one had, in order.
@@ -25,7 +26,7 @@ struct KeyList {
 #[derive(Drop)]
 pub struct CodedLists {
     coded: BTreeMap<u64, KeyList>,
-    others: BTreeMap<Key, Seq<usize>>,
+    others: BTreeMap<Key, NumberList>,
 }
 
 impl KeyList {
@@ -67,7 +68,7 @@ impl KeyList {
         ensures apart { (other : TheKey) → (other ≡ key.now → ⊥) → own_list other (Some self.new) ≡ own_list other (Some self.old) }
     {
         if self.is_of(key) {
-            drop_last_if(&mut self.numbers, number);
+            self.numbers.drop_last_if(number);
         }
     }
 }
@@ -161,7 +162,7 @@ impl CodedLists {
                 numbers.push(number)?;
             }
             None => {
-                let mut numbers = Seq::new(alloc);
+                let mut numbers = NumberList::new(alloc);
                 numbers.push(number)?;
                 self.others.insert(key, numbers)?;
             }
@@ -190,7 +191,7 @@ impl CodedLists {
         ensures coded { self.new.coded ≡ self.old.coded }
     {
         if let Some(numbers) = self.others.get_mut(key) {
-            drop_last_if(numbers, number);
+            numbers.drop_last_if(number);
         }
     }
 }
@@ -220,26 +221,10 @@ fn note_at(
             Ok(Some(key))
         }
         Entry::Vacant(entry) => {
-            let numbers = Seq::new(alloc);
+            let numbers = NumberList::new(alloc);
             let list = entry.insert(KeyList { key, numbers });
             list.numbers.push(number)?;
             Ok(None)
         }
-    }
-}
-
-/// Drops the last number, if it is this one. Takes no memory.
-pub fn drop_last_if(numbers: &mut Seq<usize>, number: usize)
-    ensures there { (before : List ℕ) → numbers.old ≡ before ++ number ∷ [] → numbers.new ≡ before }
-    ensures not_there { (Contains numbers.old number → ⊥) → numbers.new ≡ numbers.old }
-{
-    let mut is_last = false;
-    let mut count = 0;
-    if let [.., last] = numbers.as_slice() {
-        is_last = *last == number;
-        count = numbers.len() - 1;
-    }
-    if is_last {
-        numbers.truncate(count);
     }
 }

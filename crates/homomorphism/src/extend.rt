@@ -9,11 +9,15 @@ ghost use Rattle.homomorphism.specs.Ways.{IsWay};
 ghost use Rattle.homomorphism.specs.Matches.{NoMatch};
 ghost use Rattle.homomorphism.specs.Widening.{Touches, AreFree, Widens, taken};
 
-use crate::bind::{bind_all, could_be};
+use crate::bind::bind_all;
 use crate::store::Store;
 use lists::NoMemory;
 use meaning::types::{Atom, Ground, Term, Val};
+use smallvec::SmallVec;
 use std::alloc::Global;
+
+/// Variables of an atom: a few take no memory.
+type Variables = SmallVec<usize, 8>;
 
 /// The term's variable, where it has no value. Takes no memory.
 fn free_variable(term: &Term, given: &[Option<Val>]) -> Option<usize>
@@ -38,11 +42,11 @@ pub fn free_variables(
     alloc: Global,
     terms: &[Term],
     given: &[Option<Val>],
-) -> Result<Vec<usize>, NoMemory>
+) -> Result<Variables, NoMemory>
     requires { terms_bound terms.now ≤ length given.now }
     ensures { IfOk result (λ free. AreFree terms.now given.now free.items) }
 {
-    let mut free = Vec::new(alloc);
+    let mut free = SmallVec::new(alloc);
     for term in terms {
         if let Some(variable) = free_variable(term, given) {
             free.push(variable)?;
@@ -79,7 +83,7 @@ pub fn take_fact(
 {
     let terms = atom.terms.as_slice();
     let vals = fact.vals.as_slice();
-    if fact.rel != atom.rel || !could_be(given.as_slice(), terms, vals) {
+    if fact.rel != atom.rel {
         return Ok(false);
     }
     if bind_all(alloc, given, terms, vals)? {

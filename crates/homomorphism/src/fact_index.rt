@@ -68,7 +68,7 @@ impl FactIndex {
         match self.lists.note_all(alloc, &self.positions, &fact, number) {
             Ok(()) => Ok(Some(fact)),
             Err(fault) => {
-                self.present.remove(&fact, number);
+                self.present.remove(&fact);
                 self.lists.strike_all(&self.positions, fact, number);
                 Err(fault)
             }
@@ -79,7 +79,7 @@ impl FactIndex {
     pub fn remove(&mut self, fact: Ground, number: usize)
         ensures { (facts : List TheGround) → IsIndexOf (facts ++ fact ∷ []) self.old → number ≡ length facts → (Contains facts fact → ⊥) → IsIndexOf facts self.new }
     {
-        self.present.remove(&fact, number);
+        self.present.remove(&fact);
         self.lists.strike_all(&self.positions, fact, number);
     }
 

@@ -1,11 +1,12 @@
 // The head of a rule, made ready to be looked for at one match of the body after another.
-ghost use Rattle.std.specs.Prelude.{◌≡◌, ◌↔◌, ◌≤◌, ℕ, IsTrue, Contains, length, true, false, IfOk};
+ghost use Rattle.std.specs.Prelude.{◌≡◌, ◌↔◌, ◌<◌, ◌≤◌, IsTrue, Contains, length, true, false, IfOk};
 ghost use Rattle.meaning.specs.declared.types.Val.TheVariants.{Const};
 ghost use Rattle.meaning.specs.Matching.{AreFacts, GroundsOf};
 ghost use Rattle.meaning.specs.Triggers.{terms_bound, bound, ground, IsNumbered};
 ghost use Rattle.homomorphism.specs.Bindings.{at};
 ghost use Rattle.homomorphism.specs.Rules.{IsMet, IsUnmet};
 ghost use Rattle.homomorphism.specs.Heads.{IsHeadOf};
+ghost use Rattle.homomorphism.specs.Widening.{AreRuns};
 
 use crate::arrange::{Run, arranged};
 use crate::assignment::{Assignment, Bindings};
@@ -20,7 +21,7 @@ use std::alloc::Global;
 /// How the head of a rule is looked for.
 #[derive(Drop)]
 pub struct Head {
-    /// The numbers of its atoms, in runs one after another.
+    /// The numbers of its atoms, in runs one after another; where the head is known, none are made.
     runs: Seq<Run>,
     /// One more than its greatest variable.
     width: usize,
@@ -35,8 +36,7 @@ impl Head {
     {
         let body = variables_width(rule.body.as_slice());
         let width = variables_width(rule.head.as_slice());
-        let known = all_known(alloc, body, width)?;
-        let runs = arranged(alloc, rule.head.as_slice(), known.as_slice())?;
+        let runs = runs_of(alloc, rule.head.as_slice(), body, width)?;
         Ok(Head {
             runs: Seq::from_vec(runs),
             width,
@@ -68,6 +68,18 @@ impl Head {
         }
         Ok(false)
     }
+}
+
+/// The numbers of the atoms in runs, where the variables below `body` have a value. Where all variables have one, there is
+/// no run.
+fn runs_of(alloc: Global, atoms: &[Atom], body: usize, width: usize) -> Result<Vec<Run>, NoMemory>
+    ensures { IfOk result (λ runs. body < width → AreRuns (length atoms.now) runs.items) }
+{
+    if width <= body {
+        return Ok(Vec::new(alloc));
+    }
+    let known = all_known(alloc, body, width)?;
+    Ok(arranged(alloc, atoms, known.as_slice())?)
 }
 
 /// A value for each variable of the body, and none for others below the width.

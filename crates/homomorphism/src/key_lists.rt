@@ -5,10 +5,11 @@ ghost use Rattle.homomorphism.specs.declared.key.Key.{Key as TheKey};
 ghost use Rattle.homomorphism.specs.declared.key.Key.TheVariants.{Relation};
 ghost use Rattle.homomorphism.specs.Listed.{keys_of, is_found_by, of_relation, listed, IsValue, MayEndIn};
 
-use crate::coded_lists::{CodedLists, drop_last_if};
+use crate::coded_lists::CodedLists;
 use crate::key::Key;
+use crate::number_list::NumberList;
 use crate::positions::Positions;
-use lists::{Copies, NoMemory, Seq};
+use lists::{Copies, NoMemory};
 use meaning::types::Ground;
 use std::alloc::Global;
 use std::collections::BTreeMap;
@@ -16,7 +17,7 @@ use std::collections::BTreeMap;
 /// The numbers of the facts of each relation, and of those that have a value at a position of a relation.
 #[derive(Drop)]
 pub struct KeyLists {
-    relations: BTreeMap<u32, Seq<usize>>,
+    relations: BTreeMap<u32, NumberList>,
     values: CodedLists,
 }
 
@@ -101,7 +102,7 @@ impl KeyLists {
                 numbers.push(number)?;
             }
             None => {
-                let mut numbers = Seq::new(alloc);
+                let mut numbers = NumberList::new(alloc);
                 numbers.push(number)?;
                 self.relations.insert(rel, numbers)?;
             }
@@ -126,7 +127,7 @@ impl KeyLists {
         ensures others { (other : TheKey) → (other ≡ Relation rel → ⊥) → listed self.new other ≡ listed self.old other }
     {
         match self.relations.get_mut(&rel) {
-            Some(numbers) => drop_last_if(numbers, number),
+            Some(numbers) => numbers.drop_last_if(number),
             None => {}
         }
     }

@@ -20,6 +20,7 @@ mod instance;
 mod key;
 mod key_lists;
 mod matching;
+mod number_list;
 mod positions;
 mod presence;
 mod rules;

@@ -1,22 +1,24 @@
 // The positions at which facts are found by their values.
 ghost use Rattle.std.specs.Prelude.{◌≡◌};
-ghost use Rattle.homomorphism.specs.Listed.{has_position};
+ghost use Rattle.homomorphism.specs.Listed.{has_position, has_mark};
 
-use crate::code::place_code;
 use crate::conditions::occurs;
 use lists::NoMemory;
 use meaning::types::{Atom, Rule, Term};
 use std::alloc::Global;
-use std::collections::BTreeSet;
 
-/// Positions of relations by whose values the facts of a store are found: all, or those whose codes are marked.
+/// How many positions of each relation can be marked.
+const WIDTH: usize = 64;
+
+/// Positions of relations by whose values the facts of a store are found: all, or those that are marked.
 ///
 /// No clause says which are marked: where a position is not, facts are found by another one, or by the relation alone. So
 /// a position that is left out makes a look-up slow and never wrong, and one that is marked in vain costs memory.
 #[derive(Drop)]
 pub struct Positions {
     all: bool,
-    marked: BTreeSet<u64>,
+    /// The marks of the first positions of each relation, one relation after another.
+    marked: Vec<bool>,
 }
 
 impl Positions {
@@ -24,7 +26,7 @@ impl Positions {
     pub fn all(alloc: Global) -> Positions {
         Positions {
             all: true,
-            marked: BTreeSet::new(alloc),
+            marked: Vec::new(alloc),
         }
     }
 
@@ -32,14 +34,14 @@ impl Positions {
     pub fn none(alloc: Global) -> Positions {
         Positions {
             all: false,
-            marked: BTreeSet::new(alloc),
+            marked: Vec::new(alloc),
         }
     }
 
     /// The positions at which a value can be known while the rules are tested: in a body after the atoms before, and in a
     /// head after the body.
     pub fn of_rules(alloc: Global, rules: &[Rule]) -> Result<Positions, NoMemory> {
-        let mut marked = BTreeSet::new(alloc);
+        let mut marked = Vec::new(alloc);
         for rule in rules {
             let body = rule.body.as_slice();
             mark_body(&mut marked, body)?;
@@ -63,20 +65,48 @@ impl Positions {
     pub(crate) fn has(&self, rel: u32, position: usize) -> bool
         ensures { result ≡ has_position self.now rel position }
     {
-        self.all || self.marked.contains(&place_code(rel, position))
+        self.all || has_mark(self.marked.as_slice(), rel, position)
     }
 }
 
+/// Whether the position of the relation is marked. Takes no memory.
+fn has_mark(marked: &[bool], rel: u32, position: usize) -> bool
+    ensures { result ≡ has_mark marked.now rel position }
+{
+    if position >= WIDTH {
+        return false;
+    }
+    match marked.get(rel as usize * WIDTH + position) {
+        Some(mark) => *mark,
+        None => false,
+    }
+}
+
+/// Marks the position of the relation, if it can be marked.
+fn mark(marked: &mut Vec<bool>, rel: u32, position: usize) -> Result<(), NoMemory> {
+    if position >= WIDTH {
+        return Ok(());
+    }
+    let place = rel as usize * WIDTH + position;
+    for _ in marked.len()..=place {
+        marked.push(false)?;
+    }
+    if let Some(mark) = marked.get_mut(place) {
+        *mark = true;
+    }
+    Ok(())
+}
+
 /// Marks every position of the atom.
-fn mark_all(marked: &mut BTreeSet<u64>, atom: &Atom) -> Result<(), NoMemory> {
+fn mark_all(marked: &mut Vec<bool>, atom: &Atom) -> Result<(), NoMemory> {
     for position in 0..atom.terms.len() {
-        marked.insert(place_code(atom.rel, position))?;
+        mark(marked, atom.rel, position)?;
     }
     Ok(())
 }
 
 /// Marks where an atom has a value once those before it are facts.
-fn mark_body(marked: &mut BTreeSet<u64>, body: &[Atom]) -> Result<(), NoMemory> {
+fn mark_body(marked: &mut Vec<bool>, body: &[Atom]) -> Result<(), NoMemory> {
     for (number, atom) in body.iter().enumerate() {
         mark_known(marked, &body[..number], atom)?;
     }
@@ -84,7 +114,7 @@ fn mark_body(marked: &mut BTreeSet<u64>, body: &[Atom]) -> Result<(), NoMemory> 
 }
 
 /// Marks where an atom of the head has a value once the body and the other atoms are facts.
-fn mark_head(marked: &mut BTreeSet<u64>, body: &[Atom], head: &[Atom]) -> Result<(), NoMemory> {
+fn mark_head(marked: &mut Vec<bool>, body: &[Atom], head: &[Atom]) -> Result<(), NoMemory> {
     for (number, atom) in head.iter().enumerate() {
         mark_known(marked, body, atom)?;
         mark_known(marked, &head[..number], atom)?;
@@ -94,10 +124,10 @@ fn mark_head(marked: &mut BTreeSet<u64>, body: &[Atom], head: &[Atom]) -> Result
 }
 
 /// Marks where the atom has a constant or a variable of the other atoms.
-fn mark_known(marked: &mut BTreeSet<u64>, others: &[Atom], atom: &Atom) -> Result<(), NoMemory> {
+fn mark_known(marked: &mut Vec<bool>, others: &[Atom], atom: &Atom) -> Result<(), NoMemory> {
     for (position, term) in atom.terms.as_slice().iter().enumerate() {
         if is_known(others, term) {
-            marked.insert(place_code(atom.rel, position))?;
+            mark(marked, atom.rel, position)?;
         }
     }
     Ok(())

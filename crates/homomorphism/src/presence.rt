@@ -60,7 +60,7 @@ impl Presence {
         match first {
             None => Ok(true),
             Some(first) => {
-                if is_numbered(facts, first, fact) {
+                if has_number(facts, first, fact) {
                     return Ok(false);
                 }
                 self.others.insert(fact.copy(alloc)?)?;
@@ -69,12 +69,14 @@ impl Presence {
         }
     }
 
-    /// Takes out the last fact, which has this number. Takes no memory.
-    pub fn remove(&mut self, fact: &Ground, number: usize)
-        ensures { (facts : List TheGround) → IsPresence (facts ++ fact.now ∷ []) self.old → number ≡ length facts → (Contains facts fact.now → ⊥) → IsPresence facts self.new }
+    /// Takes out the last fact. Takes no memory.
+    pub fn remove(&mut self, fact: &Ground)
+        ensures { (facts : List TheGround) → IsPresence (facts ++ fact.now ∷ []) self.old → (Contains facts fact.now → ⊥) → IsPresence facts self.new }
     {
-        self.remove_first(fact_code(fact), number);
-        self.others.remove(fact);
+        if self.others.remove(fact) {
+            return;
+        }
+        self.remove_first(fact_code(fact));
     }
 
     /// Whether the fact is the first one of its code. Takes no memory.
@@ -82,26 +84,22 @@ impl Presence {
         ensures { IsTrue result ↔ IsFirst facts.now self.now fact.now }
     {
         match self.firsts.get(&fact_code(fact)) {
-            Some(number) => is_numbered(facts, *number, fact),
+            Some(number) => has_number(facts, *number, fact),
             None => false,
         }
     }
 
-    /// Takes the code out, if its first fact has this number. Takes no memory.
-    fn remove_first(&mut self, code: u64, number: usize)
-        ensures kept { (other n : ℕ) → n < number → get nat_cmp self.old.firsts other ≡ Some n → get nat_cmp self.new.firsts other ≡ Some n }
+    /// Takes the first fact of the code out. Takes no memory.
+    fn remove_first(&mut self, code: u64)
+        ensures kept { (other : ℕ) → (other ≡ code → ⊥) → get nat_cmp self.new.firsts other ≡ get nat_cmp self.old.firsts other }
         ensures others { self.new.others ≡ self.old.others }
     {
-        if let Some(first) = self.firsts.get(&code) {
-            if *first == number {
-                self.firsts.remove(&code);
-            }
-        }
+        self.firsts.remove(&code);
     }
 }
 
 /// Whether the fact has this number. Takes no memory.
-fn is_numbered(facts: &[Ground], number: usize, fact: &Ground) -> bool
+fn has_number(facts: &[Ground], number: usize, fact: &Ground) -> bool
     ensures { IsTrue result ↔ (slice_get facts.now number ≡ Some fact.now) }
 {
     match facts.get(number) {

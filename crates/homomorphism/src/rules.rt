@@ -50,7 +50,7 @@ pub fn variables_width(atoms: &[Atom]) -> usize
 pub fn given(alloc: Global, values: &[Val], width: usize) -> Result<Bindings, NoMemory>
     ensures { IfOk result (λ fixed. Gives values.now width fixed) }
 {
-    let mut fixed = Vec::new(alloc);
+    let mut fixed = Vec::with_capacity(alloc, width)?;
     for value in values {
         fixed.push(Some(value.copy(alloc)?))?;
     }

@@ -47,6 +47,25 @@ pub fn search_runs(
     ensures some { IfOk result (λ found. IfSome found (λ found. Widens store.now atoms.now given found)) }
     ensures none { IfOk result (λ found. IfNone found (NoMatch store.now atoms.now given)) }
 {
+    if let [run] = runs {
+        return search_run(alloc, atoms, run.as_slice(), store, given);
+    }
+    search_apart(alloc, atoms, runs, store, given)
+}
+
+/// The same, one run after another.
+fn search_apart(
+    alloc: Global,
+    atoms: &[Atom],
+    runs: &[Run],
+    store: &Store,
+    given: Bindings,
+) -> Result<Option<Bindings>, NoMemory>
+    requires fits { bound atoms.now ≤ length given }
+    requires all { AreRuns (length atoms.now) runs.now }
+    ensures some { IfOk result (λ found. IfSome found (λ found. Widens store.now atoms.now given found)) }
+    ensures none { IfOk result (λ found. IfNone found (NoMatch store.now atoms.now given)) }
+{
     let mut now = given.copy(alloc)?.into_vec();
     for run in runs {
         if !are_untouched(atoms, run.as_slice(), given.as_slice(), now.as_slice()) {

@@ -1,4 +1,4 @@
-use Rattle.std.proofs.Common.{rules, subst, sym, ap, append_assoc, ◌≡◌, ◌∙◌, ◌∷◌, ◌++◌, [], Some, None, ◌<◌, ◌≤◌, ◌-◌, arith, ℕ, length, map, slice_get, slice_index_or, take, drop, Contains}
+use Rattle.std.proofs.Common.{rules, refl, subst, sym, ap, append_assoc, ◌≡◌, ◌∙◌, ◌∷◌, ◌++◌, [], Some, None, ◌<◌, ◌≤◌, ◌-◌, arith, ℕ, length, map, slice_get, slice_index_or, take, drop, Contains}
 use Rattle.std.proofs.lemmas.Grind.{common_steps}
 use Rattle.std.proofs.lemmas.List.{append-nil}
 use Rattle.meaning.specs.Matching.{OccursIn}
@@ -14,7 +14,7 @@ use Rattle.homomorphism.proofs.AtomByAtom.{is_among}
 use Rattle.homomorphism.proofs.Binding.{none_left}
 use Rattle.homomorphism.proofs.Choosing.{picked, place_below, place_picked, place_is}
 use Rattle.homomorphism.proofs.Extending.{atom_within, first_is, rest_within}
-use Rattle.homomorphism.proofs.FrontierMatches.{bound_there, frontier_one, frontier_none, frontier_end, frontier_all, covered_by, by_with, by_without}
+use Rattle.homomorphism.proofs.FrontierMatches.{bound_there, by_none, frontier_one, frontier_none, frontier_end, frontier_all, covered_by, by_with, by_without}
 use Rattle.homomorphism.proofs.Touching.{default, free_within}
 use Rattle.homomorphism.proofs.frontier.+frontier.Goals.{then-branch+in_ok-frontier, else-branch}
 use Rattle.homomorphism.proofs.frontier.+frontier.Goals as goal
@@ -61,6 +61,12 @@ candidates-requires t c =
     let fits : terms_bound c.index-atoms-place.result.terms ≤ length c.args.given.now.items = atom_within c.args.atoms.now (slice_index_or c.args.order.now 0 0) c.index-atoms-place.result (length c.args.given.now.items) below c.index-atoms-place.is c.requires.fits in
     rw c.as_slice-5.ensures.value fits
 
+pub loop-number-init : goal.loop-number-init
+loop-number-init t c = record {
+  same = refl;
+  found = ([], sym (append-nil c.args.found.now.items), by_none c.args.store.now c.index-atoms-place.result (taken c.args.atoms.now (take (length c.args.order.now - 1) (drop 1 c.args.order.now))) c.args.head.now c.args.given.now.items);
+}
+
 pub bounds-facts-number : goal.bounds-facts-number
 bounds-facts-number t c =
     place_below c.args.store.now c.facts-facts.result.now c.facts-facts.ensures.facts c.index-atoms-place.result c.as_slice-5.result.now c.in_ok-number-items.number-items.now c.in_ok-number-items.ensures c.loop-number.number-index c.loop-number-test.true
@@ -97,7 +103,7 @@ pub release-requires : goal.release-requires
 release-requires t c =
     let free : AreFree c.index-atoms-place.result.terms c.args.given.now.items c.in_ok-free.free.items = rw c.as_slice-3.ensures at (rw c.as_slice-4.ensures.value at c.in_ok-free.ensures) in
     let touched : Touches c.index-atoms-place.result.terms c.args.given.now.items c.take_fact.new.given.items = subst (λ g. Touches c.index-atoms-place.result.terms g c.take_fact.new.given.items) c.loop-number.invariant.same (c.in_ok-take_fact.ensures.touched c.if-branch.true) in
-    λ x h. subst (λ g. x < length g) (sym c.in_ok-frontier.ensures.same) (subst (λ n. x < n) (sym touched.0) (free_within c.index-atoms-place.result.terms c.args.given.now.items c.in_ok-free.free.items free x (subst (λ z. Contains z x) c.as_slice-then-branch.ensures.value h)))
+    λ x h. subst (λ g. x < length g) (sym c.in_ok-frontier.ensures.same) (subst (λ n. x < n) (sym touched.0) (free_within c.index-atoms-place.result.terms c.args.given.now.items c.in_ok-free.free.items free x (subst (λ z. Contains z x) c.as_slice-then-branch.ensures h)))
 
 pub loop-number-preserved : goal.loop-number-preserved
 loop-number-preserved t c =
@@ -115,7 +121,7 @@ loop-number-preserved t c =
           let way : IsWay c.index-facts-number.result c.index-atoms-place.result c.args.given.now.items c.take_fact.new.given.items = subst (λ g. IsWay c.index-facts-number.result c.index-atoms-place.result g c.take_fact.new.given.items) c.loop-number.invariant.same (c.in_ok-take_fact.ensures.yes w.if-branch.true) in
           let (more, added, are) = w.in_ok-frontier.ensures.found in
           rw w.given-is (rw w.found-is (record {
-            same = w.release.ensures c.index-atoms-place.result.terms c.args.given.now.items (rw w.as_slice-then-branch.ensures.value free) (subst (Touches c.index-atoms-place.result.terms c.args.given.now.items) (sym w.in_ok-frontier.ensures.same) touched);
+            same = w.release.ensures c.index-atoms-place.result.terms c.args.given.now.items (rw w.as_slice-then-branch.ensures free) (subst (Touches c.index-atoms-place.result.terms c.args.given.now.items) (sym w.in_ok-frontier.ensures.same) touched);
             found = (
               matches ++ more,
               added ∙ ap (λ all. all ++ more) so ∙ append_assoc _ matches more,

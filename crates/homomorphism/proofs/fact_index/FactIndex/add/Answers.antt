@@ -33,4 +33,4 @@ returns-in-Err-clause-refused c = λ r.
     index_refused c.args.facts.now c.args.fact (length c.args.facts.now) refl c.args.self.now
     (record { positions = c.args.self.now.positions; present = c.remove.new.self; lists = c.strike_all.new.self }) refl c.note_all.new.self
     c.note_all.ensures.part c.strike_all.ensures
-    (c.remove.ensures c.args.facts.now (c.in_ok-is_new.ensures.added c.if-not-is_new.false r.members refl) refl (λ among. clash c.in_ok-is_new.is_new c.if-not-is_new.false ((c.in_ok-is_new.ensures.there r.members).1 among))) r
+    (c.remove.ensures c.args.facts.now (c.in_ok-is_new.ensures.added c.if-not-is_new.false r.members refl) (λ among. clash c.in_ok-is_new.is_new c.if-not-is_new.false ((c.in_ok-is_new.ensures.there r.members).1 among))) r

@@ -6,8 +6,8 @@ use Rattle.homomorphism.proofs.presence.Presence.add.Goals as goal
 pub returns-in_err-first-clause-refused : goal.returns-in_err-first-clause-refused
 returns-in_err-first-clause-refused c = on_err c.from_residual.result _ (λ r. same_presence c.args.facts.now c.args.self.now (record { firsts = c.take_code.new.firsts; others = c.args.self.now.others }) c.in_err-first.ensures.refused refl r)
 
-pub returns-then-is_numbered-clause-same : goal.returns-then-is_numbered-clause-same
-returns-then-is_numbered-clause-same c = λ no r. same_presence c.args.facts.now c.args.self.now (record { firsts = c.take_code.new.firsts; others = c.args.self.now.others }) (rw c.in-Some.is at c.in_ok-first.ensures.taken).1 refl r
+pub returns-then-has_number-clause-same : goal.returns-then-has_number-clause-same
+returns-then-has_number-clause-same c = λ no r. same_presence c.args.facts.now c.args.self.now (record { firsts = c.take_code.new.firsts; others = c.args.self.now.others }) (rw c.in-Some.is at c.in_ok-first.ensures.taken).1 refl r
 
 pub returns-in_err-copy-in-Some-clause-refused : goal.returns-in_err-copy-in-Some-clause-refused
 returns-in_err-copy-in-Some-clause-refused c =

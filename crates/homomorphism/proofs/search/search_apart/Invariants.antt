@@ -1,6 +1,6 @@
 use Rattle.std.proofs.Common.{◌≡◌, take}
 use Rattle.homomorphism.proofs.Runs.{Searched}
-use Rattle.homomorphism.proofs.search.search_runs.Given as goal
+use Rattle.homomorphism.proofs.search.search_apart.Given as goal
 
 abbrev pub invariant-loop-run : goal.invariant-loop-run
 invariant-loop-run l = record {

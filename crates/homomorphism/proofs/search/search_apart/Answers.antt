@@ -4,7 +4,7 @@ use Rattle.homomorphism.specs.Matches.{NoMatch}
 use Rattle.homomorphism.specs.Widening.{AreRuns, AreUntouched, Widens, taken}
 use Rattle.homomorphism.proofs.AtomByAtom.{is_among}
 use Rattle.homomorphism.proofs.Runs.{none_before, none_of_taken, searched_none, searched_more, searched_all}
-use Rattle.homomorphism.proofs.search.search_runs.Goals as goal
+use Rattle.homomorphism.proofs.search.search_apart.Goals as goal
 
 pub loop-run-init : goal.loop-run-init
 loop-run-init c =
