@@ -2,10 +2,9 @@
 use Rattle.std.proofs.Common.{◌≡◌, ℕ, List, [], ◌∷◌, map, length, slice_index_or, ◌==◌, Bool, true, false, cond, eqb, refl, sym, ap, ◌∙◌, subst, ⊎_elim, arith, Contains}
 use Rattle.std.specs.Prelude.{◌≢◌}
 use Rattle.std.specs.Ordering.{ordering_then}
-use Rattle.std.specs.BTreeSet.{BTreeSet, contains}
 use Rattle.std.specs.declared.cmp.Ordering.{Ordering}
 use Rattle.std.specs.declared.cmp.Ordering.TheVariants.{Less, Equal, Greater}
-use Rattle.std.proofs.lemmas.Bool.{cases_eq, eq-eqb, eqb-true, ne_eqb, and_parts, true≢false}
+use Rattle.std.proofs.lemmas.Bool.{cases_eq, eq-eqb, eqb-true, ne_eqb, and_parts}
 use Rattle.lists.proofs.Members.{contains_here, contains_there, contains_cases, map_same, contains_none, contains_one}
 use Rattle.meaning.specs.declared.types.Term.{Term}
 use Rattle.meaning.specs.declared.types.Term.TheVariants.{Var, Const}
@@ -16,8 +15,11 @@ use Rattle.meaning.specs.Matching.{value_of, AreFacts, OccursIn, Extends, MeetsR
 use Rattle.meaning_laws.proofs.Deciding.{same_values}
 use Rattle.homomorphism.proofs.Binding.{var_is}
 use Rattle.data_verify.specs.Breaking.{Breaks, AreLeastBreaking, row_under, facts_under, row_lists_cmp}
-use Rattle.data_verify.specs.Inclusion.{is_inclusion, reading, key_of, AreShared, IsKey, AreKeys, IsWithout, IsLeastOf, row_cmp}
+use Rattle.data_verify.specs.Inclusion.{is_inclusion, AreShared, IsKey, AreKeys, IsWithout, IsLeastOf}
+use Rattle.data_verify.specs.Keys.{reading, key_of, row_cmp, Holds}
+use Rattle.data_verify.specs.declared.key_set.KeySet.{KeySet}
 use Rattle.data_verify.proofs.Terms.{const_var, reading_is}
+use Rattle.data_verify.proofs.Held.{same_at, held_cases}
 
 -- whether a variable is one of the terms
 occurs : ℕ → List Term → Bool
@@ -40,13 +42,6 @@ occurs_is x (Var y ∷ terms) c =
     ⊎_elim (λ same. ap (λ b. cond b true (occurs x terms)) (eq-eqb y x same))
     (λ differ. ap (λ b. cond b true (occurs x terms)) (ne_eqb y x differ) ∙ ⊎_elim (λ e. absurd (differ (var_is y x e))) (λ h. occurs_is x terms h) (contains_cases (Var y) terms (Var x) c)) (cases_eq y x)
 occurs_is x (Const c ∷ terms) d = ⊎_elim (λ e. absurd (const_var c x e)) (λ h. occurs_is x terms h) (contains_cases (Const c) terms (Var x) d)
-
-same_at : (f g : ℕ → List ℕ) (xs : List ℕ) (x : ℕ) → map f xs ≡ map g xs → Contains xs x → f x ≡ g x
-same_at f g [] x e c = absurd (contains_none x c)
-same_at f g (y ∷ xs) x e c =
-    let first : f y ≡ g y = cc in
-    let rest : map f xs ≡ map g xs = cc in
-    ⊎_elim (λ same. subst (λ z. f z ≡ g z) same first) (λ h. same_at f g xs x rest h) (contains_cases y xs x c)
 
 -- two rows that fit terms: keys are equal exactly where the values of the shared variables are
 module _ (body head : List Term) (variables : List ℕ) (shared : AreShared body head variables) where
@@ -89,7 +84,7 @@ only {X = X} xs items x e one is = by xs one (subst (λ z. x ≡ slice_index_or 
 
 -- a rule of these atoms, over an instance
 module _ (instance : List Fact) (rule : Rule) (body head : Atom) (body_is : rule.body ≡ body ∷ []) (head_is : rule.head ≡ head ∷ []) (variables : List ℕ) (shared : AreShared body.terms head.terms variables)
-    (keys : BTreeSet (List (List ℕ))) (are : AreKeys instance head variables keys) where
+    (keys : KeySet) (are : AreKeys instance head variables keys) where
   -- the fact of an atom under an assignment
   abbrev fact_under : (ℕ → List ℕ) → Atom → Fact
   fact_under a atom = record { rel = atom.rel; row = map (value_of itself a) atom.terms }
@@ -135,26 +130,20 @@ module _ (instance : List Fact) (rule : Rule) (body head : Atom) (body_is : rule
     same_key body.terms head.terms variables shared a b (λ x c. ext.agrees x (occurs_in x c)),
   )
 
-  without : (a : ℕ → List ℕ) → ((b : ℕ → List ℕ) → Extends itself (FactsOf instance) rule a b → ⊥) → IsWithout body variables keys (fact_under a body)
+  without : (a : ℕ → List ℕ) → ((b : ℕ → List ℕ) → Extends itself (FactsOf instance) rule a b → ⊥) → IsWithout body head variables keys (fact_under a body)
   unfolding extends
   without a unmet = record {
     fits = record { rel = refl; row = (a, refl) };
-    absent = by (contains row_cmp keys (key_of body.terms variables (map (value_of itself a) body.terms))) refl;
+    absent = λ h. let (b, ext) = extends a ((are _).0 h) in unmet b ext;
   }
-    where
-      by : (t : Bool) → contains row_cmp keys (key_of body.terms variables (map (value_of itself a) body.terms)) ≡ t → t ≡ false
-      by false e = refl
-      by true e = let (b, ext) = extends a ((are _).0 e) in absurd (unmet b ext)
 
-  pub all_met : ((fact : Fact) → Contains instance fact → IsWithout body variables keys fact → ⊥) → MeetsRule itself (FactsOf instance) rule
+  pub all_met : ((fact : Fact) → Contains instance fact → IsWithout body head variables keys fact → ⊥) → MeetsRule itself (FactsOf instance) rule
   unfolding extends one_of
-  all_met none a facts = by (contains row_cmp keys (key_of body.terms variables (map (value_of itself a) body.terms))) refl
-    where
-      by : (t : Bool) → contains row_cmp keys (key_of body.terms variables (map (value_of itself a) body.terms)) ≡ t → (b : ℕ → List ℕ) × Extends itself (FactsOf instance) rule a b
-      by true e = extends a ((are _).0 e)
-      by false e = absurd (none (fact_under a body) (one_of rule.body body a body_is facts) (record { fits = record { rel = refl; row = (a, refl) }; absent = e }))
+  all_met none a facts = ⊎_elim (λ h. extends a ((are _).0 h))
+      (λ not. absurd (none (fact_under a body) (one_of rule.body body a body_is facts) (record { fits = record { rel = refl; row = (a, refl) }; absent = not })))
+      (held_cases head.terms variables keys (key_of body.terms variables (map (value_of itself a) body.terms)))
 
-  breaks : (fact : Fact) → Contains instance fact → IsWithout body variables keys fact → (a : ℕ → List ℕ) × Breaks instance rule a × (fact ≡ fact_under a body)
+  breaks : (fact : Fact) → Contains instance fact → IsWithout body head variables keys fact → (a : ℕ → List ℕ) × Breaks instance rule a × (fact ≡ fact_under a body)
   unfolding of_one has_key
   breaks fact among w =
       let (a, e) = w.fits.row in
@@ -162,7 +151,7 @@ module _ (instance : List Fact) (rule : Rule) (body head : Atom) (body_is : rule
         a,
         record {
           body = of_one rule.body body a body_is (subst (Contains instance) same among);
-          unmet = λ b ext. true≢false (sym (ap (λ row. contains row_cmp keys (key_of body.terms variables row)) (sym e) ∙ (are _).1 (has_key a b ext)) ∙ w.absent);
+          unmet = λ b ext. w.absent (subst (λ row. Holds head.terms variables keys (key_of body.terms variables row)) e ((are _).1 (has_key a b ext)));
         },
         same,
       )
@@ -178,7 +167,7 @@ module _ (instance : List Fact) (rule : Rule) (body head : Atom) (body_is : rule
       then_equal Equal = refl
       then_equal Greater = refl
 
-  pub least_breaking : (fact copy : Fact) → IsLeastOf (IsWithout body variables keys) instance fact → copy ≡ fact → AreLeastBreaking instance rule (copy ∷ [])
+  pub least_breaking : (fact copy : Fact) → IsLeastOf (IsWithout body head variables keys) instance fact → copy ≡ fact → AreLeastBreaking instance rule (copy ∷ [])
   unfolding breaks without one_row one_of
   least_breaking fact copy l e = record {
     come = let (a, br, same) = breaks fact l.among l.is in (a, br, ap (λ (f : Fact). f ∷ []) (e ∙ same) ∙ ap (facts_under a) (sym body_is));

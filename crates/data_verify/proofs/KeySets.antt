@@ -1,16 +1,9 @@
 -- The shared variables of terms, and the keys of facts, one after another.
-use Rattle.std.proofs.Common.{◌≡◌, ◌↔◌, ◌⊎◌, ℕ, ◌+◌, ◌<◌, List, [], ◌∷◌, ◌++◌, length, take, slice_index_or, Bool, true, false, cond, refl, sym, ap, ◌∙◌, subst, inl, inr, ⊎_elim, Contains}
+use Rattle.std.proofs.Common.{◌≡◌, ◌↔◌, ℕ, ◌+◌, ◌<◌, List, [], ◌∷◌, ◌++◌, length, take, slice_index_or, Bool, sym, ap, ◌∙◌, subst, inl, inr, ⊎_elim, Contains}
 use Rattle.std.specs.Prelude.{IsTrue, not}
-use Rattle.std.specs.List.{list_any}
-use Rattle.std.specs.BTreeMap.{is_at}
-use Rattle.std.specs.BTreeSet.{BTreeSet, contains}
-use Rattle.std.specs.Ordering.{is_eq}
-use Rattle.std.specs.declared.cmp.Ordering.{Ordering}
-use Rattle.std.specs.declared.cmp.Ordering.TheVariants.{Less, Equal, Greater}
-use Rattle.std.proofs.lemmas.Bool.{not-true, true≢false}
-use Rattle.std.proofs.lemmas.Cmp.{tied_itself}
+use Rattle.std.proofs.lemmas.Bool.{not-true}
 use Rattle.std.proofs.lemmas.List.Elements.{Contains-append_left, Contains-push, Contains-push_cases}
-use Rattle.lists.proofs.Orders.{rows_total, rows_equal}
+use Rattle.lists.proofs.Booleans.{never_true}
 use Rattle.lists.proofs.Members.{contains_none}
 use Rattle.lists.proofs.Places.{take_indexed}
 use Rattle.meaning.specs.declared.types.Term.{Term}
@@ -18,7 +11,11 @@ use Rattle.meaning.specs.declared.types.Term.TheVariants.{Var}
 use Rattle.meaning.specs.declared.types.Atom.{Atom}
 use Rattle.meaning.specs.declared.types.Fact.{Fact}
 use Rattle.homomorphism.proofs.Binding.{var_is}
-use Rattle.data_verify.specs.Inclusion.{FitsAtom, key_of, AreShared, AreKeys, IsWithout, row_cmp}
+use Rattle.homomorphism.proofs.Covering.{denied}
+use Rattle.data_verify.specs.Inclusion.{FitsAtom, AreShared, AreKeys, IsWithout}
+use Rattle.data_verify.specs.Keys.{key_of, Holds, Adds}
+use Rattle.data_verify.specs.declared.key_set.KeySet.{KeySet}
+use Rattle.data_verify.proofs.Held.{none_held}
 
 pub none_more : {X : Type 0} (xs : List X) (i : ℕ) (x y : X) → i < length xs → x ≡ slice_index_or xs i x → (x ≡ y → ⊥) → (Contains (take i xs) y → ⊥) → Contains (take (i + 1) xs) y → ⊥
 none_more xs i x y l is differ none c = ⊎_elim none differ (Contains-push_cases (take i xs) x y (subst (λ z. Contains z y) (take_indexed xs i x l is) c))
@@ -43,49 +40,30 @@ module _ (body head : List Term) (i : ℕ) (term : Term) (l : i < length head) (
         (λ f. subst (Contains (variables ++ y ∷ [])) (var_is y x (sym e ∙ f)) (Contains-push variables y)) (Contains-push_cases (take i head) term (Var x) of_head)),
   ))
 
-pub without_is : (atom : Atom) (variables : List ℕ) (keys : BTreeSet (List (List ℕ))) (fact : Fact) (wanted : List (List ℕ)) (b : Bool) → FitsAtom atom fact → wanted ≡ key_of atom.terms variables fact.row → b ≡ contains row_cmp keys wanted →
-    IsTrue (not b) ↔ IsWithout atom variables keys fact
-without_is atom variables keys fact wanted b fits same e = (
-  (λ t. record { fits = fits; absent = sym found ∙ not-true b t }),
-  (λ w. ap not (found ∙ w.absent)),
+pub without_is : (body head : Atom) (variables : List ℕ) (keys : KeySet) (fact : Fact) (held : Bool) → FitsAtom body fact →
+    (IsTrue held ↔ Holds head.terms variables keys (key_of body.terms variables fact.row)) → IsTrue (not held) ↔ IsWithout body head variables keys fact
+without_is body head variables keys fact held fits same = (
+  (λ t. record { fits = fits; absent = denied held same (not-true held t) }),
+  (λ w. ap not (never_true held (λ t. w.absent (same.0 t)))),
 )
-  where
-    found : b ≡ contains row_cmp keys (key_of atom.terms variables fact.row)
-    found = e ∙ ap (contains row_cmp keys) same
 
-pub keys_none : (atom : Atom) (variables : List ℕ) (keys : BTreeSet (List (List ℕ))) → keys.keys ≡ [] → AreKeys [] atom variables keys
-keys_none atom variables keys e key = (
-  (λ t. absurd (true≢false (sym t ∙ ap (list_any (is_at (row_cmp key))) e))),
+pub keys_none : (atom : Atom) (variables : List ℕ) (keys : KeySet) → keys.firsts.entries ≡ [] → keys.others.keys ≡ [] → AreKeys [] atom variables keys
+keys_none atom variables keys firsts others key = (
+  (λ h. absurd (none_held atom.terms variables keys key firsts others h)),
   (λ (fact, c, fits, same). absurd (contains_none fact c)),
 )
 
-module _ (facts : List Fact) (i : ℕ) (fact : Fact) (l : i < length facts) (is : fact ≡ slice_index_or facts i fact) (atom : Atom) (variables : List ℕ) (was : BTreeSet (List (List ℕ))) (are : AreKeys (take i facts) atom variables was) where
+module _ (facts : List Fact) (i : ℕ) (fact : Fact) (l : i < length facts) (is : fact ≡ slice_index_or facts i fact) (atom : Atom) (variables : List ℕ) (was : KeySet) (are : AreKeys (take i facts) atom variables was) where
   pub keys_skip : (FitsAtom atom fact → ⊥) → AreKeys (take (i + 1) facts) atom variables was
   keys_skip not = subst (λ z. AreKeys z atom variables was) (sym (take_indexed facts i fact l is)) (λ key. (
-    (λ t. let (one, c, fits, e) = (are key).0 t in (one, Contains-append_left (take i facts) (fact ∷ []) one c, fits, e)),
+    (λ h. let (one, c, fits, e) = (are key).0 h in (one, Contains-append_left (take i facts) (fact ∷ []) one c, fits, e)),
     (λ (one, c, fits, e). ⊎_elim (λ h. (are key).1 (one, h, fits, e)) (λ same. absurd (not (subst (FitsAtom atom) (sym same) fits))) (Contains-push_cases (take i facts) fact one c)),
   ))
 
-  module _ (now : BTreeSet (List (List ℕ))) (new : List (List ℕ)) (put : (q : List (List ℕ)) → contains row_cmp now q ≡ cond (is_at (row_cmp new) q) true (contains row_cmp was q)) where
-    key_old : (key : List (List ℕ)) → contains row_cmp was key ≡ true → contains row_cmp now key ≡ true
-    key_old key t = put key ∙ by (is_at (row_cmp new) key) t
-      where
-        by : (b : Bool) → contains row_cmp was key ≡ true → cond b true (contains row_cmp was key) ≡ true
-        by true e = refl
-        by false e = e
-
-    key_new : (key : List (List ℕ)) → new ≡ key → contains row_cmp now key ≡ true
-    key_new key e = put key ∙ ap (λ o. cond (is_eq o) true (contains row_cmp was key)) (ap (row_cmp new) (sym e) ∙ tied_itself rows_total new)
-
-    key_back : (key : List (List ℕ)) → (o : Ordering) → row_cmp new key ≡ o → contains row_cmp now key ≡ true → (new ≡ key) ⊎ (contains row_cmp was key ≡ true)
-    key_back key Equal e t = inl (rows_equal new key e)
-    key_back key Less e t = inr (sym (put key ∙ ap (λ o. cond (is_eq o) true (contains row_cmp was key)) e) ∙ t)
-    key_back key Greater e t = inr (sym (put key ∙ ap (λ o. cond (is_eq o) true (contains row_cmp was key)) e) ∙ t)
-
-    pub keys_more : FitsAtom atom fact → new ≡ key_of atom.terms variables fact.row → AreKeys (take (i + 1) facts) atom variables now
-    unfolding key_old key_new key_back
-    keys_more fits same = subst (λ z. AreKeys z atom variables now) (sym (take_indexed facts i fact l is)) (λ key. (
-      (λ t. ⊎_elim (λ e. (fact, Contains-push (take i facts) fact, fits, sym same ∙ e))
-          (λ h. let (one, c, f, e) = (are key).0 h in (one, Contains-append_left (take i facts) (fact ∷ []) one c, f, e)) (key_back key (row_cmp new key) refl t)),
-      (λ (one, c, f, e). ⊎_elim (λ h. key_old key ((are key).1 (one, h, f, e))) (λ g. key_new key (same ∙ ap (λ (z : Fact). key_of atom.terms variables z.row) g ∙ e)) (Contains-push_cases (take i facts) fact one c)),
-    ))
+  pub keys_more : (now : KeySet) → FitsAtom atom fact → Adds atom.terms variables was (key_of atom.terms variables fact.row) now → AreKeys (take (i + 1) facts) atom variables now
+  keys_more now fits adds = subst (λ z. AreKeys z atom variables now) (sym (take_indexed facts i fact l is)) (λ key. (
+    (λ h. ⊎_elim (λ old. let (one, c, f, e) = (are key).0 old in (one, Contains-append_left (take i facts) (fact ∷ []) one c, f, e))
+        (λ e. (fact, Contains-push (take i facts) fact, fits, e)) ((adds key).0 h)),
+    (λ (one, c, f, e). ⊎_elim (λ h. (adds key).1 (inl ((are key).1 (one, h, f, e))))
+        (λ g. (adds key).1 (inr (ap (λ (z : Fact). key_of atom.terms variables z.row) g ∙ e))) (Contains-push_cases (take i facts) fact one c)),
+  ))

@@ -5,5 +5,6 @@ pub mod First
 pub mod Written
 pub mod Terms
 pub mod Including
+pub mod Held
 pub mod KeySets
 pub mod Lowest

@@ -10,7 +10,8 @@ use Rattle.lists.proofs.Orders.{rows_total}
 use Rattle.lists.proofs.Members.{contains_none}
 use Rattle.lists.proofs.Places.{take_indexed}
 use Rattle.meaning.specs.declared.types.Fact.{Fact}
-use Rattle.data_verify.specs.Inclusion.{IsLeastOf, IsLeastIf, IsBelow, row_cmp}
+use Rattle.data_verify.specs.Inclusion.{IsLeastOf, IsLeastIf, IsBelow}
+use Rattle.data_verify.specs.Keys.{row_cmp}
 use Rattle.data_verify.proofs.Choosing.{not_above, never_above}
 
 less_greater : Less ≡ Greater → ⊥
@@ -44,9 +45,6 @@ below_is fact first least o b is e f = subst (λ z. IsTrue b ↔ IsBelow fact z)
     less Greater t = absurd (cc)
 
 module _ (P : Fact → Type 0) where
-  pub lowest_none : IsLeastIf P [] None
-  lowest_none fact c is = contains_none fact c
-
   keeps : (done : List Fact) (fact : Fact) (least : Option Fact) → (IsBelow fact least → P fact → ⊥) → IsLeastIf P done least → IsLeastIf P (done ++ fact ∷ []) least
   keeps done fact None not all = λ other c is. ⊎_elim (λ h. all other h is) (λ e. not tt (subst P (sym e) is)) (Contains-push_cases done fact other c)
   keeps done fact (Some first) not all = record {

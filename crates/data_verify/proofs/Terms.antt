@@ -9,7 +9,8 @@ use Rattle.meaning.specs.declared.types.Term.TheVariants.{Var, Const}
 use Rattle.meaning.specs.Matching.{value_of, itself}
 use Rattle.meaning_laws.proofs.Deciding.{same_values}
 use Rattle.homomorphism.proofs.Binding.{apart, none_left, no_left, var_is}
-use Rattle.data_verify.specs.Inclusion.{Fits, StandsAt, FitsBefore, reading}
+use Rattle.data_verify.specs.Inclusion.{Fits, StandsAt, FitsBefore}
+use Rattle.data_verify.specs.Keys.{reading}
 
 both : {X : Type 0} (x y : X) (xs ys : List X) → x ≡ y → xs ≡ ys → x ∷ xs ≡ y ∷ ys
 both x y xs ys e f = cc
@@ -42,28 +43,12 @@ reading_is a (Var y ∷ terms) (value ∷ row) x e c =
 reading_is a (Const d ∷ terms) (value ∷ row) x e c =
     ⊎_elim (λ f. absurd (const_var d x f)) (λ h. reading_is a terms row x (tail_is _ _ _ row e) h) (contains_cases (Const d) terms (Var x) c)
 
--- places of a variable
-pub stands_first : (x : ℕ) (value : List ℕ) (term : Term) (terms : List Term) (other : List ℕ) (row : List (List ℕ)) → StandsAt x value (term ∷ terms) (other ∷ row) → term ≡ Var x → other ≡ value
-stands_first x value term terms other row s e = s 0 other (ap Some e) refl
-
 pub stands_rest : (x : ℕ) (value : List ℕ) (term : Term) (terms : List Term) (other : List ℕ) (row : List (List ℕ)) → (term ≡ Var x → other ≡ value) → StandsAt x value (term ∷ terms) (other ∷ row) ↔ StandsAt x value terms row
 stands_rest x value term terms other row first = ((λ s k w e f. s (suc k) w e f), back)
   where
     back : StandsAt x value terms row → StandsAt x value (term ∷ terms) (other ∷ row)
     back s zero w e f = sym (some_injective other w f) ∙ first (some_injective term (Var x) e)
     back s (suc k) w e f = s k w e f
-
-stands_no_terms : (x : ℕ) (value : List ℕ) (row : List (List ℕ)) → StandsAt x value [] row
-stands_no_terms x value row k w e f = absurd (cc)
-
-stands_no_row : (x : ℕ) (value : List ℕ) (terms : List Term) → StandsAt x value terms []
-stands_no_row x value terms k w e f = absurd (cc)
-
--- the first term and the first value
-pub fits_first : (term : Term) (value : List ℕ) (terms : List Term) (row : List (List ℕ)) → Fits (term ∷ terms) (value ∷ row) → FitsBefore term value terms row
-fits_first (Const c) value terms row (a, e) = head_is c value _ row e
-fits_first (Var x) value terms row (a, e) = λ k w f g.
-    some_injective w (a x) (sym g ∙ ap (λ z. slice_get z k) (sym (tail_is _ _ _ row e)) ∙ map_got (value_of itself a) terms k (Var x) f) ∙ head_is (a x) value _ row e
 
 fits_both : (term : Term) (value : List ℕ) (terms : List Term) (row : List (List ℕ)) → FitsBefore term value terms row → Fits terms row → Fits (term ∷ terms) (value ∷ row)
 fits_both (Const c) value terms row first (a, e) = (a, both c value _ row first e)

@@ -1,9 +1,5 @@
 -- Inclusion dependencies, which have one body atom and one head atom: each key of the body's facts is one of the head's.
-use Rattle.std.specs.Prelude.{◌≡◌, ◌≢◌, ◌↔◌, ℕ, List, [], ◌∷◌, Contains, map, length, slice_get, Option, Some, None, Bool, false, ◌&&◌, IsTrue, if◌then◌else◌, ◌==◌}
-use Rattle.std.specs.Ordering.{nat_cmp}
-use Rattle.std.specs.Cmp.Lexicographic.{slice_cmp}
-use Rattle.std.specs.BTreeSet.{BTreeSet, contains}
-use Rattle.std.specs.declared.cmp.Ordering.{Ordering}
+use Rattle.std.specs.Prelude.{◌≡◌, ◌≢◌, ◌↔◌, ℕ, List, Contains, map, length, slice_get, Option, Some, None, Bool, ◌&&◌, ◌==◌}
 use Rattle.std.specs.declared.cmp.Ordering.TheVariants.{Less, Greater}
 use Rattle.meaning.specs.declared.types.Term.{Term}
 use Rattle.meaning.specs.declared.types.Term.TheVariants.{Var, Const}
@@ -12,6 +8,8 @@ use Rattle.meaning.specs.declared.types.Rule.{Rule}
 use Rattle.meaning.specs.declared.types.Fact.{Fact}
 use Rattle.meaning.specs.Values.{Value, Row}
 use Rattle.meaning.specs.Matching.{value_of, itself}
+use Rattle.data_verify.specs.declared.key_set.KeySet.{KeySet}
+use Rattle.data_verify.specs.Keys.{key_of, row_cmp, Holds}
 
 -- Whether a rule has one body atom and one head atom.
 abbrev pub is_inclusion : Rule → Bool
@@ -36,18 +34,6 @@ abbrev pub FitsBefore : Term → Value → List Term → Row → Type 0
 FitsBefore (Var x) value terms row = StandsAt x value terms row
 FitsBefore (Const c) value terms row = c ≡ value
 
--- A row gives a variable of the terms the value at its first place, and other variables the empty value.
-abbrev pub reading : List Term → Row → ℕ → Value
-reading [] row x = []
-reading (Var y ∷ terms) [] x = []
-reading (Const c ∷ terms) [] x = []
-reading (Var y ∷ terms) (value ∷ row) x = if y == x then value else reading terms row x
-reading (Const c ∷ terms) (value ∷ row) x = reading terms row x
-
--- The key of a row has the values that it gives the variables.
-abbrev pub key_of : List Term → List ℕ → Row → Row
-key_of terms variables row = map (reading terms row) variables
-
 -- The shared variables are exactly those of the body's terms that the head's terms have too.
 abbrev pub AreShared : List Term → List Term → List ℕ → Type 0
 AreShared body head variables =
@@ -58,18 +44,15 @@ abbrev pub IsKey : List Fact → Atom → List ℕ → Row → Type 0
 IsKey facts atom variables key =
     (fact : Fact) × Contains facts fact × FitsAtom atom fact × (key_of atom.terms variables fact.row ≡ key)
 
--- Rows are ordered column by column, and values by their bytes.
-abbrev pub row_cmp : Row → Row → Ordering
-row_cmp = slice_cmp (slice_cmp nat_cmp)
+-- The set holds exactly the keys of the atom.
+abbrev pub AreKeys : List Fact → Atom → List ℕ → KeySet → Type 0
+AreKeys facts atom variables keys =
+    (key : Row) → Holds atom.terms variables keys key ↔ IsKey facts atom variables key
 
--- The set has exactly the keys of the atom.
-abbrev pub AreKeys : List Fact → Atom → List ℕ → BTreeSet Row → Type 0
-AreKeys facts atom variables keys = (key : Row) → IsTrue (contains row_cmp keys key) ↔ IsKey facts atom variables key
-
--- A fact is without a key where it fits the atom and the set has not its key.
-pub record IsWithout (atom : Atom) (variables : List ℕ) (keys : BTreeSet Row) (fact : Fact) : Type 0 where
-  pub fits : FitsAtom atom fact
-  pub absent : contains row_cmp keys (key_of atom.terms variables fact.row) ≡ false
+-- A fact is without a key where it fits the body's atom and the set of the head's keys does not hold its key.
+pub record IsWithout (body head : Atom) (variables : List ℕ) (keys : KeySet) (fact : Fact) : Type 0 where
+  pub fits : FitsAtom body fact
+  pub absent : Holds head.terms variables keys (key_of body.terms variables fact.row) → ⊥
 
 -- A fact is the least of some where it is one of them and has no greater row than any other.
 pub record IsLeastOf (P : Fact → Type 0) (facts : List Fact) (least : Fact) : Type 0 where

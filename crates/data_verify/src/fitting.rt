@@ -1,11 +1,11 @@
 // Facts that fit an atom, and the values that they give its variables.
-ghost use Rattle.std.specs.Prelude.{◌≡◌, ◌↔◌, IsTrue, IfOk};
+ghost use Rattle.std.specs.Prelude.{◌≡◌, ◌↔◌, IsTrue};
 ghost use Rattle.meaning.specs.declared.types.Term.TheVariants.{Var};
-ghost use Rattle.data_verify.specs.Inclusion.{Fits, FitsAtom, StandsAt, FitsBefore, reading};
+ghost use Rattle.data_verify.specs.Inclusion.{Fits, FitsAtom, StandsAt, FitsBefore};
+ghost use Rattle.data_verify.specs.Keys.{reading};
 
-use lists::{Copies, Exact, NoMemory, Text};
+use lists::{Exact, Text};
 use meaning::types::{Atom, Fact, Term};
-use std::alloc::Global;
 
 /// Whether the fact has the atom's relation and a row that fits its terms. Takes no memory.
 pub fn fits_atom(atom: &Atom, fact: &Fact) -> bool
@@ -72,9 +72,9 @@ pub fn is_variable(term: &Term, variable: u32) -> bool
     }
 }
 
-/// The value that the row gives the variable.
-pub fn reading(alloc: Global, terms: &[Term], row: &[Text], variable: u32) -> Result<Text, NoMemory>
-    ensures { IfOk result (λ value. value ≡ reading terms.now row.now variable) }
+/// The value that the row gives the variable, lent. Takes no memory.
+pub fn reading<'a>(terms: &[Term], row: &'a [Text], variable: u32) -> &'a str
+    ensures { result.now ≡ reading terms.now row.now variable }
 {
     let mut left = terms;
     let mut values = row;
@@ -83,10 +83,10 @@ pub fn reading(alloc: Global, terms: &[Term], row: &[Text], variable: u32) -> Re
             break;
         };
         if is_variable(term, variable) {
-            return value.copy(alloc);
+            return value.as_str();
         }
         left = later;
         values = others;
     }
-    Text::from_str(alloc, "")
+    ""
 }

@@ -6,11 +6,11 @@ ghost use Rattle.data_verify.specs.Inclusion.{is_inclusion, IsWithout, IsBelow, 
 
 use crate::broken::Facts;
 use crate::fitting::fits_atom;
-use crate::keys::{key, keys, shared_variables};
-use lists::{Copies, NoMemory, Row};
+use crate::key_set::KeySet;
+use crate::keys::{keys, shared_variables};
+use lists::{Copies, NoMemory};
 use meaning::types::{Atom, Fact, Rule};
 use std::alloc::Global;
-use std::collections::BTreeSet;
 
 /// Whether the rule has one body atom and one head atom. Takes no memory.
 pub fn is_inclusion(rule: &Rule) -> bool
@@ -19,7 +19,8 @@ pub fn is_inclusion(rule: &Rule) -> bool
     rule.body.len() == 1 && rule.head.len() == 1
 }
 
-/// The least fact of the body without a fact of the head, if there is one. It takes memory for the keys of the head's facts.
+/// The least fact of the body without a fact of the head, if there is one. It takes memory for the codes of the
+/// head's facts.
 pub fn least_without(
     alloc: Global,
     rule: &Rule,
@@ -34,7 +35,7 @@ pub fn least_without(
     };
     let variables = shared_variables(alloc, body.terms.as_slice(), head.terms.as_slice())?;
     let keys = keys(alloc, head, variables.as_slice(), instance)?;
-    match least(alloc, body, variables.as_slice(), &keys, instance)? {
+    match least(alloc, body, head, variables.as_slice(), &keys, instance)? {
         None => Ok(None),
         Some(fact) => {
             let mut facts = Facts::new(alloc);
@@ -44,40 +45,42 @@ pub fn least_without(
     }
 }
 
-/// The fact with the least row among those that fit the atom and have none of the keys.
+/// The fact with the least row among those that fit the body's atom and have none of the keys of the head's atom.
 fn least<'a>(
     alloc: Global,
-    atom: &Atom,
+    body: &Atom,
+    head: &Atom,
     variables: &[u32],
-    keys: &BTreeSet<Row>,
+    keys: &KeySet<'_>,
     instance: &'a [Fact],
 ) -> Result<Option<&'a Fact>, NoMemory>
-    ensures { IfOk result (λ least. IsLeastIf (IsWithout atom.now variables.now keys.now) instance.now (option_copied least)) }
+    ensures { IfOk result (λ least. IsLeastIf (IsWithout body.now head.now variables.now keys.now) instance.now (option_copied least)) }
 {
     let mut least: Option<&Fact> = None;
     for fact in instance {
-        if is_below(fact, least) && is_without(alloc, atom, variables, keys, fact)? {
+        if is_below(fact, least) && is_without(alloc, body, head, variables, keys, fact)? {
             least = Some(fact);
         }
     }
     Ok(least)
 }
 
-/// Whether the fact fits the atom and its key is none of these.
+/// Whether the fact fits the body's atom and its key is none of these of the head's atom.
 fn is_without(
     alloc: Global,
-    atom: &Atom,
+    body: &Atom,
+    head: &Atom,
     variables: &[u32],
-    keys: &BTreeSet<Row>,
+    keys: &KeySet<'_>,
     fact: &Fact,
 ) -> Result<bool, NoMemory>
-    ensures { IfOk result (λ without. IsTrue without ↔ IsWithout atom.now variables.now keys.now fact.now) }
+    ensures { IfOk result (λ without. IsTrue without ↔ IsWithout body.now head.now variables.now keys.now fact.now) }
 {
-    if !fits_atom(atom, fact) {
+    if !fits_atom(body, fact) {
         return Ok(false);
     }
-    let wanted = key(alloc, atom.terms.as_slice(), variables, fact.row.as_slice())?;
-    Ok(!keys.contains(&wanted))
+    let (own, terms) = (head.terms.as_slice(), body.terms.as_slice());
+    Ok(!keys.contains(alloc, own, variables, terms, fact.row.as_slice())?)
 }
 
 /// Whether the fact's row is below that of the least so far, if there is one.

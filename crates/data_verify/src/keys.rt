@@ -1,13 +1,13 @@
-// The keys that the facts of an atom have.
+// The variables that two atoms share, and the keys that the facts of an atom have.
 ghost use Rattle.std.specs.Prelude.{◌≡◌, ◌↔◌, IsTrue, Contains, IfOk};
 ghost use Rattle.meaning.specs.declared.types.Term.TheVariants.{Var};
-ghost use Rattle.data_verify.specs.Inclusion.{key_of, AreShared, AreKeys};
+ghost use Rattle.data_verify.specs.Inclusion.{AreShared, AreKeys};
 
-use crate::fitting::{fits_atom, is_variable, reading};
-use lists::{NoMemory, Row, Seq, Text};
+use crate::fitting::{fits_atom, is_variable};
+use crate::key_set::KeySet;
+use lists::NoMemory;
 use meaning::types::{Atom, Fact, Term};
 use std::alloc::Global;
-use std::collections::BTreeSet;
 
 /// The variables of the head's terms that the body's terms have too.
 pub fn shared_variables(alloc: Global, body: &[Term], head: &[Term]) -> Result<Vec<u32>, NoMemory>
@@ -39,31 +39,20 @@ fn has_variable(terms: &[Term], variable: u32) -> bool
     false
 }
 
-/// The keys of the facts that fit the atom, in an ordered tree: no choice of data makes a look-up slow.
-pub fn keys(
+/// The keys of the facts that fit the atom.
+pub fn keys<'a>(
     alloc: Global,
     atom: &Atom,
     variables: &[u32],
-    instance: &[Fact],
-) -> Result<BTreeSet<Row>, NoMemory>
+    instance: &'a [Fact],
+) -> Result<KeySet<'a>, NoMemory>
     ensures { IfOk result (λ keys. AreKeys instance.now atom.now variables.now keys) }
 {
-    let mut keys = BTreeSet::new(alloc);
+    let mut keys = KeySet::new(alloc);
     for fact in instance {
         if fits_atom(atom, fact) {
-            keys.insert(key(alloc, atom.terms.as_slice(), variables, fact.row.as_slice())?)?;
+            keys.insert(alloc, atom.terms.as_slice(), variables, fact.row.as_slice())?;
         }
     }
     Ok(keys)
-}
-
-/// The values that the row gives the variables.
-pub fn key(alloc: Global, terms: &[Term], variables: &[u32], row: &[Text]) -> Result<Row, NoMemory>
-    ensures { IfOk result (λ key. key ≡ key_of terms.now variables.now row.now) }
-{
-    let mut values = Vec::with_capacity(alloc, variables.len())?;
-    for variable in variables {
-        values.push(reading(alloc, terms, row, *variable)?)?;
-    }
-    Ok(Seq::from_vec(values))
 }

@@ -7,8 +7,10 @@
 mod broken;
 mod fitting;
 mod inclusion;
+mod key_set;
 mod keys;
 mod least;
+mod row_key;
 mod rows;
 mod text;
 mod verifying;

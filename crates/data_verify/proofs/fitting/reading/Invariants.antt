@@ -1,5 +1,5 @@
 use Rattle.std.proofs.Common.{◌≡◌, length}
-use Rattle.data_verify.specs.Inclusion.{reading}
+use Rattle.data_verify.specs.Keys.{reading}
 use Rattle.data_verify.proofs.fitting.reading.Given as goal
 
 abbrev pub invariant-loop-left : goal.invariant-loop-left

@@ -9,7 +9,7 @@ use Rattle.data_verify.proofs.inclusion.least.Goals as goal
 
 pub loop-fact-preserved : goal.loop-fact-preserved
 loop-fact-preserved c =
-    let P = IsWithout c.args.atom.now c.args.variables.now c.args.keys.now in
+    let P = IsWithout c.args.body.now c.args.head.now c.args.variables.now c.args.keys.now in
     elim c.if-is_below.branch [
       | then-is_below+in_ok-is_without+then-branch w ↦ rw w.least-is (turn_takes P c.args.instance.now c.loop-fact.fact-index c.fact-item.result c.loop-fact-test.true c.fact-item.is (option_copied c.loop-fact.least) c.loop-fact.invariant (told _ c.is_below.ensures w.if-is_below.true) (told _ w.in_ok-is_without.ensures w.if-branch.true))
       | else-is_below w ↦
@@ -21,4 +21,4 @@ loop-fact-preserved c =
     ]
 
 pub returns : goal.returns
-returns c = subst (λ z. IsLeastIf (IsWithout c.args.atom.now c.args.variables.now c.args.keys.now) z (option_copied c.loop-fact.least)) (take_all c.loop-fact.fact-index c.args.instance.now c.loop-fact-test.false) c.loop-fact.invariant
+returns c = subst (λ z. IsLeastIf (IsWithout c.args.body.now c.args.head.now c.args.variables.now c.args.keys.now) z (option_copied c.loop-fact.least)) (take_all c.loop-fact.fact-index c.args.instance.now c.loop-fact-test.false) c.loop-fact.invariant

@@ -1,6 +1,6 @@
 use Rattle.std.proofs.Common.{◌≡◌, take}
-use Rattle.data_verify.specs.Inclusion.{key_of}
-use Rattle.data_verify.proofs.keys.key.Given as goal
+use Rattle.data_verify.specs.Keys.{key_of}
+use Rattle.data_verify.proofs.row_key.key.Given as goal
 
 abbrev pub invariant-loop-variable : goal.invariant-loop-variable
 invariant-loop-variable l = l.values.items ≡ key_of l.terms (take l.variable-index l.variables) l.row
