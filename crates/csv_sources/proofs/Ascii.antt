@@ -1,5 +1,5 @@
 -- The records of a text of ASCII are of ASCII, and so each field is text.
-use Rattle.std.proofs.Common.{◌≡◌, ◌<◌, ◌&&◌, ℕ, zero, suc, List, [], ◌∷◌, ◌++◌, Option, None, Some, Bool, true, false, cond, refl, ◌∙◌, ap, subst}
+use Rattle.std.proofs.Common.{◌≡◌, ◌<◌, ◌&&◌, ℕ, zero, suc, List, [], ◌∷◌, ◌++◌, Option, None, Some, Bool, true, false, cond, drop, refl, ◌∙◌, ap, subst}
 use Rattle.std.specs.List.{AllByRecursion}
 use Rattle.std.specs.Str.{IsAscii}
 use Rattle.std.proofs.lemmas.Str.{IsAscii-append, IsUtf8-from_ascii, is_utf8-from_IsUtf8}
@@ -11,6 +11,7 @@ use Rattle.csv.specs.declared.parser.Action.TheVariants as act
 use Rattle.csv.specs.declared.parser.Config.{Config}
 use Rattle.csv.specs.declared.parser.State.{State}
 use Rattle.csv.specs.declared.parser.State.TheVariants as st
+use Rattle.source_trait.specs.Asking.{RowList}
 use Rattle.csv_sources.specs.DataFile.{AreText, all_text}
 
 -- each field is of ASCII
@@ -79,3 +80,8 @@ records_text cfg (suc n) s xs text = by (next_record cfg s [] [] xs) refl (λ p 
     by (Some p) e more =
         let read = read_ascii cfg s [] [] xs p tt IsAscii-nil text e in
         (ascii_text p.0 read.0, more p read.1)
+
+-- those behind the first one
+pub behind_text : (rows : RowList) → AreText rows → AreText (drop 1 rows)
+behind_text [] text = tt
+behind_text (row ∷ rows) text = text.1

@@ -89,3 +89,12 @@ ended s s2 (Some xs) (Some ys) fields some h = one_more s xs ∙ by (next_record
     by : (o : Option Read) → NextIs o false fields s2 ys → records_next (records_from default_config (length xs)) o ≡ []
     by None h = refl
     by (Some p) h = absurd (cc)
+
+-- the records of a text are the first one, and then those of the text behind it
+pub unrolled : (s : State) (xs : List ℕ) → records_of s (Some xs) ≡ records_next (λ t rest. records_of t (Some rest)) (next_record default_config s [] [] xs)
+unrolled s xs = one_more s xs ∙ by (next_record default_config s [] [] xs) refl
+  where
+    by : (o : Option Read) → next_record default_config s [] [] xs ≡ o
+        → records_next (records_from default_config (length xs)) o ≡ records_next (λ t rest. records_of t (Some rest)) o
+    by None e = refl
+    by (Some p) e = ap (λ (l : List (List (List ℕ))). p.0 ∷ l) (rest_same p xs (leaves default_config s [] [] xs p e))

@@ -1,7 +1,9 @@
 pub mod Ascii
 pub mod Counted
+pub mod Cutting
 pub mod Fields
 pub mod Gathered
 pub mod Limits
 pub mod Offers
 pub mod Rows
+pub mod Separators

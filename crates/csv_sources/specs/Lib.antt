@@ -1,4 +1,5 @@
 pub mod DataFile
 pub mod Folder
 pub mod Loading
+pub mod Plain
 pub mod Records

@@ -1,6 +1,7 @@
 // The rows of a data file.
-ghost use Rattle.std.specs.Prelude.{◌≡◌, ◌≤◌, ◌<◌, ◌+◌, ◌++◌, ◌^◌, length, map, slice_index_or, IfOk, IfErr, OnOk, [], ◌∷◌, List, ℕ, Ok, None, Some};
+ghost use Rattle.std.specs.Prelude.{◌≡◌, ◌≤◌, ◌<◌, ◌+◌, ◌++◌, ◌^◌, drop, length, map, slice_index_or, IfOk, IfErr, OnOk, [], ◌∷◌, List, ℕ, Ok, None, Some};
 ghost use Rattle.std.specs.List.{AllByRecursion};
+ghost use Rattle.csv.specs.Reading.{default_config, records};
 ghost use Rattle.csv.specs.Records.{AllText, fields_of, partial_of};
 ghost use Rattle.row_text.specs.Packed.{values_of};
 ghost use Rattle.source_trait.specs.Asking.{HaveArity};
@@ -9,9 +10,11 @@ ghost use Rattle.csv_sources.specs.DataFile.{AreText, after_marks, file_offer, f
 
 use crate::folder::FILE_LIMIT;
 use crate::header::{header_fault, places_of};
+use crate::plain::{behind_first, is_plain, plain_rows};
 use crate::records::{next_record, open};
 use csv::{ByteRecord, Reader, StringRecord};
 use lists::{NoMemory, Texts};
+use memchr::memchr_iter;
 use row_text::PackedRows;
 use source_trait::AttachFault;
 use std::alloc::Global;
@@ -38,13 +41,7 @@ pub(crate) fn read_offer(
         Some(fault) => Ok(Err(fault)),
         None => {
             let places = places_of(alloc, &header, columns.as_slice())?;
-            let places = places.as_slice();
-            if text.is_ascii() {
-                let values = ByteRecord::with_capacity(alloc, text.len(), 0)?;
-                return ascii_rows(alloc, &mut reader, header.len(), places, values);
-            }
-            let values = StringRecord::with_capacity(alloc, text.len(), 0)?;
-            text_rows(alloc, &mut reader, header.len(), places, values)
+            rows_behind(alloc, text, &mut reader, header.len(), places.as_slice())
         }
     }
 }
@@ -61,6 +58,42 @@ fn behind_marks(bytes: &[u8]) -> &[u8]
         left = rest;
     }
     left
+}
+
+// What a text offers behind its header, which the reader has taken: the fields at the places of every other record, in order, or what is wrong
+// with the first that is no row of this width. A text that is plain is cut, and the kit's reader goes over any other.
+fn rows_behind(
+    alloc: Global,
+    text: &[u8],
+    reader: &mut Reader<&[u8]>,
+    width: usize,
+    places: &[usize],
+) -> Result<Result<PackedRows, AttachFault>, NoMemory>
+    requires reading { IsReading reader.old }
+    requires behind { records_left reader.old ≡ drop 1 (records default_config text.now) }
+    requires few { length (records_left reader.old) < 2 ^ 32 }
+    requires some { 1 ≤ length places.now }
+    ensures offer { IfOk result (λ offer. offer ≡ unless (first_fault width 1 (records_left reader.old)) (map (λ row. map (λ p. slice_index_or row p []) places.now) (records_left reader.old))) }
+    ensures fit { IfOk result (λ offer. IfOk offer (HaveArity (length places.now))) }
+{
+    let count = value_count(text, places.len());
+    if !text.is_ascii() {
+        let values = StringRecord::with_capacity(alloc, text.len(), count)?;
+        return text_rows(alloc, reader, width, places, values);
+    }
+    if is_plain(text) {
+        let rows = behind_first(alloc, text)?;
+        let values = ByteRecord::with_capacity(alloc, text.len(), count)?;
+        return plain_rows(alloc, rows, width, places, values);
+    }
+    let values = ByteRecord::with_capacity(alloc, text.len(), count)?;
+    ascii_rows(alloc, reader, width, places, values)
+}
+
+// About how many values so many columns have in the lines of a text.
+fn value_count(text: &[u8], columns: usize) -> usize {
+    let lines = memchr_iter(b'\n', text).count();
+    lines.saturating_mul(columns).min(text.len())
 }
 
 // The fields at the places of every record that is left, in order, or what is wrong with the first that is no row of this width. The
@@ -185,8 +218,12 @@ fn text_at(row: &StringRecord, place: usize) -> &str
     }
 }
 
-// The rows of so many values each, of which these are the values.
-fn packed(alloc: Global, values: ByteRecord, width: usize) -> Result<PackedRows, NoMemory>
+/// The rows of so many values each, of which these are the values.
+pub(crate) fn packed(
+    alloc: Global,
+    values: ByteRecord,
+    width: usize,
+) -> Result<PackedRows, NoMemory>
     requires some { 1 ≤ width }
     requires text { AllText (fields_of values) }
     ensures { (rows : List (List (List ℕ))) → values_of rows ≡ fields_of values → HaveArity width rows → IfOk result (λ packed. packed ≡ rows) }

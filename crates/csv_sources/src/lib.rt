@@ -7,6 +7,7 @@
 mod data_file;
 mod folder;
 mod header;
+mod plain;
 mod records;
 
 pub use folder::{CsvFolder, FILE_LIMIT, SUM_LIMIT};

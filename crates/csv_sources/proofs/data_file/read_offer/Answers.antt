@@ -1,15 +1,12 @@
-use Rattle.std.proofs.Common.{◌≡◌, ◌+◌, ◌<◌, ◌≤◌, ◌∷◌, Some, None, ◌∙◌, sym, ap, arith, length, false, true, map, get_or, [], rules, subst, List, ℕ}
+use Rattle.std.proofs.Common.{◌≡◌, ◌+◌, ◌<◌, ◌≤◌, ◌∷◌, Some, None, ◌∙◌, sym, ap, arith, drop, length, false, true, map, get_or, [], rules, List, ℕ}
 use Rattle.std.specs.Prelude.{Ok, Err, Result, IfOk}
 use Rattle.std.specs.declared.alloc.AllocError.{AllocError}
-use Rattle.std.specs.Str.{IsAscii}
 use Rattle.csv.specs.Reading.{default_config, records, strip_bom}
 use Rattle.csv.specs.Records.{fields_of}
-use Rattle.csv.specs.declared.parser.State.TheVariants as st
 use Rattle.source_trait.specs.Asking.{RowList}
 use Rattle.source_trait.specs.declared.source.AttachFault.{AttachFault}
-use Rattle.csv_sources.specs.DataFile.{AreText, after_marks, offer_of, first_fault, header_fault, place_in, unless}
+use Rattle.csv_sources.specs.DataFile.{after_marks, offer_of, first_fault, header_fault, place_in, unless}
 use Rattle.csv_sources.specs.Records.{records_left}
-use Rattle.csv_sources.proofs.Ascii.{records_text}
 use Rattle.csv_sources.proofs.Rows.{few_records, marks_shorten, no_mark_left, offer_bad, offer_none, offer_rows}
 use Rattle.csv_sources.proofs.data_file.read_offer.Goals as goal
 
@@ -35,24 +32,15 @@ returns-in-Some-clause-offer c =
     let bad : Some c.in-Some.fault ≡ header_fault (fields_of c.next_record.new.row) c.args.columns.now = search rules in
     offer_bad c.args.columns.now (fields_of c.next_record.new.row) (records_left c.next_record.new.reader) (records default_config (after_marks c.args.bytes.now)) c.in-Some.fault first bad
 
-pub ascii_rows-requires-clause-few : goal.ascii_rows-requires-clause-few
-ascii_rows-requires-clause-few c =
+pub rows_behind-requires-clause-behind : goal.rows_behind-requires-clause-behind
+rows_behind-requires-clause-behind c =
     let all : records_left c.open-reader.result ≡ records default_config (after_marks c.args.bytes.now) = all_of (records_left c.open-reader.result) c.behind_marks-text.result.now c.args.bytes.now c.open-reader.ensures.records c.behind_marks-text.ensures in
     let found : c.in_ok-next_record.field-0 ≡ true = search rules in
-    let taken : records_left c.open-reader.result ≡ fields_of c.next_record.new.row ∷ records_left c.next_record.new.reader = c.in_ok-next_record.ensures.taken found in
-    omega (arith, few_of (records_left c.open-reader.result) c.args.bytes.now all c.requires.small, ap (λ (l : List (List (List ℕ))). length l) taken)
+    let first : records default_config (after_marks c.args.bytes.now) ≡ fields_of c.next_record.new.row ∷ records_left c.next_record.new.reader = sym all ∙ c.in_ok-next_record.ensures.taken found in
+    sym (ap (λ (l : List ℕ). drop 1 (records default_config l)) c.behind_marks-text.ensures ∙ ap (λ (l : RowList). drop 1 l) first)
 
-pub ascii_rows-requires-clause-text : goal.ascii_rows-requires-clause-text
-ascii_rows-requires-clause-text c =
-    let all : records_left c.open-reader.result ≡ records default_config (after_marks c.args.bytes.now) = all_of (records_left c.open-reader.result) c.behind_marks-text.result.now c.args.bytes.now c.open-reader.ensures.records c.behind_marks-text.ensures in
-    let found : c.in_ok-next_record.field-0 ≡ true = search rules in
-    let taken : records_left c.open-reader.result ≡ fields_of c.next_record.new.row ∷ records_left c.next_record.new.reader = c.in_ok-next_record.ensures.taken found in
-    let ascii : IsAscii c.behind_marks-text.result.now = rw c.if-is_ascii.true at c.is_ascii.ensures.cases in
-    let text : IsAscii (after_marks c.args.bytes.now) = subst IsAscii c.behind_marks-text.ensures ascii in
-    (subst AreText (sym all ∙ taken) (records_text default_config (length (after_marks c.args.bytes.now) + 1) st.StartRecord (after_marks c.args.bytes.now) text)).1
-
-pub text_rows-requires-clause-few : goal.text_rows-requires-clause-few
-text_rows-requires-clause-few c =
+pub rows_behind-requires-clause-few : goal.rows_behind-requires-clause-few
+rows_behind-requires-clause-few c =
     let all : records_left c.open-reader.result ≡ records default_config (after_marks c.args.bytes.now) = all_of (records_left c.open-reader.result) c.behind_marks-text.result.now c.args.bytes.now c.open-reader.ensures.records c.behind_marks-text.ensures in
     let found : c.in_ok-next_record.field-0 ≡ true = search rules in
     let taken : records_left c.open-reader.result ≡ fields_of c.next_record.new.row ∷ records_left c.next_record.new.reader = c.in_ok-next_record.ensures.taken found in
@@ -66,19 +54,6 @@ under columns header rows all places width (Ok offer) first good at wide is =
     offer_rows columns header rows all places offer first good at (is ∙ ap (λ n. unless (first_fault n 1 rows) (map (λ row. map (λ p. get_or row p []) places) rows)) wide)
 under columns header rows all places width (Err e) first good at wide is = tt
 
-pub returns-then-is_ascii-clause-offer : goal.returns-then-is_ascii-clause-offer
-returns-then-is_ascii-clause-offer c =
-    let all : records_left c.open-reader.result ≡ records default_config (after_marks c.args.bytes.now) = all_of (records_left c.open-reader.result) c.behind_marks-text.result.now c.args.bytes.now c.open-reader.ensures.records c.behind_marks-text.ensures in
-    let found : c.in_ok-next_record.field-0 ≡ true = search rules in
-    let header = fields_of c.next_record.new.row in
-    let rows = records_left c.next_record.new.reader in
-    let first : records default_config (after_marks c.args.bytes.now) ≡ header ∷ rows = sym all ∙ c.in_ok-next_record.ensures.taken found in
-    let good : None ≡ header_fault header c.args.columns.now = search rules in
-    let at : c.in_ok-places-in-None.places.items ≡ map (place_in header) c.args.columns.now = search rules in
-    let places : c.as_slice-places.result.now ≡ map (place_in header) c.args.columns.now = c.as_slice-places.ensures.value ∙ at in
-    let width : c.len.result ≡ length header = search rules in
-    under c.args.columns.now header rows (records default_config (after_marks c.args.bytes.now)) c.as_slice-places.result.now c.len.result c.ascii_rows.result first good places width c.ascii_rows.ensures.offer
-
 pub returns-clause-offer : goal.returns-clause-offer
 returns-clause-offer c =
     let all : records_left c.open-reader.result ≡ records default_config (after_marks c.args.bytes.now) = all_of (records_left c.open-reader.result) c.behind_marks-text.result.now c.args.bytes.now c.open-reader.ensures.records c.behind_marks-text.ensures in
@@ -88,6 +63,6 @@ returns-clause-offer c =
     let first : records default_config (after_marks c.args.bytes.now) ≡ header ∷ rows = sym all ∙ c.in_ok-next_record.ensures.taken found in
     let good : None ≡ header_fault header c.args.columns.now = search rules in
     let at : c.in_ok-places-in-None.places.items ≡ map (place_in header) c.args.columns.now = search rules in
-    let places : c.as_slice-places.result.now ≡ map (place_in header) c.args.columns.now = c.as_slice-places.ensures.value ∙ at in
-    let width : c.len-in-None.result ≡ length header = search rules in
-    under c.args.columns.now header rows (records default_config (after_marks c.args.bytes.now)) c.as_slice-places.result.now c.len-in-None.result c.text_rows.result first good places width c.text_rows.ensures.offer
+    let places : c.as_slice-in-None-2.result.now ≡ map (place_in header) c.args.columns.now = c.as_slice-in-None-2.ensures.value ∙ at in
+    let width : c.len.result ≡ length header = search rules in
+    under c.args.columns.now header rows (records default_config (after_marks c.args.bytes.now)) c.as_slice-in-None-2.result.now c.len.result c.rows_behind.result first good places width c.rows_behind.ensures.offer
