@@ -327,8 +327,3 @@ module _ {S : Type 0} (seen : S → Seen) where
       line_is = p.line_is;
       place = subst (λ (n : List (List ℕ)). IsSome (place_from 0 p.line.kind n)) (sym (KindsStay-names seen old mid (order_stays rels old mid order))) p.place;
     }
-
--- what an attach needs of a relation that is found
-module _ {S : Type 0} (schema : Schema) (kinds : List (Kind S)) (rel : ℕ) (placed : IsPlaced schema kinds rel) where
-  pub relation_missing : None ≡ slice_get schema.relations rel → ⊥
-  relation_missing e = let h : None ≡ Some placed.relation = e ∙ placed.relation_is in cc

@@ -1,7 +1,8 @@
 -- Partial rows without doubles want the same requests and give the same next rows.
-use Rattle.std.proofs.Common.{◌≡◌, ◌↔◌, ℕ, List, [], map, inr, ⊎_elim, subst}
+use Rattle.std.proofs.Common.{◌≡◌, ◌↔◌, ℕ, List, [], map, inr, ⊎_elim, subst, sym}
 use Rattle.std.specs.Prelude.{Contains, flat_map}
-use Rattle.std.specs.List.Sorted.{IsStrictlySortedBy}
+use Rattle.std.specs.List.Sorted.{IsPermutation, IsStrictlySortedBy}
+use Rattle.std.proofs.lemmas.List.Sorted.{Contains-permutation, IsPermutation-sym}
 use Rattle.lists.proofs.Members.{contains_map, contains_mapped, contains_joined, contains_none, joined_from}
 use Rattle.meaning.specs.declared.types.Place.{Place}
 use Rattle.source_trait.specs.Asking.{RowList}
@@ -14,6 +15,18 @@ map_within : {X Y : Type 0} (f : X → Y) (xs ys : List X) → ((x : X) → Cont
 map_within f xs ys within y c =
     let (x, among, e) = contains_mapped f xs y c in
     subst (Contains (map f ys)) e (contains_map f ys x (within x among))
+
+-- rows that were put in another order
+pub moved_same : {X : Type 0} (f : X → List (List ℕ)) (members moved : List X) (rows list : RowList) → map f members ≡ rows → IsPermutation members moved → HasAdded [] (map f moved) list
+    → (row : List (List ℕ)) → Contains list row ↔ Contains rows row
+moved_same f members moved rows list is permuted added row = (
+  (λ c. ⊎_elim
+      (λ none. absurd (contains_none row none))
+      (λ d. subst (λ (l : RowList). Contains l row) is
+      (map_within f moved members (λ x e. Contains-permutation moved members x (IsPermutation-sym members moved permuted) e) row d))
+      ((added row).0 c)),
+  (λ c. (added row).1 (inr (map_within f members moved (λ x e. Contains-permutation members moved x permuted e) row (subst (λ (l : RowList). Contains l row) (sym is) c)))),
+)
 
 flat_within : {X Y : Type 0} (f : X → List Y) (xs ys : List X) → ((x : X) → Contains xs x → Contains ys x) → (y : Y) → Contains (flat_map f xs) y → Contains (flat_map f ys) y
 flat_within f xs ys within y c =

@@ -1,7 +1,7 @@
 -- Methods and source lines that are found.
-use Rattle.std.proofs.Common.{◌≡◌, ◌≢◌, ℕ, List, Some, sym, ◌∙◌, ap, subst}
-use Rattle.std.specs.Prelude.{Contains, slice_get}
-use Rattle.lists.proofs.Members.{map_got, some_injective}
+use Rattle.std.proofs.Common.{◌≡◌, ◌≢◌, ◌<◌, ℕ, List, [], ◌∷◌, length, Some, refl, sym, ◌∙◌, ap, subst, arith}
+use Rattle.std.specs.Prelude.{Contains, IsSome, slice_get}
+use Rattle.lists.proofs.Members.{contains_here, map_got, some_injective}
 use Rattle.lists.proofs.Places.{got_contained}
 use Rattle.meaning.specs.declared.types.Method.{Method}
 use Rattle.access_schema.specs.declared.schema.Schema.{Schema}
@@ -12,7 +12,9 @@ use Rattle.source_trait.specs.Lanes.{AtKind}
 use Rattle.source_trait.specs.declared.lanes.Kind.{Kind}
 use Rattle.middleware.specs.PlanSources.{line_for}
 use Rattle.middleware.specs.Rounds.{CanAskAll}
+use Rattle.source_trait.specs.declared.lanes.Lane.{Lane}
 use Rattle.middleware.specs.Branches.{IsAskable}
+use Rattle.middleware.specs.LaneBranches.{OnEach}
 
 -- a name at no place is no method's
 pub no_method : (methods : List Method) (name : List ℕ) → ((k : ℕ) → slice_get (method_names methods) k ≢ Some name) → (method : Method) → Contains methods method × (method.name ≡ name) → ⊥
@@ -20,8 +22,11 @@ no_method methods name none method named =
     let there = named.0 in
     none there.0 (map_got (λ (m : Method). m.name) methods there.0 method (got_contained methods method there) ∙ ap Some named.1)
 
-pub line_found : (rel : ℕ) (lines sources : List SourceLine) (line : SourceLine) → Some line ≡ line_for rel lines → lines ≡ sources → line_for rel sources ≡ Some line
-line_found rel lines sources line e is = sym (e ∙ ap (line_for rel) is)
+-- a method that each of some lanes may be asked has a source line
+pub line_there : {S : Type 0} (seen : S → Seen) (schema : Schema) (method : Method) (lanes : List (Lane S)) → 0 < length lanes → OnEach lanes (λ kinds. IsAskable seen schema kinds method)
+    → IsSome (line_for method.rel schema.sources)
+line_there seen schema method [] some askable = absurd (omega (arith, some))
+line_there seen schema method (lane ∷ lanes) some askable = let is = (askable lane (contains_here lane lanes)).line_is in rw is refl
 
 -- the source of the line that is found may be asked
 pub ready_line : {S : Type 0} (seen : S → Seen) (schema : Schema) (kinds : List (Kind S)) (method : Method) (line : SourceLine) → line_for method.rel schema.sources ≡ Some line → IsAskable seen schema kinds method

@@ -7,7 +7,7 @@ use Rattle.lists.proofs.Places.{got_seam}
 use Rattle.source_trait.specs.Asking.{RowList}
 use Rattle.source_trait.specs.declared.work.Asked.{Asked}
 use Rattle.source_trait.specs.declared.work.Asked.TheVariants as asked
-use Rattle.middleware.specs.LaneRounds.{RowsBelow, FirstRefused}
+use Rattle.middleware.specs.LaneRounds.{RowsBelow, FirstRefused, SkipsBehind}
 use Rattle.middleware.specs.declared.lane_round.AskFault.TheVariants as fault
 
 module _ (rows : List RowList) (before left answers : List Asked) (parts : before ++ left ≡ answers) (are : map asked.Rows rows ≡ before)
@@ -30,6 +30,12 @@ module _ (rows : List RowList) (before left answers : List Asked) (parts : befor
               ∙ got_seam before asked.Failed rest,
           rows_below,
         )
+
+    -- the answer behind the rows is not that of a stopped lane
+    pub none_skipped : (rest : List Asked) → left ≡ asked.Skipped ∷ rest → SkipsBehind answers → ⊥
+    none_skipped rest is skips = skips (length before) rows_below
+        (ap (λ (l : List Asked). slice_get l (length before)) (sym parts ∙ ap (λ (l : List Asked). before ++ l) is)
+        ∙ got_seam before asked.Skipped rest)
 
     -- there is one more answer than those before
     pub one_more : (answer : Asked) (rest : List Asked) → left ≡ answer ∷ rest → length before < length answers

@@ -10,9 +10,13 @@ pub mod LaneAnswers
 pub mod LaneWorks
 pub mod LaneRounds
 pub mod LaneStarts
+pub mod LaneSkips
 pub mod LaneResults
 pub mod LanesAttached
+pub mod LaneNumbers
 pub mod LaneShares
+pub mod LaneValues
+pub mod LaneRequests
 pub mod LaneGoing
 pub mod Finding
 pub mod Branching
@@ -23,6 +27,8 @@ pub mod LanePlanning
 pub mod Accessing
 pub mod Lacking
 pub mod Starting
+pub mod LaneStays
 pub mod LaneFinished
 pub mod Whole
+pub mod Lone
 pub mod Parting

@@ -277,7 +277,7 @@ len_requests rel positions [] = refl
 len_requests rel positions (v ∷ list) = ap suc (len_requests rel positions list)
 
 -- rows that were added
-pub added_one : (f : List (List ℕ) → List (List ℕ)) (taken : RowList) (row : List (List ℕ)) (before middle after : RowList) → HasAdded before (map f taken) middle → HasAdded middle (f row ∷ []) after → HasAdded before (map f (taken ++ row ∷ [])) after
+pub added_one : {X : Type 0} (f : X → List (List ℕ)) (taken : List X) (row : X) (before middle after : RowList) → HasAdded before (map f taken) middle → HasAdded middle (f row ∷ []) after → HasAdded before (map f (taken ++ row ∷ [])) after
 added_one f taken row before middle after first next x =
     let e : map f (taken ++ row ∷ []) ≡ map f taken ++ f row ∷ [] = map-append f taken (row ∷ []) in (
       (λ c. ⊎_elim
@@ -289,11 +289,11 @@ added_one f taken row before middle after first next x =
           (λ c. ⊎_elim (λ old. (next x).1 (inl ((first x).1 (inr old)))) (λ new. (next x).1 (inr new)) (in_append (map f taken) (f row ∷ []) x (subst (λ (l : RowList). Contains l x) e c))),
     )
 
-pub added_next : (f : List (List ℕ) → List (List ℕ)) (rows : RowList) (n : ℕ) (row : List (List ℕ)) (before middle after : RowList) → n < length rows → row ≡ get_or rows n []
+pub added_next : {X : Type 0} (f : X → List (List ℕ)) (rows : List X) (n : ℕ) (row d : X) (before middle after : RowList) → n < length rows → row ≡ get_or rows n d
     → HasAdded before (map f (take n rows)) middle → HasAdded middle (f row ∷ []) after → HasAdded before (map f (take (n + 1) rows)) after
-added_next f rows n row before middle after less at first next =
-    let taken : take (n + 1) rows ≡ take n rows ++ row ∷ [] = take_more rows n [] less ∙ ap (λ (r : List (List ℕ)). take n rows ++ r ∷ []) (sym at) in
-    subst (λ (l : RowList). HasAdded before (map f l) after) (sym taken) (added_one f (take n rows) row before middle after first next)
+added_next {X} f rows n row d before middle after less at first next =
+    let taken : take (n + 1) rows ≡ take n rows ++ row ∷ [] = take_more rows n d less ∙ ap (λ (r : X). take n rows ++ r ∷ []) (sym at) in
+    subst (λ (l : List X). HasAdded before (map f l) after) (sym taken) (added_one f (take n rows) row before middle after first next)
 
 pub added_none : HasAdded [] [] []
 added_none = λ row. ((λ c. inl c), (λ c. ⊎_elim (λ h. h) (λ h. h) c))

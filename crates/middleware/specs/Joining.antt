@@ -1,5 +1,5 @@
 -- Partial rows joined with the rows of answers.
-use Rattle.std.specs.Prelude.{◌≡◌, ℕ, List, [], ◌∷◌, ◌++◌, Contains, map, flat_map, slice_get, Option, Some, None, Bool, false, nat_eq, if◌then◌else◌}
+use Rattle.std.specs.Prelude.{◌≡◌, ◌↔◌, ℕ, List, [], ◌∷◌, ◌++◌, Contains, length, map, flat_map, slice_get, slice_index_or, Option, Some, None, Bool, false, nat_eq, if◌then◌else◌}
 use Rattle.std.specs.Cmp.Lexicographic.{pointwise}
 use Rattle.meaning.specs.declared.types.Place.{Place}
 use Rattle.meaning.specs.declared.types.Place.TheVariants.{Const, Col, New}
@@ -47,3 +47,15 @@ input_row_of places inputs row = map (λ p. input_value_or row (slice_get places
 -- the answer to the request of a partial row is empty where it is none of the requests
 abbrev pub OthersAreEmpty : List Place → List ℕ → RowList → RowList → (List (List ℕ) → RowList) → Type 0
 OthersAreEmpty places inputs requests rows answer = (row : List (List ℕ)) → Contains rows row → (Contains requests (input_row_of places inputs row) → ⊥) → answer (input_row_of places inputs row) ≡ []
+
+-- there are as many answers, and each has just the rows of the other one
+pub record HaveSameRows (answers others : List RowList) : Type 0 where
+  pub len : length others ≡ length answers
+  pub each : (k : ℕ) (row : List (List ℕ)) → Contains (slice_index_or others k []) row ↔ Contains (slice_index_or answers k []) row
+
+-- The partial rows grew to these rows by the answers to their requests, each in some order.
+pub record AreJoined (places : List Place) (inputs : List ℕ) (requests : RowList) (answers : List RowList) (rows next : RowList) : Type 0 where
+  pub ordered : List RowList
+  pub same : HaveSameRows answers ordered
+  pub joins : (answer : List (List ℕ) → RowList) → ordered ≡ map answer requests
+      → next ≡ flat_map (λ row. grown places (answer (input_row_of places inputs row)) row) rows

@@ -107,6 +107,10 @@ abbrev pub FirstRefused : AskFault → List Asked → Type 0
 FirstRefused fault.NoMemory answers = Unit {0}
 FirstRefused (fault.CallFailed k) answers = (slice_get answers k ≡ Some asked.Failed) × RowsBelow answers k
 
+-- A skipped request is not the first that was refused.
+abbrev pub SkipsBehind : List Asked → Type 0
+SkipsBehind answers = (k : ℕ) → RowsBelow answers k → slice_get answers k ≡ Some asked.Skipped → ⊥
+
 -- What the lanes answered one by one; a refusal but for want of memory is the first failed call.
 pub record RoundBreaks {S : Type 0} (seen : S → Seen) (asks : List Ask) (why : AskFault) (old new : List (Lane S)) : Type 0 where
   pub answers : List Asked

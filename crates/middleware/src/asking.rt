@@ -7,7 +7,7 @@ ghost use Rattle.middleware.specs.LaneRounds.{NoneStopped};
 
 use crate::ask::{Answers, ask_all};
 use crate::lane_round::{AskFault, ask_round};
-use crate::lookup::find_line;
+use crate::lookup::line_of;
 use access_schema::{Method, Schema};
 use lists::{Copies, NoMemory, Text};
 use meaning::types::Request;
@@ -54,9 +54,7 @@ fn ask_first<S: Source + Send + Drop>(
     requires values { (values : List (List ℕ)) → Contains requests.now values → length values ≡ length method.now.inputs }
     ensures { AsksWanted S.seen schema.now method.now requests.now result lanes.old lanes.new }
 {
-    let Some(line) = find_line(schema.sources.as_slice(), method.rel) else {
-        return Err(CallFault::NoMemory);
-    };
+    let line = line_of(schema, method.rel);
     let lane = &mut lanes[0];
     let result = ask_all(
         alloc,
@@ -85,9 +83,7 @@ fn ask_shared<R: Threads + Sync, S: Source + Send + Drop>(
     requires values { (values : List (List ℕ)) → Contains requests.now values → length values ≡ length method.now.inputs }
     ensures { AsksWanted S.seen schema.now method.now requests.now result lanes.old lanes.new }
 {
-    let Some(line) = find_line(schema.sources.as_slice(), method.rel) else {
-        return Err(CallFault::NoMemory);
-    };
+    let line = line_of(schema, method.rel);
     let asks = match asks_of(alloc, &line.kind, method, requests) {
         Ok(asks) => asks,
         Err(_) => return Err(CallFault::NoMemory),

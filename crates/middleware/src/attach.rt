@@ -5,7 +5,7 @@ ghost use Rattle.middleware.specs.Attaching.{AttachesOne, AttachesInOrder};
 ghost use Rattle.middleware.specs.Sources.{IsPlaced, AttachBreaks};
 ghost use Rattle.middleware.specs.LaneAttaching.{LanesAttach, LanesBreak};
 
-use crate::lookup::find_line;
+use crate::lookup::{line_of, relation_of};
 use access_schema::Schema;
 use source_trait::{AttachFault, Lane, Source, attach_on};
 use std::alloc::Global;
@@ -68,12 +68,8 @@ fn attach_one<S: Source + Send + Drop>(
     ensures attaches { AttachesOne S.seen schema.now rel result lane.old.kinds.items lane.new.kinds.items }
     ensures stopped { lane.new.stopped ≡ lane.old.stopped }
 {
-    let Some(relation) = schema.relations.get(rel as usize) else {
-        return Err(AttachFault::NoMemory);
-    };
-    let Some(line) = find_line(schema.sources.as_slice(), rel) else {
-        return Err(AttachFault::NoMemory);
-    };
+    let relation = relation_of(schema, rel);
+    let line = line_of(schema, rel);
     attach_on(
         alloc,
         lane,

@@ -5,7 +5,7 @@ ghost use Rattle.access_schema.specs.declared.schema.Schema.{Schema};
 ghost use Rattle.lane_pool.specs.Work.{AllReady, FansOut};
 ghost use Rattle.source_trait.specs.Works.{MayAsk, Works};
 ghost use Rattle.source_trait.specs.declared.work.Asked.TheVariants as asked;
-ghost use Rattle.middleware.specs.LaneRounds.{started, requests_in, HaveTheirKinds, AsksEach, AsksSome, AreAnswers, LanesHold, picked, NoneStopped, FirstRefused, AskCause};
+ghost use Rattle.middleware.specs.LaneRounds.{started, requests_in, HaveTheirKinds, AsksEach, AsksSome, AreAnswers, LanesHold, picked, NoneStopped, FirstRefused, AskCause, SkipsBehind};
 
 use crate::ask::Answers;
 use lane_pool::fan_out;
@@ -86,7 +86,8 @@ pub fn start<S>(lanes: &mut [Lane<S>])
 
 // The rows of the answers, or why the first that has none was refused. A lane skips requests behind a refused one alone.
 fn rows_of(alloc: Global, answers: Vec<Asked>) -> Result<Answers, AskFault>
-    requires { length answers.items ≤ 1_000_000 }
+    requires few { length answers.items ≤ 1_000_000 }
+    requires skips { SkipsBehind answers.items }
     ensures rows { IfOk result (λ rows. map asked.Rows rows ≡ answers.items) }
     ensures first { IfErr result (λ fault. FirstRefused fault answers.items) }
 {
@@ -96,7 +97,8 @@ fn rows_of(alloc: Global, answers: Vec<Asked>) -> Result<Answers, AskFault>
         match answer {
             Asked::Rows(found) => rows.push_reserved(found),
             Asked::Failed => return Err(AskFault::CallFailed { request: number }),
-            Asked::NoMemory | Asked::Skipped => return Err(AskFault::NoMemory),
+            Asked::NoMemory => return Err(AskFault::NoMemory),
+            Asked::Skipped => unreachable!(),
         }
         number += 1;
     }

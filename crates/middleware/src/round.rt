@@ -3,6 +3,7 @@ ghost use Rattle.std.specs.Prelude.{◌≤◌, ◌<◌, ◌-◌, ◌↔◌, List
 ghost use Rattle.meaning.specs.declared.types.Method.{Method};
 ghost use Rattle.meaning.specs.Plans.{IsMethod};
 ghost use Rattle.access_schema.specs.Meaning.{meaning_of};
+ghost use Rattle.middleware.specs.Joining.{AreJoined};
 ghost use Rattle.middleware.specs.Rounds.{IsWanted};
 ghost use Rattle.middleware.specs.Branches.{IsAskable};
 ghost use Rattle.middleware.specs.LaneBranches.{OnEach, LanesGo, LanesHalt};
@@ -11,7 +12,9 @@ ghost use Rattle.middleware.specs.LaneRounds.{NoneStopped};
 
 use crate::ascending::distinct_rows;
 use crate::asking::ask_wanted;
-use crate::lookup::find_method;
+use crate::by_request::rows_by_request;
+use crate::lone_answer::lone_in_order;
+use crate::lookup::method_of;
 use crate::partial_rows::{input_rows, join};
 use access_schema::{Method, Schema};
 use meaning::types::{Place, Step};
@@ -57,10 +60,8 @@ pub fn next_round<R: Threads + Sync, S: Source + Send + Drop>(
     ensures stops { IfErr result (λ fault. LanesHalt S.seen schema.now step.now progress.rows (cap - progress.made) fault lanes.old lanes.new) }
     ensures going { OnOk result (NoneStopped lanes.new) }
 {
-    match find_method(schema, &step.method) {
-        Some(method) => { ask_step(rt, alloc, schema, lanes, step, method, progress, cap) }
-        None => Err(RoundFault::NoMemory),
-    }
+    let method = method_of(schema, &step.method);
+    ask_step(rt, alloc, schema, lanes, step, method, progress, cap)
 }
 
 // Asks the distinct requests of a step, and joins the answers with the partial rows.
@@ -130,14 +131,7 @@ fn join_wanted<R: Threads + Sync, S: Source + Send + Drop>(
     match ask_wanted(rt, alloc, schema, lanes, method, requests) {
         Ok(answers) => {
             let inputs = method.inputs.as_slice();
-            match join(
-                alloc,
-                places,
-                inputs,
-                requests,
-                answers.into_vec(),
-                &wanted.rows,
-            ) {
+            match join_answers(alloc, places, inputs, wanted, answers.into_vec()) {
                 Ok(next) => Ok(next),
                 Err(_) => Err(RoundFault::NoMemory),
             }
@@ -147,7 +141,30 @@ fn join_wanted<R: Threads + Sync, S: Source + Send + Drop>(
     }
 }
 
-/// The distinct partial rows, and their distinct input rows, ascending.
+// The partial rows grown by the rows of the answers to their requests.
+fn join_answers(
+    alloc: Global,
+    places: &[Place],
+    inputs: &[u32],
+    wanted: &Wanted,
+    answers: Vec<PackedRows>,
+) -> Result<PackedRows, AllocError>
+    requires wanted { IsWanted places.now inputs.now wanted.now.rows wanted.now.requests }
+    ensures { IfOk result (λ next. AreJoined places.now inputs.now wanted.now.requests answers.items wanted.now.rows next) }
+{
+    let ordered = lone_in_order(alloc, answers, wanted.rows.len())?;
+    let next = join(
+        alloc,
+        places,
+        inputs,
+        &wanted.requests,
+        ordered,
+        &wanted.rows,
+    )?;
+    Ok(next)
+}
+
+/// The distinct partial rows, in the order of what they ask for, and their distinct input rows, ascending.
 #[derive(Drop)]
 pub struct Wanted {
     pub rows: PackedRows,
@@ -164,11 +181,11 @@ fn wanted_rows(
     ensures wanted { IfOk result (λ w. IsWanted places.now inputs.now w.rows w.requests) }
     ensures same { IfOk result (λ w. (row : List (List ℕ)) → Contains w.rows row ↔ Contains rows row) }
 {
-    let distinct = distinct_rows(alloc, rows)?;
-    let list = input_rows(alloc, places, inputs, &distinct)?;
+    let sorted = rows_by_request(alloc, places, inputs, rows)?;
+    let list = input_rows(alloc, places, inputs, &sorted)?;
     let requests = distinct_rows(alloc, list)?;
     Ok(Wanted {
-        rows: distinct,
+        rows: sorted,
         requests,
     })
 }

@@ -8,7 +8,7 @@ use access_schema::Schema;
 use command_io::Stop;
 use lists::{NoMemory, Places, Row};
 use meaning::types::{Fact, Instance};
-use middleware::find_line;
+use middleware::line_of;
 use row_text::PackedRows;
 use source_trait::{CallFault, Lane, Source, call_on};
 use std::alloc::Global;
@@ -49,9 +49,7 @@ fn ask_one<S: Source + Send + Drop>(
     ensures asks { AsksOne S.seen schema.now rel result lane.old.kinds.items lane.new.kinds.items }
     ensures stays { KindsStay S.seen lane.old.kinds.items lane.new.kinds.items }
 {
-    let Some(line) = find_line(schema.sources.as_slice(), rel) else {
-        return Err(CallFault::NoMemory);
-    };
+    let line = line_of(schema, rel);
     let positions = Places::new(alloc);
     let values = Row::new(alloc);
     call_on(alloc, lane, &line.kind, rel, &positions, &values)

@@ -30,11 +30,10 @@ pub fn verify_rules<F: Files, S: Source + Send + Drop, O: Sink, E: Sink>(
     ensures stays { Stays outside.old outside.new }
     ensures lanes { LanesStay S.seen lanes.old.items lanes.new.items }
 {
-    let none = Text::new(String::new(alloc));
     let names = FileNames {
-        schema: schema_name,
-        query: &none,
-        plan: &none,
+        schema: schema_name.as_str(),
+        query: "",
+        plan: "",
     };
     let schema = match schema_of(alloc, &mut outside.files, schema_name) {
         Ok(schema) => schema,

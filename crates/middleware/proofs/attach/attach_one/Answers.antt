@@ -1,5 +1,8 @@
-use Rattle.middleware.proofs.Attached.{relation_missing}
+use Rattle.std.proofs.Common.{refl}
 use Rattle.middleware.proofs.attach.attach_one.Goals as goal
 
-pub returns-in_default-clause-attaches : goal.returns-in_default-clause-attaches
-returns-in_default-clause-attaches g c = absurd (relation_missing c.args.schema.now c.args.lane.now.kinds.items c.args.rel c.requires.placed c.in_default.ensures)
+pub relation_of-relation-requires : goal.relation_of-relation-requires
+relation_of-relation-requires g c = let is = c.requires.placed.relation_is in rw is refl
+
+pub line_of-line-requires : goal.line_of-line-requires
+line_of-line-requires g c = let is = c.requires.placed.line_is in rw is refl

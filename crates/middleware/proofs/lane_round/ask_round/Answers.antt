@@ -1,6 +1,7 @@
 use Rattle.std.proofs.Common.{◌≡◌, map}
 use Rattle.std.proofs.lemmas.Result.{IfOk-weaker, IfErr-weaker}
 use Rattle.source_trait.specs.declared.work.Asked.TheVariants as asked
+use Rattle.middleware.proofs.LaneSkips.{skips_behind}
 use Rattle.middleware.proofs.LaneRounds.{asks_each, asks_some, asks_none, are_answers, answers_picked, none_stopped, round_breaks, at_refusal, on_success}
 use Rattle.middleware.proofs.lane_round.ask_round.Goals as goal
 
@@ -8,6 +9,10 @@ pub returns-in_err-answers-clause-refused : goal.returns-in_err-answers-clause-r
 returns-in_err-answers-clause-refused g c =
     at_refusal c.from_residual.result (λ schema kinds. asks_none g.S.Source.seen schema c.args.asks.now c.args.lanes.now
     c.ask_lanes.new.lanes c.in_err-answers.ensures.refused)
+
+pub rows_of-requires-clause-skips : goal.rows_of-requires-clause-skips
+rows_of-requires-clause-skips g c =
+    skips_behind g.S.Source.seen c.args.asks.now c.in_ok-answers.answers.items c.args.lanes.now c.ask_lanes.new.lanes c.in_ok-answers.ensures.asked
 
 pub returns-clause-asks : goal.returns-clause-asks
 returns-clause-asks g c =

@@ -10,7 +10,7 @@ loop-number-init c = rw c.new-list.ensures added_none
 
 pub loop-number-preserved : goal.loop-number-preserved
 loop-number-preserved c =
-    added_next (input_row_of c.args.places.now c.args.inputs.now) c.args.rows.now c.loop-number.number c.at.result [] c.loop-number.list c.in_ok-list.list (omega arith) c.at.ensures c.loop-number.invariant
+    added_next (input_row_of c.args.places.now c.args.inputs.now) c.args.rows.now c.loop-number.number c.at.result [] [] c.loop-number.list c.in_ok-list.list (omega arith) c.at.ensures c.loop-number.invariant
     (subst (λ (r : List (List ℕ)). HasAdded c.loop-number.list (r ∷ []) c.in_ok-list.list) c.in_ok-input_texts.ensures (rw c.as_slice.ensures.value at c.in_ok-list.ensures))
 
 pub returns : goal.returns

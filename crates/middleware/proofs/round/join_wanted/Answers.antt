@@ -1,8 +1,10 @@
 use Rattle.std.proofs.Common.{List, ℕ, refl, subst, sym, arith}
-use Rattle.std.specs.Prelude.{Contains}
-use Rattle.middleware.specs.Joining.{input_row_of}
+use Rattle.source_trait.specs.Asking.{RowList}
+use Rattle.middleware.specs.LaneAsking.{AnswersFrom}
+use Rattle.middleware.specs.Rounds.{IsWanted}
 use Rattle.middleware.specs.declared.round.RoundFault.TheVariants as round
-use Rattle.middleware.proofs.Laning.{wanted_there, wanted_length}
+use Rattle.middleware.proofs.Laning.{wanted_length}
+use Rattle.middleware.proofs.Lone.{answers_moved}
 use Rattle.middleware.proofs.LaneShares.{each_some}
 use Rattle.middleware.proofs.LaneGoing.{too_many, was_refused, was_shared}
 use Rattle.middleware.proofs.round.join_wanted.Goals as goal
@@ -17,18 +19,20 @@ ask_wanted-requires-clause-values g c κs within = λ values among.
     wanted_length c.args.places.now c.args.method.now.inputs c.args.wanted.now.rows c.args.wanted.now.requests values c.requires.wanted
     among
 
-pub join-requires-clause-asked : goal.join-requires-clause-asked
-join-requires-clause-asked g c = λ row among.
-    subst (λ (i : List ℕ). Contains c.args.wanted.now.requests (input_row_of c.args.places.now i row)) (sym c.as_slice-inputs.ensures)
-    (wanted_there c.args.places.now c.args.method.now.inputs c.args.wanted.now.rows c.args.wanted.now.requests c.args.wanted.now.requests row
-    refl c.requires.wanted among)
+pub join_answers-requires : goal.join_answers-requires
+join_answers-requires g c = record {
+  wanted = subst (λ (i : List ℕ). IsWanted c.args.places.now i c.args.wanted.now.rows c.args.wanted.now.requests) (sym c.as_slice-inputs.ensures) c.requires.wanted;
+}
 
-pub returns-in-Ok-join-clause-shared : goal.returns-in-Ok-join-clause-shared
-returns-in-Ok-join-clause-shared g c =
+pub returns-in-Ok-join_answers-clause-shared : goal.returns-in-Ok-join_answers-clause-shared
+returns-in-Ok-join_answers-clause-shared g c =
+    let joined = c.in-Ok-join_answers.ensures in
     was_shared g.S.Source.seen c.args.schema.now c.args.places.now c.args.method.now c.args.wanted.now.rows c.args.wanted.now.requests c.requires.wanted
     c.args.wanted.now.requests refl c.args.lanes.now c.ask_wanted.new.lanes
-    c.as_slice-inputs.result.now c.as_slice-inputs.ensures c.in-Ok.answers c.into_vec.result.items c.into_vec.ensures c.in-Ok-join.next
-    (λ answer is. c.in-Ok-join.ensures answer is) c.in-Ok.ensures.asks c.in-Ok.ensures.answers
+    c.as_slice-inputs.result.now c.as_slice-inputs.ensures joined.ordered joined.ordered refl c.in-Ok-join_answers.next
+    joined.joins c.in-Ok.ensures.asks
+    (λ instance holds. answers_moved instance c.args.method.now c.args.wanted.now.requests c.into_vec.result.items joined.ordered joined.same
+    (subst (λ (l : List RowList). AnswersFrom instance c.args.method.now c.args.wanted.now.requests l) (sym c.into_vec.ensures) (c.in-Ok.ensures.answers instance holds)))
 
 pub returns-in-Err-clause-refused : goal.returns-in-Err-clause-refused
 returns-in-Err-clause-refused g c =

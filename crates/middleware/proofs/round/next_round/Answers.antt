@@ -1,7 +1,7 @@
 use Rattle.middleware.proofs.round.next_round.Goals as goal
 
-pub ask_step-requires-clause-askable : goal.ask_step-requires-clause-askable
-ask_step-requires-clause-askable g c κs within = c.requires.askable c.in-Some.method.now c.in-Some.ensures.there
+pub method_of-method-requires : goal.method_of-method-requires
+method_of-method-requires g c = c.requires.named
 
-pub returns-in-None-clause-stops : goal.returns-in-None-clause-stops
-returns-in-None-clause-stops g c = absurd (c.in-None.ensures.absent c.requires.named.0 c.requires.named.1)
+pub ask_step-requires-clause-askable : goal.ask_step-requires-clause-askable
+ask_step-requires-clause-askable g c κs within = c.requires.askable c.method_of-method.result.now c.method_of-method.ensures

@@ -2,7 +2,7 @@ use Rattle.std.proofs.Common.{◌≡◌, ◌∙◌, false, true, sym, rules, ari
 use Rattle.source_trait.specs.Lanes.{names_of}
 use Rattle.middleware.specs.PlanSources.{line_for}
 use Rattle.middleware.specs.Sources.{has_place}
-use Rattle.middleware.proofs.LaneFinished.{each_all}
+use Rattle.middleware.proofs.LaneStays.{each_all}
 use Rattle.middleware.proofs.run_plan.all_have_place.Goals as goal
 
 pub loop-lane-init : goal.loop-lane-init

@@ -5,7 +5,8 @@ use Rattle.middleware.specs.LaneRunning.{LanesHavePlace, LacksPlace, refused_as}
 use Rattle.middleware.specs.LaneRounds.{NoneStopped}
 use Rattle.middleware.specs.declared.fault.RunFault.TheVariants as fault
 use Rattle.middleware.proofs.Starting.{all_ready, some_first}
-use Rattle.middleware.proofs.LaneFinished.{promised, refused, lacks_kind, all_placed, all_going, lanes_askable, ran, run_refused, on_going}
+use Rattle.middleware.proofs.LaneFinished.{promised, refused, lacks_kind, all_placed, lanes_askable, ran, run_refused, on_going}
+use Rattle.middleware.proofs.LaneStays.{all_going}
 use Rattle.middleware.proofs.run_plan.execute_on.Goals as goal
 
 pub returns-in-Some : goal.returns-in-Some

@@ -1,6 +1,6 @@
 use Rattle.std.proofs.Common.{◌≡◌, false, true, get_or, rules, arith}
 use Rattle.std.proofs.lemmas.Option.{slice_get-get_or}
-use Rattle.middleware.proofs.LaneFinished.{places_more, places_all}
+use Rattle.middleware.proofs.LaneStays.{places_more, places_all}
 use Rattle.middleware.proofs.run_plan.first_without_place.Goals as goal
 
 pub returns-then-not-all_have_place : goal.returns-then-not-all_have_place

@@ -8,7 +8,7 @@ pub returns-in-Err-clause-ends : goal.returns-in-Err-clause-ends
 returns-in-Err-clause-ends g c = rw (← c.outside.view_is, ← c.outside-inside.view_is) (no_schema c.tell.result (record {
   given = c.in-Err.stop;
   cause = c.in-Err.ensures.cause;
-  tells = rw (c.new-none.ensures, c.new.ensures.bytes) at c.tell.ensures.tells;
+  tells = rw c.as_str.ensures at c.tell.ensures.tells;
 }) refl refl)
 
 pub returns-in-Err-clause-lanes : goal.returns-in-Err-clause-lanes
@@ -19,7 +19,7 @@ returns-in-Err-first_broken-clause-ends g c = rw (← c.outside.view_is, ← c.o
     c.in-Err-first_broken.ensures.verifies c.in-Err-first_broken.ensures.others (record {
       given = c.in-Err-first_broken.stop;
       cause = refl;
-      tells = rw (c.as_slice-relations.ensures, c.new-none.ensures, c.new.ensures.bytes) at c.tell-in-Err-first_broken.ensures.tells;
+      tells = rw (c.as_slice-relations.ensures, c.as_str.ensures) at c.tell-in-Err-first_broken.ensures.tells;
     }) refl)
 
 pub returns-in-Ok-write_found-clause-ends : goal.returns-in-Ok-write_found-clause-ends
@@ -31,5 +31,5 @@ returns-clause-ends g c = rw (← c.outside.view_is, ← c.outside-inside.view_i
     c.in-Ok-first_broken.ensures.verifies c.in-Ok-first_broken.ensures.others c.in-Err-write_found.ensures.part (record {
       given = c.in-Err-write_found.stop;
       cause = c.in-Err-write_found.ensures.cause;
-      tells = rw (c.as_slice-relations.ensures, c.new-none.ensures, c.new.ensures.bytes) at c.tell-in-Err-write_found.ensures.tells;
+      tells = rw (c.as_slice-relations.ensures, c.as_str.ensures) at c.tell-in-Err-write_found.ensures.tells;
     }))
