@@ -21,10 +21,10 @@ use source_trait::Source;
 pub fn told_files_serve<S: Source>()
     ensures plan { (schema : Schema) (plan : Plan) (old new : List (Lane S)) (instance : List Fact) (kind : List ℕ) (files : List (List ℕ × List ℕ)) →
         ((rel : ℕ) → IsAccessed schema plan rel → 0 < length old) → OnEach old (HasFolder S.seen kind (Some files)) → FilesGive schema (IsAccessed schema plan) kind files instance →
-        OnLanes (NoSourceRose S.seen) old new → KeepsCap schema plan instance CALLS → CanExecute S.seen schema plan old new }
+        OnLanes (NoSourceRose S.seen schema (IsAccessed schema plan)) old new → KeepsCap schema plan instance CALLS → CanExecute S.seen schema plan old new }
     ensures rules { (schema : Schema) (old new : List (Lane S)) (instance : List Fact) (kind : List ℕ) (files : List (List ℕ × List ℕ)) →
         HasFolder S.seen kind (Some files) (used old) → FilesGive schema (RulesName schema) kind files instance →
-        NoSourceRose S.seen (used old) (used new) → Serve S.seen schema (RulesName schema) (used old) (used new) }
+        NoSourceRose S.seen schema (RulesName schema) (used old) (used new) → Serve S.seen schema (RulesName schema) (used old) (used new) }
 {
     sources_that_tell_serve::<S>();
 }
@@ -34,10 +34,10 @@ pub fn told_files_serve<S: Source>()
 pub fn untold_files_serve<S: Source>()
     ensures plan { (schema : Schema) (plan : Plan) (old new : List (Lane S)) (kind : List ℕ) →
         OnEach old (HasFolder S.seen kind None) → AllHaveKind schema (IsAccessed schema plan) kind →
-        OnLanes (NoSourceRose S.seen) old new → OnLanes (Serve S.seen schema (IsAccessed schema plan)) old new }
+        OnLanes (NoSourceRose S.seen schema (IsAccessed schema plan)) old new → OnLanes (Serve S.seen schema (IsAccessed schema plan)) old new }
     ensures rules { (schema : Schema) (old new : List (Lane S)) (kind : List ℕ) →
         HasFolder S.seen kind None (used old) → AllHaveKind schema (RulesName schema) kind →
-        NoSourceRose S.seen (used old) (used new) → Serve S.seen schema (RulesName schema) (used old) (used new) }
+        NoSourceRose S.seen schema (RulesName schema) (used old) (used new) → Serve S.seen schema (RulesName schema) (used old) (used new) }
 {
     sources_that_do_not_tell_serve::<S>();
 }

@@ -26,7 +26,7 @@ use Rattle.middleware.proofs.Lacking.{rises_strictly}
 use Rattle.middleware.proofs.LaneShares.{OnlyAsked}
 use Rattle.middleware.proofs.LaneBranching.{each_asked}
 use Rattle.middleware.proofs.LanePlanning.{plan_held_earlier}
-use Rattle.middleware.proofs.LaneFinished.{started_stay, asked_stay, attach_stay}
+use Rattle.middleware.proofs.LaneStays.{started_stay, asked_stay, attach_stay}
 use Rattle.command_io.specs.declared.delivery.TheConstants.{CALLS}
 use Rattle.command_io.specs.declared.stop.Stop.{Stop}
 use Rattle.command_io.specs.declared.stop.Stop.TheVariants as stop
@@ -35,6 +35,14 @@ use Rattle.command_io.specs.Executing.Delivers.{no_rows, no_text, cut}
 use Rattle.pdq_core.specs.Complete.{OnLanes, Serve, HoldWithin, CanExecute}
 use Rattle.pdq_core.proofs.CompleteTexts.{result_stop}
 use Rattle.pdq_core.proofs.CompleteSources.{in_first, rises_take, none_rose, none_refused}
+
+-- what follows on each lane from what holds there
+pub on_lanes : {S : Type 0} (P Q : List (Kind S) → List (Kind S) → Type 0) → ((before after : List (Kind S)) → P before after → Q before after) →
+    (old new : List (Lane S)) → OnLanes P old new → OnLanes Q old new
+on_lanes P Q follows [] [] all = tt
+on_lanes P Q follows [] (u ∷ us) all = absurd all
+on_lanes P Q follows (w ∷ ws) [] all = absurd all
+on_lanes P Q follows (w ∷ ws) (u ∷ us) all = (follows w.kinds.items u.kinds.items all.0, on_lanes P Q follows ws us all.1)
 
 none_some : {X : Type 0} (o : Option X) → o ≡ None → IsSome o → ⊥
 none_some o none some = cc
@@ -78,7 +86,7 @@ module _ {S : Type 0} (seen : S → Seen) (schema : Schema) (plan : Plan) where
   some_line (w ∷ ws) (u ∷ us) some all rel accessed = all.0.lines rel accessed
 
   -- on lanes that attached the relations of the plan, and then were only asked, all of them are attached
-  all_attached : (rels : List ℕ) → IsStrictlyIncreasing rels → ((rel : ℕ) → Contains rels rel ↔ IsAccessed schema plan rel) → (old attached new : List (Lane S)) →
+  pub all_attached : (rels : List ℕ) → IsStrictlyIncreasing rels → ((rel : ℕ) → Contains rels rel ↔ IsAccessed schema plan rel) → (old attached new : List (Lane S)) →
       LanesAttach seen schema rels old attached → OnlyAsked seen schema (map started attached) new → OnLanes (AllAttached seen schema plan) old new
   all_attached rels up exactly [] [] [] order asked = tt
   all_attached rels up exactly [] [] (u ∷ us) order asked = absurd asked
@@ -130,8 +138,17 @@ module _ {S : Type 0} (seen : S → Seen) (schema : Schema) (plan : Plan) where
           let f = fails.fails in
           let (first, was, stay) = from_place (KindsStay seen) old stops.halts.middle before_last f.place f.before f.was in
           let moved = f.rose.rose in
+          let accessed : IsAccessed schema plan fails.method.rel = record {
+            branch = fails.its_branch;
+            step = fails.its_step;
+            method = fails.method;
+            of_plan = contains_got plan.branches branch fails.its_branch fails.there.of_plan;
+            of_branch = contains_got fails.its_branch.steps step fails.its_step fails.there.of_branch;
+            named = fails.named;
+            of_relation = refl;
+          } in
           none_rose seen schema (IsAccessed schema plan) first.kinds.items f.after.kinds.items (at_place Serves old new can.serve f.place first f.after was f.now)
-          f.before.kinds.items f.rose.line.kind moved.before moved.after stay moved.was moved.now moved.steps
+          f.before.kinds.items fails.method.rel f.rose.line moved.before moved.after accessed f.rose.line_is stay moved.was moved.now moved.steps
 
       cap_stop : (made wanted : ℕ) → CapFills seen schema plan CALLS made wanted stops.halts.earlier stops.halts.now (map started stops.attached) stops.halts.middle new → ⊥
       cap_stop made wanted fills =

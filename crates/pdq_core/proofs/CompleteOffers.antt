@@ -128,7 +128,7 @@ module _ {S : Type 0} (seen : S → Seen) (schema : Schema) where
       located_append line.kind rels (rel ∷ []) ∙ ap (λ (l : List (ℕ × List ℕ)). located schema line.kind rels ++ (l ++ [])) its
 
   -- they serve
-  pub offers_serve : (IsNeeded : ℕ → Type 0) (old new : List (Kind S)) (instance : List Fact) → OfferInstance seen schema IsNeeded old instance → NoSourceRose seen old new →
+  pub offers_serve : (IsNeeded : ℕ → Type 0) (old new : List (Kind S)) (instance : List Fact) → OfferInstance seen schema IsNeeded old instance → NoSourceRose seen schema IsNeeded old new →
       Serve seen schema IsNeeded old new
   offers_serve IsNeeded old new instance offer calm = record {
     lines = offer.lines;
@@ -160,7 +160,7 @@ module _ {S : Type 0} (seen : S → Seen) (schema : Schema) where
   there P (Some s) h = refl
 
   -- they serve too
-  pub untold_serve : (IsNeeded : ℕ → Type 0) (old new : List (Kind S)) → OfferUntold seen schema IsNeeded old → NoSourceRose seen old new → Serve seen schema IsNeeded old new
+  pub untold_serve : (IsNeeded : ℕ → Type 0) (old new : List (Kind S)) → OfferUntold seen schema IsNeeded old → NoSourceRose seen schema IsNeeded old new → Serve seen schema IsNeeded old new
   untold_serve IsNeeded old new offer calm = record {
     lines = offer.lines;
     kinds = λ rel line needed line_is. there _ (source_of old line.kind) (offer.untold rel line needed line_is);
@@ -201,8 +201,8 @@ module _ {S : Type 0} (seen : S → Seen) (schema : Schema) where
 
   -- lanes whose sources offer it serve
   pub lanes_serve : (IsNeeded : ℕ → Type 0) (Offers : List (Kind S) → Type 0) →
-      ((old new : List (Kind S)) → Offers old → NoSourceRose seen old new → Serve seen schema IsNeeded old new) →
-      (old new : List (Lane S)) → OnEach old Offers → OnLanes (NoSourceRose seen) old new → OnLanes (Serve seen schema IsNeeded) old new
+      ((old new : List (Kind S)) → Offers old → NoSourceRose seen schema IsNeeded old new → Serve seen schema IsNeeded old new) →
+      (old new : List (Lane S)) → OnEach old Offers → OnLanes (NoSourceRose seen schema IsNeeded) old new → OnLanes (Serve seen schema IsNeeded) old new
   lanes_serve IsNeeded Offers serve [] [] offer calm = tt
   lanes_serve IsNeeded Offers serve [] (u ∷ us) offer calm = absurd calm
   lanes_serve IsNeeded Offers serve (w ∷ ws) [] offer calm = absurd calm
@@ -212,7 +212,7 @@ module _ {S : Type 0} (seen : S → Seen) (schema : Schema) where
   )
 
   -- and hold it once it is attached
-  lanes_hold : (plan : Plan) (instance : List Fact) (old new : List (Lane S)) →
+  pub lanes_hold : (plan : Plan) (instance : List Fact) (old new : List (Lane S)) →
       OnEach old (λ kinds. OfferInstance seen schema (IsAccessed schema plan) kinds instance) → OnLanes (AllAttached seen schema plan) old new → LanesHoldPlan seen schema plan new instance
   lanes_hold plan instance [] [] offer attached = λ lane among. absurd (omega arith)
   lanes_hold plan instance [] (u ∷ us) offer attached = absurd attached
@@ -226,7 +226,7 @@ module _ {S : Type 0} (seen : S → Seen) (schema : Schema) where
 
   -- so the plan can be executed
   pub offers_execute : (plan : Plan) (old new : List (Lane S)) (instance : List Fact) → ((rel : ℕ) → IsAccessed schema plan rel → 0 < length old) →
-      OnEach old (λ kinds. OfferInstance seen schema (IsAccessed schema plan) kinds instance) → OnLanes (NoSourceRose seen) old new →
+      OnEach old (λ kinds. OfferInstance seen schema (IsAccessed schema plan) kinds instance) → OnLanes (NoSourceRose seen schema (IsAccessed schema plan)) old new →
       KeepsCap schema plan instance CALLS → CanExecute seen schema plan old new
   offers_execute plan old new instance some offer calm within = record {
     some = some;
@@ -236,6 +236,6 @@ module _ {S : Type 0} (seen : S → Seen) (schema : Schema) where
   }
 
   -- where nothing is told they serve too
-  pub lanes_untold : (plan : Plan) (old new : List (Lane S)) → OnEach old (OfferUntold seen schema (IsAccessed schema plan)) → OnLanes (NoSourceRose seen) old new →
+  pub lanes_untold : (plan : Plan) (old new : List (Lane S)) → OnEach old (OfferUntold seen schema (IsAccessed schema plan)) → OnLanes (NoSourceRose seen schema (IsAccessed schema plan)) old new →
       OnLanes (Serve seen schema (IsAccessed schema plan)) old new
   lanes_untold plan = lanes_serve (IsAccessed schema plan) (OfferUntold seen schema (IsAccessed schema plan)) (untold_serve (IsAccessed schema plan))

@@ -5,6 +5,7 @@ use Rattle.std.specs.List.{AllByRecursion}
 use Rattle.std.specs.Cmp.Lexicographic.{pointwise}
 use Rattle.lists.proofs.Members.{some_injective, contains_here, contains_there, contains_cases}
 use Rattle.access_schema.specs.declared.schema.Schema.{Schema}
+use Rattle.access_schema.specs.declared.schema.SourceLine.{SourceLine}
 use Rattle.source_trait.specs.Asking.{RowList, Rises, Seen, AttachGives, AttachCause, offered_now}
 use Rattle.source_trait.specs.Causes.{Rose}
 use Rattle.source_trait.specs.Lanes.{source_of, KindsStay}
@@ -12,6 +13,7 @@ use Rattle.source_trait.specs.declared.source.AttachFault.{AttachFault}
 use Rattle.source_trait.specs.declared.source.AttachFault.TheVariants as attach
 use Rattle.source_trait.specs.declared.lanes.Kind.{Kind}
 use Rattle.source_trait.proofs.LaneSteps.{StepsOn-source}
+use Rattle.middleware.specs.PlanSources.{line_for}
 use Rattle.middleware.specs.Attaching.{AttachesOne, AttachesInOrder}
 use Rattle.middleware.proofs.Attached.{order_stays}
 use Rattle.command_io.proofs.Later.{rose_between}
@@ -85,12 +87,12 @@ module _ {S : Type 0} (seen : S → Seen) where
       go false later now = later now
 
   module _ (schema : Schema) (IsNeeded : ℕ → Type 0) (old new : List (Kind S)) (serve : Serve seen schema IsNeeded old new) where
-    -- no count rose since the kinds began to stay
-    pub none_rose : (middle : List (Kind S)) (kind : List ℕ) (before after : S) → KindsStay seen old middle → source_of middle kind ≡ Some before → source_of new kind ≡ Some after →
-        Rose (seen before).faults (seen after).faults → ⊥
-    none_rose middle kind before after stay was now rose =
-        let (first, began, fewer) = stays_back old middle stay kind before was in
-        serve.faults kind first after began now (rose_between (seen first).faults (seen before).faults (seen after).faults (seen after).faults fewer (omega arith) rose)
+    -- no count of a source that is needed rose since the kinds began to stay
+    pub none_rose : (middle : List (Kind S)) (rel : ℕ) (line : SourceLine) (before after : S) → IsNeeded rel → line_for rel schema.sources ≡ Some line → KindsStay seen old middle →
+        source_of middle line.kind ≡ Some before → source_of new line.kind ≡ Some after → Rose (seen before).faults (seen after).faults → ⊥
+    none_rose middle rel line before after needed line_is stay was now rose =
+        let (first, began, fewer) = stays_back old middle stay line.kind before was in
+        serve.faults rel line needed line_is first after began now (rose_between (seen first).faults (seen before).faults (seen after).faults (seen after).faults fewer (omega arith) rose)
 
     -- no attach of a relation that is needed is refused
     pub none_refused : (rels : List ℕ) (middle : List (Kind S)) (rel : ℕ) (fault : AttachFault) → Rises (rels ++ rel ∷ []) → ((other : ℕ) → Contains rels other → IsNeeded other) → IsNeeded rel →
@@ -100,5 +102,5 @@ module _ {S : Type 0} (seen : S → Seen) where
         let fine : IfSome (offered_now (seen moved.before) rel one.relation.columns one.line.locator) IsOk =
         serve.offers rels rel middle up are needed order one.relation one.line moved.before one.relation_is one.line_is moved.was in
         let gives : AttachGives (seen moved.before) (seen moved.after) rel one.relation.columns one.line.locator (Err fault) = moved.steps in
-        none_rose middle one.line.kind moved.before moved.after (order_stays seen schema rels old middle order) moved.was moved.now
+        none_rose middle rel one.line moved.before moved.after needed one.line_is (order_stays seen schema rels old middle order) moved.was moved.now
         (refused_for fault (offered_now (seen moved.before) rel one.relation.columns one.line.locator) (Rose (seen moved.before).faults (seen moved.after).faults) apart fine gives.cause)

@@ -62,7 +62,8 @@ module _ {S : Type 0} (seen : S → Seen) where
           let gives : CallGives (seen moved.before) (seen moved.after) rel [] [] (Err call.Failed) = moved.steps in
           let stay : KindsStay seen old breaks.middle =
           KindsStay-trans seen old middle breaks.middle (order_stays seen schema rels old middle order) (asks_stay (take breaks.n rels) breaks.facts middle breaks.middle breaks.asked) in
-          absurd (none_rose seen schema (RulesName schema) old new serve breaks.middle one.line.kind moved.before moved.after stay moved.was moved.now (gives.failed refl))
+          absurd (none_rose seen schema (RulesName schema) old new serve breaks.middle rel one.line moved.before moved.after ((are.exactly rel).0 (contains_got rels breaks.n rel breaks.at)) one.line_is
+          stay moved.was moved.now (gives.failed refl))
       verify_stop result (verified found finds) = tt
 
   pub verify_answered : (name : List ℕ) (before after : Moment) (old new : List (Lane S)) (result : Result Outcome Stop) → NoneRose before after →

@@ -83,10 +83,14 @@ OffersRows {S} seen schema kinds rel = (relation : Relation) (line : SourceLine)
     slice_get schema.relations rel ≡ Some relation → line_for rel schema.sources ≡ Some line → source_of kinds line.kind ≡ Some source →
     IfSome (offered_now (seen source) rel relation.columns line.locator) IsOk
 
--- No count of faults of a source of the lane rose.
-abbrev pub NoSourceRose : {S : Type 0} → (S → Seen) → List (Kind S) → List (Kind S) → Type 0
-NoSourceRose {S} seen old new = (kind : List ℕ) (before after : S) → source_of old kind ≡ Some before → source_of new kind ≡ Some after →
+-- The count of faults of the lane's source of this kind did not rise.
+abbrev pub NoRiseOf : {S : Type 0} → (S → Seen) → List ℕ → List (Kind S) → List (Kind S) → Type 0
+NoRiseOf {S} seen kind old new = (before after : S) → source_of old kind ≡ Some before → source_of new kind ≡ Some after →
     Rose (seen before).faults (seen after).faults → ⊥
+
+-- No count rose of a source whose kind is that of the source line of a relation that is needed.
+abbrev pub NoSourceRose : {S : Type 0} → (S → Seen) → Schema → (ℕ → Type 0) → List (Kind S) → List (Kind S) → Type 0
+NoSourceRose seen schema IsNeeded old new = (rel : ℕ) (line : SourceLine) → IsNeeded rel → line_for rel schema.sources ≡ Some line → NoRiseOf seen line.kind old new
 
 -- it holds of the sources of each lane, from before a command to after it
 abbrev pub OnLanes : {S : Type 0} → (List (Kind S) → List (Kind S) → Type 0) → List (Lane S) → List (Lane S) → Type 0
@@ -100,7 +104,7 @@ pub record Serve {S : Type 0} (seen : S → Seen) (schema : Schema) (IsNeeded : 
   -- as they are attached in ascending order, what is then offered of the next one is rows
   pub offers : (rels : List ℕ) (rel : ℕ) (middle : List (Kind S)) → Rises (rels ++ rel ∷ []) → ((other : ℕ) → Contains rels other → IsNeeded other) → IsNeeded rel →
       AttachesInOrder seen schema rels old middle → OffersRows seen schema middle rel
-  pub faults : NoSourceRose seen old new
+  pub faults : NoSourceRose seen schema IsNeeded old new
 
 -- No round of the plan on the instance passes the cap on requests.
 abbrev pub KeepsCap : Schema → Plan → List Fact → ℕ → Type 0

@@ -2,3 +2,4 @@ pub mod Help
 pub mod Runs
 pub mod Complete
 pub mod Statuses
+pub mod Generators

@@ -33,10 +33,10 @@ pub fn runs_without_faults_are_answered<S: Source>()
 /// their limits and do not fail, they serve; and a plan can be executed if no round of it on the instance passes the cap.
 pub fn sources_that_tell_serve<S: Source>()
     ensures plan { (schema : Schema) (plan : Plan) (old new : List (Lane S)) (instance : List Fact) → ((rel : ℕ) → IsAccessed schema plan rel → 0 < length old) →
-        OnEach old (λ kinds. OfferInstance S.seen schema (IsAccessed schema plan) kinds instance) → OnLanes (NoSourceRose S.seen) old new →
+        OnEach old (λ kinds. OfferInstance S.seen schema (IsAccessed schema plan) kinds instance) → OnLanes (NoSourceRose S.seen schema (IsAccessed schema plan)) old new →
         KeepsCap schema plan instance CALLS → CanExecute S.seen schema plan old new }
     ensures rules { (schema : Schema) (old new : List (Lane S)) (instance : List Fact) →
-        OfferInstance S.seen schema (RulesName schema) (used old) instance → NoSourceRose S.seen (used old) (used new) →
+        OfferInstance S.seen schema (RulesName schema) (used old) instance → NoSourceRose S.seen schema (RulesName schema) (used old) (used new) →
         Serve S.seen schema (RulesName schema) (used old) (used new) }
 {}
 
@@ -44,10 +44,10 @@ pub fn sources_that_tell_serve<S: Source>()
 /// source of its kind on each used lane and none failed.
 pub fn sources_that_do_not_tell_serve<S: Source>()
     ensures plan { (schema : Schema) (plan : Plan) (old new : List (Lane S)) →
-        OnEach old (OfferUntold S.seen schema (IsAccessed schema plan)) → OnLanes (NoSourceRose S.seen) old new →
+        OnEach old (OfferUntold S.seen schema (IsAccessed schema plan)) → OnLanes (NoSourceRose S.seen schema (IsAccessed schema plan)) old new →
         OnLanes (Serve S.seen schema (IsAccessed schema plan)) old new }
     ensures rules { (schema : Schema) (old new : List (Lane S)) →
-        OfferUntold S.seen schema (RulesName schema) (used old) → NoSourceRose S.seen (used old) (used new) →
+        OfferUntold S.seen schema (RulesName schema) (used old) → NoSourceRose S.seen schema (RulesName schema) (used old) (used new) →
         Serve S.seen schema (RulesName schema) (used old) (used new) }
 {}
 

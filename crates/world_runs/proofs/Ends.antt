@@ -1,14 +1,12 @@
 -- How a world ends over lanes with new generators.
-use Rattle.std.proofs.Common.{◌≡◌, ◌+◌, ◌*◌, ◌<◌, ◌≤◌, ℕ, List, [], ◌∷◌, length, map, slice_get, Option, Some, Result, Ok, Err, refl, sym, ap, subst, ◌∙◌, ⊎_elim, arith}
-use Rattle.std.specs.Prelude.{◌↔◌, Contains}
-use Rattle.std.specs.List.Sorted.{IsStrictlySortedBy, IsStrictlyIncreasing}
+use Rattle.std.proofs.Common.{◌≡◌, ◌+◌, ◌*◌, ◌<◌, ◌≤◌, ℕ, List, [], length, map, slice_get, Option, Some, Result, Ok, Err, refl, sym, ap, subst, ◌∙◌, ⊎_elim, arith}
+use Rattle.std.specs.Prelude.{◌↔◌, Contains, codes}
+use Rattle.std.specs.List.Sorted.{IsStrictlySortedBy}
 use Rattle.std.specs.declared.cmp.Ordering.TheVariants.{Less}
 use Rattle.std.proofs.lemmas.Bool.{cases_lt}
 use Rattle.std.proofs.lemmas.Map.Keys.{Less-from_sorted}
 use Rattle.std.proofs.lemmas.Option.{slice_get_within, get_or_from_slice_get}
-use Rattle.lists.proofs.Members.{contains_here, contains_there, contains_cases}
 use Rattle.lists.proofs.Orders.{rows_total}
-use Rattle.meaning.specs.declared.types.Fact.{Fact}
 use Rattle.meaning.specs.declared.types.Plan.{Plan}
 use Rattle.meaning.specs.declared.types.SchemaParts.{SchemaParts}
 use Rattle.meaning.specs.declared.types.Statement.{Statement}
@@ -25,14 +23,8 @@ use Rattle.no_plan_witness.specs.declared.decision.Chosen.{Chosen}
 use Rattle.no_plan_witness.specs.declared.decision.Decision.TheVariants as decision
 use Rattle.middleware.specs.declared.fault.Run.{Run}
 use Rattle.middleware.specs.PlanSources.{IsAccessed}
-use Rattle.middleware.specs.Held.{HoldPlan}
-use Rattle.middleware.specs.Attaching.{AllAttached}
-use Rattle.middleware.specs.LaneAttaching.{LanesAttach}
 use Rattle.middleware.specs.LaneRounds.{started}
-use Rattle.middleware.specs.LaneBranches.{OnEach, LanesHoldPlan}
-use Rattle.middleware.proofs.Attached.{order_attached, attached_after}
-use Rattle.middleware.proofs.Lacking.{rises_strictly}
-use Rattle.middleware.proofs.LaneShares.{OnlyAsked}
+use Rattle.middleware.specs.LaneBranches.{OnEach}
 use Rattle.middleware.proofs.LaneBranching.{each_asked}
 use Rattle.command_io.specs.declared.delivery.TheConstants.{CALLS}
 use Rattle.command_io.specs.declared.stop.Stop.{Stop}
@@ -56,19 +48,19 @@ use Rattle.run_command.specs.World.{IsSummary, WorldEnds, WorldStop}
 use Rattle.run_command.specs.World.WorldEnds.{refused, read}
 use Rattle.run_command.specs.World.WorldStop.{no_memory as world_memory, no_schema, no_statement}
 use Rattle.run_command.specs.declared.world.TheConstants.{FIRINGS, UNITS}
-use Rattle.pdq_core.specs.Complete.{OnLanes, NoSourceRose, OfferInstance, CanExecute}
-use Rattle.pdq_core.proofs.CompleteExecution.{execution_stop}
-use Rattle.pdq_core.proofs.CompleteOffers.{offered_held, offers_execute}
+use Rattle.pdq_core.specs.Complete.{OnLanes, NoRiseOf, NoSourceRose, OfferInstance, CanExecute}
+use Rattle.pdq_core.proofs.CompleteExecution.{on_lanes, all_attached, execution_stop}
+use Rattle.pdq_core.proofs.CompleteOffers.{lanes_hold, offers_execute}
 use Rattle.world_laws.specs.World.{IsWorldSchema, world_statement}
 use Rattle.world_laws.specs.Instance.{world_facts}
 use Rattle.world_laws.proofs.Read.{world_meaning, world_alone, world_no_fault}
 use Rattle.world_laws.proofs.Query.{statement_alone, query_no_fault}
 use Rattle.world_laws.proofs.Counts.{model, rows_counted}
 use Rattle.world_runs.specs.Deciding.{HasOneBranch}
-use Rattle.world_runs.specs.Generators.{HasGenerator}
+use Rattle.pdq_core.specs.Generators.{HasGenerator}
 use Rattle.world_runs.specs.Ends.{WorldIsOver, done, no_memory, no_decision_write, no_result_write}
 use Rattle.world_runs.proofs.Deciding.{decided, never_refuted, never_undecided}
-use Rattle.world_runs.proofs.Generators.{generator_offers, keeps_cap, requests_made}
+use Rattle.world_runs.proofs.Generators.{generator_offers, world_calm, keeps_cap, requests_made}
 
 -- ---- rows that ascend
 
@@ -85,36 +77,6 @@ ascend_once rows up i j row at_i at_j = ⊎_elim
         let back = rows_total.antisymm row row in
         cc
 
--- ---- what lanes hold once the relations of a plan are attached
-
-module _ {S : Type 0} (seen : S → Seen) (schema : Schema) (its : Plan) where
-  all_attached : (rels : List ℕ) → IsStrictlyIncreasing rels → ((rel : ℕ) → Contains rels rel ↔ IsAccessed schema its rel) → (old attached new : List (Lane S)) →
-      LanesAttach seen schema rels old attached → OnlyAsked seen schema (map started attached) new → OnLanes (AllAttached seen schema its) old new
-  all_attached rels up exactly [] [] [] order asked = tt
-  all_attached rels up exactly [] [] (u ∷ us) order asked = absurd asked
-  all_attached rels up exactly [] (v ∷ vs) new order asked = absurd order
-  all_attached rels up exactly (w ∷ ws) [] new order asked = absurd order
-  all_attached rels up exactly (w ∷ ws) (v ∷ vs) [] order asked = absurd asked
-  all_attached rels up exactly (w ∷ ws) (v ∷ vs) (u ∷ us) order asked = (
-    record {
-      middle = v.kinds.items;
-      attaches = record { rels = rels; ascends = up; exactly = exactly; order = order.0.0 };
-      asks = record { stay = asked.0.1.stay; tells = asked.0.1.tells };
-      each = λ rel relation line source. attached_after seen schema rel relation line asked.0.0 w.kinds.items v.kinds.items u.kinds.items asked.0.1
-          (order_attached seen schema rels (rises_strictly rels up) rel ((exactly rel).1 source.accessed) relation line source.relation_is source.line_is w.kinds.items v.kinds.items order.0.0);
-    },
-    all_attached rels up exactly ws vs us order.1 asked.1,
-  )
-
-  lanes_hold : (instance : List Fact) (old new : List (Lane S)) → OnEach old (λ kinds. OfferInstance seen schema (IsAccessed schema its) kinds instance) → OnLanes (AllAttached seen schema its) old new → LanesHoldPlan seen schema its new instance
-  lanes_hold instance [] [] offer attached = λ lane among. absurd (omega arith)
-  lanes_hold instance [] (u ∷ us) offer attached = absurd attached
-  lanes_hold instance (w ∷ ws) [] offer attached = absurd attached
-  lanes_hold instance (w ∷ ws) (u ∷ us) offer attached = λ lane among. ⊎_elim
-      (λ here. subst (λ (l : Lane S). HoldPlan seen schema its l.kinds.items instance) here (offered_held seen schema its w.kinds.items u.kinds.items instance (offer w (contains_here w ws)) attached.0))
-      (λ there. lanes_hold instance ws us (λ l c. offer l (contains_there w ws l c)) attached.1 lane there)
-      (contains_cases u us lane among)
-
 -- ---- ends
 
 -- a command that stops for one of some causes, or for want of memory
@@ -127,7 +89,7 @@ only_memory size _ few world_memory = refl
 only_memory size _ few (no_schema fault apart is) = absurd (apart (world_no_fault size (omega (arith, few)) fault is))
 only_memory size _ few (no_statement schema fault is apart why) = absurd (apart (query_no_fault size schema fault (world_alone size (omega (arith, few)) schema is) why))
 
-module _ {S : Type 0} (seen : S → Seen) (size : ℕ) (some : 1 ≤ size) (few : size ≤ 10000) (before after : Outputs) (old new : List (Lane S)) (lane : 0 < length old) (lanes : OnEach old (HasGenerator seen)) (calm : OnLanes (NoSourceRose seen) old new) where
+module _ {S : Type 0} (seen : S → Seen) (size : ℕ) (some : 1 ≤ size) (few : size ≤ 10000) (before after : Outputs) (old new : List (Lane S)) (lane : 0 < length old) (lanes : OnEach old (HasGenerator seen)) (calm : OnLanes (NoRiseOf seen (codes "world")) old new) where
   abbrev IsOver : Stop → Type 0
   IsOver end = WorldIsOver size before after (Err end)
 
@@ -150,7 +112,9 @@ module _ {S : Type 0} (seen : S → Seen) (size : ℕ) (some : 1 ≤ size) (few 
     offers l among = generator_offers size some few schema is seen l.kinds.items (lanes l among) its
 
     can : CanExecute seen schema its old new
-    can = offers_execute seen schema its old new (world_facts size) (λ rel needed. lane) offers calm (keeps_cap size some few schema is its one)
+    can = offers_execute seen schema its old new (world_facts size) (λ rel needed. lane) offers
+        (on_lanes (NoRiseOf seen (codes "world")) (NoSourceRose seen schema (IsAccessed schema its)) (world_calm size some few schema is seen its) old new calm)
+        (keeps_cap size some few schema is its one)
 
     stops : (IsText : Run → List ℕ → Type 0) (why : Stop) → Delivers seen schema its CALLS IsText old new before.out after.out (Rose before.out_faults after.out_faults) (Err why) → IsOver why
     stops IsText _ (no_rows fault executes same) = subst IsOver (sym (execution_stop seen schema its old new can fault executes)) no_memory

@@ -23,7 +23,7 @@ use Rattle.middleware.specs.PlanSources.{line_for, IsAccessed}
 use Rattle.middleware.specs.Held.{SameFacts}
 use Rattle.world_source.specs.Formulas.{locator, offered, row_of, rows_of, rows_or}
 use Rattle.world_source.proofs.Numbers.{named}
-use Rattle.pdq_core.specs.Complete.{OffersFacts, OfferInstance, KeepsCap, located}
+use Rattle.pdq_core.specs.Complete.{NoRiseOf, NoSourceRose, OffersFacts, OfferInstance, KeepsCap, located}
 use Rattle.command_io.specs.declared.delivery.TheConstants.{CALLS}
 use Rattle.world_laws.specs.World.{IsWorldSchema, source_with, world_sources}
 use Rattle.world_laws.specs.Plan.{world}
@@ -32,9 +32,9 @@ use Rattle.world_laws.proofs.Read.{world_meaning}
 use Rattle.world_laws.proofs.Paths.{own, two_columns}
 use Rattle.world_laws.proofs.Chases.{range_got}
 use Rattle.world_laws.proofs.Counts.{requests_counted, requests_within}
-use Rattle.world_laws.proofs.Rounds as rounds
+use Rattle.world_laws.proofs.Columns as turns
 use Rattle.world_runs.specs.Deciding.{HasOneBranch}
-use Rattle.world_runs.specs.Generators.{HasGenerator}
+use Rattle.pdq_core.specs.Generators.{HasGenerator}
 
 -- ---- source lines
 
@@ -79,7 +79,7 @@ module _ (n : ℕ) (some : 1 ≤ n) (few : n ≤ 10000) (schema : Schema) (is : 
 
       back : Contains (world_facts n) (record { rel = rel; row = row }) → Contains (facts_of rel (rows_of (rel + 1) n)) (record { rel = rel; row = row })
       back among =
-          let numbered = rounds.found n some few (fact_with rel row) among in
+          let numbered = turns.found n some few (fact_with rel row) among in
           let same_rel : rel ≡ numbered.rel = ap (λ (f : Fact). f.rel) numbered.fact_is in
           let same_row : row ≡ row_of (rel + 1) n numbered.i = ap (λ (f : Fact). f.row) numbered.fact_is ∙ ap (λ r. row_of (r + 1) n numbered.i) (sym same_rel) in
           let place : 0 + numbered.i ≡ numbered.i = omega arith in
@@ -116,6 +116,12 @@ module _ (n : ℕ) (some : 1 ≤ n) (few : n ≤ 10000) (schema : Schema) (is : 
           at_line rel line (accessed_low plan rel needed) at (λ its source. (seen source).passes (located schema its.kind (rels ++ rel ∷ [])) ≡ false) (has.fresh.passes (located schema (codes "world") (rels ++ rel ∷ [])));
       facts = λ rel relation line needed relation_is at. at_line rel line (accessed_low plan rel needed) at (λ its source. OffersFacts (seen source) rel relation.columns its.locator (world_facts n)) (its_facts rel relation (accessed_low plan rel needed) relation_is);
     }
+
+  -- the sources of a plan are those of one kind
+  pub world_calm : {S : Type 0} (seen : S → Seen) (plan : Plan) (old new : List (Kind S)) → NoRiseOf seen (codes "world") old new → NoSourceRose seen schema (IsAccessed schema plan) old new
+  world_calm seen plan old new calm rel line needed at =
+      let same : source_with n (rel + 1) ≡ line = some_injective (source_with n (rel + 1)) line (sym (line_is rel (accessed_low plan rel needed)) ∙ at) in
+      subst (λ (l : SourceLine). NoRiseOf seen l.kind old new) same calm
 
   -- ---- requests
 

@@ -1,5 +1,6 @@
 -- A run of the program whose words are `world N`.
 use Rattle.std.proofs.Common.{◌≡◌, ◌<◌, ◌≤◌, ℕ, List, [], ◌∷◌, length, take, refl, subst, arith}
+use Rattle.std.specs.Prelude.{codes}
 use Rattle.source_trait.specs.Asking.{Seen}
 use Rattle.source_trait.specs.Causes.{Rose}
 use Rattle.source_trait.specs.Lanes.{LanesStay}
@@ -11,8 +12,8 @@ use Rattle.command_words.specs.Words.{Command, IsCommand}
 use Rattle.command_words.specs.Words.Command.{Help, Schema as Print, Explain, Run, Exec, Check, Verify, World}
 use Rattle.pdq_core.specs.Runs.{Runs}
 use Rattle.pdq_core.specs.Runs.Runs.{no_command, help, schema as print_schema, explain, run, exec, check, verify, world}
-use Rattle.pdq_core.specs.Complete.{OnLanes, NoSourceRose}
-use Rattle.world_runs.specs.Generators.{HasGenerator}
+use Rattle.pdq_core.specs.Complete.{OnLanes, NoRiseOf}
+use Rattle.pdq_core.specs.Generators.{HasGenerator}
 use Rattle.world_runs.specs.Ends.{WorldIsOver, RunIsOver}
 use Rattle.world_runs.proofs.Ends.{world_over}
 
@@ -23,7 +24,7 @@ module _ {S : Type 0} (seen : S → Seen) (old new : List (Lane S)) where
     pub few : size ≤ 10000
     pub lane : 0 < length (take workers old)
     pub lanes : OnEach (take workers old) (HasGenerator seen)
-    pub calm : OnLanes (NoSourceRose seen) (take workers old) (take workers new)
+    pub calm : OnLanes (NoRiseOf seen (codes "world")) (take workers old) (take workers new)
 
   -- the command is `world` of the size, with what is given
   abbrev Given : ℕ → Command → Type 0
@@ -55,8 +56,8 @@ module _ {S : Type 0} (seen : S → Seen) (calm : (source : S) → (seen source)
       let none = calm after in
       omega (arith, rose, none)
 
-  pub lanes_calm : (old new : List (Lane S)) → LanesStay seen old new → OnLanes (NoSourceRose seen) old new
+  pub lanes_calm : (old new : List (Lane S)) → LanesStay seen old new → OnLanes (NoRiseOf seen (codes "world")) old new
   lanes_calm [] [] stay = tt
   lanes_calm [] (u ∷ us) stay = absurd stay
   lanes_calm (w ∷ ws) [] stay = absurd stay
-  lanes_calm (w ∷ ws) (u ∷ us) stay = ((λ kind before after was now rose. no_rise before after rose), lanes_calm ws us stay.1)
+  lanes_calm (w ∷ ws) (u ∷ us) stay = ((λ before after was now rose. no_rise before after rose), lanes_calm ws us stay.1)
