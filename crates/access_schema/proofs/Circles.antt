@@ -166,9 +166,6 @@ pub record SpreadsSoFar (links : List Link) (old new : List Bool) : Type 0 where
   pub kept : (number : ℕ) → IsMarked old number → IsMarked new number
   pub sound : (number : ℕ) → IsMarked new number → (start : ℕ) × IsMarked old start × Reaches links start number
 
-pub spread_none : (links : List Link) (old : List Bool) → SpreadsSoFar links old old
-spread_none links old = record { long = refl; kept = λ number marked. marked; sound = λ number marked. (number, marked, inl refl) }
-
 reaches_on : (links : List Link) (start source target : ℕ) → Reaches links start source → Joins links source target → Reaches links start target
 reaches_on links start source target reached step = inr (⊎_elim
     (λ same. let P : ℕ → Type 0 = λ n. (between : List ℕ) × IsChain (Joins links) n between target in subst P (sym same) ([], step))

@@ -3,6 +3,7 @@ pub mod NamesFound
 pub mod First
 pub mod Keeping
 pub mod BuiltSchema
+pub mod NumberedRules
 pub mod BuiltRules
 pub mod Ordered
 pub mod Prefixes

@@ -21,10 +21,6 @@ one_line names text is =
     let none : is.rows ≡ [] = none_of is.rows (λ row among. no_member row ((is.members row).0 among)) in
     is.lines ∙ ap (csv_rows names) none ∙ append-nil (row_text default_writer names)
 
-pub no_last : (rows : RowList) → length rows ≡ 0 → codes "\n" ≡ last_line rows
-no_last [] none = refl
-no_last (row ∷ rows) none = absurd (omega (arith, none))
-
 pub last_is : (rows : RowList) (row : List (List ℕ)) → 1 ≤ length rows → row ≡ get_or rows (length rows - 1) [] → row_text default_writer row ≡ last_line rows
 last_is [] row some is = absurd (omega (arith, some))
 last_is (r ∷ []) row some is = ap (row_text default_writer) is

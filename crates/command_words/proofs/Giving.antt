@@ -138,19 +138,6 @@ pub record Sofar (name : CommandName) (words left : List (List ℕ)) (arguments 
   pub behind : (items : List Item) → Splits name left items → Splits name words (done ++ items)
   pub only : (items : List Item) → Splits name words items → (others : List Item) × (items ≡ done ++ others) × Splits name left others
 
-pub sofar_none : (name : CommandName) (words : List (List ℕ)) (arguments : Arguments) → words_of arguments.positionals ≡ [] → arguments.firings ≡ None → arguments.search ≡ None → arguments.workers ≡ None → Sofar name words words arguments
-sofar_none name words arguments none unset unused alone = record {
-  done = [];
-  give = record { in_order = sym none; are_given = λ option. subst (IsGiven option []) (sym (not_given option)) refl };
-  behind = λ items splits. splits;
-  only = λ items splits. (items, refl, splits);
-}
-  where
-    not_given : (option : OptionName) → given_number option arguments ≡ None
-    not_given Firings = unset
-    not_given Search = unused
-    not_given Workers = alone
-
 -- the items of words that begin with an item
 behind_first : (name : CommandName) (words : List (List ℕ)) (item : Item) (rest : List (List ℕ)) (items : List Item) → Begins name words item rest → Parts name words items → (others : List Item) × (items ≡ item ∷ others) × Splits name rest others
 behind_first name words item rest items begins (ended e is) = absurd (none_begins name words item rest begins e)
@@ -186,11 +173,6 @@ sofar_all name words left arguments test sofar = record {
 no_item : (name : CommandName) (left : List (List ℕ)) (items : List Item) → 0 < length left → ((item : Item) (rest : List (List ℕ)) → Begins name left item rest → ⊥) → Parts name left items → ⊥
 no_item name left items some none (ended e is) = omega (arith, ap length e)
 no_item name left items some none (more item rest others is begins splits) = none item rest begins
-
-pub sofar_stuck : (name : CommandName) (words left : List (List ℕ)) (arguments : Arguments) (items : List Item) → 0 < length left → ((item : Item) (rest : List (List ℕ)) → Begins name left item rest → ⊥) → Sofar name words left arguments → Splits name words items → ⊥
-sofar_stuck name words left arguments items some none sofar splits =
-    let (others, is, rest) = sofar.only items splits in
-    no_item name left others some none (parts name left others rest)
 
 -- an item that no command may have
 pub sofar_refused : (name : CommandName) (words left after : List (List ℕ)) (item : Item) (arguments : Arguments) (items : List Item) → Begins name left item after → ((done rest : List Item) → Give done arguments → MayBe (done ++ item ∷ rest) → ⊥) → Sofar name words left arguments → Splits name words items → MayBe items → ⊥

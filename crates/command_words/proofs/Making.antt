@@ -226,9 +226,6 @@ one_command words command other here there = makes_once words command other (mak
 
 -- ---- what the calls answer
 
-pub no_words : (words : List (List ℕ)) (command : Command) → length words < 1 → IsCommand words command → ⊥
-no_words words command none is = let m = makes words command is in omega (arith, none, ap length m.first)
-
 pub no_name : (words : List (List ℕ)) (word : List ℕ) (command : Command) → 1 ≤ length words → word ≡ get_or words 0 word → ((which : CommandName) → word ≡ command_word which → ⊥) → IsCommand words command → ⊥
 no_name words word command some is none asks =
     let m = makes words command asks in

@@ -5,36 +5,14 @@ use Rattle.std.specs.Fmt.{decimal}
 use Rattle.std.specs.Char.{is_ascii_digit}
 use Rattle.std.specs.Str.{all_ascii_digits}
 use Rattle.std.proofs.lemmas.Bool.{eqb-true, eq-eqb}
-use Rattle.std.proofs.lemmas.Fmt.{decimal_by_steps, decimal-digits_value, digits_decimal, digits_value-decimal}
+use Rattle.std.proofs.lemmas.Fmt.{decimal-digits_value, digits_decimal, digits_value-decimal}
 use Rattle.std.proofs.lemmas.Str.Parse.{IsNumeralModel, numerals_by_fold}
+use Rattle.lists.specs.Digits.{value_from}
+use Rattle.lists.proofs.Digits.{value_ge, BeginsPlain, decimal_begins}
 use Rattle.command_words.specs.Cuts.{begins_plain}
-
--- the number of the digits behind those that are done
-abbrev pub value_from : ℕ → List ℕ → ℕ
-value_from n [] = n
-value_from n (d ∷ ds) = value_from (n * 10 + (d - 48)) ds
-
-value_ge : (ds : List ℕ) (n : ℕ) → n ≤ value_from n ds
-value_ge [] n = omega arith
-value_ge (d ∷ ds) n = let more = value_ge ds (n * 10 + (d - 48)) in omega arith
 
 own : IsNumeralModel (λ ds. all_ascii_digits ds ≡ true) (value_from 0)
 own = numerals_by_fold _ (search rules) value_from (search rules)
-
--- a zero stands first only where it is alone
-abbrev BeginsPlain : ℕ → List ℕ → Type 0
-BeginsPlain n [] = ⊥
-BeginsPlain n (d ∷ ds) = (0 < n → 49 ≤ d) × (n ≡ 0 → ds ≡ [])
-
-begins_more : (n : ℕ) (ds : List ℕ) → 10 ≤ n → BeginsPlain (n / 10) ds → BeginsPlain n (ds ++ ((48 + n % 10) ∷ []))
-begins_more n [] high plain = absurd plain
-begins_more n (d ∷ ds) high plain =
-    let some : 0 < n / 10 = omega arith in
-    let first = plain.0 some in
-    (λ _. first, λ e. absurd (omega (arith, e)))
-
-decimal_begins : (n : ℕ) → n < 2 ^ 64 → BeginsPlain n (decimal n)
-decimal_begins n fits = decimal_by_steps BeginsPlain (λ m low. (λ some. omega (arith, some), λ e. refl)) begins_more n fits
 
 not_equal : (d : ℕ) (t : Bool) → nat_eq d 48 ≡ t → 49 ≤ d → not t ≡ true
 not_equal d true e high = absurd (omega (arith, eqb-true d 48 e))
@@ -43,8 +21,8 @@ not_equal d false e high = refl
 plain_begins : (n : ℕ) (ds : List ℕ) → BeginsPlain n ds → begins_plain ds ≡ true
 plain_begins n [] plain = absurd plain
 plain_begins n (d ∷ []) plain = refl
-plain_begins zero (d ∷ e ∷ ds) plain = let none = plain.1 refl in absurd cc
-plain_begins (suc n) (d ∷ e ∷ ds) plain = not_equal d (nat_eq d 48) refl (plain.0 (omega arith))
+plain_begins zero (d ∷ e ∷ ds) plain = let none = plain.3 refl in absurd cc
+plain_begins (suc n) (d ∷ e ∷ ds) plain = not_equal d (nat_eq d 48) refl (plain.2 (omega arith))
 
 -- what the test says
 first_digit : (ds : List ℕ) → begins_plain ds ≡ true → (0 < length ds) × (get_or ds 0 0 ≡ 48 → length ds ≡ 1)

@@ -24,14 +24,8 @@ module _ (atoms : List Atom) (before after : Arranging) (number : ℕ) (atom : A
   low : number < length before.placed.items
   low = let within = slice_get_within atoms number atom got in let e = r.width in omega (arith, within, e)
 
-  pub is_placed : IsPlaced after number
-  is_placed = ap (λ l. slice_index_or l number false) placed ∙ get_or-set_same before.placed.items number true false low
-
   same_at : (k : ℕ) → (k ≡ number → ⊥) → slice_index_or after.placed.items k false ≡ slice_index_or before.placed.items k false
   same_at k apart = ap (λ l. slice_index_or l k false) placed ∙ get_or-set_other before.placed.items number k true false apart
-
-  pub stays_placed : StaysPlaced before after
-  stays_placed k is = ⊎_elim (λ same. subst (IsPlaced after) (sym same) is_placed) (λ apart. same_at k apart ∙ is) (cases_eq k number)
 
   pub placed_more : IsArranging atoms after
   placed_more = record {

@@ -75,17 +75,6 @@ pub record Chaining (given : List (Option Val)) (firsts : List ℕ) (atoms left 
   pub unknown : (x : ℕ) → Contains next x → IsBound given x → ⊥
   pub named : (x : ℕ) → OccursIn rest x → first_of firsts x < length left → IsBound given x ⊎ Contains next x
 
-pub chaining_none : (given : List (Option Val)) (firsts : List ℕ) (atoms : List Atom) → Chaining given firsts atoms atoms [] []
-chaining_none given firsts atoms = record {
-  rest = [];
-  split = sym (append-nil atoms);
-  chain = refl;
-  early = λ x among. absurd (contains_none x among);
-  low = λ x among. absurd (contains_none x among);
-  unknown = λ x among. absurd (contains_none x among);
-  named = λ x (atom, among, there) early. absurd (contains_none atom among);
-}
-
 pub chaining_all : (given : List (Option Val)) (firsts : List ℕ) (atoms : List Atom) (next : List ℕ) (links : List Link) → Chaining given firsts atoms [] next links → IsChain given [] atoms (reverse links)
 chaining_all given firsts atoms [] links r = subst (λ all. IsChain given [] all (reverse links)) (sym r.split) r.chain
 chaining_all given firsts atoms (x ∷ next) links r = absurd (let low = r.early x (contains_here x next) in omega (arith, low))

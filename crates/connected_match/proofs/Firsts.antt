@@ -63,13 +63,6 @@ module _ (terms : List Term) (y place : ℕ) (before now : List ℕ) (low : y < 
         (value x);
   }
 
-pub firsts_none : (end width : ℕ) → AreFirsts [] end width (replicate width end)
-firsts_none end width = record {
-  width_is = length-replicate width end;
-  first = λ k x atom got there. absurd (cc);
-  named = λ x low early. let e = get_or-replicate width x end 0 low in absurd (omega (arith, early, e));
-}
-
 pub firsts_more : (atoms : List Atom) (atom : Atom) (end width : ℕ) (before after : List ℕ) → AreFirsts atoms end width before → AreNoted atom.terms (length atoms) before after →
     AreFirsts (atoms ++ atom ∷ []) end width after
 firsts_more atoms atom end width before after r n = record {

@@ -38,9 +38,6 @@ module _ (facts : List Ground) (link : Link) (row : List Val) (given : List (Opt
   long : length given ≡ length row + length link.values
   long = ap length same ∙ length-append (map Some row) link.values ∙ ap (λ n. n + length link.values) (length-map row Some)
 
-  pub link_few : LinkFits (length row) link → bound link.atoms ≤ length given
-  link_few fits = let few = fits.few in let e = long in omega (arith, few, e)
-
   pub link_covered : LinkFits (length row) link → AreCovered link.atoms given
   link_covered fits x low = ⊎_elim
       (λ inside. let (v, got) = got_below row x inside in inl (v, ap (λ g. slice_get g x) same ∙ got_before (map Some row) link.values x (let e = length-map row Some in omega (arith, inside, e)) ∙ map_got Some row x v got))

@@ -40,17 +40,6 @@ pub record Walking (facts : List Ground) (links : List Link) (Seen : Point → T
       Contains waiting (record { place = point.place + 1; row = next }) ⊎ Seen (record { place = point.place + 1; row = next })
   pub start : Contains waiting (record { place = 0; row = [] }) ⊎ Seen (record { place = 0; row = [] })
 
-pub walking_start : (facts : List Ground) (links : List Link) (Seen : Point → Type 0) → FitFrom 0 links → ((point : Point) → Seen point → ⊥) →
-    Walking facts links Seen (record { place = 0; row = [] } ∷ [])
-walking_start facts links Seen fits none = record {
-  on_way = λ point among. ⊎_elim
-      (λ same. subst (IsOnWay facts links) same (record { within = omega arith; fits = fits; ends = λ goes. goes }))
-      (λ i. absurd (contains_none point i)) (contains_cases (record { place = 0; row = [] }) [] point among);
-  begun = λ point seen. absurd (none point seen);
-  gone_on = λ point link next seen got leads. absurd (none point seen);
-  start = inl (contains_here (record { place = 0; row = [] }) []);
-}
-
 -- nothing waits
 pub walking_none : (facts : List Ground) (links : List Link) (Seen : Point → Type 0) → Walking facts links Seen [] → Completes facts links [] → ⊥
 walking_none facts links Seen r goes = ⊎_elim (λ among. contains_none (record { place = 0; row = [] }) among) (λ seen. never links 0 [] refl seen goes) r.start
@@ -106,9 +95,6 @@ module _ (facts : List Ground) (links : List Link) (Seen Now : Point → Type 0)
     where
       kept_long : (next : List Val) → Leads facts link point.row next → length next ≡ length link.kept
       kept_long next (a, agrees, made, e) = ap length e ∙ length-map link.kept a
-
-  pub link_fits : LinkFits (length point.row) link
-  link_fits = let both : FitFrom (length point.row) (link ∷ drop (point.place + 1) links) = subst (FitFrom (length point.row)) rest_is on.fits in both.0
 
   -- what waited still waits or was just seen
   still : (one : Point) → Contains (waiting ++ point ∷ []) one ⊎ Seen one → Contains (waiting ++ points_at (point.place + 1) rows) one ⊎ Now one

@@ -22,7 +22,8 @@ use Rattle.explain.specs.Grammar.{word_form, opening_form, answer_form, name_of,
 use Rattle.explain.specs.Reading.{is_lone, opening_at, answer_at, fact_at, next_at}
 use Rattle.explain.proofs.PrintLaws.{readable}
 use Rattle.explain.proofs.ReadLines.{lone_found, lone_again, row_no_lone, opening_found, opening_again, answer_found, answer_again, fact_found, fact_reread}
-use Rattle.plan_form.proofs.Following.{Fit, Fit-append, Fit-split}
+use Rattle.plan_form.proofs.ByLines as by_lines
+use Rattle.plan_form.proofs.ByLines.{Fit, Fit-append, Fit-split}
 
 -- ---- what has been read
 
@@ -72,18 +73,12 @@ module _ (schema : Schema) where
   IsSound (Ended pair) = FitsSchema schema pair
 
 -- one line more has been read
-pub record Follows (schema : Schema) (done : Progress) (tokens : List Lexeme) (more : Progress) : Type 0 where
-  pub form : List Slot
-  pub forms_are : forms_of schema more ≡ forms_of schema done ++ form ∷ []
-  pub of_form : IsOfForm tokens form
-  pub sound : IsSound schema more
+abbrev Follows : Schema → Progress → List Lexeme → Progress → Type 0
+Follows schema = by_lines.Follows (forms_of schema) (IsSound schema)
 
 -- what lines that were read have
-pub record AreRead (schema : Schema) (done : Progress) (lines : List (List Lexeme)) (last : Progress) : Type 0 where
-  pub forms : List (List Slot)
-  pub forms_are : forms_of schema last ≡ forms_of schema done ++ forms
-  pub fit : Fit lines forms
-  pub sound : IsSound schema last
+abbrev pub AreRead : Schema → Progress → List (List Lexeme) → Progress → Type 0
+AreRead schema = by_lines.AreRead (forms_of schema) (IsSound schema)
 
 module _ (schema : Schema) where
   opening_follows : (tokens : List Lexeme) (more : Progress) → next_at schema Opening tokens ≡ Some more → Follows schema Opening tokens more
@@ -161,31 +156,10 @@ module _ (schema : Schema) where
   -- ---- lines one behind another
 
   abbrev pub read_from : Progress → List (List Lexeme) → Option Progress
-  read_from done [] = Some done
-  read_from done (tokens ∷ lines) = next_at schema done tokens >>= λ more. read_from more lines
-
-  pub read-append : (done : Progress) (xs ys : List (List Lexeme)) → read_from done (xs ++ ys) ≡ (read_from done xs >>= λ more. read_from more ys)
-  read-append done [] ys = refl
-  read-append done (x ∷ xs) ys = step (next_at schema done x) (λ more. read-append more xs ys)
-    where
-      step : (o : Option Progress) → ((more : Progress) → read_from more (xs ++ ys) ≡ (read_from more xs >>= λ last. read_from last ys)) →
-          (o >>= λ more. read_from more (xs ++ ys)) ≡ ((o >>= λ more. read_from more xs) >>= λ more. read_from more ys)
-      step None again = refl
-      step (Some more) again = again more
+  read_from = by_lines.read_from (next_at schema)
 
   pub lines_found : (lines : List (List Lexeme)) (done last : Progress) → IsSound schema done → read_from done lines ≡ Some last → AreRead schema done lines last
-  lines_found [] done last sound e =
-      subst (AreRead schema done []) (some_injective done last e) (record { forms = []; forms_are = sym (append-nil (forms_of schema done)); fit = tt; sound = sound })
-  lines_found (tokens ∷ lines) done last sound e =
-      let a = bind_some (next_at schema done tokens) (λ (more : Progress). read_from more lines) last e in
-      let f = next_follows done tokens a.0 sound a.1 in
-      let r = lines_found lines a.0 last f.sound a.2 in
-      record {
-        forms = f.form ∷ r.forms;
-        forms_are = r.forms_are ∙ ap (λ (fs : List (List Slot)). fs ++ r.forms) f.forms_are ∙ append_assoc (forms_of schema done) (f.form ∷ []) r.forms;
-        fit = (f.of_form, r.fit);
-        sound = r.sound;
-      }
+  lines_found = by_lines.lines_found (next_at schema) (forms_of schema) (IsSound schema) next_follows
 
   -- ---- a refutation's lines are read
 
@@ -223,7 +197,7 @@ module _ (schema : Schema) where
   first_again : (answer : List (List ℕ)) (first : List Fact) (lines : List (List Lexeme)) → IsInstance (meaning_of schema) first → Fit lines (facts_forms schema.relations first second_word) → read_from (First answer []) lines ≡ Some (Second answer first [])
   first_again answer first lines fit are =
       let s = Fit-split lines (fact_forms schema first) (word_form second_word ∷ []) are in
-      ap (read_from (First answer [])) s.2 ∙ read-append (First answer []) s.0 s.1
+      ap (read_from (First answer [])) s.2 ∙ by_lines.read-append (next_at schema) (First answer []) s.0 s.1
       ∙ ap (λ (o : Option Progress). o >>= λ more. read_from more s.1) (facts_again (λ fs. First answer fs) (first_more answer) first [] s.0 fit s.3)
       ∙ word_line_again (First answer first) (Second answer first []) second_word s.1 (λ tokens lone. rw lone refl) s.4
 
@@ -232,14 +206,14 @@ module _ (schema : Schema) where
   second_again answer first second lines fit are =
       let pair : Witness = record { first = first; second = second; answer = answer } in
       let s = Fit-split lines (fact_forms schema second) (word_form end_word ∷ []) are in
-      ap (read_from (Second answer first [])) s.2 ∙ read-append (Second answer first []) s.0 s.1
+      ap (read_from (Second answer first [])) s.2 ∙ by_lines.read-append (next_at schema) (Second answer first []) s.0 s.1
       ∙ ap (λ (o : Option Progress). o >>= λ more. read_from more s.1) (facts_again (λ fs. Second answer first fs) (second_more answer first) second [] s.0 fit s.3)
       ∙ word_line_again (Second answer first second) (Ended pair) end_word s.1 (λ tokens lone. rw lone refl) s.4
 
   both_again : (pair : Witness) (lines : List (List Lexeme)) → FitsSchema schema pair → Fit lines (facts_forms schema.relations pair.first second_word ++ facts_forms schema.relations pair.second end_word) → read_from (First pair.answer []) lines ≡ Some (Ended pair)
   both_again pair lines fits are =
       let s = Fit-split lines (facts_forms schema.relations pair.first second_word) (facts_forms schema.relations pair.second end_word) are in
-      ap (read_from (First pair.answer [])) s.2 ∙ read-append (First pair.answer []) s.0 s.1
+      ap (read_from (First pair.answer [])) s.2 ∙ by_lines.read-append (next_at schema) (First pair.answer []) s.0 s.1
       ∙ ap (λ (o : Option Progress). o >>= λ more. read_from more s.1) (first_again pair.answer pair.first s.0 fits.first s.3)
       ∙ second_again pair.answer pair.first pair.second s.1 fits.second s.4
 
@@ -360,7 +334,7 @@ module _ (schema : Schema) where
   -- lines that begin a refutation are read
   pub begin_read : (lines : List (List Lexeme)) → BeginWitness schema lines → (last : Progress) × (read_from schema Opening lines ≡ Some last)
   begin_read lines (more, pair, are) =
-      let whole = sym (read-append schema Opening lines more) ∙ witness_again schema pair (lines ++ more) are in
+      let whole = sym (by_lines.read-append (next_at schema) Opening lines more) ∙ witness_again schema pair (lines ++ more) are in
       let a = bind_some (read_from schema Opening lines) (λ (p : Progress). read_from schema p more) (Ended pair) whole in
       (a.0, a.1)
 

@@ -6,12 +6,11 @@ use Rattle.lists.proofs.Members.{some_injective}
 use Rattle.pq_text.specs.declared.lexeme.Lexeme.{Lexeme}
 use Rattle.pq_text.specs.declared.lexeme.Line.{Line}
 use Rattle.pq_text.specs.declared.lexeme.TextLines.{TextLines}
-use Rattle.pq_text.specs.Lexemes.{◌>>=◌}
 use Rattle.pq_text.specs.Lines.{AreLines, number_at}
 use Rattle.pq_text.proofs.Lexing.{lines_one}
 use Rattle.pq_text.proofs.FirstBad.{utf8_clash}
 use Rattle.access_schema.specs.declared.schema.Schema.{Schema}
-use Rattle.plan_form.specs.Grammar.{behind_tokens, written}
+use Rattle.plan_form.specs.Grammar.{written}
 use Rattle.no_plan_witness.specs.declared.refutation.Witness.{Witness}
 use Rattle.explain.specs.declared.fault.WitnessReadFault.{WitnessReadFault}
 use Rattle.explain.specs.declared.fault.WitnessReadFault.TheVariants as faults
@@ -19,100 +18,33 @@ use Rattle.explain.specs.declared.progress.Progress.{Progress}
 use Rattle.explain.specs.declared.progress.Progress.TheVariants.{Opening, Opened, Answered, First, Second, Ended}
 use Rattle.explain.specs.Grammar.{AreWitnessLines, SaysWitness, IsWitnessText, BeginWitness, HasMisfit, Stops, IsFirstMisfit, IsWitnessReadFault, OkOrNoMemory}
 use Rattle.explain.specs.Reading.{next_at, next_progress, progress_from, witness_of, ProgressGives, HasLineFault}
-use Rattle.explain.proofs.Following.{AreRead, read_from, read-append, lines_found, witness_again, read_begin, begin_read, ended_are}
-use Rattle.plan_form.proofs.TextLaws.{written-append}
+use Rattle.explain.proofs.Following.{AreRead, read_from, lines_found, witness_again, read_begin, begin_read, ended_are}
+use Rattle.plan_form.proofs.ByLines as by_lines
+use Rattle.plan_form.proofs.ByLines.{written-append}
 
--- ---- all lines are read
+-- ---- reading the lines, as it is defined for refutations and by lines in general
 
-abbrev good : Progress → Result Progress ℕ
-good p = Ok p
-
-abbrev bad : ℕ → Result Progress ℕ
-bad n = Err n
-
-good_is : (a b : Progress) → good a ≡ good b → a ≡ b
-good_is a b e = cc
-
-bad_is : (a b : ℕ) → bad a ≡ bad b → a ≡ b
-bad_is a b e = cc
+same_turn : (go other : Progress → Result Progress ℕ) → ((more : Progress) → go more ≡ other more) → (number : ℕ) (done : Progress) (tokens : List Lexeme) (o : Option Progress) →
+    next_progress go number done tokens o ≡ by_lines.turn other number done tokens o
+same_turn go other same number done [] o = same done
+same_turn go other same number done (t ∷ ts) None = refl
+same_turn go other same number done (t ∷ ts) (Some more) = same more
 
 module _ (schema : Schema) where
-  line_read : (go : Progress → Result Progress ℕ) (number : ℕ) (done last : Progress) (tokens : List Lexeme) (others : List (List Lexeme)) →
-      ((more : Progress) → go more ≡ good last → read_from schema more others ≡ Some last) → next_progress go number done tokens (next_at schema done tokens) ≡ good last → read_from schema done (behind_tokens tokens others) ≡ Some last
-  line_read go number done last [] others again e = again done e
-  line_read go number done last (t ∷ ts) others again e = step (next_at schema done (t ∷ ts)) e
-    where
-      step : (o : Option Progress) → next_progress go number done (t ∷ ts) o ≡ good last → (o >>= λ more. read_from schema more others) ≡ Some last
-      step None e = absurd cc
-      step (Some more) e = again more e
+  same_progress : (lines : List Line) (done : Progress) → progress_from schema done lines ≡ by_lines.progress_from (next_at schema) done lines
+  same_progress [] done = refl
+  same_progress (line ∷ lines) done =
+      same_turn (λ more. progress_from schema more lines) (λ more. by_lines.progress_from (next_at schema) more lines) (λ more. same_progress lines more) line.number done line.tokens (next_at schema done line.tokens)
 
-  all_read : (lines : List Line) (done last : Progress) → progress_from schema done lines ≡ good last → read_from schema done (written lines) ≡ Some last
-  all_read [] done last e = ap (λ (p : Progress). Some p) (good_is done last e)
-  all_read (line ∷ lines) done last e = line_read (λ more. progress_from schema more lines) line.number done last line.tokens (written lines) (λ more h. all_read lines more last h) e
+  all_read : (lines : List Line) (last : Progress) → progress_from schema Opening lines ≡ Ok last → read_from schema Opening (written lines) ≡ Some last
+  all_read lines last e = by_lines.all_read (next_at schema) lines Opening last (sym (same_progress lines Opening) ∙ e)
 
-  are_read : (lines : List Line) (last : Progress) → progress_from schema Opening lines ≡ good last → AreRead schema Opening (written lines) last
-  are_read lines last e = lines_found schema (written lines) Opening last tt (all_read lines Opening last e)
-  -- ---- a line does not fit
+  are_read : (lines : List Line) (last : Progress) → progress_from schema Opening lines ≡ Ok last → AreRead schema Opening (written lines) last
+  are_read lines last e = lines_found schema (written lines) Opening last tt (all_read lines last e)
 
-record Halts (schema : Schema) (done : Progress) (lines : List Line) (number : ℕ) : Type 0 where
-  pub front : List Line
-  pub line : Line
-  pub behind : List Line
-  pub whole : lines ≡ front ++ line ∷ behind
-  pub number_is : line.number ≡ number
-  pub last : Progress
-  pub read : read_from schema done (written front) ≡ Some last
-  pub none : read_from schema last (behind_tokens line.tokens []) ≡ None
-
-module _ (schema : Schema) where
-  line_halts : (line : Line) (lines : List Line) (go : Progress → Result Progress ℕ) (number : ℕ) (done : Progress) (tokens : List Lexeme) → line.tokens ≡ tokens →
-      ((more : Progress) → go more ≡ bad number → Halts schema more lines number) → next_progress go line.number done tokens (next_at schema done tokens) ≡ bad number → Halts schema done (line ∷ lines) number
-  line_halts line lines go number done [] is again e =
-      let r = again done e in
-      record {
-        front = line ∷ r.front;
-        line = r.line;
-        behind = r.behind;
-        whole = ap (λ (ls : List Line). line ∷ ls) r.whole;
-        number_is = r.number_is;
-        last = r.last;
-        read = subst (λ (ts : List Lexeme). read_from schema done (behind_tokens ts (written r.front)) ≡ Some r.last) (sym is) r.read;
-        none = r.none;
-      }
-  line_halts line lines go number done (t ∷ ts) is again e = step (next_at schema done (t ∷ ts)) refl e
-    where
-      step : (o : Option Progress) → next_at schema done (t ∷ ts) ≡ o → next_progress go line.number done (t ∷ ts) o ≡ bad number → Halts schema done (line ∷ lines) number
-      step None at e =
-          record {
-            front = [];
-            line = line;
-            behind = lines;
-            whole = refl;
-            number_is = bad_is line.number number e;
-            last = done;
-            read = refl;
-            none = subst (λ (us : List Lexeme). read_from schema done (behind_tokens us []) ≡ None) (sym is) (ap (λ (o : Option Progress). o >>= λ more. read_from schema more []) at);
-          }
-      step (Some more) at e =
-          let r = again more e in
-          record {
-            front = line ∷ r.front;
-            line = r.line;
-            behind = r.behind;
-            whole = ap (λ (ls : List Line). line ∷ ls) r.whole;
-            number_is = r.number_is;
-            last = r.last;
-            read = subst (λ (us : List Lexeme). read_from schema done (behind_tokens us (written r.front)) ≡ Some r.last) (sym is) (ap (λ (o : Option Progress). o >>= λ more. read_from schema more (written r.front)) at ∙ r.read);
-            none = r.none;
-          }
-
-  lines_halt : (lines : List Line) (number : ℕ) (done : Progress) → progress_from schema done lines ≡ bad number → Halts schema done lines number
-  lines_halt [] number done e = absurd cc
-  lines_halt (line ∷ lines) number done e = line_halts line lines (λ more. progress_from schema more lines) number done line.tokens refl (λ more h. lines_halt lines number more h) e
-
-  has_misfit : (lines : List Line) (number : ℕ) → progress_from schema Opening lines ≡ bad number → HasMisfit schema lines number
+  has_misfit : (lines : List Line) (number : ℕ) → progress_from schema Opening lines ≡ Err number → HasMisfit schema lines number
   has_misfit lines number e =
-      let r = lines_halt lines number Opening e in
+      let r = by_lines.lines_halt (next_at schema) lines number Opening (sym (same_progress lines Opening) ∙ e) in
       record {
         before = r.front;
         line = r.line;
@@ -122,10 +54,7 @@ module _ (schema : Schema) where
         begins = read_begin schema (written r.front) r.last (lines_found schema (written r.front) Opening r.last tt r.read);
         none = λ begins.
             let other = begin_read schema (written (r.front ++ r.line ∷ [])) begins in
-            let stops : read_from schema Opening (written (r.front ++ r.line ∷ [])) ≡ None =
-            ap (read_from schema Opening) (written-append r.front (r.line ∷ [])) ∙ read-append schema Opening (written r.front) (behind_tokens r.line.tokens [])
-            ∙ ap (λ (o : Option Progress). o >>= λ more. read_from schema more (behind_tokens r.line.tokens [])) r.read ∙ r.none in
-            none-some other.0 (sym stops ∙ other.1);
+            none-some other.0 (sym (by_lines.halted (next_at schema) lines number Opening r) ∙ other.1);
       }
 
   -- ---- texts
@@ -138,23 +67,23 @@ module _ (schema : Schema) where
   ended_is (Second answer first second) pair e = absurd cc
   ended_is (Ended other) pair e = cc
 
-  pub text_read : (text : List ℕ) (told : TextLines) (last : Progress) (pair : Witness) → AreLines text told → told.broken ≡ None → progress_from schema Opening told.whole ≡ good last → witness_of last ≡ Some pair → SaysWitness schema text pair
+  pub text_read : (text : List ℕ) (told : TextLines) (last : Progress) (pair : Witness) → AreLines text told → told.broken ≡ None → progress_from schema Opening told.whole ≡ Ok last → witness_of last ≡ Some pair → SaysWitness schema text pair
   text_read text told last pair lines whole e ends =
       let P : Option ℕ → TextLines = λ b. record { whole = told.whole; broken = b } in
-      let read = e ∙ ap good (ended_is last pair ends) in
-      (told.whole, subst (λ (b : Option ℕ). AreLines text (P b)) whole lines, ended_are schema (written told.whole) pair (are_read schema told.whole (Ended pair) read))
+      let read = e ∙ ap (λ (p : Progress). Ok p) (ended_is last pair ends) in
+      (told.whole, subst (λ (b : Option ℕ). AreLines text (P b)) whole lines, ended_are schema (written told.whole) pair (are_read told.whole (Ended pair) read))
 
-  pub text_broken : (text : List ℕ) (told : TextLines) (last : Progress) (number : ℕ) → AreLines text told → told.broken ≡ Some number → progress_from schema Opening told.whole ≡ good last → IsFirstMisfit schema text number
+  pub text_broken : (text : List ℕ) (told : TextLines) (last : Progress) (number : ℕ) → AreLines text told → told.broken ≡ Some number → progress_from schema Opening told.whole ≡ Ok last → IsFirstMisfit schema text number
   text_broken text told last number lines broken e =
-      (told, lines, inr (read_begin schema (written told.whole) last (are_read schema told.whole last e), subst (λ (b : Option ℕ). Stops schema text told b number) (sym broken) refl))
+      (told, lines, inr (read_begin schema (written told.whole) last (are_read told.whole last e), subst (λ (b : Option ℕ). Stops schema text told b number) (sym broken) refl))
 
-  pub text_early : (text : List ℕ) (told : TextLines) (last : Progress) (number : ℕ) → AreLines text told → told.broken ≡ None → progress_from schema Opening told.whole ≡ good last → witness_of last ≡ None →
+  pub text_early : (text : List ℕ) (told : TextLines) (last : Progress) (number : ℕ) → AreLines text told → told.broken ≡ None → progress_from schema Opening told.whole ≡ Ok last → witness_of last ≡ None →
       number ≡ number_at text (length text) → IsFirstMisfit schema text number
   text_early text told last number lines whole e early is =
-      let never : (pair : Witness) → AreWitnessLines schema (written told.whole) pair → ⊥ = λ pair are. none-some pair (sym early ∙ ap witness_of (some_injective last (Ended pair) (sym (all_read schema told.whole Opening last e) ∙ witness_again schema pair (written told.whole) are))) in
-      (told, lines, inr (read_begin schema (written told.whole) last (are_read schema told.whole last e), subst (λ (b : Option ℕ). Stops schema text told b number) (sym whole) (never, is)))
+      let never : (pair : Witness) → AreWitnessLines schema (written told.whole) pair → ⊥ = λ pair are. none-some pair (sym early ∙ ap witness_of (some_injective last (Ended pair) (sym (all_read told.whole last e) ∙ witness_again schema pair (written told.whole) are))) in
+      (told, lines, inr (read_begin schema (written told.whole) last (are_read told.whole last e), subst (λ (b : Option ℕ). Stops schema text told b number) (sym whole) (never, is)))
 
-  pub text_misfit : (text : List ℕ) (told : TextLines) (number : ℕ) → AreLines text told → progress_from schema Opening told.whole ≡ bad number → IsFirstMisfit schema text number
+  pub text_misfit : (text : List ℕ) (told : TextLines) (number : ℕ) → AreLines text told → progress_from schema Opening told.whole ≡ Err number → IsFirstMisfit schema text number
   text_misfit text told number lines e = (told, lines, inl (has_misfit told.whole number e))
 
   pub fault_is : (text : List ℕ) (told : TextLines) (fault : WitnessReadFault) → AreLines text told → ProgressGives (Err fault) (progress_from schema Opening told.whole) → HasLineFault schema text fault

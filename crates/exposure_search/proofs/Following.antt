@@ -39,19 +39,6 @@ grows_then first second third one two = record {
   news = λ n on. ⊎_elim (λ old. ⊎_elim (λ older. inl older) (λ w. inr (two.waits n w)) (one.news n old)) (λ w. inr w) (two.news n on);
 }
 
--- one more mark
-pub grows_one : (old new : Marking) (number : ℕ) → new.marks.items ≡ slice_set old.marks.items number true → new.waiting.items ≡ old.waiting.items ++ number ∷ [] → Grows old new
-grows_one old new number marks waiting = record {
-  long = ap length marks ∙ length-set old.marks.items number true;
-  stays = λ n on. subst (λ ms. IsMarked ms n) (sym marks) (set_kept old.marks.items number n on);
-  waits = λ n c. subst (λ ws. Contains ws n) (sym waiting) (Contains-append_left old.waiting.items (number ∷ []) n c);
-  news = λ n on. ⊎_elim (λ here. inr (subst (λ ws. Contains ws n) (sym waiting) (subst (λ k. Contains (old.waiting.items ++ number ∷ []) k) (sym here) (Contains-push old.waiting.items number)))) (λ m. inl m)
-      (set_cases old.marks.items number n (subst (λ ms. IsMarked ms n) marks on));
-}
-
-pub one_on : (old new : Marking) (number : ℕ) → new.marks.items ≡ slice_set old.marks.items number true → number < length old.marks.items → IsMarked new.marks.items number
-one_on old new number marks low = subst (λ ms. IsMarked ms number) (sym marks) (set_here old.marks.items number low)
-
 -- what is marked of a kind of numbers, after some steps
 pub record IsReached (Kind : ℕ → Type 0) (old new : Marking) : Type 0 where
   pub grows : Grows old new
@@ -203,11 +190,4 @@ begun_more wanted facts count now new fact mark are got marks waits here wants =
       subst (λ ms. IsMarked ms number) (sym marks) (subst (λ k. IsMarked (now.marks.items ++ mark ∷ []) k) at (got_push now.marks.items mark ∙ ap (λ b. Some b) on)))
       (λ other. subst (λ ms. IsMarked ms number) (sym marks) (keeps_push now.marks.items mark number (are.wants number its (omega arith) there wanted_is))) (cases_eq number count);
   waits = λ number on. ⊎_elim (λ old. waits number (are.waits number old)) (λ (e, is). subst (λ k. Contains new.waiting.items k) (sym e) (here is)) (push_cases now.marks.items mark number (subst (λ ms. IsMarked ms number) marks on));
-}
-
-pub begun_none : (wanted : List Bool) (facts : List Ground) (now : Marking) → now.marks.items ≡ [] → AreBegun wanted facts 0 now
-begun_none wanted facts now none = record {
-  long = ap length none;
-  wants = λ number fact low got wants. absurd (omega arith);
-  waits = λ number on. absurd (let e : slice_get [] number ≡ Some true = subst (λ ms. IsMarked ms number) none on in cc);
 }

@@ -38,12 +38,6 @@ bindings_none query head (Some given) n = tt
 abbrev pub NeverIs : List (Option Val) → Ground → Atom → Type 0
 NeverIs given fact atom = (a : ℕ → Val) → Agrees given a → ground a atom ≡ fact → ⊥
 
-pub other_relation : (given : List (Option Val)) (fact : Ground) (atom : Atom) → (atom.rel ≡ fact.rel → ⊥) → NeverIs given fact atom
-other_relation given fact atom differ a agrees e = differ (ap (λ (f : Ground). f.rel) e)
-
-pub other_values : (given : List (Option Val)) (fact : Ground) (atom : Atom) → Differs atom.terms fact.vals given → NeverIs given fact atom
-other_values given fact atom differs a agrees e = differs a agrees (ap (λ (f : Ground). f.vals) e)
-
 pub never_made : (given : List (Option Val)) (atoms : List Atom) (fact : Ground) → ((atom : Atom) → Contains atoms atom → NeverIs given fact atom) → IsMade given atoms fact → ⊥
 never_made given atoms fact none is = none is.atom is.of_atoms is.assignment is.agrees is.makes
 

@@ -99,15 +99,6 @@ module _ (schema : SchemaParts) where
   shown : (proof : Proving) → IsProofOf schema proof → proof.exposed ≡ shown_of (log_of proof)
   shown proof is = is.exposed ∙ shown_in proof.entries
 
-  -- proofs with the same beginning and the same log
-  pub same_end : (first second : Proving) → IsProofOf schema first → IsProofOf schema second → second.constants ≡ first.constants → second.start ≡ first.start → log_of second ≡ log_of first → (second.end ≡ first.end) × (second.exposed ≡ first.exposed)
-  same_end first second is its constants start log =
-      let run : IsRun schema first.constants 0 first.start (log_of first) second.end =
-      subst (λ l. IsRun schema first.constants 0 first.start l second.end) log
-      (subst (λ p. IsRun schema first.constants 0 p (log_of second) second.end) start
-      (subst (λ c. IsRun schema c 0 second.start (log_of second) second.end) constants (run_of second its))) in
-      (run_once schema first.constants 0 0 first.start (log_of first) second.end first.end run (run_of first is), shown second its ∙ ap shown_of log ∙ sym (shown first is))
-
   -- a proof whose log is base firings and exposures
   pub record IsLaid (proof : Proving) (bases : List Trigger) (made : List Exposed) : Type 0 where
     pub bases_are : bases_of (log_of proof) ≡ bases

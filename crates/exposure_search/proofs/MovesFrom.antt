@@ -106,9 +106,6 @@ pub record AreCandidatesTo (methods : List Method) (constants : List (List ℕ))
       AreInputs (known_values constants exposed) method.inputs fact.vals → (candidate : Candidate) × Contains candidates candidate × (candidate.step ≡ record { fact = number; method = of; cost = method.cost })
 
 module _ (methods : List Method) (constants : List (List ℕ)) (base : List Ground) (marks : Marks) where
-  pub candidates_none : AreCandidatesTo methods constants base marks [] 0
-  candidates_none = record { each = λ candidate c. absurd (omega arith); all = λ number of fact method exposed low. absurd (omega arith) }
-
   module _ (candidates : List Candidate) (count : ℕ) (are : AreCandidatesTo methods constants base marks candidates count) where
     pub candidates_more : (index : List (List ℕ)) → IsMethodIndex methods index → (fact : Ground) → slice_get base count ≡ Some fact → IsMarked marks.relevant.items count → (needed : Bool) → (IsTrue needed ↔ IsMarked marks.needed.items count) →
         (new : List Candidate) → AreAdded methods constants count fact needed (methods_of index fact.rel) candidates new → AreCandidatesTo methods constants base marks new (count + 1)
@@ -145,12 +142,6 @@ module _ (methods : List Method) (constants : List (List ℕ)) (base : List Grou
 
 -- ---- the moves of those that can be made
 
-pub served_left : (moves more : List Move) (move : Move) → IsServed moves move → IsServed (moves ++ more) move
-served_left moves more move (other, among, same, cheap) = (other, Contains-append_left moves more other among, same, cheap)
-
-pub served_last : (moves : List Move) (step : Move) → IsServed (moves ++ step ∷ []) step
-served_last moves step = (step, Contains-push moves step, refl, omega arith)
-
 -- one takes the place of the last move, of the same fact
 module _ (front : List Move) (last step best : Move) (same : last.fact ≡ step.fact) (one : (best ≡ last) ⊎ (best ≡ step)) where
   best_fact : best.fact ≡ step.fact
@@ -159,9 +150,6 @@ module _ (front : List Move) (last step best : Move) (same : last.fact ≡ step.
   pub replaced_each : (move : Move) → Contains (front ++ best ∷ []) move → Contains (front ++ last ∷ []) move ⊎ (move ≡ step)
   replaced_each move c = ⊎_elim (λ old. inl (Contains-append_left front (last ∷ []) move old))
       (λ e. ⊎_elim (λ is. inl (subst (λ m. Contains (front ++ last ∷ []) m) (sym is ∙ e) (Contains-push front last))) (λ is. inr (sym e ∙ is)) one) (Contains-push_cases front best move c)
-
-  pub replaced_served : best.cost ≤ step.cost → IsServed (front ++ best ∷ []) step
-  replaced_served cheap = (best, Contains-push front best, best_fact, cheap)
 
   pub replaced_stay : best.cost ≤ last.cost → (move : Move) → IsServed (front ++ last ∷ []) move → IsServed (front ++ best ∷ []) move
   replaced_stay cheap move (other, among, its, low) = ⊎_elim (λ old. (other, Contains-append_left front (best ∷ []) other old, its, low))

@@ -37,14 +37,6 @@ pub record AreOffered (methods : List Method) (values : List Val) (fact : Ground
   pub least : (number : ℕ) (method : Method) → Contains numbers number → slice_get methods number ≡ Some method → AreInputs values method.inputs fact.vals → method.cost < below → limit ≤ method.cost
 
 module _ (methods : List Method) (values : List Val) (fact : Ground) (place below : ℕ) where
-  pub offered_none : AreOffered methods values fact place below [] None below
-  offered_none = record {
-    most = omega arith;
-    some = λ move e. absurd (cc);
-    none = λ e. refl;
-    least = λ number method c named inputs low. absurd (omega arith);
-  }
-
   module _ (numbers : List ℕ) (best : Option Move) (limit : ℕ) (are : AreOffered methods values fact place below numbers best limit) (number : ℕ) where
     pub offered_more : (method : Method) → slice_get methods number ≡ Some method → method.rel ≡ fact.rel → method.cost < limit → AreInputs values method.inputs fact.vals →
         AreOffered methods values fact place below (numbers ++ number ∷ []) (Some (record { fact = place; method = number; cost = method.cost })) method.cost
@@ -107,9 +99,6 @@ pub record AreServed (schema : SchemaParts) (proof : Proving) (marks : Marks) (b
   pub served : (move : Move) → IsActiveMove schema proof move → IsMarked marks.relevant.items move.fact → Adds (known_values proof.constants proof.end.exposed) proof.end.base marks.needed.items move.fact → move.cost < below → move.fact < count → IsServed moves move
 
 module _ (schema : SchemaParts) (proof : Proving) (marks : Marks) (below : ℕ) where
-  pub served_none : AreServed schema proof marks below [] 0
-  served_none = record { active = λ move c. absurd (omega arith); served = λ move active on gains low less. absurd (omega arith) }
-
   module _ (moves : List Move) (count : ℕ) (are : AreServed schema proof marks below moves count) (index : List (List ℕ)) (indexed : IsMethodIndex schema.methods index) (fact : Ground) (at : slice_get proof.end.base count ≡ Some fact) where
     -- an active move of this fact is by one of its relation's methods
     of_fact : (move : Move) (active : IsActiveMove schema proof move) → move.fact ≡ count → (active.fact ≡ fact) × Contains (methods_of index fact.rel) move.method

@@ -18,16 +18,6 @@ use Rattle.exposure_search.specs.Relevance.{Keeps, AllMarked, BodiesMarked, IsIm
 use Rattle.exposure_search.proofs.Wanting.{front_each, front_none, all_more}
 use Rattle.exposure_search.proofs.Imaging.{image_next, image_none}
 
--- an existential variable has a label from `next` on
-pub never_new : (given : List (Option Val)) (next width x : ℕ) (asked : Term) → width ≤ x → ((a : ℕ → Val) (k : ℕ) → Agrees given a → value_of Const a asked ≡ Label k → k < next) → NeverMeet given next width (Var x) asked
-never_new given next width x asked new fixed trigger a wide fresh agrees same =
-    let place : length trigger.values + (x - length trigger.values) ≡ x = omega arith in
-    let is : assigned trigger x ≡ Label (trigger.fresh + (x - length trigger.values)) =
-    subst (λ y. assigned trigger y ≡ Label (trigger.fresh + (x - length trigger.values))) place
-    (joined_above (length trigger.values) (λ y. slice_index_or trigger.values y (Label 0)) (λ i. Label (trigger.fresh + i)) (x - length trigger.values)) in
-    let low : trigger.fresh + (x - length trigger.values) < next = fixed a (trigger.fresh + (x - length trigger.values)) agrees (sym same ∙ is) in
-    omega arith
-
 maps_at : (f g : Term → Val) (made asked : List Term) (i : ℕ) (m n : Term) → i < length made → m ≡ slice_index_or made i m → n ≡ slice_index_or asked i n → map f made ≡ map g asked → f m ≡ g n
 maps_at f g [] asked i m n low e h same = absurd (omega arith)
 maps_at f g (first ∷ made) [] i m n low e h same = absurd (cc)
@@ -42,9 +32,6 @@ maps_at f g (first ∷ made) (other ∷ asked) (suc i) m n low e h same = maps_a
 
 pub never_at : (given : List (Option Val)) (next width : ℕ) (made asked : List Term) (i : ℕ) (m n : Term) → i < length made → m ≡ slice_index_or made i m → n ≡ slice_index_or asked i n → NeverMeet given next width m n → NeverMatch given next width made asked
 never_at given next width made asked i m n low e h never trigger a wide fresh agrees same = never trigger a wide fresh agrees (maps_at (value_of Const (assigned trigger)) (value_of Const a) made asked i m n low e h same)
-
-pub never_long : (given : List (Option Val)) (next width : ℕ) (made asked : List Term) → (length made ≡ length asked → ⊥) → NeverMatch given next width made asked
-never_long given next width made asked uneven trigger a wide fresh agrees same = uneven (sym (length-map made (value_of Const (assigned trigger))) ∙ ap length same ∙ length-map asked (value_of Const a))
 
 -- none of the head's atoms can make a fact of the atom
 abbrev pub NoneServes : List (Option Val) → ℕ → ℕ → List Atom → Atom → Type 0

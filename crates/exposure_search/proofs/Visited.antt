@@ -97,23 +97,3 @@ module _ (schema : SchemaParts) (queries : List Query) (head : List Val) (budget
     gone_back new firings new_is constants start all entries =
         let (exposes, on, exposed) = goes_back schema gone settled new is settles new_is constants start (entries ∙ ap (λ n. take n settled.entries) all) in
         (exposes, same_on old gone new same on, exposed ∙ made)
-
-    pub no_shorter : (firings : ℕ) → firings ≡ length gone.entries → firings ≤ length settled.entries
-    no_shorter firings all = let long = settled_long schema gone settled settles in omega arith
-
--- what was right for a proof is so for one with the same base
-pub aimed_same : (aim : Aim) (old new : Proving) → IsAimed aim old → OnlyExposes (meaning_of aim.schema.now) new → SameBase old new → IsAimed aim new
-aimed_same aim old new is exposes same = record {
-  ready = record {
-    exposes = exposes;
-    facts_are = is.ready.facts_are ∙ sym (ap (λ (s : State). s.facts) same.base);
-    methods_are = is.ready.methods_are;
-    bases_are = is.ready.bases_are ∙ ap length (sym same.bases);
-    counted = is.ready.counted;
-    few = is.ready.few;
-    low = is.ready.low;
-    relevant = relevant_same (meaning_of aim.schema.now) aim.queries.now aim.head.now aim.marks old new same is.ready.relevant;
-  };
-  makers = is.makers;
-  candidates = subst (λ k. AreCandidates aim.schema.now.methods k aim.facts.items aim.marks aim.candidates.items) (sym same.constants) is.candidates;
-}

@@ -255,9 +255,6 @@ module _ {W I A : Type 0} (did : W → I → A → W → Type 0) (items : List I
   abbrev pub sheet_numbers : List (ℕ × A) → List ℕ
   sheet_numbers ds = map (λ d. d.0) ds
 
-  nones : List (Option A)
-  nones = replicate (length items) None
-
   worked_by : (answers : List A) (r : List (ℕ × A)) (w u : W) → Steps did items r w u → AllPut (map Some answers) r → WorkedBy did items answers (sheet_numbers r) w u
   worked_by answers [] w u s p = s
   worked_by answers (d ∷ ds) w u s p = (s.0, d.1, s.1, s.2, put_answer answers d.0 d.1 p.0, s.3, worked_by answers ds s.1 u s.4 p.1)

@@ -11,9 +11,6 @@ module _ {X : Type 0} (P : X → Type 0) where
   pub all_right : (xs ys : List X) → All P (xs ++ ys) → All P ys
   all_right xs ys h k d below = subst P (get_or-append-add xs ys k d) (h (length xs + k) d (let a = length-append xs ys in omega arith))
 
-  pub all_last : (xs : List X) (x : X) → All P (xs ++ x ∷ []) → P x
-  all_last xs x h = all_right xs (x ∷ []) h 0 x (omega arith)
-
 module _ {A : Type 0} where
   pub put_snoc : (ps : List (Option A)) (ds : List (ℕ × A)) (k : ℕ) (a : A) → put_at ps (ds ++ (k, a) ∷ []) ≡ put_at (set ps k (Some a)) ds
   put_snoc ps [] k a = refl

@@ -36,9 +36,6 @@ module _ (waiter : Reverse Waiter) (before after : List (Reverse Waiter)) (same 
   pub pop_only : (other : Waiter) → Contains (waiters_of after) other → Contains (waiters_of before) other
   pop_only other there = permuted (waiter ∷ after) before other (IsPermutation-sym before (waiter ∷ after) same) (contains_there waiter.0 (waiters_of after) other there)
 
-  pub pop_among : Contains (waiters_of before) waiter.0
-  pop_among = permuted (waiter ∷ after) before waiter.0 (IsPermutation-sym before (waiter ∷ after) same) (contains_here waiter.0 (waiters_of after))
-
 -- what is not turned below another costs no more
 not_dearer : (waiter other : Waiter) → is_lt (ordering_then (nat_cmp other.cost waiter.cost) (nat_cmp other.number waiter.number)) ≡ false → waiter.cost ≤ other.cost
 not_dearer waiter other low = ge_from_not_lt other.cost waiter.cost (by (nat_cmp other.cost waiter.cost) low)

@@ -1,4 +1,5 @@
 pub mod Booleans
+pub mod Digits
 pub mod Members
 pub mod Orders
 pub mod Places

@@ -32,12 +32,6 @@ accessible_closed schema constants facts closed closes (first ∷ earlier) (hold
     ⊎_elim (λ e. subst (λ f. Contains closed f) e (closes first holds (access_more schema constants earlier closed first (λ f d. accessible_closed schema constants facts closed closes earlier t f d) access)))
     (λ h. accessible_closed schema constants facts closed closes earlier t fact h) (contains_cases first earlier fact c)
 
--- two trails together are one, so the accessible facts of a list have one trail
-pub trails_join : (schema : SchemaParts) (constants : List (List ℕ)) (facts first second : List Fact) → IsAccessPath schema constants facts first → IsAccessPath schema constants facts second → IsAccessPath schema constants facts (first ++ second)
-trails_join schema constants facts [] second t u = u
-trails_join schema constants facts (fact ∷ first) second (holds, access, t) u =
-    (holds, access_more schema constants first (first ++ second) fact (λ f c. Contains-append_left first second f c) access, trails_join schema constants facts first second t u)
-
 branch_for : (schema : SchemaParts) (constants : List (List ℕ)) (all queries : List Query) (branches : List Branch) (query : Query) → AllZip (IsQueryRival schema constants all) queries branches → Contains queries query → (branch : Branch) × Contains branches branch × IsQueryRival schema constants all query branch
 branch_for schema constants all [] branches query z c = absurd (omega arith)
 branch_for schema constants all (first ∷ queries) [] query z c = absurd z

@@ -47,10 +47,6 @@ column_none (j ∷ columns) k e c =
     go None f g ih = ih f
     go (Some n) f g ih = let clash : Some (suc n) ≡ None = ap next_column (sym f) ∙ g in absurd (cc)
 
--- the two answers of column_of
-column_cases : (columns : List ℕ) (k : ℕ) → (column_of columns k ≡ None) ⊎ ((i : ℕ) × (column_of columns k ≡ Some i))
-column_cases columns k = elim (column_of columns k) as (λ o. (o ≡ None) ⊎ ((i : ℕ) × (o ≡ Some i))) [ None ↦ inl refl | Some i ↦ inr (i, refl) ]
-
 -- the columns only grow, and get every label of the fact
 pub columns_kept : (columns : List ℕ) (vals : List Val) (k : ℕ) → Contains columns k → Contains (columns_after columns vals) k
 columns_kept columns [] k c = c
@@ -150,10 +146,6 @@ module _ (schema : SchemaParts) (well : IsWellFormed schema) (instance : List Fa
         record { method = e.method; fact = fact_of h e.fact; named = (its.0, refl); of_relation = sym its.1; holds = carries e (contains_here e exposures); joins = joins_image h columns e.fact.vals },
         steps_image h (columns_after columns e.fact.vals) exposures (λ f c. methods f (contains_there e exposures f c)) (λ f c. carries f (contains_there e exposures f c)),
       )
-
-  pub all_kept : (columns : List ℕ) (exposures : List Exposure) (k : ℕ) → Contains columns k → Contains (all_columns columns exposures) k
-  all_kept columns [] k c = c
-  all_kept columns (e ∷ exposures) k c = all_kept (columns_after columns e.fact.vals) exposures k (columns_kept columns e.fact.vals k c)
 
   pub same_vals : (g h : ℕ → List ℕ) (vals : List Val) → ((k : ℕ) → Contains vals (Label k) → g k ≡ h k) → map (image g) vals ≡ map (image h) vals
   same_vals g h vals same = map_same (image g) (image h) vals each

@@ -12,6 +12,3 @@ fits_alike schema rel other xs ys same long fits = record {
   there = subst (λ r. slice_get schema.relations r ≡ Some fits.relation) same fits.there;
   width = long ∙ fits.width;
 }
-
-pub fits_map : {X Y : Type 0} (schema : SchemaParts) (rel : ℕ) (f : X → Y) (xs : List X) → FitsRelation schema rel xs → FitsRelation schema rel (map f xs)
-fits_map schema rel f xs fits = fits_alike schema rel rel xs (map f xs) refl (length-map xs f) fits

@@ -19,7 +19,10 @@ pub mod Searching
 pub mod Conjoining
 pub mod Choosing
 pub mod Example
-pub mod Employees
+pub mod StaffOffice
+pub mod StaffPlans
+pub mod StaffRequests
+pub mod StaffRun
 pub mod Feeding
 pub mod Closing
 pub mod SameSets

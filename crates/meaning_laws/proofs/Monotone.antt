@@ -36,14 +36,6 @@ joins_length (Const t ∷ places) (value ∷ values) row next j = joins_length p
 joins_length (Col k ∷ places) (value ∷ values) row next j = joins_length places values row next j.1
 joins_length (New ∷ places) (value ∷ values) row next j = rw (← length_push row value) (joins_length places values (row ++ value ∷ []) next j)
 
-joins_long : (places : List Place) (values row next : List (List ℕ)) → Joins places values row next → length places ≡ length values
-joins_long [] [] row next e = refl
-joins_long [] (value ∷ values) row next j = absurd j
-joins_long (place ∷ places) [] row next j = absurd j
-joins_long (Const t ∷ places) (value ∷ values) row next j = ap suc (joins_long places values row next j.1)
-joins_long (Col k ∷ places) (value ∷ values) row next j = ap suc (joins_long places values row next j.1)
-joins_long (New ∷ places) (value ∷ values) row next j = ap suc (joins_long places values (row ++ value ∷ []) next j)
-
 -- the value at an input place is a constant or stood in the row before the step
 module _ (constants : List (List ℕ)) (inputs : List ℕ) (began : ℕ) (Old : List ℕ → Type 0) where
   pub joins_inputs : (places : List Place) (values row next : List (List ℕ)) (p columns q : ℕ) → Joins places values row next → AreLawfulPlaces constants inputs began p columns places → ((k : ℕ) (v : List ℕ) → k < began → slice_get row k ≡ Some v → Old v) → began ≤ length row → Contains inputs (p + q) → q < length places → (v : List ℕ) × (slice_get values q ≡ Some v) × (Contains constants v ⊎ Old v)

@@ -34,19 +34,3 @@ sets_bound (suc n) sets are d =
 
     doubled : (n : ℕ) → 2 ^ suc n ≡ 2 ^ n + 2 ^ n
     doubled n = rw pow-suc (omega arith)
-
--- exposures and a last one
-pub last_exposure : (schema : SchemaParts) (constants : List (List ℕ)) (base exposed : List Ground) (exposures : List Exposure) (e : Exposure) → IsExposing schema constants base exposed (exposures ++ e ∷ []) → IsExposing schema constants base exposed exposures × Exposes schema constants base (exposed ++ exposed_facts exposures) e
-last_exposure schema constants base exposed [] e is = (tt, subst (λ gs. Exposes schema constants base gs e) (sym (append-nil exposed)) is.0)
-last_exposure schema constants base exposed (first ∷ exposures) e is =
-    let rest = last_exposure schema constants base (exposed ++ first.fact ∷ []) exposures e is.1 in
-    ((is.0, rest.0), subst (λ gs. Exposes schema constants base gs e) (append_assoc exposed (first.fact ∷ []) (exposed_facts exposures)) rest.1)
-
-pub with_last : (schema : SchemaParts) (constants : List (List ℕ)) (base exposed : List Ground) (exposures : List Exposure) (e : Exposure) → IsExposing schema constants base exposed exposures → Exposes schema constants base (exposed ++ exposed_facts exposures) e → IsExposing schema constants base exposed (exposures ++ e ∷ [])
-with_last schema constants base exposed [] e is last = (subst (λ gs. Exposes schema constants base gs e) (append-nil exposed) last, tt)
-with_last schema constants base exposed (first ∷ exposures) e is last =
-    (is.0, with_last schema constants base (exposed ++ first.fact ∷ []) exposures e is.1 (subst (λ gs. Exposes schema constants base gs e) (sym (append_assoc exposed (first.fact ∷ []) (exposed_facts exposures))) last))
-
-pub last_cost : (exposures : List Exposure) (e : Exposure) → exposures_cost (exposures ++ e ∷ []) ≡ exposures_cost exposures + e.method.cost
-last_cost [] e = omega arith
-last_cost (first ∷ exposures) e = let rest : exposures_cost (exposures ++ e ∷ []) ≡ exposures_cost exposures + e.method.cost = last_cost exposures e in omega arith

@@ -17,17 +17,6 @@ use Rattle.no_plan_witness.specs.Passing.{AreFreeUpTo}
 pub numbered_apart : (j k : ℕ) → j < 2 ^ 64 → k < 2 ^ 64 → numbered_text j ≡ numbered_text k → j ≡ k
 numbered_apart j k p q e = decimal_injective j k p q (ap (drop 1) e)
 
--- before the first number
-pub none_passed : (constants texts : List (List ℕ)) → texts ≡ [] → AreFreeUpTo constants 0 texts
-none_passed constants texts e = record {
-  numbers = [];
-  texts_are = e;
-  ascend = λ k l. absurd (omega arith);
-  counted = λ number c. absurd (omega arith);
-  free = λ number c among. absurd (omega arith);
-  passed = λ other low high. absurd (omega arith);
-}
-
 last_or_before : (other last number : ℕ) → number ≡ last + 1 → other ≤ number → (other ≤ last) ⊎ (number ≡ other)
 last_or_before other last number is high = ⊎_elim (λ l. inl (omega arith)) (λ l. inr (omega arith)) (cases_lt other number)
 

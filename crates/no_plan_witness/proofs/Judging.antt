@@ -36,9 +36,6 @@ SharedBefore schema constants first second n =
     (k : ℕ) (other : Fact) → k < n → slice_get first k ≡ Some other → IsAccessible schema constants first other → IsAccessible schema constants second other
 
 module _ (schema : SchemaParts) (constants : List (List ℕ)) (first second : List Fact) where
-  pub shared_none : SharedBefore schema constants first second 0
-  shared_none k other l at is = absurd (omega arith)
-
   pub shared_more : (items : List Fact) (n : ℕ) (fact : Fact) → items ≡ first → n < length items → fact ≡ get_or items n fact → SharedBefore schema constants first second n → (IsAccessible schema constants first fact → IsAccessible schema constants second fact) → SharedBefore schema constants first second (n + 1)
   shared_more items n fact same l is shared here k other low at accessible = ⊎_elim
       (λ (less : k < n). shared k other less at accessible)

@@ -38,10 +38,6 @@ terms_more whole done pushed n after left rest place term so_far at term_is afte
 abbrev pub GoOn : SchemaParts → List Step → List Atom → ℕ → List Step → Type 0
 GoOn schema steps done n left = (more : List Atom) → AreAtoms schema n left more → AreAtoms schema 0 steps (done ++ more)
 
-pub atoms_none : (schema : SchemaParts) (steps left : List Step) (done : List Atom) → done ≡ [] → left ≡ steps → GoOn schema steps done 0 left
-atoms_none schema steps left done none all more are =
-    subst (λ d. AreAtoms schema 0 steps (d ++ more)) (sym none) (subst (λ l. AreAtoms schema 0 l more) all are)
-
 pub atoms_more : (schema : SchemaParts) (steps left rest : List Step) (done pushed : List Atom) (n after : ℕ) (step : Step) (atom : Atom) →
     GoOn schema steps done n left → left ≡ step ∷ rest → IsAtomOf schema n step atom → after ≡ made n step.places → pushed ≡ done ++ atom ∷ [] →
     GoOn schema steps pushed after rest

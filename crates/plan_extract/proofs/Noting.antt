@@ -52,12 +52,6 @@ module _ (old now next : BTreeMap ℕ ℕ) (vals : List Val) (number : ℕ) (so_
 
 -- ---- one more exposure
 
-pub origins_none : (m : BTreeMap ℕ ℕ) → ((label : ℕ) → get nat_cmp m label ≡ None) → AreOrigins [] m
-origins_none m none = record {
-  each = λ label number e. let off : None ≡ Some number = sym (none label) ∙ e in absurd (cc);
-  all = λ label e absent c. omega arith;
-}
-
 first_later : (exposures : List Exposure) (x : Exposure) (label number : ℕ) (e : Exposure) → IsFirstWith exposures label number e → IsFirstWith (exposures ++ x ∷ []) label number e
 first_later exposures x label number e is =
     let within = slice_get_within exposures number e is.at in

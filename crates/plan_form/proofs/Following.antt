@@ -22,25 +22,9 @@ use Rattle.plan_form.specs.declared.progress.Progress.TheVariants.{Opening, Betw
 use Rattle.plan_form.specs.Fitting.{IsWritableStep, IsWritableBranch, IsWritable}
 use Rattle.plan_form.specs.Grammar.{opening_form, access_form, place_form, out_form, output_form, branch_forms, plan_forms, IsOfForm, ArePlanLines, BeginPlan}
 use Rattle.plan_form.specs.Reading.{opening_at, access_at, output_at, lone_at, next_at}
+use Rattle.plan_form.proofs.ByLines as by_lines
+use Rattle.plan_form.proofs.ByLines.{Fit, Fit-append, Fit-split}
 use Rattle.plan_form.proofs.ReadLines.{lone_found, lone_again, opening_found, opening_again, access_found, access_again, output_found, output_again}
-
--- ---- lists of lines and forms
-
-abbrev pub Fit : List (List Lexeme) → List (List Slot) → Type 0
-Fit lines forms = AllZip IsOfForm lines forms
-
-pub Fit-append : (xs ys : List (List Lexeme)) (a b : List (List Slot)) → Fit xs a → Fit ys b → Fit (xs ++ ys) (a ++ b)
-Fit-append [] ys [] b p q = q
-Fit-append [] ys (f ∷ a) b p q = absurd p
-Fit-append (x ∷ xs) ys [] b p q = absurd p
-Fit-append (x ∷ xs) ys (f ∷ a) b p q = (p.0, Fit-append xs ys a b p.1 q)
-
-pub Fit-split : (lines : List (List Lexeme)) (a b : List (List Slot)) → Fit lines (a ++ b) → (xs : List (List Lexeme)) × (ys : List (List Lexeme)) × (lines ≡ xs ++ ys) × Fit xs a × Fit ys b
-Fit-split lines [] b p = ([], lines, refl, tt, p)
-Fit-split [] (f ∷ a) b p = absurd p
-Fit-split (x ∷ lines) (f ∷ a) b p =
-    let r = Fit-split lines a b p.1 in
-    (x ∷ r.0, r.1, ap (λ (ls : List (List Lexeme)). x ∷ ls) r.2, (p.0, r.3), r.4)
 
 flat-append : {X Y : Type 0} (f : X → List Y) (xs ys : List X) → flat_map f (xs ++ ys) ≡ flat_map f xs ++ flat_map f ys
 flat-append f [] ys = refl
@@ -70,11 +54,8 @@ IsSound (Inside width branches steps) = IsWidth width × AllByRecursion IsWritab
 IsSound (Ended plan) = IsWritable plan
 
 -- one line more has been read
-pub record Follows (done : Progress) (tokens : List Lexeme) (more : Progress) : Type 0 where
-  pub form : List Slot
-  pub forms_are : forms_of more ≡ forms_of done ++ form ∷ []
-  pub of_form : IsOfForm tokens form
-  pub sound : IsSound more
+abbrev Follows : Progress → List Lexeme → Progress → Type 0
+Follows = by_lines.Follows forms_of IsSound
 
 opening_follows : (tokens : List Lexeme) (more : Progress) → next_at Opening tokens ≡ Some more → Follows Opening tokens more
 opening_follows tokens more e =
@@ -145,41 +126,14 @@ next_follows (Ended plan) tokens more sound e = absurd cc
 -- ---- lines one behind another
 
 abbrev pub read_from : Progress → List (List Lexeme) → Option Progress
-read_from done [] = Some done
-read_from done (tokens ∷ lines) = next_at done tokens >>= λ more. read_from more lines
-
-pub read-append : (done : Progress) (xs ys : List (List Lexeme)) → read_from done (xs ++ ys) ≡ (read_from done xs >>= λ more. read_from more ys)
-read-append done [] ys = refl
-read-append done (x ∷ xs) ys = step (next_at done x) (λ more. read-append more xs ys)
-  where
-    step : (o : Option Progress) → ((more : Progress) → read_from more (xs ++ ys) ≡ (read_from more xs >>= λ last. read_from last ys)) →
-        (o >>= λ more. read_from more (xs ++ ys)) ≡ ((o >>= λ more. read_from more xs) >>= λ more. read_from more ys)
-    step None again = refl
-    step (Some more) again = again more
+read_from = by_lines.read_from next_at
 
 -- what lines that were read have
-pub record AreRead (done : Progress) (lines : List (List Lexeme)) (last : Progress) : Type 0 where
-  pub forms : List (List Slot)
-  pub forms_are : forms_of last ≡ forms_of done ++ forms
-  pub fit : Fit lines forms
-  pub sound : IsSound last
-
-some_same : (a b : Progress) → Some a ≡ Some b → a ≡ b
-some_same a b e = cc
+abbrev pub AreRead : Progress → List (List Lexeme) → Progress → Type 0
+AreRead = by_lines.AreRead forms_of IsSound
 
 pub lines_found : (lines : List (List Lexeme)) (done last : Progress) → IsSound done → read_from done lines ≡ Some last → AreRead done lines last
-lines_found [] done last sound e =
-    subst (AreRead done []) (some_same done last e) (record { forms = []; forms_are = sym (append-nil (forms_of done)); fit = tt; sound = sound })
-lines_found (tokens ∷ lines) done last sound e =
-    let a = bind_some (next_at done tokens) (λ (more : Progress). read_from more lines) last e in
-    let f = next_follows done tokens a.0 sound a.1 in
-    let r = lines_found lines a.0 last f.sound a.2 in
-    record {
-      forms = f.form ∷ r.forms;
-      forms_are = r.forms_are ∙ ap (λ (fs : List (List Slot)). fs ++ r.forms) f.forms_are ∙ append_assoc (forms_of done) (f.form ∷ []) r.forms;
-      fit = (f.of_form, r.fit);
-      sound = r.sound;
-    }
+lines_found = by_lines.lines_found next_at forms_of IsSound next_follows
 
 -- ---- a plan's lines are read
 
@@ -209,7 +163,7 @@ branch_again width done branch (first ∷ lines) w fit =
     let s = Fit-split lines (map access_form branch.steps) (output_form branch.output ∷ []) fit.1 in
     ap (λ (o : Option Progress). o >>= λ more. read_from more lines) opened
     ∙ ap (read_from (Inside width done [])) s.2
-    ∙ read-append (Inside width done []) s.0 s.1
+    ∙ by_lines.read-append next_at (Inside width done []) s.0 s.1
     ∙ ap (λ (o : Option Progress). o >>= λ more. read_from more s.1) (steps_again width done branch.steps [] s.0 w.steps s.3)
     ∙ last_again s.1 s.4
   where
@@ -228,7 +182,7 @@ branches_again width [] done (x ∷ lines) w fit = absurd fit
 branches_again width (branch ∷ branches) done lines w fit =
     let s = Fit-split lines (branch_forms branch) (flat_map branch_forms branches) fit in
     ap (read_from (Between width done)) s.2
-    ∙ read-append (Between width done) s.0 s.1
+    ∙ by_lines.read-append next_at (Between width done) s.0 s.1
     ∙ ap (λ (o : Option Progress). o >>= λ more. read_from more s.1) (branch_again width done branch s.0 w.0 s.3)
     ∙ branches_again width branches (done ++ branch ∷ []) s.1 w.1 s.4
     ∙ ap (λ (b : List Branch). Some (Between width b)) (append_assoc done (branch ∷ []) branches)
@@ -250,7 +204,7 @@ plan_again plan (first ∷ lines) are =
     let s = Fit-split lines (flat_map branch_forms plan.branches) (end_form ∷ []) are.1.1 in
     ap (λ (q : Option Progress). q >>= λ more. read_from more lines) opened
     ∙ ap (read_from (Between plan.width [])) s.2
-    ∙ read-append (Between plan.width []) s.0 s.1
+    ∙ by_lines.read-append next_at (Between plan.width []) s.0 s.1
     ∙ ap (λ (q : Option Progress). q >>= λ more. read_from more s.1) (branches_again plan.width plan.branches [] s.0 w.branches s.3)
     ∙ end_again plan s.1 s.4
 
@@ -308,7 +262,7 @@ read_begin lines (Ended plan) r = ([], plan, (r.sound, subst (λ (ls : List (Lis
 -- lines that begin a plan are read
 pub begin_read : (lines : List (List Lexeme)) → BeginPlan lines → (last : Progress) × (read_from Opening lines ≡ Some last)
 begin_read lines (more, plan, are) =
-    let whole = sym (read-append Opening lines more) ∙ plan_again plan (lines ++ more) are in
+    let whole = sym (by_lines.read-append next_at Opening lines more) ∙ plan_again plan (lines ++ more) are in
     let a = bind_some (read_from Opening lines) (λ (p : Progress). read_from p more) (Ended plan) whole in
     (a.0, a.1)
 

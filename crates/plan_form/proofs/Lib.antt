@@ -4,6 +4,7 @@ pub mod Judged
 pub mod FirstFaults
 pub mod Numbers
 pub mod ReadLines
+pub mod ByLines
 pub mod Following
 pub mod TextLaws
 pub mod Sizes

@@ -8,7 +8,7 @@ use Rattle.lists.proofs.Booleans.{both_true, and_true}
 use Rattle.lists.proofs.Members.{some_injective}
 use Rattle.lists.proofs.Orders.{text_is}
 use Rattle.pq_text.specs.declared.lexeme.Lexeme.{Lexeme}
-use Rattle.pq_text.specs.Numbers.{value_from, value_of}
+use Rattle.pq_text.specs.Numbers.{value_of}
 use Rattle.pq_text.specs.Lexemes.{◌>>=◌, number_at}
 use Rattle.pq_text.specs.Forms.{Slot, Digits, Takes}
 use Rattle.pq_text.proofs.Forms.{bind_some, number_found, number_again}
@@ -36,13 +36,6 @@ plain_printed n fits =
 
 pub plain_again : (digits : List ℕ) (n : ℕ) → is_decimal n digits ≡ true → n < 2 ^ 32 → plain_of digits ≡ Some n
 plain_again digits n is fits = ap plain_of (text_is digits (decimal n) is) ∙ plain_printed n fits
-
-pub plain_none : (digits : List ℕ) → ((n : ℕ) → n < 2 ^ 32 → digits ≢ decimal n) → None ≡ plain_of digits
-plain_none digits none = step (plain_of digits) refl
-  where
-    step : (o : Option ℕ) → plain_of digits ≡ o → None ≡ o
-    step None e = refl
-    step (Some n) e = let g = plain_found digits n e in absurd (none n g.1 (text_is digits (decimal n) g.0))
 
 pub plain_some : (digits : List ℕ) (n : ℕ) → digits ≡ decimal n → n < 2 ^ 32 → Some n ≡ plain_of digits
 plain_some digits n says fits = sym (ap plain_of says ∙ plain_printed n fits)

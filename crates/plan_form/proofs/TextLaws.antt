@@ -1,10 +1,11 @@
 -- A text is read as a plan exactly where it is that plan's, and otherwise its first line that does not fit is told.
 use Rattle.std.proofs.Common.{◌≡◌, ℕ, List, [], ◌∷◌, ◌++◌, length, Option, None, Some, Result, Ok, Err, refl, sym, ap, subst, ◌∙◌, append_assoc, inl, inr, ◌⊎◌}
 use Rattle.std.specs.Prelude.{IfOk, IfErr}
+use Rattle.std.proofs.lemmas.Option.{none-some}
+use Rattle.lists.proofs.Members.{some_injective}
 use Rattle.pq_text.specs.declared.lexeme.Lexeme.{Lexeme}
 use Rattle.pq_text.specs.declared.lexeme.Line.{Line}
 use Rattle.pq_text.specs.declared.lexeme.TextLines.{TextLines}
-use Rattle.pq_text.specs.Lexemes.{◌>>=◌}
 use Rattle.pq_text.specs.Lines.{AreLines, number_at}
 use Rattle.pq_text.proofs.Lexing.{lines_one}
 use Rattle.pq_text.proofs.FirstBad.{utf8_clash}
@@ -13,113 +14,34 @@ use Rattle.plan_form.specs.declared.fault.PlanReadFault.{PlanReadFault}
 use Rattle.plan_form.specs.declared.fault.PlanReadFault.TheVariants as faults
 use Rattle.plan_form.specs.declared.progress.Progress.{Progress}
 use Rattle.plan_form.specs.declared.progress.Progress.TheVariants.{Opening, Between, Inside, Ended}
-use Rattle.plan_form.specs.Grammar.{ArePlanLines, behind_tokens, written, SaysPlan, IsPlanText, BeginPlan, HasMisfit, Stops, IsFirstMisfit, IsPlanReadFault, OkOrNoMemory}
+use Rattle.plan_form.specs.Grammar.{ArePlanLines, written, SaysPlan, IsPlanText, BeginPlan, HasMisfit, Stops, IsFirstMisfit, IsPlanReadFault, OkOrNoMemory}
 use Rattle.plan_form.specs.Reading.{next_at, next_progress, progress_from, plan_of, ProgressGives, HasLineFault}
-use Rattle.plan_form.proofs.Following.{AreRead, read_from, read-append, lines_found, plan_again, read_begin, begin_read, ended_are}
+use Rattle.plan_form.proofs.ByLines as by_lines
+use Rattle.plan_form.proofs.ByLines.{written-append}
+use Rattle.plan_form.proofs.Following.{AreRead, read_from, lines_found, plan_again, read_begin, begin_read, ended_are}
 
--- ---- lines that have tokens
+-- ---- reading the lines, as it is defined for plans and by lines in general
 
-pub behind-append : (tokens : List Lexeme) (xs ys : List (List Lexeme)) → behind_tokens tokens (xs ++ ys) ≡ behind_tokens tokens xs ++ ys
-behind-append [] xs ys = refl
-behind-append (t ∷ ts) xs ys = refl
+same_turn : (go other : Progress → Result Progress ℕ) → ((more : Progress) → go more ≡ other more) → (number : ℕ) (done : Progress) (tokens : List Lexeme) (o : Option Progress) →
+    next_progress go number done tokens o ≡ by_lines.turn other number done tokens o
+same_turn go other same number done [] o = same done
+same_turn go other same number done (t ∷ ts) None = refl
+same_turn go other same number done (t ∷ ts) (Some more) = same more
 
-pub written-append : (xs ys : List Line) → written (xs ++ ys) ≡ written xs ++ written ys
-written-append [] ys = refl
-written-append (x ∷ xs) ys = ap (behind_tokens x.tokens) (written-append xs ys) ∙ behind-append x.tokens (written xs) (written ys)
+same_progress : (lines : List Line) (done : Progress) → progress_from done lines ≡ by_lines.progress_from next_at done lines
+same_progress [] done = refl
+same_progress (line ∷ lines) done =
+    same_turn (λ more. progress_from more lines) (λ more. by_lines.progress_from next_at more lines) (λ more. same_progress lines more) line.number done line.tokens (next_at done line.tokens)
 
--- ---- all lines are read
+all_read : (lines : List Line) (last : Progress) → progress_from Opening lines ≡ Ok last → read_from Opening (written lines) ≡ Some last
+all_read lines last e = by_lines.all_read next_at lines Opening last (sym (same_progress lines Opening) ∙ e)
 
-abbrev good : Progress → Result Progress ℕ
-good p = Ok p
+are_read : (lines : List Line) (last : Progress) → progress_from Opening lines ≡ Ok last → AreRead Opening (written lines) last
+are_read lines last e = lines_found (written lines) Opening last tt (all_read lines last e)
 
-abbrev bad : ℕ → Result Progress ℕ
-bad n = Err n
-
-good_is : (a b : Progress) → good a ≡ good b → a ≡ b
-good_is a b e = cc
-
-bad_is : (a b : ℕ) → bad a ≡ bad b → a ≡ b
-bad_is a b e = cc
-
-line_read : (go : Progress → Result Progress ℕ) (number : ℕ) (done last : Progress) (tokens : List Lexeme) (others : List (List Lexeme)) →
-    ((more : Progress) → go more ≡ good last → read_from more others ≡ Some last) → next_progress go number done tokens (next_at done tokens) ≡ good last → read_from done (behind_tokens tokens others) ≡ Some last
-line_read go number done last [] others again e = again done e
-line_read go number done last (t ∷ ts) others again e = step (next_at done (t ∷ ts)) e
-  where
-    step : (o : Option Progress) → next_progress go number done (t ∷ ts) o ≡ good last → (o >>= λ more. read_from more others) ≡ Some last
-    step None e = absurd cc
-    step (Some more) e = again more e
-
-all_read : (lines : List Line) (done last : Progress) → progress_from done lines ≡ good last → read_from done (written lines) ≡ Some last
-all_read [] done last e = ap (λ (p : Progress). Some p) (good_is done last e)
-all_read (line ∷ lines) done last e = line_read (λ more. progress_from more lines) line.number done last line.tokens (written lines) (λ more h. all_read lines more last h) e
-
-are_read : (lines : List Line) (last : Progress) → progress_from Opening lines ≡ good last → AreRead Opening (written lines) last
-are_read lines last e = lines_found (written lines) Opening last tt (all_read lines Opening last e)
-
--- ---- a line does not fit
-
-record Halts (done : Progress) (lines : List Line) (number : ℕ) : Type 0 where
-  pub front : List Line
-  pub line : Line
-  pub behind : List Line
-  pub whole : lines ≡ front ++ line ∷ behind
-  pub number_is : line.number ≡ number
-  pub last : Progress
-  pub read : read_from done (written front) ≡ Some last
-  pub none : read_from last (behind_tokens line.tokens []) ≡ None
-
-line_halts : (line : Line) (lines : List Line) (go : Progress → Result Progress ℕ) (number : ℕ) (done : Progress) (tokens : List Lexeme) → line.tokens ≡ tokens →
-    ((more : Progress) → go more ≡ bad number → Halts more lines number) → next_progress go line.number done tokens (next_at done tokens) ≡ bad number → Halts done (line ∷ lines) number
-line_halts line lines go number done [] is again e =
-    let r = again done e in
-    record {
-      front = line ∷ r.front;
-      line = r.line;
-      behind = r.behind;
-      whole = ap (λ (ls : List Line). line ∷ ls) r.whole;
-      number_is = r.number_is;
-      last = r.last;
-      read = subst (λ (ts : List Lexeme). read_from done (behind_tokens ts (written r.front)) ≡ Some r.last) (sym is) r.read;
-      none = r.none;
-    }
-line_halts line lines go number done (t ∷ ts) is again e = step (next_at done (t ∷ ts)) refl e
-  where
-    step : (o : Option Progress) → next_at done (t ∷ ts) ≡ o → next_progress go line.number done (t ∷ ts) o ≡ bad number → Halts done (line ∷ lines) number
-    step None at e =
-        record {
-          front = [];
-          line = line;
-          behind = lines;
-          whole = refl;
-          number_is = bad_is line.number number e;
-          last = done;
-          read = refl;
-          none = subst (λ (us : List Lexeme). read_from done (behind_tokens us []) ≡ None) (sym is) (ap (λ (o : Option Progress). o >>= λ more. read_from more []) at);
-        }
-    step (Some more) at e =
-        let r = again more e in
-        record {
-          front = line ∷ r.front;
-          line = r.line;
-          behind = r.behind;
-          whole = ap (λ (ls : List Line). line ∷ ls) r.whole;
-          number_is = r.number_is;
-          last = r.last;
-          read = subst (λ (us : List Lexeme). read_from done (behind_tokens us (written r.front)) ≡ Some r.last) (sym is) (ap (λ (o : Option Progress). o >>= λ more. read_from more (written r.front)) at ∙ r.read);
-          none = r.none;
-        }
-
-lines_halt : (lines : List Line) (number : ℕ) (done : Progress) → progress_from done lines ≡ bad number → Halts done lines number
-lines_halt [] number done e = absurd cc
-lines_halt (line ∷ lines) number done e = line_halts line lines (λ more. progress_from more lines) number done line.tokens refl (λ more h. lines_halt lines number more h) e
-
-none_never : (x : Progress) → None ≡ Some x → ⊥
-none_never x e = cc
-
-has_misfit : (lines : List Line) (number : ℕ) → progress_from Opening lines ≡ bad number → HasMisfit lines number
+has_misfit : (lines : List Line) (number : ℕ) → progress_from Opening lines ≡ Err number → HasMisfit lines number
 has_misfit lines number e =
-    let r = lines_halt lines number Opening e in
+    let r = by_lines.lines_halt next_at lines number Opening (sym (same_progress lines Opening) ∙ e) in
     record {
       before = r.front;
       line = r.line;
@@ -129,10 +51,7 @@ has_misfit lines number e =
       begins = read_begin (written r.front) r.last (lines_found (written r.front) Opening r.last tt r.read);
       none = λ begins.
           let other = begin_read (written (r.front ++ r.line ∷ [])) begins in
-          let stops : read_from Opening (written (r.front ++ r.line ∷ [])) ≡ None =
-          ap (read_from Opening) (written-append r.front (r.line ∷ [])) ∙ read-append Opening (written r.front) (behind_tokens r.line.tokens [])
-          ∙ ap (λ (o : Option Progress). o >>= λ more. read_from more (behind_tokens r.line.tokens [])) r.read ∙ r.none in
-          none_never other.0 (sym stops ∙ other.1);
+          none-some other.0 (sym (by_lines.halted next_at lines number Opening r) ∙ other.1);
     }
 
 -- ---- texts
@@ -143,29 +62,23 @@ ended_is (Between width branches) plan e = absurd cc
 ended_is (Inside width branches steps) plan e = absurd cc
 ended_is (Ended other) plan e = cc
 
-pub text_read : (text : List ℕ) (told : TextLines) (last : Progress) (plan : Plan) → AreLines text told → told.broken ≡ None → progress_from Opening told.whole ≡ good last → plan_of last ≡ Some plan → SaysPlan text plan
+pub text_read : (text : List ℕ) (told : TextLines) (last : Progress) (plan : Plan) → AreLines text told → told.broken ≡ None → progress_from Opening told.whole ≡ Ok last → plan_of last ≡ Some plan → SaysPlan text plan
 text_read text told last plan lines whole e ends =
     let P : Option ℕ → TextLines = λ b. record { whole = told.whole; broken = b } in
-    let read = e ∙ ap good (ended_is last plan ends) in
+    let read = e ∙ ap (λ (p : Progress). Ok p) (ended_is last plan ends) in
     (told.whole, subst (λ (b : Option ℕ). AreLines text (P b)) whole lines, ended_are (written told.whole) plan (are_read told.whole (Ended plan) read))
 
-pub text_broken : (text : List ℕ) (told : TextLines) (last : Progress) (number : ℕ) → AreLines text told → told.broken ≡ Some number → progress_from Opening told.whole ≡ good last → IsFirstMisfit text number
+pub text_broken : (text : List ℕ) (told : TextLines) (last : Progress) (number : ℕ) → AreLines text told → told.broken ≡ Some number → progress_from Opening told.whole ≡ Ok last → IsFirstMisfit text number
 text_broken text told last number lines broken e =
     (told, lines, inr (read_begin (written told.whole) last (are_read told.whole last e), subst (λ (b : Option ℕ). Stops text told b number) (sym broken) refl))
 
-pub text_early : (text : List ℕ) (told : TextLines) (last : Progress) (number : ℕ) → AreLines text told → told.broken ≡ None → progress_from Opening told.whole ≡ good last → plan_of last ≡ None →
+pub text_early : (text : List ℕ) (told : TextLines) (last : Progress) (number : ℕ) → AreLines text told → told.broken ≡ None → progress_from Opening told.whole ≡ Ok last → plan_of last ≡ None →
     number ≡ number_at text (length text) → IsFirstMisfit text number
 text_early text told last number lines whole e early is =
-    let never : (plan : Plan) → ArePlanLines (written told.whole) plan → ⊥ = λ plan are. none_plan plan (sym early ∙ ap plan_of (some_same last (Ended plan) (sym (all_read told.whole Opening last e) ∙ plan_again plan (written told.whole) are))) in
+    let never : (plan : Plan) → ArePlanLines (written told.whole) plan → ⊥ = λ plan are. none-some plan (sym early ∙ ap plan_of (some_injective last (Ended plan) (sym (all_read told.whole last e) ∙ plan_again plan (written told.whole) are))) in
     (told, lines, inr (read_begin (written told.whole) last (are_read told.whole last e), subst (λ (b : Option ℕ). Stops text told b number) (sym whole) (never, is)))
-  where
-    some_same : (a b : Progress) → Some a ≡ Some b → a ≡ b
-    some_same a b e = cc
 
-    none_plan : (plan : Plan) → None ≡ Some plan → ⊥
-    none_plan plan e = cc
-
-pub text_misfit : (text : List ℕ) (told : TextLines) (number : ℕ) → AreLines text told → progress_from Opening told.whole ≡ bad number → IsFirstMisfit text number
+pub text_misfit : (text : List ℕ) (told : TextLines) (number : ℕ) → AreLines text told → progress_from Opening told.whole ≡ Err number → IsFirstMisfit text number
 text_misfit text told number lines e = (told, lines, inl (has_misfit told.whole number e))
 
 pub fault_is : (text : List ℕ) (told : TextLines) (fault : PlanReadFault) → AreLines text told → ProgressGives (Err fault) (progress_from Opening told.whole) → HasLineFault text fault

@@ -10,13 +10,11 @@ use Rattle.std.proofs.lemmas.Bool.{leb-true, leb-false, le-leb}
 use Rattle.std.proofs.lemmas.Fmt.{decimal_by_steps, decimal_digit, decimal_step, decimal-digits_value, parse-decimal}
 use Rattle.std.proofs.lemmas.Str.Parse.{IsNumeralModel, numerals_by_fold, parse_plain}
 use Rattle.lists.proofs.Booleans.{both_true, and_true}
-use Rattle.pq_text.specs.Numbers.{value_from, value_of, is_plain}
+use Rattle.lists.specs.Digits.{value_from}
+use Rattle.lists.proofs.Digits.{value_ge, BeginsPlain, decimal_begins}
+use Rattle.pq_text.specs.Numbers.{value_of, is_plain}
 
 -- ---- values up to a limit
-
-value_ge : (ds : List ℕ) (n : ℕ) → n ≤ value_from n ds
-value_ge [] n = omega arith
-value_ge (d ∷ ds) n = let more = value_ge ds (n * 10 + (d - 48)) in omega arith
 
 -- the value, kept up to the limit at each digit
 abbrev pub capped_from : ℕ → ℕ → List ℕ → ℕ
@@ -47,23 +45,6 @@ value_capped limit ds (d ∷ left) value none so_far = absurd (omega arith)
 
 pub value_numerals : IsNumeralModel (λ ds. all_ascii_digits ds ≡ true) value_of
 value_numerals = numerals_by_fold _ (search rules) value_from (search rules)
-
--- a digit stands first, and a zero only alone
-abbrev BeginsPlain : ℕ → List ℕ → Type 0
-BeginsPlain n [] = ⊥
-BeginsPlain n (d ∷ ds) = (48 ≤ d) × (d ≤ 57) × (0 < n → 49 ≤ d) × (n ≡ 0 → ds ≡ [])
-
-begins_more : (n : ℕ) (ds : List ℕ) → 10 ≤ n → BeginsPlain (n / 10) ds → BeginsPlain n (ds ++ ((48 + n % 10) ∷ []))
-begins_more n [] high plain = absurd plain
-begins_more n (d ∷ ds) high plain =
-    let low = plain.0 in
-    let top = plain.1 in
-    let some : 0 < n / 10 = omega arith in
-    let first = plain.2 some in
-    (low, top, λ _. first, λ e. absurd (omega (arith, e)))
-
-decimal_begins : (n : ℕ) → n < 2 ^ 64 → BeginsPlain n (decimal n)
-decimal_begins n fits = decimal_by_steps BeginsPlain (λ m low. (omega arith, omega arith, λ some. omega (arith, some), λ e. refl)) begins_more n fits
 
 plain_begins : (n : ℕ) (ds : List ℕ) → BeginsPlain n ds → is_plain ds ≡ true
 plain_begins n [] plain = absurd plain

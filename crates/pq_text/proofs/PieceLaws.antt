@@ -104,10 +104,6 @@ arrow_is_lexed t rest = record { token = λ n. refl; no_gap = λ n. refl }
 
 -- ---- numbers
 
-all_digits : List ℕ → Bool
-all_digits [] = true
-all_digits (d ∷ ds) = is_digit d && all_digits ds
-
 pub digit_byte : (n : ℕ) → n < 10 → is_digit (48 + n) ≡ true
 digit_byte n low = and_true (nat_le 48 (48 + n)) (nat_le (48 + n) 57) (le-leb 48 (48 + n) (omega arith)) (le-leb (48 + n) 57 (omega arith))
 

@@ -72,10 +72,6 @@ pub ascii_utf8 : (bs : List ℕ) → are_ascii bs ≡ true → IsUtf8 bs
 ascii_utf8 [] e = IsUtf8-nil
 ascii_utf8 (b ∷ bs) e = let g = both_true (nat_lt b 128) (are_ascii bs) e in cons_utf8 b bs (ltb-true b 128 g.0) (ascii_utf8 bs g.1)
 
-pub blank_utf8 : (spaced : Bool) → IsUtf8 (behind_blank spaced [])
-blank_utf8 true = cons_utf8 32 [] (omega arith) IsUtf8-nil
-blank_utf8 false = IsUtf8-nil
-
 -- ---- behind what stands there
 
 -- A text behind a text is a text.

@@ -57,10 +57,6 @@ end_closes text quote (b ∷ bs) n last true here so_far before =
 
 -- ---- tests of bytes
 
-or-some : (x y : Bool) → (x || y) ≡ true → y ≡ false → x ≡ true
-or-some true y e f = refl
-or-some false y e f = absurd cc
-
 and-second : (x y : Bool) → y ≡ false → (x && y) ≡ false
 and-second x y e = ap (λ (z : Bool). x && z) e ∙ and_false x
 

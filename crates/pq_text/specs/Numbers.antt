@@ -1,10 +1,6 @@
 -- What digits stand for.
-use Rattle.std.specs.Prelude.{◌+◌, ◌-◌, ◌*◌, ◌&&◌, ℕ, Bool, false, List, [], ◌∷◌, nat_le}
-
--- the number of the digits behind those that are done
-abbrev pub value_from : ℕ → List ℕ → ℕ
-value_from n [] = n
-value_from n (d ∷ ds) = value_from (n * 10 + (d - 48)) ds
+use Rattle.std.specs.Prelude.{◌&&◌, ℕ, Bool, false, List, [], ◌∷◌, nat_le}
+use Rattle.lists.specs.Digits.{value_from}
 
 abbrev pub value_of : List ℕ → ℕ
 value_of digits = value_from 0 digits

@@ -50,9 +50,6 @@ module _ (schema : SchemaParts) (queries : List Query) (query : Query) (firings 
   of_query : (log : List Firing) (end : Proof) → IsRun space.schema space.constants 0 space.start log end → IsRun schema space.constants 0 (opening query) log end
   of_query log end run = subst (λ start. IsRun schema space.constants 0 start log end) is.start (subst (λ s. IsRun s space.constants 0 space.start log end) is.schema_is run)
 
-  to_space : (log : List Firing) (end : Proof) → IsRun schema space.constants 0 (opening query) log end → IsRun space.schema space.constants 0 space.start log end
-  to_space log end run = subst (λ s. IsRun s space.constants 0 space.start log end) (sym is.schema_is) (subst (λ start. IsRun schema space.constants 0 start log end) (sym is.start) run)
-
   -- a run that is too long
   pub long_run : HasRunBeyond space → HasLongRun schema space.constants firings query
   long_run beyond = (beyond.log, (beyond.end, of_query beyond.log beyond.end beyond.run), subst (λ n. n < length beyond.log) is.budget beyond.beyond)
@@ -111,10 +108,6 @@ module _ (schema : SchemaParts) (queries : List Query) (query : Query) (firings 
     not_reached set has none = ⊎_elim long_run (λ refuted. absurd (refuted (goal_at set has))) none
 
 -- ---- runs that are too long
-
--- a base run that is too long
-pub base_long : (schema : SchemaParts) (known : List Value) (query : Query) (firings : ℕ) → IsRunBeyond schema known (opening query) firings → HasLongRun schema known firings query
-base_long schema known query firings beyond = (beyond.log, (beyond.end, beyond.run), beyond.beyond)
 
 -- ---- what a search says of a branch
 

@@ -30,12 +30,6 @@ use Rattle.proof_search.specs.Searches.{IsSearch, IsExposure, Exposes}
 use Rattle.plan_extract.proofs.Shown.{end_exposed}
 use Rattle.plan_extract.proofs.GoingBack.{last_push}
 
--- a proof of the empty log
-pub empty_ordered : (schema : SchemaParts) (proof : Proving) → IsProofOf schema proof → proof.entries ≡ [] → IsOrdered schema proof
-empty_ordered schema proof is none =
-    let written : IsWritten schema proof.constants 0 proof.start [] proof.end = subst (λ entries. IsWritten schema proof.constants 0 proof.start entries proof.end) none is.written in
-    subst (λ entries. IsOrderedRun schema proof.constants 0 proof.start (firings_of entries) proof.end) (sym none) written
-
 base_part : (more : List Trigger) → last_part 0 (map (firing_of false) more) ≡ 0
 base_part [] = refl
 base_part (trigger ∷ more) = base_part more
@@ -87,9 +81,6 @@ module _ (schema : SchemaParts) (old new : Proving) (first : IsProofOf schema ol
 
 -- ---- exposures
 
-pub exposes_none : (schema : SchemaParts) (firings : ℕ) (proof : Proving) → IsSearch schema firings proof.start proof.constants proof → last_part 0 (log_of proof) ≤ 1 → Exposes schema firings proof proof
-exposes_none schema firings proof search part = record { search = search; base = refl; part = part; more = λ fact among. among; longer = omega arith }
-
 pub exposes_more : (schema : SchemaParts) (firings : ℕ) (old now next : Proving) (number : ℕ) (fact : Ground) → Exposes schema firings old now → next ≡ with_exposure now number fact → IsProofOf schema next →
     IsOrdered schema next → length now.entries < firings → Exposes schema firings old next × (length now.entries < length next.entries)
 exposes_more schema firings old now next number fact so_far e is ordered room =
@@ -115,10 +106,6 @@ exposes_more schema firings old now next number fact so_far e is ordered room =
       },
       omega arith,
     )
-
--- a search of its own start
-pub own_search : (schema : SchemaParts) (firings : ℕ) (start : Proof) (known : List Value) (proof : Proving) → IsSearch schema firings start known proof → IsSearch schema firings proof.start proof.constants proof
-own_search schema firings start known proof search = record { run = search.run; begun = refl; constants = refl; ordered = search.ordered; few = search.few }
 
 pub later_search : (schema : SchemaParts) (firings : ℕ) (start : Proof) (known : List Value) (old new : Proving) → IsSearch schema firings start known old → IsSearch schema firings old.start old.constants new → IsSearch schema firings start known new
 later_search schema firings start known old new first second =

@@ -9,9 +9,3 @@ use Rattle.lists.proofs.Members.{contains_joined, contains_one}
 pub taken_more : {X : Type 0} (xs : List X) (i : ℕ) (x y : X) → i < length xs → x ≡ get_or xs i x → Contains (take (i + 1) xs) y → Contains (take i xs) y ⊎ (x ≡ y)
 taken_more xs i x y below is c =
     Contains-push_cases (take i xs) x y (subst (λ l. Contains l y) (take_more xs i x below ∙ ap (λ z. take i xs ++ z ∷ []) (sym is)) c)
-
--- the list of its one member
-pub one_member : {X : Type 0} (xs : List X) (x : X) → 1 ≤ length xs → length xs < 2 → x ≡ get_or xs 0 x → xs ≡ x ∷ []
-one_member [] x some few is = absurd (omega arith)
-one_member (y ∷ []) x some few is = ap (λ z. z ∷ []) (sym is)
-one_member (y ∷ z ∷ xs) x some few is = absurd (omega (arith, few))

@@ -65,13 +65,6 @@ module _ (schema : SchemaParts) (constants : List (List ℕ)) where
         ),
       )
 
-  -- the same, whether an exposure is active or not
-  pub copy_plain_run : (part : ℕ) (proof : Proof) (more : List Trigger) (now : State) → part ≤ 2 → MeetsAll Const (GroundsOf proof.base) schema.rules → IsBaseRun schema.rules (copy_state proof) more now → IsRun schema constants part proof (map Copy more) (record proof { copy = now.facts; next = now.next })
-  copy_plain_run part proof [] now low meets e = ap (λ (s : State). record proof { copy = s.facts; next = s.next }) e
-  copy_plain_run part proof (trigger ∷ more) now low meets (rule, is, run) =
-      let next : Proof = record proof { copy = (fired (copy_state proof) trigger rule).facts; next = (fired (copy_state proof) trigger rule).next } in
-      (low, (next, (rule, is, met_quiet schema.rules (base_state proof) meets, refl), copy_plain_run 2 next more now (omega arith) meets run))
-
   ascends : (part : ℕ) (proof : Proof) (log : List Firing) (end : Proof) → IsRun schema constants part proof log end → part ≤ last_part part log
   ascends part proof [] end run = omega arith
   ascends part proof (firing ∷ log) end (order, (next, fires, more)) = let on = ascends (part_of firing) next log end more in omega arith

@@ -11,9 +11,6 @@ use Rattle.source_trait.specs.Index.{AreChainsBelow, IsTwin, chain_of, chains_of
 use Rattle.source_trait.specs.declared.crowded.Crowded.{Crowded}
 use Rattle.source_trait.proofs.Indexing.{code_at, read_at}
 
-pub empty_below : (chains : BTreeMap (List (List ℕ)) ℕ) (bound : ℕ) → chains.entries ≡ [] → AreChainsBelow bound chains
-empty_below chains bound none values = subst (λ (es : List (List (List ℕ) × ℕ)). IfSome (lookup (is_at (row_cmp values)) es) (λ v. v < bound)) (sym none) tt
-
 -- a chain below the bound is noted
 pub noted_below : (old new : BTreeMap (List (List ℕ)) ℕ) (key : List (List ℕ)) (chain bound : ℕ) → Updates row_cmp old new key (Some chain) → chain < bound → AreChainsBelow bound old → AreChainsBelow bound new
 noted_below old new key chain bound updates below all values =
@@ -22,14 +19,6 @@ noted_below old new key chain bound updates below all values =
     by : (t : Bool) (o : Option ℕ) → IfSome o (λ v. v < bound) → IfSome (cond t (Some chain) o) (λ v. v < bound)
     by true o h = below
     by false o h = h
-
-pub chain_below : (crowded : Crowded) (code bound : ℕ) (values : List (List ℕ)) → AreChainsBelow bound crowded.chains → code < bound → chain_of crowded code values < bound
-chain_below crowded code bound values own low = by (get_or crowded.codes.items code false) (get row_cmp crowded.chains values) (own values)
-  where
-    by : (t : Bool) (o : Option ℕ) → IfSome o (λ v. v < bound) → cond t (unwrap_or o code) code < bound
-    by false o h = low
-    by true None h = low
-    by true (Some v) h = h
 
 no_codes : (codes : List Bool) → length codes ≡ 0 → codes ≡ []
 no_codes [] none = refl

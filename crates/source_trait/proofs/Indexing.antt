@@ -141,10 +141,6 @@ all_at count [] i all below = absurd (omega (arith, below))
 all_at count (code ∷ codes) zero all below = all.0
 all_at count (code ∷ codes) (suc i) all below = all_at count codes i all.1 (omega (arith, below))
 
-pub codes_small : (ps : List ℕ) (count : ℕ) (rows : RowList) → 0 < count → AllByRecursion (λ code. code < count) (codes_of ps count rows)
-codes_small ps count [] some = tt
-codes_small ps count (row ∷ rows) some = (omega (arith, some), codes_small ps count rows some)
-
 -- one place more at the front of the chains
 pub first_more : (codes : List ℕ) (code n head : ℕ) → n < length codes → Leads codes code (n + 1) head → get_or codes n 0 ≢ code → Leads codes code n head
 first_more codes code n head below leads apart = record {

@@ -266,12 +266,3 @@ module _ {S : Type 0} where
   LanesStay-trans seen (x ∷ xs) [] last h k = absurd h
   LanesStay-trans seen (x ∷ xs) (y ∷ ys) [] h k = absurd k
   LanesStay-trans seen (x ∷ xs) (y ∷ ys) (z ∷ zs) h k = (KindsStay-trans seen x.kinds.items y.kinds.items z.kinds.items h.0 k.0, LanesStay-trans seen xs ys zs h.1 k.1)
-
-  -- lanes stay where one of them is put in the place of one whose kinds it keeps
-  pub LanesStay-put : (seen : S → Seen) (q : ℕ) (lanes : List (Lane S)) (before after : Lane S) → slice_get lanes q ≡ Some before
-      → KindsStay seen before.kinds.items after.kinds.items → LanesStay seen lanes (slice_set lanes q after)
-  LanesStay-put seen q [] before after at stay = absurd (cc)
-  LanesStay-put seen zero (x ∷ xs) before after at stay =
-      let e : before ≡ x = cc in
-      (subst (λ (y : Lane S). KindsStay seen y.kinds.items after.kinds.items) e stay, LanesStay-refl seen xs)
-  LanesStay-put seen (suc q) (x ∷ xs) before after at stay = (KindsStay-refl seen x.kinds.items, LanesStay-put seen q xs before after at stay)

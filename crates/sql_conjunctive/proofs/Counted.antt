@@ -28,12 +28,6 @@ bounded_terms n (Var y ∷ terms) below =
     let rest = bounded_terms n terms (λ x among. below x (contains_there (Var y) terms (Var x) among)) in
     omega arith
 
--- each variable of the head is one of the query's
-pub head_counted : (schema : SchemaParts) (query : Query) → QueryFits schema query → terms_bound query.head ≤ query.variables
-head_counted schema query fits =
-    let all = fits.variables in
-    bounded_terms query.variables query.head (λ x there. let below = occurs_below query.atoms x (fits.head x there) in omega arith)
-
 pub ordered_short : (n : ℕ) (terms : List Term) → OrderedFrom n terms → terms_bound terms ≤ n + length terms
 ordered_short n [] ordered = omega arith
 ordered_short n (Const c ∷ terms) ordered = let rest = ordered_short n terms ordered in omega arith

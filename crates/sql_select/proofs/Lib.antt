@@ -1,5 +1,6 @@
 pub mod Said
 pub mod Complete
+pub mod Placed
 pub mod Leading
 pub mod Faults
 pub mod Earliest

@@ -5,6 +5,7 @@ pub mod Counts
 pub mod Named
 pub mod Exactly
 pub mod Writing
+pub mod Loops
 pub mod PrintedParts
 pub mod Plain
 pub mod Rebuilt

@@ -8,7 +8,7 @@ use Rattle.std.proofs.lemmas.List.{append-nil}
 use Rattle.lists.proofs.Members.{all_along}
 use Rattle.pq_text.specs.declared.token.Style.TheVariants.{Lines}
 use Rattle.pq_text.specs.declared.lexeme.Lexeme.{Lexeme}
-use Rattle.pq_text.specs.Numbers.{value_from}
+use Rattle.lists.specs.Digits.{value_from}
 use Rattle.pq_text.specs.Forms.{Slot, Key, Mark, Name, Value, Quote, Digits, Takes, list_form, name_form, IsSome}
 use Rattle.pq_text.specs.Pieces.{Piece, text_of, piece_lexeme, AreLexed, AreInLine, ArePrintedLines, word_piece, mark_piece, name_piece, value_piece, number_piece, list_pieces, lines_text, numbered}
 use Rattle.pq_text.proofs.Pieces.{printed_lines}

@@ -40,7 +40,7 @@ more_pieces a b total xs ys w h =
 pub line_then : (a b c : List ℕ) (part : Part) → Writes a b (part_pieces part) → c ≡ b ++ 10 ∷ [] → WritesLines a c (part ∷ [])
 line_then a b c part w e = e ∙ ap (λ (t : List ℕ). t ++ 10 ∷ []) w ∙ append_assoc a (text_of (part_pieces part)) (10 ∷ [])
 
-lines_text-append : (xs ys : List (List Piece)) → lines_text (xs ++ ys) ≡ lines_text xs ++ lines_text ys
+pub lines_text-append : (xs ys : List (List Piece)) → lines_text (xs ++ ys) ≡ lines_text xs ++ lines_text ys
 lines_text-append [] ys = refl
 lines_text-append (x ∷ xs) ys = ap (λ (t : List ℕ). text_of x ++ 10 ∷ t) (lines_text-append xs ys) ∙ sym (append_assoc (text_of x) (10 ∷ lines_text xs) (lines_text ys))
 
@@ -49,12 +49,6 @@ lines_then a b c ps qs p q =
     let both : lines_text (map part_pieces (ps ++ qs)) ≡ lines_text (map part_pieces ps) ++ lines_text (map part_pieces qs) =
     ap lines_text (map-append part_pieces ps qs) ∙ lines_text-append (map part_pieces ps) (map part_pieces qs) in
     q ∙ ap (λ (t : List ℕ). t ++ lines_text (map part_pieces qs)) p ∙ append_assoc a (lines_text (map part_pieces ps)) (lines_text (map part_pieces qs)) ∙ ap (λ (t : List ℕ). a ++ t) (sym both)
-
--- a loop that writes its first declaration and goes on with the others
-pub more_lines : (a b total : List ℕ) (part : Part) (parts : List Part) → WritesLines a b (part ∷ []) → a ++ lines_text (map part_pieces (part ∷ parts)) ≡ total → b ++ lines_text (map part_pieces parts) ≡ total
-more_lines a b total part parts w h =
-    let rest : List ℕ = lines_text (map part_pieces parts) in
-    ap (λ (t : List ℕ). t ++ rest) w ∙ append_assoc a (text_of (part_pieces part) ++ 10 ∷ []) rest ∙ ap (λ (t : List ℕ). a ++ t) (append_assoc (text_of (part_pieces part)) (10 ∷ []) rest) ∙ h
 
 -- where the loop ends, all is written
 pub all_lines : (a b : List ℕ) (ps left : List Part) → length left < 1 → b ++ lines_text (map part_pieces left) ≡ a ++ lines_text (map part_pieces ps) → WritesLines a b ps

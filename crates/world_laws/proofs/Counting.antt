@@ -25,10 +25,6 @@ abbrev is_nought : ℕ → ℕ
 is_nought zero = 1
 is_nought (suc n) = 0
 
-nought_or : (n : ℕ) → 1 ≤ n → is_nought n ≡ 0
-nought_or zero some = absurd (omega (arith, some))
-nought_or (suc n) some = refl
-
 -- a list that has each number from 1 to a count has as many members, and its zeros besides
 crowded : (count : ℕ) (xs : List ℕ) → ((v : ℕ) → 1 ≤ v → v ≤ count → Contains xs v) → count + total is_nought xs ≤ length xs
 crowded zero xs has = most xs

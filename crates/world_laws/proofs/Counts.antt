@@ -21,13 +21,16 @@ use Rattle.meaning.specs.Claims.{IsModel}
 use Rattle.meaning.specs.Costs.{IsCost, IsRival}
 use Rattle.access_schema.specs.Names.{AllDiffer}
 use Rattle.access_schema.proofs.Texts.{length_le}
+use Rattle.tgd_reader.proofs.Again.{split_at}
 use Rattle.world_laws.specs.World.{world_select, world_statement}
 use Rattle.world_laws.specs.Plan.{world}
 use Rattle.world_laws.specs.Instance.{world_facts}
 use Rattle.world_laws.proofs.Paths.{edge, IsPath, answer_is, ends_answer}
-use Rattle.world_laws.proofs.Chases.{range_bounds, range_got, range_so}
+use Rattle.world_laws.proofs.Chases.{range_bounds, range_got}
 use Rattle.world_laws.proofs.Models.{chain_is_model}
 use Rattle.world_laws.proofs.Counting.{AreLater, IsOrdered, named_one, costs_long, ordered}
+use Rattle.world_laws.proofs.Columns as turns
+use Rattle.world_laws.proofs.Columns.{numbers, numbers_differ}
 use Rattle.world_laws.proofs.Rounds as rounds
 
 -- no branch costs less than 8
@@ -42,14 +45,9 @@ least_cost branch cost rival costs = ⊎_elim
     (λ (high : 8 ≤ cost). high)
     (cases_lt cost 8)
 
-split_at : {X : Type 0} (xs : List X) (k : ℕ) (x : X) → slice_get xs k ≡ Some x → xs ≡ take k xs ++ x ∷ drop (suc k) xs
-split_at [] k x at = absurd cc
-split_at (y ∷ xs) zero x at = ap (λ z. z ∷ xs) (some_injective y x at)
-split_at (y ∷ xs) (suc k) x at = ap (λ zs. y ∷ zs) (split_at xs k x at)
-
 module _ (n : ℕ) (some : 1 ≤ n) (few : n ≤ 10000) where
   pub model : IsModel world (world_facts n)
-  model = chain_is_model (world_facts n) (rounds.chain n some few)
+  model = chain_is_model (world_facts n) (turns.chain n some few)
 
   -- ---- requests
 
@@ -57,9 +55,9 @@ module _ (n : ℕ) (some : 1 ≤ n) (few : n ≤ 10000) where
     -- what is so after the first step
     record IsBegun : Type 0 where
       cols : List (ℕ → ℕ)
-      at : rounds.IsAt n some few (is.first ∷ []) cols
+      at : turns.IsAt n some few (is.first ∷ []) cols
       onward : AreLawfulFrom world [] (length cols) is.rest branch.output
-      whole : rounds.IsWhole n some few (is.first ∷ is.rest)
+      whole : turns.IsWhole n some few (is.first ∷ is.rest)
 
     lawful_first : AreLawfulFrom world [] 0 (is.first ∷ is.rest) branch.output
     lawful_first = subst (λ (steps : List Step). AreLawfulFrom world [] 0 steps branch.output) is.steps_are rival.lawful
@@ -68,19 +66,19 @@ module _ (n : ℕ) (some : 1 ≤ n) (few : n ≤ 10000) where
     begun =
         let (method, lawful, more) = lawful_first in
         let nought : method.rel ≡ 0 = named_one is.first.method method is.method lawful.named is.named ∙ is.first_rel in
-        let (cols, at, long) = rounds.made_first n some few is.first method lawful nought in
+        let (cols, at, long) = turns.made_first n some few is.first method lawful nought in
         let onward : AreLawfulFrom world [] (length cols) is.rest branch.output = subst (λ columns. AreLawfulFrom world [] columns is.rest branch.output) (sym long) more in
-        let end = rounds.steps_at n some few is.rest (is.first ∷ []) cols branch.output at onward is.later in
-        let whole = rounds.branch_whole n some few branch (λ row answer. rival.complete (world_facts n) row model answer) (subst (λ (steps : List Step). rounds.IsEnd n some few steps branch.output) (sym is.steps_are) end) in
-        record { cols = cols; at = at; onward = onward; whole = subst (rounds.IsWhole n some few) is.steps_are whole }
+        let end = turns.steps_at n some few is.rest (is.first ∷ []) cols branch.output at onward is.later in
+        let whole = turns.branch_whole n some few branch (λ row answer. rival.complete (world_facts n) row model answer) (subst (λ (steps : List Step). turns.IsEnd n some few steps branch.output) (sym is.steps_are) end) in
+        record { cols = cols; at = at; onward = onward; whole = subst (turns.IsWhole n some few) is.steps_are whole }
 
     -- the requests of the first step and of some of the others
     module _ (front tail : List Step) (all : is.rest ≡ front ++ tail) (requests : List Request) (are : AreStepsRequests world (world_facts n) [] (is.first ∷ front) requests) where
       record IsBehind : Type 0 where
         cols : List (ℕ → ℕ)
-        at : rounds.IsAt n some few (is.first ∷ front) cols
+        at : turns.IsAt n some few (is.first ∷ front) cols
         lawful : AreLawfulFrom world [] (length cols) tail branch.output
-        whole : rounds.IsWhole n some few (is.first ∷ (front ++ tail))
+        whole : turns.IsWhole n some few (is.first ∷ (front ++ tail))
         long : length requests ≡ length front * n + 1
 
       later_here : AreLater (front ++ tail)
@@ -91,7 +89,7 @@ module _ (n : ℕ) (some : 1 ≤ n) (few : n ≤ 10000) where
           let (now, rest, split, round, more) = are in
           let start = begun in
           let one = rounds.round_one n some few is.first is.method now is.named is.first_rel round in
-          let whole = subst (λ (steps : List Step). rounds.IsWhole n some few (is.first ∷ steps)) all start.whole in
+          let whole = subst (λ (steps : List Step). turns.IsWhole n some few (is.first ∷ steps)) all start.whole in
           let gone = rounds.counted n some few front tail (is.first ∷ []) start.cols branch.output rest start.at whole (subst (λ (steps : List Step). AreLawfulFrom world [] (length start.cols) steps branch.output) all start.onward) later_here more in
           let count = ap length split ∙ length-append now rest in
           let others = gone.long in
@@ -139,13 +137,13 @@ module _ (n : ℕ) (some : 1 ≤ n) (few : n ≤ 10000) where
 
   end_from : ℕ → ℕ → ℕ → ℕ
   end_from zero rel i = i
-  end_from (suc count) rel i = end_from count (rel + 1) (rounds.on n some few rel i)
+  end_from (suc count) rel i = end_from count (rel + 1) (turns.on n some few rel i)
 
   path_ends : (count rel i : ℕ) (from to : Value) → i < n → from ≡ decimal i → IsPath (world_facts n) rel count from to → to ≡ decimal (end_from count rel i)
   unfolding end_from
   path_ends zero rel i from to low is path = sym path ∙ is
   path_ends (suc count) rel i from to low is (next, there, path) =
-      path_ends count (rel + 1) (rounds.on n some few rel i) next to (rounds.on_below n some few rel i) (rounds.edge_ends n some few rel i from next low is there) path
+      path_ends count (rel + 1) (turns.on n some few rel i) next to (turns.on_below n some few rel i) (turns.edge_ends n some few rel i from next low is there) path
 
   record IsAnswer (row : Row) : Type 0 where
     i : ℕ
@@ -155,14 +153,14 @@ module _ (n : ℕ) (some : 1 ≤ n) (few : n ≤ 10000) where
   answer_numbered : (row : Row) → Answers world_statement (world_facts n) row → IsAnswer row
   answer_numbered row (select, there, answer) =
       let (from, to, (next, first, path), is) = answer_is (world_facts n) model.fits row (subst (λ (s : Select). AnswersSelect s (world_facts n) row) (sym (contains_one world_select select there)) answer) in
-      let numbered = rounds.found n some few (edge 0 from next) first in
+      let numbered = turns.found n some few (edge 0 from next) first in
       let begins : from ≡ decimal numbered.i = ap (λ (f : Fact). slice_index_or f.row 0 []) numbered.fact_is in
       let ends = path_ends 8 0 numbered.i from to numbered.below begins (next, first, path) in
       record { i = numbered.i; low = numbered.below; row_is = is ∙ ap (λ (v : Value). v ∷ to ∷ []) begins ∙ ap (λ (v : Value). decimal numbered.i ∷ v ∷ []) ends }
 
   numbered_answer : (i : ℕ) → i < n → (w : Value) × Answers world_statement (world_facts n) (decimal i ∷ w ∷ [])
   numbered_answer i low =
-      let (m, path) = rounds.path_on n some few 8 0 i (omega arith) low in
+      let (m, path) = turns.path_on n some few 8 0 i (omega arith) low in
       (decimal m, (world_select, contains_here world_select [], ends_answer (world_facts n) (decimal i ∷ decimal m ∷ []) (decimal i, decimal m, path, refl)))
 
   abbrev first_of : Row → Value
@@ -175,34 +173,21 @@ module _ (n : ℕ) (some : 1 ≤ n) (few : n ≤ 10000) where
         let (two, got_two, is_two) = got_mapped first_of rows j member at_j in
         let a = answer_numbered one ((are one).0 (contains_got rows i one got_one)) in
         let b = answer_numbered two ((are two).0 (contains_got rows j two got_two)) in
-        let same : a.i ≡ b.i = rounds.number_once n some few a.i b.i a.low b.low (sym (ap first_of a.row_is) ∙ is_one ∙ sym is_two ∙ ap first_of b.row_is) in
+        let same : a.i ≡ b.i = turns.number_once n some few a.i b.i a.low b.low (sym (ap first_of a.row_is) ∙ is_one ∙ sym is_two ∙ ap first_of b.row_is) in
         let rows_same : one ≡ two = a.row_is ∙ ap (λ k. decimal k ∷ decimal (end_from 8 0 k) ∷ []) same ∙ sym b.row_is in
         once i j one got_one (got_two ∙ ap Some (sym rows_same))
-
-    numbers : List Value
-    numbers = map decimal (range_with_len 0 n)
-
-    numbers_differ : AllDiffer numbers
-    unfolding numbers
-    numbers_differ i j member at_i at_j =
-        let (one, got_one, is_one) = got_mapped decimal (range_with_len 0 n) i member at_i in
-        let (two, got_two, is_two) = got_mapped decimal (range_with_len 0 n) j member at_j in
-        let (first, low) = range_so 0 n i one got_one in
-        let (second, high) = range_so 0 n j two got_two in
-        let same = rounds.number_once n some few one two (omega (arith, first, low)) (omega (arith, second, high)) (is_one ∙ sym is_two) in
-        omega (arith, first, second, same)
 
     pub rows_counted : length rows ≡ n
     unfolding numbers
     rows_counted =
-        let most = length_le (map first_of rows) numbers firsts_differ (λ t there.
+        let most = length_le (map first_of rows) (numbers n some few) firsts_differ (λ t there.
         let (row, among, is) = contains_mapped first_of rows t there in
         let a = answer_numbered row ((are row).0 among) in
         let shown : decimal a.i ≡ t = sym (ap first_of a.row_is) ∙ is in
         let low = a.low in
         let e : 0 + a.i ≡ a.i = omega arith in
-        subst (Contains numbers) shown (contains_map decimal (range_with_len 0 n) a.i (contains_got (range_with_len 0 n) a.i a.i (range_got 0 n a.i low ∙ ap Some e)))) in
-        let least = length_le numbers (map first_of rows) numbers_differ (λ t there.
+        subst (Contains (numbers n some few)) shown (contains_map decimal (range_with_len 0 n) a.i (contains_got (range_with_len 0 n) a.i a.i (range_got 0 n a.i low ∙ ap Some e)))) in
+        let least = length_le (numbers n some few) (map first_of rows) (numbers_differ n some few) (λ t there.
         let (m, ranged, is) = contains_mapped decimal (range_with_len 0 n) t there in
         let low = (range_bounds 0 n m ranged).1 in
         let (w, answer) = numbered_answer m (omega (arith, low)) in

@@ -7,5 +7,6 @@ pub mod Chases
 pub mod Models
 pub mod Flipped
 pub mod Counting
+pub mod Columns
 pub mod Rounds
 pub mod Counts

@@ -13,6 +13,7 @@ use Rattle.access_schema.specs.declared.part.NamedAtom.{NamedAtom}
 use Rattle.access_schema.specs.declared.part.Part.{Part}
 use Rattle.access_schema.specs.declared.part.Part.TheVariants.{Relation as RelationPart, Method as MethodPart, Rule as RulePart, Source as SourcePart}
 use Rattle.tgd_reader.specs.Printed.{part_pieces, atom_pieces, listing_pieces}
+use Rattle.tgd_reader.proofs.Writing.{lines_text-append}
 use Rattle.world_source.specs.Formulas.{locator}
 use Rattle.world_source.specs.Texts.{relation_lines, method_lines, rule_lines, source_line, schema_text}
 use Rattle.world_laws.specs.World.{relation_name, method_name, columns}
@@ -48,10 +49,6 @@ abbrev pub world_parts : ℕ → List Part
 world_parts n = relation_parts ++ (method_parts ++ (rule_parts ++ source_parts n))
 
 -- ---- their text
-
-lines_text-append : (xs ys : List (List Piece)) → lines_text (xs ++ ys) ≡ lines_text xs ++ lines_text ys
-lines_text-append [] ys = refl
-lines_text-append (x ∷ xs) ys = ap (λ (rest : List ℕ). text_of x ++ 10 ∷ rest) (lines_text-append xs ys) ∙ sym (append_assoc (text_of x) (10 ∷ lines_text xs) (lines_text ys))
 
 relations_text : lines_text (map part_pieces relation_parts) ≡ relation_lines
 unfolding listing_pieces

@@ -46,12 +46,6 @@ range_case k n false is e = absurd cc
 pub in_range_some : (k n : ℕ) → IsInRange k n → in_range (Some k) (Some n) ≡ Some (k, n)
 in_range_some k n is = grind (arith, nat_tests, is.some_step, is.few_steps, is.some, is.few)
 
-pub step_over : (k n : ℕ) → 8 < k → in_range (Some k) (Some n) ≡ None
-step_over k n over = grind (arith, nat_tests)
-
-pub count_over : (k n : ℕ) → 10000 < n → in_range (Some k) (Some n) ≡ None
-count_over k n over = grind (arith, nat_tests)
-
 abbrev step_in : Option (ℕ × ℕ) → ℕ
 step_in None = 0
 step_in (Some p) = p.0
@@ -79,15 +73,6 @@ large ds n none e = go (cases_lt n (2 ^ 32))
     go (inl low) = absurd (none n low (number_so ds n e))
     go (inr high) = high
 
-no_count : (ds : List ℕ) (k : ℕ) (o : Option ℕ) → number_of ds ≡ o → ((m : ℕ) → m < 2 ^ 32 → ds ≢ decimal m) → in_range (Some k) o ≡ None
-no_count ds k None e none = refl
-no_count ds k (Some n) e none = count_over k n (let high = large ds n none e in omega (arith, high))
-
-no_step : (ds : List ℕ) (o p : Option ℕ) → number_of ds ≡ o → ((m : ℕ) → m < 2 ^ 32 → ds ≢ decimal m) → in_range o p ≡ None
-no_step ds None p e none = refl
-no_step ds (Some k) None e none = refl
-no_step ds (Some k) (Some n) e none = step_over k n (let high = large ds k none e in omega (arith, high))
-
 -- ---- locators
 
 abbrev before : List ℕ → List ℕ
@@ -101,16 +86,6 @@ drop_all [] zero le = refl
 drop_all [] (suc n) le = refl
 drop_all (x ∷ xs) zero le = absurd (omega (arith, le))
 drop_all (x ∷ xs) (suc n) le = drop_all xs n (omega (arith, le))
-
-no_second : (o : Option ℕ) → in_range o None ≡ None
-no_second None = refl
-no_second (Some k) = refl
-
--- without a slash no number stands behind one
-pub no_slash : (text : List ℕ) → position_or_len (λ b. nat_eq b 47) text ≡ length text → numbers_of text ≡ None
-no_slash text none =
-    let nothing : after text ≡ [] = drop_all text (position_or_len (λ b. nat_eq b 47) text + 1) (omega (arith, none)) in
-    ap (λ ds. in_range (number_of (before text)) (number_of ds)) nothing ∙ ap (λ o. in_range (number_of (before text)) o) no_digits ∙ no_second (number_of (before text))
 
 -- a digit, a slash and digits
 cut : (d : ℕ) (ds : List ℕ) → d ≢ 47 → numbers_of (d ∷ 47 ∷ ds) ≡ in_range (number_of (d ∷ [])) (number_of ds)
@@ -150,14 +125,6 @@ written text k n e =
 -- ---- a text that is cut at its first slash
 
 module _ (text a b : List ℕ) (front : a ≡ before text) (back : b ≡ after text) where
-  pub no_step_there : ((m : ℕ) → m < 2 ^ 32 → a ≢ decimal m) → None ≡ numbers_of text
-  no_step_there none = sym (no_step (before text) (number_of (before text)) (number_of (after text)) refl (λ m low is. none m low (front ∙ is)))
-
-  pub no_count_there : (k : ℕ) → k < 2 ^ 32 → a ≡ decimal k → ((m : ℕ) → m < 2 ^ 32 → b ≢ decimal m) → None ≡ numbers_of text
-  no_count_there k small first none =
-      sym (ap (λ o. in_range o (number_of (after text))) (number_is (before text) k (omega (arith, small)) (sym front ∙ first))
-      ∙ no_count (after text) k (number_of (after text)) refl (λ m low is. none m low (back ∙ is)))
-
   pub both_there : (k n : ℕ) → k < 2 ^ 32 → n < 2 ^ 32 → a ≡ decimal k → b ≡ decimal n → in_range (Some k) (Some n) ≡ numbers_of text
   both_there k n small few first second =
       ap (λ o. in_range o (Some n)) (sym (number_is (before text) k (omega (arith, small)) (sym front ∙ first)))

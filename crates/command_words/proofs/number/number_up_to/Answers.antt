@@ -1,6 +1,7 @@
 use Rattle.std.proofs.Common.{◌∙◌, sym, ap, arith}
 use Rattle.std.specs.Str.{all_ascii_digits}
-use Rattle.command_words.proofs.Numbers.{value_from, plain_number, not_plain, not_digits, too_large, no_digit, no_more}
+use Rattle.lists.specs.Digits.{value_from}
+use Rattle.command_words.proofs.Numbers.{plain_number, not_plain, not_digits, too_large, no_digit, no_more}
 use Rattle.command_words.proofs.number.number_up_to.Goals as goal
 
 pub returns-then-not-begins_plain : goal.returns-then-not-begins_plain

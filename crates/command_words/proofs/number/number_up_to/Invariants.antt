@@ -1,6 +1,6 @@
 use Rattle.std.proofs.Common.{◌≡◌, ◌≤◌, length}
 use Rattle.std.specs.Str.{all_ascii_digits}
-use Rattle.command_words.proofs.Numbers.{value_from}
+use Rattle.lists.specs.Digits.{value_from}
 use Rattle.command_words.proofs.number.number_up_to.Given as goal
 
 -- the digits up to here have this value, which is within the limit

@@ -1,4 +1,4 @@
-use Rattle.meaning_laws.proofs.Employees.{guessing_is_not_lawful}
+use Rattle.meaning_laws.proofs.StaffPlans.{guessing_is_not_lawful}
 use Rattle.meaning_laws.proofs.worked.guessing_is_not_lawful.Goals as goal
 
 pub returns : goal.returns

@@ -1,4 +1,4 @@
-use Rattle.meaning_laws.proofs.Employees.{office_is_a_model}
+use Rattle.meaning_laws.proofs.StaffOffice.{office_is_a_model}
 use Rattle.meaning_laws.proofs.worked.office_is_a_model.Goals as goal
 
 pub returns : goal.returns

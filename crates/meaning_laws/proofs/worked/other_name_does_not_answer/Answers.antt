@@ -1,4 +1,4 @@
-use Rattle.meaning_laws.proofs.Employees.{other_name_does_not_answer}
+use Rattle.meaning_laws.proofs.StaffPlans.{other_name_does_not_answer}
 use Rattle.meaning_laws.proofs.worked.other_name_does_not_answer.Goals as goal
 
 pub returns : goal.returns

@@ -1,4 +1,4 @@
-use Rattle.meaning_laws.proofs.Employees.{profile_is_accessible}
+use Rattle.meaning_laws.proofs.StaffOffice.{profile_is_accessible}
 use Rattle.meaning_laws.proofs.worked.profile_is_accessible.Goals as goal
 
 pub returns : goal.returns

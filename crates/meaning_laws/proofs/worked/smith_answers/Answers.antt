@@ -1,4 +1,4 @@
-use Rattle.meaning_laws.proofs.Employees.{smith_answers}
+use Rattle.meaning_laws.proofs.StaffPlans.{smith_answers}
 use Rattle.meaning_laws.proofs.worked.smith_answers.Goals as goal
 
 pub returns : goal.returns

@@ -1,4 +1,4 @@
-use Rattle.meaning_laws.proofs.Employees.{smiths_form}
+use Rattle.meaning_laws.proofs.StaffPlans.{smiths_form}
 use Rattle.meaning_laws.proofs.worked.smiths_form.Goals as goal
 
 pub returns : goal.returns

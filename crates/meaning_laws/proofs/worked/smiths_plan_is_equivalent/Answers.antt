@@ -1,4 +1,4 @@
-use Rattle.meaning_laws.proofs.Employees.{smiths_plan_is_equivalent}
+use Rattle.meaning_laws.proofs.StaffRun.{smiths_plan_is_equivalent}
 use Rattle.meaning_laws.proofs.worked.smiths_plan_is_equivalent.Goals as goal
 
 pub returns : goal.returns

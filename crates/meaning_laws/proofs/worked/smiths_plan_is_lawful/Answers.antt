@@ -1,4 +1,4 @@
-use Rattle.meaning_laws.proofs.Employees.{smiths_plan_is_lawful}
+use Rattle.meaning_laws.proofs.StaffPlans.{smiths_plan_is_lawful}
 use Rattle.meaning_laws.proofs.worked.smiths_plan_is_lawful.Goals as goal
 
 pub returns : goal.returns

@@ -1,4 +1,4 @@
-use Rattle.meaning_laws.proofs.Employees.{smiths_run, smiths_goal}
+use Rattle.meaning_laws.proofs.StaffRun.{smiths_run, smiths_goal}
 use Rattle.meaning_laws.proofs.worked.smiths_run.Goals as goal
 
 pub returns-clause-run : goal.returns-clause-run

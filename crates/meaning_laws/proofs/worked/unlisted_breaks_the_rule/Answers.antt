@@ -1,4 +1,4 @@
-use Rattle.meaning_laws.proofs.Employees.{unlisted_breaks_the_rule}
+use Rattle.meaning_laws.proofs.StaffOffice.{unlisted_breaks_the_rule}
 use Rattle.meaning_laws.proofs.worked.unlisted_breaks_the_rule.Goals as goal
 
 pub returns : goal.returns

@@ -1,4 +1,4 @@
-use Rattle.meaning_laws.proofs.Employees.{unreachable_refutes}
+use Rattle.meaning_laws.proofs.StaffPlans.{unreachable_refutes}
 use Rattle.meaning_laws.proofs.worked.unreachable_refutes.Goals as goal
 
 pub returns : goal.returns

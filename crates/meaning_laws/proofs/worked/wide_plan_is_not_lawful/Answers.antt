@@ -1,4 +1,4 @@
-use Rattle.meaning_laws.proofs.Employees.{wide_is_not_lawful}
+use Rattle.meaning_laws.proofs.StaffPlans.{wide_is_not_lawful}
 use Rattle.meaning_laws.proofs.worked.wide_plan_is_not_lawful.Goals as goal
 
 pub returns : goal.returns

@@ -1,18 +1,13 @@
-use Rattle.std.proofs.Common.{◌≡◌, ◌++◌, length}
+use Rattle.std.proofs.Common.{length}
 use Rattle.std.specs.Prelude.{map}
-use Rattle.std.specs.List.{AllByRecursion}
-use Rattle.pq_text.specs.Utf8.{KeepsUtf8}
 use Rattle.pq_text.specs.Pieces.{lines_text}
 use Rattle.tgd_reader.specs.Printed.{method_part, part_pieces}
 use Rattle.tgd_reader.specs.Printing.{IsMethodPlaced}
+use Rattle.tgd_reader.proofs.Loops.{IsPrintingPlaced}
 use Rattle.tgd_reader.proofs.print.print_methods.Given as goal
 
 abbrev pub invariant-loop-left : goal.invariant-loop-left
-invariant-loop-left l = record {
-  written : l.out.items ++ lines_text (map part_pieces (map (method_part l.relations) l.left)) ≡ l.fn.out.items ++ lines_text (map part_pieces (map (method_part l.relations) l.methods));
-  placed : AllByRecursion (IsMethodPlaced l.relations) l.left;
-  utf8 : KeepsUtf8 l.fn.out.items l.out.items;
-}
+invariant-loop-left l = IsPrintingPlaced (IsMethodPlaced l.relations) l.methods l.left l.fn.out.items l.out.items (λ xs. lines_text (map part_pieces (map (method_part l.relations) xs)))
 
 abbrev pub decreases-loop-left : goal.decreases-loop-left
 decreases-loop-left l = length l.left
