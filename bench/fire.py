@@ -28,21 +28,20 @@ use Rattle.std.proofs.lemmas.List.{take_all}
 use Rattle.std.proofs.lemmas.List.Elements.{Contains-push_cases}
 use Rattle.meaning.specs.declared.types.Val.{Val}
 use Rattle.meaning.specs.declared.types.Val.TheVariants.{Const, Label}
-use Rattle.homomorphism.proofs.Members.{turn}
+use Rattle.lists.proofs.Places.{take_indexed}
 use Rattle.fire_speed.proofs.has_label.Goals as goal
 
 pub loop-val-preserved : goal.loop-val-preserved
 loop-val-preserved c = λ k h. ⊎_elim (λ before. c.loop-val.invariant k before) (λ same. c.in_default.not-Label k same)
     (Contains-push_cases (take c.loop-val.val-index c.as_slice-val-items.result.now) c.val-item.result (Label k)
-    (subst (λ z. Contains z (Label k)) (turn c.as_slice-val-items.result.now c.loop-val.val-index c.val-item.result c.loop-val-test.true c.val-item.is) h))
+    (subst (λ z. Contains z (Label k)) (take_indexed c.as_slice-val-items.result.now c.loop-val.val-index c.val-item.result c.loop-val-test.true c.val-item.is) h))
 
 pub returns : goal.returns
 returns c = λ e k h. c.loop-val.invariant k (subst (λ z. Contains z (Label k)) (sym (take_all c.loop-val.val-index c.as_slice-val-items.result.now c.loop-val-test.false)) (subst (λ z. Contains z (Label k)) (sym c.as_slice-val-items.ensures) h))
 """,
     "count/Answers.antt": """use Rattle.std.proofs.Common.{◌≡◌, ⊎_elim, sym, subst, Contains, []}
 use Rattle.meaning.specs.declared.types.Val.TheVariants.{Label}
-use Rattle.lists.proofs.Members.{contains_cases}
-use Rattle.homomorphism.proofs.Members.{contains_none}
+use Rattle.lists.proofs.Members.{contains_cases, contains_none}
 use Rattle.fire_speed.proofs.count.Goals as goal
 
 pub insert-requires-clause-labels : goal.insert-requires-clause-labels
