@@ -4,10 +4,11 @@ use Rattle.std.specs.Prelude.{slice_get, slice_set, IsSome, IfSome, IsSomeAnd}
 use Rattle.std.specs.Bool.{Decides}
 use Rattle.std.specs.Cmp.Lexicographic.{pointwise}
 use Rattle.std.proofs.lemmas.Slice.Eq.{bytes_eq-Decides}
-use Rattle.source_trait.specs.Asking.{Seen}
+use Rattle.source_trait.specs.Asking.{Seen, FaultsGoOn}
 use Rattle.source_trait.specs.Lanes.{names_of, place_from, source_of, AtKind, StepsAt, StepsOn, SourceSteps, KindsStay, LanesStay}
 use Rattle.source_trait.specs.declared.lanes.Kind.{Kind}
 use Rattle.source_trait.specs.declared.lanes.Lane.{Lane}
+use Rattle.source_trait.proofs.Faults.{FaultsGoOn-refl, FaultsGoOn-trans}
 
 -- a place counted from n is no lower than n
 place_from-above : (n : ℕ) (name : List ℕ) (xs : List (List ℕ)) (p : ℕ) → place_from n name xs ≡ Some p → n ≤ p
@@ -147,7 +148,7 @@ module _ {S : Type 0} where
   -- kinds stay where nothing happens to them
   pub KindsStay-refl : (seen : S → Seen) (kinds : List (Kind S)) → KindsStay seen kinds kinds
   KindsStay-refl seen [] = tt
-  KindsStay-refl seen (x ∷ xs) = (record { name = refl; later = omega arith }, KindsStay-refl seen xs)
+  KindsStay-refl seen (x ∷ xs) = (record { name = refl; faults = FaultsGoOn-refl (seen x.object) }, KindsStay-refl seen xs)
 
   pub KindsStay-trans : (seen : S → Seen) (first middle last : List (Kind S)) → KindsStay seen first middle → KindsStay seen middle last → KindsStay seen first last
   KindsStay-trans seen [] [] [] h k = tt
@@ -156,7 +157,7 @@ module _ {S : Type 0} where
   KindsStay-trans seen (x ∷ xs) [] last h k = absurd h
   KindsStay-trans seen (x ∷ xs) (y ∷ ys) [] h k = absurd k
   KindsStay-trans seen (x ∷ xs) (y ∷ ys) (z ∷ zs) h k =
-      (record { name = k.0.name ∙ h.0.name; later = let a = h.0.later in let b = k.0.later in omega arith }, KindsStay-trans seen xs ys zs h.1 k.1)
+      (record { name = k.0.name ∙ h.0.name; faults = FaultsGoOn-trans (seen x.object) (seen y.object) (seen z.object) h.0.faults k.0.faults }, KindsStay-trans seen xs ys zs h.1 k.1)
 
   -- kinds that stay keep their names in order
   pub KindsStay-names : (seen : S → Seen) (old new : List (Kind S)) → KindsStay seen old new → names_of new ≡ names_of old
@@ -166,17 +167,17 @@ module _ {S : Type 0} where
   KindsStay-names seen (x ∷ xs) (y ∷ ys) h = ap (λ (m : List ℕ). m ∷ names_of ys) h.0.name ∙ ap (λ (l : List (List ℕ)). x.name ∷ l) (KindsStay-names seen xs ys h.1)
 
   stays-put : (seen : S → Seen) (q : ℕ) (kinds : List (Kind S)) (k after : Kind S) → slice_get kinds q ≡ Some k → after.name ≡ k.name
-      → (seen k.object).faults ≤ (seen after.object).faults → KindsStay seen kinds (slice_set kinds q after)
-  stays-put seen q [] k after at name later = absurd (cc)
-  stays-put seen zero (x ∷ xs) k after at name later =
+      → FaultsGoOn (seen k.object) (seen after.object) → KindsStay seen kinds (slice_set kinds q after)
+  stays-put seen q [] k after at name goes = absurd (cc)
+  stays-put seen zero (x ∷ xs) k after at name goes =
       let e : k ≡ x = cc in
-      (record { name = name ∙ ap (λ (y : Kind S). y.name) e; later = subst (λ (y : Kind S). (seen y.object).faults ≤ (seen after.object).faults) e later }, KindsStay-refl seen xs)
-  stays-put seen (suc q) (x ∷ xs) k after at name later = (record { name = refl; later = omega arith }, stays-put seen q xs k after at name later)
+      (record { name = name ∙ ap (λ (y : Kind S). y.name) e; faults = subst (λ (y : Kind S). FaultsGoOn (seen y.object) (seen after.object)) e goes }, KindsStay-refl seen xs)
+  stays-put seen (suc q) (x ∷ xs) k after at name goes = (record { name = refl; faults = FaultsGoOn-refl (seen x.object) }, stays-put seen q xs k after at name goes)
 
   module _ (old new : List (Kind S)) (step : S → S → Type 0) where
-    -- a step of one source leaves the kinds in their order, where it does not lower the count
-    pub StepsAt-stays : (seen : S → Seen) (place : ℕ) → ((s t : S) → step s t → (seen s).faults ≤ (seen t).faults) → StepsAt old new place step → KindsStay seen old new
-    StepsAt-stays seen place later h = subst (λ (l : List (Kind S)). KindsStay seen old l) (sym h.now) (stays-put seen place old h.before h.after h.there h.name (later _ _ h.steps))
+    -- a step of one source leaves the kinds in their order, where its count of faults goes on
+    pub StepsAt-stays : (seen : S → Seen) (place : ℕ) → ((s t : S) → step s t → FaultsGoOn (seen s) (seen t)) → StepsAt old new place step → KindsStay seen old new
+    StepsAt-stays seen place goes h = subst (λ (l : List (Kind S)). KindsStay seen old l) (sym h.now) (stays-put seen place old h.before h.after h.there h.name (goes _ _ h.steps))
 
     -- a step of one source leaves the names
     pub StepsAt-names : (place : ℕ) → StepsAt old new place step → names_of new ≡ names_of old
@@ -210,9 +211,9 @@ module _ {S : Type 0} where
         go None is h = absurd h
         go (Some place) is h = use_it place is h
 
-    -- a step of the source of a kind leaves the kinds in their order, where it does not lower the count
-    pub StepsOn-stays : (seen : S → Seen) (kind : List ℕ) → ((s t : S) → step s t → (seen s).faults ≤ (seen t).faults) → StepsOn old new kind step → KindsStay seen old new
-    StepsOn-stays seen kind later h = at_place kind (λ place is at. StepsAt-stays seen place later at) h
+    -- a step of the source of a kind leaves the kinds in their order, where its count of faults goes on
+    pub StepsOn-stays : (seen : S → Seen) (kind : List ℕ) → ((s t : S) → step s t → FaultsGoOn (seen s) (seen t)) → StepsOn old new kind step → KindsStay seen old new
+    StepsOn-stays seen kind goes h = at_place kind (λ place is at. StepsAt-stays seen place goes at) h
 
     -- a step of the source of a kind leaves the names
     pub StepsOn-names : (kind : List ℕ) → StepsOn old new kind step → names_of new ≡ names_of old

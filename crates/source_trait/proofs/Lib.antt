@@ -1,4 +1,5 @@
 pub mod Stores
+pub mod Faults
 pub mod LaneSteps
 pub mod Works
 pub mod Tables

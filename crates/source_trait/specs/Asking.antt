@@ -1,5 +1,5 @@
 -- What a source is seen as, and what attaching a relation and asking a request do (access methods, Benedikt and others 2016).
-use Rattle.std.specs.Prelude.{◌≡◌, ◌<◌, ◌≤◌, ◌≢◌, ◌&&◌, ℕ, Bool, true, false, not, nat_eq, if◌then◌else◌, List, [], ◌∷◌, ◌++◌, length, map, slice_get, Option, None, Some, IfSome, IsSomeAnd, MatchOption, option_map, is_some, Result, Ok, Err, IsOk, IfOk, OnOk, OnErr, IfErr, IsErrOf}
+use Rattle.std.specs.Prelude.{◌≡◌, ◌<◌, ◌≤◌, ◌≢◌, ◌&&◌, ℕ, Bool, true, false, not, nat_eq, if◌then◌else◌, List, [], ◌∷◌, ◌++◌, length, map, slice_get, Option, None, Some, IfSome, IsSomeAnd, MatchOption, option_map, is_some, Result, Ok, Err, IsOk, IfOk, OnOk, OnErr, IfErr, IsErrOf, IsTrue}
 use Rattle.std.specs.List.{AllByRecursion, filter}
 use Rattle.std.specs.Cmp.Lexicographic.{pointwise}
 use Rattle.meaning.specs.declared.types.Fact.{Fact}
@@ -32,6 +32,17 @@ pub record Seen : Type 0 where
   pub attached : ℕ → Option Attached
   -- how often it failed
   pub faults : ℕ
+  -- whether it is said never to fail
+  pub never_fails : Bool
+
+-- how the count of faults goes on, from before one or more attaches and calls to after them
+pub record FaultsGoOn (old new : Seen) : Type 0 where
+  -- the count does not fall
+  pub later : old.faults ≤ new.faults
+  -- whether the source is said never to fail stays
+  pub kept : new.never_fails ≡ old.never_fails
+  -- the count of a source that never fails stays
+  pub none : IsTrue old.never_fails → new.faults ≡ old.faults
 
 -- the rows that an attach would take, or the fault of the data that it would answer, where that is told
 abbrev pub offered_now : Seen → ℕ → List (List ℕ) → List ℕ → Option (Result RowList AttachFault)
@@ -117,8 +128,8 @@ pub record AttachGives (old new : Seen) (rel : ℕ) (columns : List (List ℕ)) 
   pub cause : IfErr result (λ fault. AttachCause fault (offered_now old rel columns locator) (Rose old.faults new.faults))
   -- the column of a bad header is one of the columns
   pub column : IfErr result (λ fault. ColumnBelow fault (length columns))
-  -- the count of faults does not fall
-  pub later : old.faults ≤ new.faults
+  -- the count of faults goes on
+  pub faults : FaultsGoOn old new
   -- the offers of the data stay
   pub offers : new.offer ≡ old.offer
   -- after an attach that succeeds, just what would have passed the limit behind it passes it
@@ -134,8 +145,8 @@ pub record CallGives (old new : Seen) (rel : ℕ) (positions : List ℕ) (values
   pub picks : IfOk result (λ rows. IfSome old.held (λ facts. rows ≡ pick facts rel positions values))
   -- a failure raises the count of faults
   pub failed : IsErrOf result fault.Failed → Rose old.faults new.faults
-  -- the count of faults does not fall
-  pub later : old.faults ≤ new.faults
+  -- the count of faults goes on
+  pub faults : FaultsGoOn old new
   -- the requests grow by just this one, unless memory ran out
   pub asks : Asks (record { rel = rel; positions = positions; values = values }) old.asked new.asked result
   -- what it holds stays

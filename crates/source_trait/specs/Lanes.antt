@@ -2,7 +2,7 @@
 use Rattle.std.specs.Prelude.{◌≡◌, ℕ, ◌+◌, ◌≤◌, List, [], ◌∷◌, map, Option, None, Some, IsSomeAnd, slice_get, slice_set, nat_eq, if◌then◌else◌}
 use Rattle.std.specs.List.{AllZip}
 use Rattle.std.specs.Cmp.Lexicographic.{pointwise}
-use Rattle.source_trait.specs.Asking.{Seen}
+use Rattle.source_trait.specs.Asking.{Seen, FaultsGoOn}
 use Rattle.source_trait.specs.declared.lanes.Kind.{Kind}
 use Rattle.source_trait.specs.declared.lanes.Lane.{Lane}
 
@@ -51,10 +51,10 @@ pub record SourceSteps {S : Type 0} (old new : List (Kind S)) (kind : List ℕ) 
   pub now : source_of new kind ≡ Some after
   pub steps : step before after
 
--- a kind keeps its name, and the count of faults of its source does not fall
+-- a kind keeps its name, and the count of faults of its source goes on
 pub record KindStays {S : Type 0} (seen : S → Seen) (old new : Kind S) : Type 0 where
   pub name : new.name ≡ old.name
-  pub later : (seen old.object).faults ≤ (seen new.object).faults
+  pub faults : FaultsGoOn (seen old.object) (seen new.object)
 
 -- the kinds of a lane stay in their order
 abbrev pub KindsStay : {S : Type 0} → (S → Seen) → List (Kind S) → List (Kind S) → Type 0

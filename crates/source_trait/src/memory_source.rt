@@ -75,6 +75,7 @@ impl Source for MemorySource {
       asked = Some m.asked;
       attached = attached_in m.holding;
       faults = m.failures;
+      never_fails = false;
     } };
 
     fn attach(

@@ -28,7 +28,7 @@ pub enum CallFault {
 
 /// A source of rows, to which relations are attached and which is then asked by requests.
 pub trait Source {
-    /// What it holds, offers, was asked and has attached, and how often it failed.
+    /// What it holds, offers, was asked and has attached, how often it failed, and whether it never does.
     ghost seen: { Self → Seen };
 
     /// Takes the rows that lie at the locator as those of the relation; after a refusal the relation is not attached.

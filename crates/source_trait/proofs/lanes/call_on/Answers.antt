@@ -10,7 +10,7 @@ pub returns-in-None-clause-steps : goal.returns-in-None-clause-steps
 returns-in-None-clause-steps g c = absurd (ready_none c.args.kind.now c.args.lane.now.kinds.items _ (search rules) c.requires.ready)
 
 pub returns-in-Some-clause-stays : goal.returns-in-Some-clause-stays
-returns-in-Some-clause-stays g c = StepsAt-stays _ _ _ g.S.Source.seen c.in-Some.at (λ s t h. h.later) c.call_at.ensures
+returns-in-Some-clause-stays g c = StepsAt-stays _ _ _ g.S.Source.seen c.in-Some.at (λ s t h. h.faults) c.call_at.ensures
 
 pub returns-in-None-clause-stays : goal.returns-in-None-clause-stays
 returns-in-None-clause-stays g c = absurd (ready_none c.args.kind.now c.args.lane.now.kinds.items _ (search rules) c.requires.ready)
