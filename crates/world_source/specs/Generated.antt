@@ -1,5 +1,5 @@
 -- The attached relations of the generator, as a source that keeps its rows would have them.
-use Rattle.std.specs.Prelude.{◌≡◌, ℕ, false, List, [], map, Option, None, Some, Result, Ok, Err, length}
+use Rattle.std.specs.Prelude.{◌≡◌, ℕ, false, List, [], map, Option, None, Some, Result, Ok, Err, IsTrue, length}
 use Rattle.source_trait.specs.Asking.{RowList, Seen}
 use Rattle.source_trait.specs.declared.holding.Attachment.{Attachment}
 use Rattle.source_trait.specs.declared.source.AttachFault.{AttachFault}
@@ -19,7 +19,7 @@ attachments_of list = map attachment_of list
 abbrev pub offers : ℕ → List (List ℕ) → List ℕ → Option (Result RowList AttachFault)
 offers rel columns locator = Some (offered locator (length columns))
 
--- nothing is attached and nothing was asked; what is offered is told, no limit is passed, and there is no fault
+-- nothing is attached and nothing was asked; what is offered is told, no limit is passed, and there is no fault and never will be
 pub record IsFresh (seen : Seen) : Type 0 where
   pub held : seen.held ≡ Some []
   pub offer : seen.offer ≡ offers
@@ -27,6 +27,7 @@ pub record IsFresh (seen : Seen) : Type 0 where
   pub asked : seen.asked ≡ Some []
   pub attached : (rel : ℕ) → seen.attached rel ≡ None
   pub faults : seen.faults ≡ 0
+  pub never_fails : IsTrue seen.never_fails
 
 -- the formula is that of the offered rows; another answer is what is offered, unless memory ran out
 abbrev pub Offers : ℕ → Result RowList AttachFault → Result Formula AttachFault → Type 0

@@ -1,5 +1,5 @@
 // The generator as a source.
-ghost use Rattle.std.specs.Prelude.{◌≡◌, ◌≤◌, ◌++◌, ◌∷◌, [], Some, false, OnOk, OnErr, IsErrOf};
+ghost use Rattle.std.specs.Prelude.{◌≡◌, ◌≤◌, ◌++◌, ◌∷◌, [], Some, false, true, OnOk, OnErr, IsErrOf};
 ghost use Rattle.source_trait.specs.Asking.{CallGives, CanAsk};
 ghost use Rattle.source_trait.specs.Holding.{facts_held, attached_in};
 ghost use Rattle.world_source.specs.Formulas.{offered};
@@ -41,6 +41,7 @@ impl Source for WorldSource {
       asked = Some w.asked;
       attached = attached_in w.relations;
       faults = 0;
+      never_fails = true;
     } };
 
     fn attach(

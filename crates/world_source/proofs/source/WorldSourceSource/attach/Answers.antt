@@ -28,7 +28,7 @@ returns-in-Ok-take c =
       offered = rw offer refl;
       cause = tt;
       column = tt;
-      later = omega arith;
+      faults = record { later = omega arith; kept = refl; none = λ never. refl };
       offers = refl;
       passes = λ _. refl;
       asked = refl;
