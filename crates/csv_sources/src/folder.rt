@@ -1,5 +1,5 @@
 // A source over the CSV files of a folder.
-ghost use Rattle.std.specs.Prelude.{◌≡◌, ◌≤◌, ◌+◌, Some, length, sum, if◌then◌else◌, IfOk, IsErrOf};
+ghost use Rattle.std.specs.Prelude.{◌≡◌, ◌≤◌, ◌+◌, Some, false, length, sum, if◌then◌else◌, IfOk, IsErrOf};
 ghost use Rattle.source_trait.specs.Causes.{Rose};
 ghost use Rattle.source_trait.specs.Asking.{AttachGives, CallGives, HaveArity};
 ghost use Rattle.source_trait.specs.Holding.{facts_held, attached_in, loads_of, sizes_of};
@@ -61,6 +61,7 @@ impl<F: Files + Send + Drop> Source for CsvFolder<F> {
       asked = Some c.asked;
       attached = attached_in c.holding;
       faults = F.faults c.files + c.data_faults;
+      never_fails = false;
     } };
 
     fn attach(

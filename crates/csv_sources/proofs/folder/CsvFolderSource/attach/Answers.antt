@@ -31,7 +31,7 @@ returns-in-Ok-take-clause-gives g c =
       offered = rows_are_ok _ c.in-Ok.loaded.rows offered;
       cause = tt;
       column = tt;
-      later = omega (arith, c.in-Ok.ensures.files_later, c.in-Ok.ensures.data_later);
+      faults = record { later = omega (arith, c.in-Ok.ensures.files_later, c.in-Ok.ensures.data_later); kept = refl; none = λ never. absurd (cc) };
       offers = ap offers c.in-Ok.ensures.same;
       passes = λ more. ap (λ (told : Contents). passes_limit (loads_of c.take.new.self) told more) c.in-Ok.ensures.same
           ∙ behind contents c.args.columns.now c.args.rel c.args.locator.now old c.detach.new.self c.take.new.self c.in-Ok.loaded.size c.in-Ok.loaded.rows c.detach.ensures.left loaded.1 loaded.2
@@ -54,7 +54,7 @@ returns-in-Err-clause-gives g c =
       offered = tt;
       cause = subst (λ (o : Option (Result RowList AttachFault)). AttachCause c.in-Err.fault o rose) same c.in-Err.ensures.gives.0;
       column = c.in-Err.ensures.gives.1;
-      later = omega (arith, c.in-Err.ensures.files_later, c.in-Err.ensures.data_later);
+      faults = record { later = omega (arith, c.in-Err.ensures.files_later, c.in-Err.ensures.data_later); kept = refl; none = λ never. absurd (cc) };
       offers = ap offers c.in-Err.ensures.same;
       passes = tt;
       asked = refl;
