@@ -8,6 +8,7 @@ use Rattle.source_trait.specs.Asking.{RowList, Seen, CallGives, CanAsk, Attached
 use Rattle.source_trait.specs.Causes.{Rose}
 use Rattle.source_trait.specs.Lanes.{AtKind, StepsOn}
 use Rattle.source_trait.specs.declared.lanes.Kind.{Kind}
+use Rattle.source_trait.proofs.Faults.{FaultsGoOn-refl, FaultsGoOn-trans}
 use Rattle.source_trait.proofs.LaneSteps.{StepsOn-after}
 use Rattle.source_trait.specs.declared.source.CallFault.{CallFault}
 use Rattle.source_trait.specs.declared.source.CallFault.TheVariants as call
@@ -59,7 +60,7 @@ module _ (rel : ℕ) (positions : List ℕ) (requests : RowList) where
     attached = refl;
     offers = refl;
     passes = refl;
-    later = omega arith;
+    faults = FaultsGoOn-refl s;
   }
     where
       none : (held : Option (List Fact)) → IfSome held (λ facts. [] ≡ map (pick facts rel positions) (take 0 requests))
@@ -96,7 +97,7 @@ module _ (rel : ℕ) (positions : List ℕ) (requests : RowList) where
       attached = gives.attached ∙ so_far.attached;
       offers = gives.offers ∙ so_far.offers;
       passes = gives.passes ∙ so_far.passes;
-      later = omega (arith, gives.later, so_far.later);
+      faults = FaultsGoOn-trans s t u so_far.faults gives.faults;
     }
       where
         all : (xs : RowList) → take (length xs) xs ≡ xs
@@ -120,12 +121,12 @@ module _ (rel : ℕ) (positions : List ℕ) (requests : RowList) where
       whole = tt;
       answers = tt;
       some = λ e. omega arith;
-      failed = λ e. rose_from s.faults t.faults u.faults so_far.later (gives.failed refl);
+      failed = λ e. rose_from s.faults t.faults u.faults so_far.faults.later (gives.failed refl);
       held = gives.held ∙ so_far.held;
       attached = gives.attached ∙ so_far.attached;
       offers = gives.offers ∙ so_far.offers;
       passes = gives.passes ∙ so_far.passes;
-      later = omega (arith, gives.later, so_far.later);
+      faults = FaultsGoOn-trans s t u so_far.faults gives.faults;
     }
     answers_stop call.NoMemory gives = record {
       count = i;
@@ -139,7 +140,7 @@ module _ (rel : ℕ) (positions : List ℕ) (requests : RowList) where
       attached = gives.attached ∙ so_far.attached;
       offers = gives.offers ∙ so_far.offers;
       passes = gives.passes ∙ so_far.passes;
-      later = omega (arith, gives.later, so_far.later);
+      faults = FaultsGoOn-trans s t u so_far.faults gives.faults;
     }
 
     -- there was no memory for the answer
@@ -156,7 +157,7 @@ module _ (rel : ℕ) (positions : List ℕ) (requests : RowList) where
       attached = gives.attached ∙ so_far.attached;
       offers = gives.offers ∙ so_far.offers;
       passes = gives.passes ∙ so_far.passes;
-      later = omega (arith, gives.later, so_far.later);
+      faults = FaultsGoOn-trans s t u so_far.faults gives.faults;
     }
 
 -- the same on a lane

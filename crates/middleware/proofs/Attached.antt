@@ -165,7 +165,7 @@ module _ {S : Type 0} (seen : S → Seen) where
       Gives s t = AttachGives (seen s) (seen t) rel one.relation.columns one.line.locator result
 
       pub one_stays : KindsStay seen old new
-      one_stays = StepsOn-stays old new Gives seen one.line.kind (λ s t g. g.later) one.steps
+      one_stays = StepsOn-stays old new Gives seen one.line.kind (λ s t g. g.faults) one.steps
 
       -- of each kind the source stayed or was asked to attach
       one_source : (kind : List ℕ) (before after : S) → source_of old kind ≡ Some before → source_of new kind ≡ Some after → (after ≡ before) ⊎ Gives before after
@@ -199,7 +199,7 @@ module _ {S : Type 0} (seen : S → Seen) where
         → (after : S) × (source_of new kind ≡ Some after) × ((seen after).attached rel ≡ (seen before).attached rel) × (told_rows rel (seen after).held ≡ told_rows rel (seen before).held)
     order_keeps [] rel apart old new e kind before was = (before, ap (λ (l : List (Kind S)). source_of l kind) e ∙ was, refl, refl)
     order_keeps (r ∷ rels) rel apart old new (mid, one, rest) kind before was =
-        let (between, at, less) = later_source seen old mid kind before (one_stays r (Ok tt) old mid one) was in
+        let (between, at, goes) = later_source seen old mid kind before (one_stays r (Ok tt) old mid one) was in
         let other : rel ≢ r = λ e. apart (subst (λ x. Contains (r ∷ rels) x) (sym e) (contains_here r rels)) in
         let (after, now, attached, told) = order_keeps rels rel (λ c. apart (contains_there r rels rel c)) mid new rest kind between at in
         elim (one_source r (Ok tt) old mid one kind before between was at) [
@@ -257,7 +257,7 @@ module _ {S : Type 0} (seen : S → Seen) where
 
         second : IsAttachedSo rel relation line mid new → IsAttachedSo rel relation line old new
         second later =
-            let (b, at, less) = earlier_source seen old mid line.kind later.before (one_stays r (Ok tt) old mid one) later.was in
+            let (b, at, goes) = earlier_source seen old mid line.kind later.before (one_stays r (Ok tt) old mid one) later.was in
             let offers : (seen later.before).offer ≡ (seen b).offer = one_offers r (Ok tt) old mid one line.kind b later.before at later.was in
             record {
               before = b;

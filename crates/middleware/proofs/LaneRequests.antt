@@ -199,7 +199,7 @@ module _ {S : Type 0} (seen : S → Seen) (schema : Schema) (method : Method) (l
           attached = a.attached;
           offers = a.offers;
           passes = a.passes;
-          later = a.later;
+          faults = a.faults;
         }) known.1)
 
     whole : known.0 ≡ length requests → AsksEach seen schema (requests_of method.rel method.inputs requests) (lane ∷ rest) (after ∷ rest)

@@ -6,7 +6,7 @@ use Rattle.std.proofs.lemmas.Bool.{cases_eq}
 use Rattle.std.proofs.lemmas.Slice.Eq.{bytes_eq-Decides}
 use Rattle.lists.proofs.Members.{some_injective}
 use Rattle.lists.proofs.Places.{set_twice}
-use Rattle.source_trait.specs.Asking.{Seen}
+use Rattle.source_trait.specs.Asking.{Seen, FaultsGoOn}
 use Rattle.source_trait.specs.Lanes.{names_of, place_from, source_of, AtKind, StepsAt, StepsOn, KindsStay}
 use Rattle.source_trait.specs.declared.lanes.Kind.{Kind}
 use Rattle.source_trait.proofs.LaneSteps.{some_place, StepsOn-names, KindsStay-names}
@@ -144,12 +144,12 @@ module _ {S : Type 0} where
   stays_got seen (x ∷ xs) (y ∷ ys) (suc place) before stay got = stays_got seen xs ys place before stay.1 got
 
   abbrev IsLater : (S → Seen) → S → Option S → Type 0
-  IsLater seen b found = (a : S) × (found ≡ Some a) × ((seen b).faults ≤ (seen a).faults)
+  IsLater seen b found = (a : S) × (found ≡ Some a) × FaultsGoOn (seen b) (seen a)
 
   abbrev IsEarlier : (S → Seen) → S → Option S → Type 0
-  IsEarlier seen a found = (b : S) × (found ≡ Some b) × ((seen b).faults ≤ (seen a).faults)
+  IsEarlier seen a found = (b : S) × (found ≡ Some b) × FaultsGoOn (seen b) (seen a)
 
-  -- a source is there later on where it was before, and its count of faults did not fall
+  -- a source is there later on where it was before, and its count of faults went on
   pub later_source : (seen : S → Seen) (old new : List (Kind S)) (kind : List ℕ) (b : S) → KindsStay seen old new → source_of old kind ≡ Some b
       → IsLater seen b (source_of new kind)
   later_source seen [] new kind b stay e = absurd (cc)
@@ -160,8 +160,8 @@ module _ {S : Type 0} where
       go : (t : Bool) → t ≡ pointwise nat_eq y.name kind → cond t (Some x.object) (source_of xs kind) ≡ Some b → (source_of xs kind ≡ Some b → IsLater seen b (source_of ys kind))
           → IsLater seen b (cond (pointwise nat_eq y.name kind) (Some y.object) (source_of ys kind))
       go true test e later =
-          (y.object, ap (λ c. cond c (Some y.object) (source_of ys kind)) (sym test), subst (λ (s : S). (seen s).faults ≤ (seen y.object).faults) (some_injective x.object b e) stay.0.later)
-      go false test e later = let (a, at, less) = later e in (a, ap (λ c. cond c (Some y.object) (source_of ys kind)) (sym test) ∙ at, less)
+          (y.object, ap (λ c. cond c (Some y.object) (source_of ys kind)) (sym test), subst (λ (s : S). FaultsGoOn (seen s) (seen y.object)) (some_injective x.object b e) stay.0.faults)
+      go false test e later = let (a, at, goes) = later e in (a, ap (λ c. cond c (Some y.object) (source_of ys kind)) (sym test) ∙ at, goes)
 
   -- a source was there before where it is there now
   pub earlier_source : (seen : S → Seen) (old new : List (Kind S)) (kind : List ℕ) (a : S) → KindsStay seen old new → source_of new kind ≡ Some a
@@ -175,8 +175,8 @@ module _ {S : Type 0} where
       go : (t : Bool) → t ≡ pointwise nat_eq x.name kind → cond t (Some y.object) (source_of ys kind) ≡ Some a → (source_of ys kind ≡ Some a → IsEarlier seen a (source_of xs kind))
           → IsEarlier seen a (cond (pointwise nat_eq x.name kind) (Some x.object) (source_of xs kind))
       go true test e later =
-          (x.object, ap (λ c. cond c (Some x.object) (source_of xs kind)) (sym test), subst (λ (s : S). (seen x.object).faults ≤ (seen s).faults) (some_injective y.object a e) stay.0.later)
-      go false test e later = let (b, at, less) = later e in (b, ap (λ c. cond c (Some x.object) (source_of xs kind)) (sym test) ∙ at, less)
+          (x.object, ap (λ c. cond c (Some x.object) (source_of xs kind)) (sym test), subst (λ (s : S). FaultsGoOn (seen x.object) (seen s)) (some_injective y.object a e) stay.0.faults)
+      go false test e later = let (b, at, goes) = later e in (b, ap (λ c. cond c (Some x.object) (source_of xs kind)) (sym test) ∙ at, goes)
 
   -- one after the other, where the relation goes on
   pub OnlyFirst-trans : (seen : S → Seen) (each : List ℕ → S → S → Type 0) → ((n : List ℕ) (s t u : S) → each n s t → each n t u → each n s u) → (old mid new : List (Kind S))

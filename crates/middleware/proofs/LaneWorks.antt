@@ -84,7 +84,7 @@ module _ {S : Type 0} (seen : S → Seen) where
           offers = gives.offers;
           passes =
               gives.passes;
-          later = gives.later;
+          faults = gives.faults;
         })
         (subst (λ (kind : List ℕ). StepsOn old.kinds.items new.kinds.items kind (Called ask result)) its.kind calls.steps)
 
@@ -189,7 +189,7 @@ module _ {S : Type 0} (seen : S → Seen) where
         here (subst (λ (a : Asked). Works seen w ask a next) is_failed (subst (λ (a : Ask). Works seen w a answer next) is_ask did)))
         (λ (apart : j ≢ k).
         let later = run_fails ks next u rest k (let z = hit-other k j apart in omega arith) ask ask_at failed_at in
-        let (first, was, less) = earlier_source seen w.kinds.items next.kinds.items ask.kind later.0.before
+        let (first, was, goes) = earlier_source seen w.kinds.items next.kinds.items ask.kind later.0.before
         (works_stay its answer w next did) later.0.was in (
           record {
             before = first;
@@ -197,7 +197,7 @@ module _ {S : Type 0} (seen : S → Seen) where
             was = was;
             now = later.0.now;
             steps =
-                (let rose = later.0.steps in omega (arith, rose, less));
+                (let rose = later.0.steps in omega (arith, rose, goes.later));
           },
           later.1,
         ))
@@ -206,7 +206,7 @@ module _ {S : Type 0} (seen : S → Seen) where
             (λ s t. Rose (seen s).faults (seen t).faults) × (u.stopped ≡ true)
         here works =
             let moved = StepsOn-source w.kinds.items next.kinds.items (Called ask (Err fault.Failed)) ask.kind works.0.steps in
-            let (last, now, less) = later_source seen next.kinds.items u.kinds.items ask.kind moved.after (run_stays ks next u rest)
+            let (last, now, goes) = later_source seen next.kinds.items u.kinds.items ask.kind moved.after (run_stays ks next u rest)
             moved.now in (
               record {
                 before = moved.before;
@@ -214,7 +214,7 @@ module _ {S : Type 0} (seen : S → Seen) where
                 was = moved.was;
                 now = now;
                 steps =
-                    (let rose = moved.steps.failed refl in omega (arith, rose, less));
+                    (let rose = moved.steps.failed refl in omega (arith, rose, goes.later));
               },
               run_stopped ks next u rest works.1,
             )

@@ -1,5 +1,5 @@
 -- What a round of requests does to its lane.
-use Rattle.std.proofs.Common.{◌≡◌, ◌≢◌, inl, inr, ◌≤◌, ◌+◌, ℕ, suc, List, [], ◌∷◌, ◌++◌, length, Option, None, Some, Bool, true, false, cond, nat_eq, refl, sym, ◌∙◌, ap, subst}
+use Rattle.std.proofs.Common.{◌≡◌, ◌≢◌, inl, inr, ◌+◌, ℕ, suc, List, [], ◌∷◌, ◌++◌, length, Option, None, Some, Bool, true, false, cond, nat_eq, refl, sym, ◌∙◌, ap, subst}
 use Rattle.std.specs.Prelude.{Contains, option_map}
 use Rattle.std.specs.Cmp.Lexicographic.{pointwise}
 use Rattle.std.proofs.lemmas.List.Elements.{filter-append}
@@ -9,7 +9,7 @@ use Rattle.meaning.specs.declared.types.Place.{Place}
 use Rattle.meaning.specs.declared.types.Request.{Request}
 use Rattle.access_schema.specs.declared.schema.Schema.{Schema}
 use Rattle.access_schema.specs.declared.schema.SourceLine.{SourceLine}
-use Rattle.source_trait.specs.Asking.{RowList, Seen}
+use Rattle.source_trait.specs.Asking.{RowList, Seen, FaultsGoOn}
 use Rattle.source_trait.specs.Lanes.{source_of, StepsOn}
 use Rattle.source_trait.specs.declared.lanes.Kind.{Kind}
 use Rattle.source_trait.proofs.LaneSteps.{StepsOn-stays, StepsOn-source, StepsOn-others, StepsAt-source, KindsStay-refl, KindsStay-trans}
@@ -105,12 +105,12 @@ module _ {S : Type 0} (seen : S → Seen) where
       pub attached : t.attached ≡ s.attached
       pub offers : t.offer ≡ s.offer
       pub passes : t.passes ≡ s.passes
-      pub later : s.faults ≤ t.faults
+      pub faults : FaultsGoOn s t
 
     pub lane_asked : (rel : ℕ) (positions : List ℕ) (list : RowList) (line : SourceLine) → line_for rel schema.sources ≡ Some line → (old new : List (Kind S)) (step : S → S → Type 0)
         → ((s t : S) → step s t → SourceAsked rel positions list (seen s) (seen t)) → StepsOn old new line.kind step → AsksLane seen schema (requests_of rel positions list) old new
     lane_asked rel positions list line line_is old new step does steps = record {
-      stay = StepsOn-stays old new step seen line.kind (λ s t h. (does s t h).later) steps;
+      stay = StepsOn-stays old new step seen line.kind (λ s t h. (does s t h).faults) steps;
       asked = λ kind before after was now. by_kind kind before after was now (pointwise nat_eq line.kind kind) refl;
       only = StepsOn-only old new line.kind step (λ kind s t. (seen t).attached ≡ (seen s).attached) (λ s t h. (does s t h).attached) steps;
       tells = λ kind. stepped_tells line.kind kind old new step (λ s t h. let d = does s t h in (d.held, d.attached, d.offers, d.passes)) steps;

@@ -5,7 +5,7 @@ use Rattle.meaning.specs.declared.types.Fact.{Fact}
 use Rattle.meaning.specs.declared.types.Method.{Method}
 use Rattle.meaning.specs.declared.types.Place.{Place}
 use Rattle.meaning.specs.declared.types.Request.{Request}
-use Rattle.source_trait.specs.Asking.{RowList, Seen, Attached, CanAsk, pick}
+use Rattle.source_trait.specs.Asking.{RowList, Seen, FaultsGoOn, Attached, CanAsk, pick}
 use Rattle.source_trait.specs.Causes.{Rose}
 use Rattle.source_trait.specs.declared.source.CallFault.{CallFault}
 use Rattle.source_trait.specs.declared.source.CallFault.TheVariants as call
@@ -34,7 +34,7 @@ pub record AnswersAll (rel : ℕ) (positions : List ℕ) (requests : RowList) (r
   pub attached : new.attached ≡ old.attached
   pub offers : new.offer ≡ old.offer
   pub passes : new.passes ≡ old.passes
-  pub later : old.faults ≤ new.faults
+  pub faults : FaultsGoOn old new
 
 -- each request of the method may be asked
 abbrev pub CanAskAll : Option Attached → Method → Type 0

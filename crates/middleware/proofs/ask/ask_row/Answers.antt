@@ -1,8 +1,9 @@
-use Rattle.std.proofs.Common.{Option, None, Some, refl, arith}
+use Rattle.std.proofs.Common.{Option, None, Some, refl}
 use Rattle.std.specs.Prelude.{Err, IsSomeAnd}
 use Rattle.source_trait.specs.Asking.{CallGives, CanAsk}
 use Rattle.source_trait.specs.Lanes.{source_of}
 use Rattle.source_trait.specs.declared.source.CallFault.TheVariants as call
+use Rattle.source_trait.proofs.Faults.{FaultsGoOn-refl}
 use Rattle.middleware.proofs.LaneRuns.{StepsOn-refl}
 use Rattle.middleware.proofs.ask.ask_row.Goals as goal
 
@@ -18,7 +19,7 @@ returns-in-Err-clause-steps g c =
       fits = tt;
       picks = tt;
       failed = λ e. absurd (cc);
-      later = omega arith;
+      faults = FaultsGoOn-refl (seen s);
       asks = refl;
       held = refl;
       attached = refl;
