@@ -1,8 +1,7 @@
 -- Sources that serve refuse no attach and fail no request.
-use Rattle.std.proofs.Common.{◌≡◌, ◌≢◌, ◌≤◌, ◌<◌, ℕ, zero, suc, Bool, true, false, cond, List, [], ◌∷◌, ◌++◌, take, Option, None, Some, Result, Err, refl, ap, subst, inl, inr, nat_eq, arith}
+use Rattle.std.proofs.Common.{◌≡◌, ◌≢◌, ◌<◌, ℕ, zero, suc, List, [], ◌∷◌, ◌++◌, take, Option, None, Some, Result, Err, refl, subst, inl, inr, arith}
 use Rattle.std.specs.Prelude.{Contains, IfSome, IsOk, MatchOption, slice_get}
 use Rattle.std.specs.List.{AllByRecursion}
-use Rattle.std.specs.Cmp.Lexicographic.{pointwise}
 use Rattle.lists.proofs.Members.{some_injective, contains_here, contains_there, contains_cases}
 use Rattle.access_schema.specs.declared.schema.Schema.{Schema}
 use Rattle.access_schema.specs.declared.schema.SourceLine.{SourceLine}
@@ -16,6 +15,7 @@ use Rattle.source_trait.proofs.LaneSteps.{StepsOn-source}
 use Rattle.middleware.specs.PlanSources.{line_for}
 use Rattle.middleware.specs.Attaching.{AttachesOne, AttachesInOrder}
 use Rattle.middleware.proofs.Attached.{order_stays}
+use Rattle.middleware.proofs.LaneRuns.{earlier_source}
 use Rattle.command_io.proofs.Later.{rose_between}
 use Rattle.pdq_core.specs.Complete.{Serve}
 
@@ -68,31 +68,13 @@ refused_for (attach.NotUtf8 number) offer rose apart fine cause = told_fault (at
 refused_for attach.TooLarge offer rose apart fine cause = told_fault attach.TooLarge offer rose fine cause
 
 module _ {S : Type 0} (seen : S → Seen) where
-  -- a source after kinds stayed was there before, with no more faults
-  stays_back : (old new : List (Kind S)) → KindsStay seen old new → (kind : List ℕ) (after : S) → source_of new kind ≡ Some after →
-      (before : S) × (source_of old kind ≡ Some before) × ((seen before).faults ≤ (seen after).faults)
-  stays_back [] [] stay kind after now = absurd (cc)
-  stays_back [] (y ∷ ys) stay kind after now = absurd stay
-  stays_back (x ∷ xs) [] stay kind after now = absurd stay
-  stays_back (x ∷ xs) (y ∷ ys) stay kind after now =
-      let same : pointwise nat_eq y.name kind ≡ pointwise nat_eq x.name kind = ap (λ (name : List ℕ). pointwise nat_eq name kind) stay.0.name in
-      go (pointwise nat_eq x.name kind) (stays_back xs ys stay.1 kind after) (subst (λ (b : Bool). cond b (Some y.object) (source_of ys kind) ≡ Some after) same now)
-    where
-      go : (b : Bool) → (source_of ys kind ≡ Some after → (before : S) × (source_of xs kind ≡ Some before) × ((seen before).faults ≤ (seen after).faults)) →
-          cond b (Some y.object) (source_of ys kind) ≡ Some after →
-          (before : S) × (cond b (Some x.object) (source_of xs kind) ≡ Some before) × ((seen before).faults ≤ (seen after).faults)
-      go true later now =
-          let e : y.object ≡ after = some_injective y.object after now in
-          (x.object, refl, subst (λ (s : S). (seen x.object).faults ≤ (seen s).faults) e stay.0.later)
-      go false later now = later now
-
   module _ (schema : Schema) (IsNeeded : ℕ → Type 0) (old new : List (Kind S)) (serve : Serve seen schema IsNeeded old new) where
     -- no count of a source that is needed rose since the kinds began to stay
     pub none_rose : (middle : List (Kind S)) (rel : ℕ) (line : SourceLine) (before after : S) → IsNeeded rel → line_for rel schema.sources ≡ Some line → KindsStay seen old middle →
         source_of middle line.kind ≡ Some before → source_of new line.kind ≡ Some after → Rose (seen before).faults (seen after).faults → ⊥
     none_rose middle rel line before after needed line_is stay was now rose =
-        let (first, began, fewer) = stays_back old middle stay line.kind before was in
-        serve.faults rel line needed line_is first after began now (rose_between (seen first).faults (seen before).faults (seen after).faults (seen after).faults fewer (omega arith) rose)
+        let (first, began, goes) = earlier_source seen old middle line.kind before stay was in
+        serve.faults rel line needed line_is first after began now (rose_between (seen first).faults (seen before).faults (seen after).faults (seen after).faults goes.later (omega arith) rose)
 
     -- no attach of a relation that is needed is refused
     pub none_refused : (rels : List ℕ) (middle : List (Kind S)) (rel : ℕ) (fault : AttachFault) → Rises (rels ++ rel ∷ []) → ((other : ℕ) → Contains rels other → IsNeeded other) → IsNeeded rel →

@@ -33,7 +33,7 @@ use Rattle.pdq_core.proofs.CompleteSources.{in_first, rises_take, none_rose, non
 module _ {S : Type 0} (seen : S → Seen) where
   module _ (schema : Schema) where
     one_stays : (rel : ℕ) (result : Result RowList CallFault) (old new : List (Kind S)) → AsksOne seen schema rel result old new → KindsStay seen old new
-    one_stays rel result old new one = StepsOn-stays old new (λ s t. CallGives (seen s) (seen t) rel [] [] result) seen one.line.kind (λ s t gives. gives.later) one.steps
+    one_stays rel result old new one = StepsOn-stays old new (λ s t. CallGives (seen s) (seen t) rel [] [] result) seen one.line.kind (λ s t gives. gives.faults) one.steps
 
     asks_stay : (rels : List ℕ) (facts : List Fact) (old new : List (Kind S)) → AsksInOrder seen schema rels facts old new → KindsStay seen old new
     asks_stay [] facts old new (none, e) = subst (λ (kinds : List (Kind S)). KindsStay seen old kinds) (sym e) (KindsStay-refl seen old)

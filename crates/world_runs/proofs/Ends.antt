@@ -17,6 +17,7 @@ use Rattle.access_schema.specs.Meaning.{meaning_of}
 use Rattle.access_schema.specs.Names.{AllDiffer}
 use Rattle.source_trait.specs.Asking.{RowList, Seen}
 use Rattle.source_trait.specs.Causes.{Rose}
+use Rattle.source_trait.specs.Lanes.{LanesStay}
 use Rattle.source_trait.specs.declared.lanes.Lane.{Lane}
 use Rattle.row_text.specs.RowText.{row_cmp}
 use Rattle.no_plan_witness.specs.declared.decision.Chosen.{Chosen}
@@ -48,7 +49,7 @@ use Rattle.run_command.specs.World.{IsSummary, WorldEnds, WorldStop}
 use Rattle.run_command.specs.World.WorldEnds.{refused, read}
 use Rattle.run_command.specs.World.WorldStop.{no_memory as world_memory, no_schema, no_statement}
 use Rattle.run_command.specs.declared.world.TheConstants.{FIRINGS, UNITS}
-use Rattle.pdq_core.specs.Complete.{OnLanes, NoRiseOf, NoSourceRose, OfferInstance, CanExecute}
+use Rattle.pdq_core.specs.Complete.{NoRiseOf, NoSourceRose, OfferInstance, CanExecute}
 use Rattle.pdq_core.proofs.CompleteExecution.{on_lanes, all_attached, execution_stop}
 use Rattle.pdq_core.proofs.CompleteOffers.{lanes_hold, offers_execute}
 use Rattle.world_laws.specs.World.{IsWorldSchema, world_statement}
@@ -60,7 +61,7 @@ use Rattle.world_runs.specs.Deciding.{HasOneBranch}
 use Rattle.pdq_core.specs.Generators.{HasGenerator}
 use Rattle.world_runs.specs.Ends.{WorldIsOver, done, no_memory, no_decision_write, no_result_write}
 use Rattle.world_runs.proofs.Deciding.{decided, never_refuted, never_undecided}
-use Rattle.world_runs.proofs.Generators.{generator_offers, world_calm, keeps_cap, requests_made}
+use Rattle.world_runs.proofs.Generators.{generator_offers, lanes_calm, world_calm, keeps_cap, requests_made}
 
 -- ---- rows that ascend
 
@@ -89,7 +90,7 @@ only_memory size _ few world_memory = refl
 only_memory size _ few (no_schema fault apart is) = absurd (apart (world_no_fault size (omega (arith, few)) fault is))
 only_memory size _ few (no_statement schema fault is apart why) = absurd (apart (query_no_fault size schema fault (world_alone size (omega (arith, few)) schema is) why))
 
-module _ {S : Type 0} (seen : S → Seen) (size : ℕ) (some : 1 ≤ size) (few : size ≤ 10000) (before after : Outputs) (old new : List (Lane S)) (lane : 0 < length old) (lanes : OnEach old (HasGenerator seen)) (calm : OnLanes (NoRiseOf seen (codes "world")) old new) where
+module _ {S : Type 0} (seen : S → Seen) (size : ℕ) (some : 1 ≤ size) (few : size ≤ 10000) (before after : Outputs) (old new : List (Lane S)) (lane : 0 < length old) (lanes : OnEach old (HasGenerator seen)) (stay : LanesStay seen old new) where
   abbrev IsOver : Stop → Type 0
   IsOver end = WorldIsOver size before after (Err end)
 
@@ -113,7 +114,7 @@ module _ {S : Type 0} (seen : S → Seen) (size : ℕ) (some : 1 ≤ size) (few 
 
     can : CanExecute seen schema its old new
     can = offers_execute seen schema its old new (world_facts size) (λ rel needed. lane) offers
-        (on_lanes (NoRiseOf seen (codes "world")) (NoSourceRose seen schema (IsAccessed schema its)) (world_calm size some few schema is seen its) old new calm)
+        (on_lanes (NoRiseOf seen (codes "world")) (NoSourceRose seen schema (IsAccessed schema its)) (world_calm size some few schema is seen its) old new (lanes_calm seen old new stay lanes))
         (keeps_cap size some few schema is its one)
 
     stops : (IsText : Run → List ℕ → Type 0) (why : Stop) → Delivers seen schema its CALLS IsText old new before.out after.out (Rose before.out_faults after.out_faults) (Err why) → IsOver why

@@ -3,7 +3,7 @@ use Rattle.std.proofs.Common.{◌≡◌, ◌+◌, ◌-◌, ◌*◌, ◌<◌, ◌
 use Rattle.std.specs.Prelude.{Contains, codes, is_some, IsSomeAnd}
 use Rattle.std.specs.List.{range_with_len}
 use Rattle.std.proofs.lemmas.List.{length-append}
-use Rattle.lists.proofs.Members.{contains_got, contains_map, contains_mapped, contains_joined, some_injective}
+use Rattle.lists.proofs.Members.{contains_got, contains_map, contains_mapped, contains_joined, contains_here, contains_there, some_injective}
 use Rattle.meaning.specs.declared.types.Fact.{Fact}
 use Rattle.meaning.specs.declared.types.Relation.{Relation}
 use Rattle.meaning.specs.declared.types.SchemaParts.{SchemaParts}
@@ -15,15 +15,20 @@ use Rattle.meaning.specs.Requests.{IsRound, AreStepsRequests, AreBranchesRequest
 use Rattle.access_schema.specs.declared.schema.Schema.{Schema}
 use Rattle.access_schema.specs.declared.schema.SourceLine.{SourceLine}
 use Rattle.access_schema.specs.Meaning.{meaning_of}
-use Rattle.source_trait.specs.Asking.{RowList, Seen, facts_of}
-use Rattle.source_trait.specs.Lanes.{source_of, AtKind}
+use Rattle.source_trait.specs.Asking.{RowList, Seen, FaultsGoOn, facts_of}
+use Rattle.source_trait.specs.Causes.{Rose}
+use Rattle.source_trait.specs.Lanes.{source_of, AtKind, KindsStay, LanesStay}
 use Rattle.source_trait.specs.declared.lanes.Kind.{Kind}
+use Rattle.source_trait.specs.declared.lanes.Lane.{Lane}
 use Rattle.source_trait.specs.declared.source.AttachFault.{AttachFault}
 use Rattle.middleware.specs.PlanSources.{line_for, IsAccessed}
 use Rattle.middleware.specs.Held.{SameFacts}
+use Rattle.middleware.specs.LaneBranches.{OnEach}
+use Rattle.middleware.proofs.LaneRuns.{earlier_source}
 use Rattle.world_source.specs.Formulas.{locator, offered, row_of, rows_of, rows_or}
+use Rattle.world_source.specs.Generated.{IsFresh}
 use Rattle.world_source.proofs.Numbers.{named}
-use Rattle.pdq_core.specs.Complete.{NoRiseOf, NoSourceRose, OffersFacts, OfferInstance, KeepsCap, located}
+use Rattle.pdq_core.specs.Complete.{OnLanes, NoRiseOf, NoSourceRose, OffersFacts, OfferInstance, KeepsCap, located}
 use Rattle.command_io.specs.declared.delivery.TheConstants.{CALLS}
 use Rattle.world_laws.specs.World.{IsWorldSchema, source_with, world_sources}
 use Rattle.world_laws.specs.Plan.{world}
@@ -35,6 +40,30 @@ use Rattle.world_laws.proofs.Counts.{requests_counted, requests_within}
 use Rattle.world_laws.proofs.Columns as turns
 use Rattle.world_runs.specs.Deciding.{HasOneBranch}
 use Rattle.pdq_core.specs.Generators.{HasGenerator}
+
+-- ---- faults
+
+module _ {S : Type 0} (seen : S → Seen) where
+  -- a new generator counts no fault later on
+  no_rise : (source after : S) → IsFresh (seen source) → FaultsGoOn (seen source) (seen after) → Rose (seen source).faults (seen after).faults → ⊥
+  no_rise source after fresh goes rose =
+      let none = fresh.faults in
+      let same = goes.none fresh.never_fails in
+      omega (arith, none, same, rose)
+
+  kinds_calm : (old new : List (Kind S)) → KindsStay seen old new → HasGenerator seen old → NoRiseOf seen (codes "world") old new
+  kinds_calm old new stay has before after was now rose =
+      let (source, there, goes) = earlier_source seen old new (codes "world") after stay now in
+      let own : has.source ≡ source = some_injective has.source source (sym has.there ∙ there) in
+      let same : before ≡ source = some_injective before source (sym was ∙ there) in
+      no_rise source after (subst (λ (s : S). IsFresh (seen s)) own has.fresh) goes (subst (λ (s : S). Rose (seen s).faults (seen after).faults) same rose)
+
+  pub lanes_calm : (old new : List (Lane S)) → LanesStay seen old new → OnEach old (HasGenerator seen) → OnLanes (NoRiseOf seen (codes "world")) old new
+  lanes_calm [] [] stay has = tt
+  lanes_calm [] (u ∷ us) stay has = absurd stay
+  lanes_calm (w ∷ ws) [] stay has = absurd stay
+  lanes_calm (w ∷ ws) (u ∷ us) stay has =
+      (kinds_calm w.kinds.items u.kinds.items stay.0 (has w (contains_here w ws)), lanes_calm ws us stay.1 (λ lane among. has lane (contains_there w ws lane among)))
 
 -- ---- source lines
 

@@ -1,8 +1,6 @@
 -- A run of the program whose words are `world N`.
-use Rattle.std.proofs.Common.{◌≡◌, ◌<◌, ◌≤◌, ℕ, List, [], ◌∷◌, length, take, refl, subst, arith}
-use Rattle.std.specs.Prelude.{codes}
+use Rattle.std.proofs.Common.{◌≡◌, ◌<◌, ◌≤◌, ℕ, zero, suc, List, [], ◌∷◌, length, take, refl, subst}
 use Rattle.source_trait.specs.Asking.{Seen}
-use Rattle.source_trait.specs.Causes.{Rose}
 use Rattle.source_trait.specs.Lanes.{LanesStay}
 use Rattle.source_trait.specs.declared.lanes.Lane.{Lane}
 use Rattle.middleware.specs.LaneBranches.{OnEach}
@@ -12,10 +10,18 @@ use Rattle.command_words.specs.Words.{Command, IsCommand}
 use Rattle.command_words.specs.Words.Command.{Help, Schema as Print, Explain, Run, Exec, Check, Verify, World}
 use Rattle.pdq_core.specs.Runs.{Runs}
 use Rattle.pdq_core.specs.Runs.Runs.{no_command, help, schema as print_schema, explain, run, exec, check, verify, world}
-use Rattle.pdq_core.specs.Complete.{OnLanes, NoRiseOf}
 use Rattle.pdq_core.specs.Generators.{HasGenerator}
 use Rattle.world_runs.specs.Ends.{WorldIsOver, RunIsOver}
 use Rattle.world_runs.proofs.Ends.{world_over}
+
+module _ {S : Type 0} (seen : S → Seen) where
+  -- the first lanes stay where all do
+  pub first_stay : (n : ℕ) (old new : List (Lane S)) → LanesStay seen old new → LanesStay seen (take n old) (take n new)
+  first_stay zero old new stay = tt
+  first_stay (suc n) [] [] stay = tt
+  first_stay (suc n) [] (u ∷ us) stay = absurd stay
+  first_stay (suc n) (w ∷ ws) [] stay = absurd stay
+  first_stay (suc n) (w ∷ ws) (u ∷ us) stay = (stay.0, first_stay n ws us stay.1)
 
 module _ {S : Type 0} (seen : S → Seen) (old new : List (Lane S)) where
   -- what is given of these lanes
@@ -24,7 +30,7 @@ module _ {S : Type 0} (seen : S → Seen) (old new : List (Lane S)) where
     pub few : size ≤ 10000
     pub lane : 0 < length (take workers old)
     pub lanes : OnEach (take workers old) (HasGenerator seen)
-    pub calm : OnLanes (NoRiseOf seen (codes "world")) (take workers old) (take workers new)
+    pub stay : LanesStay seen (take workers old) (take workers new)
 
   -- the command is `world` of the size, with what is given
   abbrev Given : ℕ → Command → Type 0
@@ -46,18 +52,5 @@ module _ {S : Type 0} (seen : S → Seen) (old new : List (Lane S)) where
     run_over _ (verify name result also ends) = absurd (its (Verify name) also)
     run_over _ (world other lanes result also ends behind) =
         let (same, had) = its (World other lanes) also in
-        let over = world_over seen other had.some had.few (outputs_of before) (outputs_of after) (take lanes old) (take lanes new) had.lane had.lanes had.calm result ends in
+        let over = world_over seen other had.some had.few (outputs_of before) (outputs_of after) (take lanes old) (take lanes new) had.lane had.lanes had.stay result ends in
         (result, refl, subst (λ n. WorldIsOver n (outputs_of before) (outputs_of after) result) same over)
-
--- sources that count no fault do not fail
-module _ {S : Type 0} (seen : S → Seen) (calm : (source : S) → (seen source).faults ≡ 0) where
-  no_rise : (before after : S) → Rose (seen before).faults (seen after).faults → ⊥
-  no_rise before after rose =
-      let none = calm after in
-      omega (arith, rose, none)
-
-  pub lanes_calm : (old new : List (Lane S)) → LanesStay seen old new → OnLanes (NoRiseOf seen (codes "world")) old new
-  lanes_calm [] [] stay = tt
-  lanes_calm [] (u ∷ us) stay = absurd stay
-  lanes_calm (w ∷ ws) [] stay = absurd stay
-  lanes_calm (w ∷ ws) (u ∷ us) stay = ((λ before after was now rose. no_rise before after rose), lanes_calm ws us stay.1)

@@ -1,5 +1,5 @@
 // How the command `world` ends: laws on the definitions alone, as functions that do nothing.
-ghost use Rattle.std.specs.Prelude.{◌≡◌, ◌<◌, ◌≤◌, ℕ, List, Result, length, take, codes};
+ghost use Rattle.std.specs.Prelude.{◌≡◌, ◌<◌, ◌≤◌, ℕ, List, Result, length, take};
 ghost use Rattle.access_schema.specs.declared.schema.Schema.{Schema};
 ghost use Rattle.no_plan_witness.specs.declared.decision.Decision.{Decision};
 ghost use Rattle.source_trait.specs.Lanes.{LanesStay};
@@ -16,7 +16,6 @@ ghost use Rattle.run_command.specs.Deciding.{IsDecided};
 ghost use Rattle.run_command.specs.World.{WorldEnds, WorldStop};
 ghost use Rattle.run_command.specs.declared.world.TheConstants.{FIRINGS, UNITS};
 ghost use Rattle.pdq_core.specs.Runs.{Runs};
-ghost use Rattle.pdq_core.specs.Complete.{OnLanes, NoRiseOf};
 ghost use Rattle.world_laws.specs.World.{IsWorldSchema, world_statement};
 ghost use Rattle.world_runs.specs.Deciding.{IsLeastPlan};
 ghost use Rattle.pdq_core.specs.Generators.{HasGenerator};
@@ -24,7 +23,6 @@ ghost use Rattle.world_runs.specs.Ends.{WorldIsOver, RunIsOver};
 
 use command_words::words_are_one_command;
 use source_trait::Source;
-use world_source::WorldSource;
 
 /// The texts of a world are read, unless memory runs out.
 pub fn worlds_are_read()
@@ -37,23 +35,15 @@ pub fn worlds_are_decided()
         → IsLeastPlan decision }
 {}
 
-/// A run of `world N` over one or more lanes with new generators that do not fail ends with its line, of N rows and 7N + 1 requests, or
-/// with a failed write, or with want of memory. Nothing is supposed of the other kinds of the lanes.
+/// A run of `world N` over one or more lanes with new generators ends with its line, of N rows and 7N + 1 requests, or with a failed
+/// write, or with want of memory. The lanes stay, as every run ensures; nothing is supposed of their other kinds.
 pub fn worlds_end<S: Source>()
     ensures command { (size : ℕ) (before after : Outputs) (old new : List (Lane S)) (result : Result Outcome Stop) → 1 ≤ size → size ≤ 10000
-        → 0 < length old → OnEach old (HasGenerator S.seen) → OnLanes (NoRiseOf S.seen (codes "world")) old new
+        → 0 < length old → OnEach old (HasGenerator S.seen) → LanesStay S.seen old new
         → WorldEnds S.seen size before after old new result → WorldIsOver size before after result }
     ensures words { (words : List (List ℕ)) (size workers : ℕ) (before after : Moment) (old new : List (Lane S)) (status : Status) →
-        Runs S.seen words before after old new status → IsCommand words (World size workers)
-        → 0 < length (take workers old) → OnEach (take workers old) (HasGenerator S.seen)
-        → OnLanes (NoRiseOf S.seen (codes "world")) (take workers old) (take workers new) → RunIsOver size before after status }
+        Runs S.seen words before after old new status → LanesStay S.seen old new → IsCommand words (World size workers)
+        → 0 < length (take workers old) → OnEach (take workers old) (HasGenerator S.seen) → RunIsOver size before after status }
 {
     words_are_one_command();
 }
-
-/// The generator itself never fails.
-pub fn worlds_of_generators_end()
-    ensures { (size : ℕ) (before after : Outputs) (old new : List (Lane WorldSource)) (result : Result Outcome Stop) → 1 ≤ size → size ≤ 10000
-        → 0 < length old → OnEach old (HasGenerator ⟦<WorldSource as Source>⟧.seen) → LanesStay ⟦<WorldSource as Source>⟧.seen old new
-        → WorldEnds ⟦<WorldSource as Source>⟧.seen size before after old new result → WorldIsOver size before after result }
-{}
