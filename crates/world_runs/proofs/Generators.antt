@@ -46,10 +46,7 @@ use Rattle.pdq_core.specs.Generators.{HasGenerator}
 module _ {S : Type 0} (seen : S → Seen) where
   -- a new generator counts no fault later on
   no_rise : (source after : S) → IsFresh (seen source) → FaultsGoOn (seen source) (seen after) → Rose (seen source).faults (seen after).faults → ⊥
-  no_rise source after fresh goes rose =
-      let none = fresh.faults in
-      let same = goes.none fresh.never_fails in
-      omega (arith, none, same, rose)
+  no_rise source after fresh goes rose = omega arith
 
   kinds_calm : (old new : List (Kind S)) → KindsStay seen old new → HasGenerator seen old → NoRiseOf seen (codes "world") old new
   kinds_calm old new stay has before after was now rose =
