@@ -70,7 +70,7 @@ pub fn attach_on<S: Source + Send + Drop>(
 {
     match place(lane.kinds.as_slice(), kind) {
         Some(at) => attach_at(alloc, &mut lane.kinds, at, rel, columns, locator),
-        None => Err(AttachFault::NoMemory),
+        None => unreachable!(),
     }
 }
 
@@ -91,7 +91,7 @@ pub fn call_on<S: Source>(
 {
     match place(lane.kinds.as_slice(), kind) {
         Some(at) => call_at(alloc, &mut lane.kinds, at, rel, positions, values),
-        None => Err(CallFault::NoMemory),
+        None => unreachable!(),
     }
 }
 

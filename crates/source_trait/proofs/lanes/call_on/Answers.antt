@@ -6,11 +6,8 @@ use Rattle.source_trait.proofs.lanes.call_on.Goals as goal
 pub call_at-requires-clause-ready : goal.call_at-requires-clause-ready
 call_at-requires-clause-ready g c = ready_at c.args.kind.now c.args.lane.now.kinds.items (λ s. CanAsk ((g.S.Source.seen s).attached c.args.rel) c.args.positions.now c.args.values.now) c.in-Some.at (search rules) c.requires.ready
 
-pub returns-in-None-clause-steps : goal.returns-in-None-clause-steps
-returns-in-None-clause-steps g c = absurd (ready_none c.args.kind.now c.args.lane.now.kinds.items _ (search rules) c.requires.ready)
+pub unreachable-requires : goal.unreachable-requires
+unreachable-requires g c = absurd (ready_none c.args.kind.now c.args.lane.now.kinds.items _ (search rules) c.requires.ready)
 
-pub returns-in-Some-clause-stays : goal.returns-in-Some-clause-stays
-returns-in-Some-clause-stays g c = StepsAt-stays _ _ _ g.S.Source.seen c.in-Some.at (λ s t h. h.faults) c.call_at.ensures
-
-pub returns-in-None-clause-stays : goal.returns-in-None-clause-stays
-returns-in-None-clause-stays g c = absurd (ready_none c.args.kind.now c.args.lane.now.kinds.items _ (search rules) c.requires.ready)
+pub returns-clause-stays : goal.returns-clause-stays
+returns-clause-stays g c = StepsAt-stays _ _ _ g.S.Source.seen c.in-Some.at (λ s t h. h.faults) c.call_at.ensures
