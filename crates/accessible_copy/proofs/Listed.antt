@@ -1,5 +1,5 @@
 -- Lists of active exposures, exposure by exposure.
-use Rattle.std.proofs.Common.{◌≡◌, ◌↔◌, ℕ, zero, suc, ◌+◌, ◌<◌, List, [], ◌∷◌, ◌++◌, length, map, take, IsTrue, refl, sym, ◌∙◌, subst, inl, inr, ⊎_elim, arith}
+use Rattle.std.proofs.Common.{◌≡◌, ◌↔◌, ℕ, zero, suc, ◌+◌, ◌<◌, List, [], ◌∷◌, ◌++◌, length, map, take, IsTrue, refl, sym, ap, ◌∙◌, subst, inl, inr, ⊎_elim, arith, append_assoc}
 use Rattle.std.specs.Prelude.{Contains, Some, slice_index, slice_get, flat_map, Decides, Bool, true, false, if◌then◌else◌}
 use Rattle.std.proofs.lemmas.List.Elements.{Contains-append_left, Contains-append_right, Contains-append_cases, Contains-push, Contains-push_cases}
 use Rattle.lists.proofs.Members.{contains_here, contains_there, contains_cases, contains_map, contains_mapped, some_injective, contains_none}
@@ -16,14 +16,14 @@ use Rattle.std.specs.List.{list_any}
 use Rattle.meaning.specs.Triggers.{ground, assigned}
 use Rattle.meaning.specs.Search.{AreDistinct}
 use Rattle.meaning.specs.Runs.{Proof, Fires, part_of, IsKnownValue}
-use Rattle.std.proofs.lemmas.List.{take_more}
-use Rattle.lists.proofs.Places.{take_got, got_indexed}
+use Rattle.std.proofs.lemmas.List.{take_more, append-nil}
+use Rattle.lists.proofs.Places.{take_got}
 use Rattle.homomorphism.proofs.Members.{distinct_append, distinct_push, distinct_take}
 use Rattle.accessible_copy.specs.declared.entry.Entry.{Entry}
 use Rattle.accessible_copy.specs.Known.{known_values}
 use Rattle.accessible_copy.specs.Proving.{Proving, IsWritten, IsProofOf}
 use Rattle.accessible_copy.specs.Methods.{methods_of, IsMethodIndex}
-use Rattle.accessible_copy.specs.Listing.{CanFire, AreExposures, AreExposuresOf, IsInput, AreInputs}
+use Rattle.accessible_copy.specs.Listing.{CanFire, AreExposures, AreExposuresOf, AddsExposures, IsInput, AreInputs}
 
 -- known values
 values_of : (facts : List Ground) (value : Val) → Contains (flat_map (λ (fact : Ground). fact.vals) facts) value → (fact : Ground) × Contains facts fact × Contains fact.vals value
@@ -96,6 +96,24 @@ module _ (schema : SchemaParts) (proof : Proving) (fact : Ground) where
       all = λ number c is. ⊎_elim (λ h. are.all number h is) (λ same. absurd (cannot (subst (λ n. CanFire schema proof n fact) (sym same) is))) (Contains-push_cases numbers one number c);
       once = are.once;
     }
+
+  -- the same at the end of a list
+  pub adds_none : (numbers : List ℕ) (found : List Firing) → length numbers ≡ 0 → AddsExposures schema proof fact numbers found found
+  adds_none [] found none = record { more = []; after_is = sym (append-nil found); are = of_none }
+  adds_none (number ∷ numbers) found none = absurd (omega arith)
+
+  pub adds_exposed : (numbers : List ℕ) (found : List Firing) → Contains proof.end.exposed fact → AddsExposures schema proof fact numbers found found
+  adds_exposed numbers found there = record { more = []; after_is = sym (append-nil found); are = of_exposed numbers there }
+
+  pub adds_more : (numbers : List ℕ) (one : ℕ) (before after : List Firing) → AddsExposures schema proof fact numbers before after → (Contains numbers one → ⊥) → CanFire schema proof one fact → AddsExposures schema proof fact (numbers ++ one ∷ []) before (after ++ Expose one fact ∷ [])
+  adds_more numbers one before after adds new can = record {
+    more = adds.more ++ Expose one fact ∷ [];
+    after_is = ap (λ (l : List Firing). l ++ Expose one fact ∷ []) adds.after_is ∙ append_assoc before adds.more (Expose one fact ∷ []);
+    are = of_more numbers one adds.more adds.are new can;
+  }
+
+  pub adds_less : (numbers : List ℕ) (one : ℕ) (before after : List Firing) → AddsExposures schema proof fact numbers before after → (CanFire schema proof one fact → ⊥) → AddsExposures schema proof fact (numbers ++ one ∷ []) before after
+  adds_less numbers one before after adds cannot = record { more = adds.more; after_is = adds.after_is; are = of_less numbers one adds.more adds.are cannot }
 
 distinct_last : {X : Type 0} (xs : List X) (x : X) → AreDistinct (xs ++ x ∷ []) → Contains xs x → ⊥
 distinct_last [] x are c = contains_none x c

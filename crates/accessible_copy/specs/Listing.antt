@@ -1,5 +1,5 @@
 -- The exposures that are active in a proof.
-use Rattle.std.specs.Prelude.{◌≡◌, ℕ, List, Contains, slice_get, Some}
+use Rattle.std.specs.Prelude.{◌≡◌, ℕ, List, ◌++◌, Contains, slice_get, Some}
 use Rattle.meaning.specs.declared.types.SchemaParts.{SchemaParts}
 use Rattle.meaning.specs.declared.types.Method.{Method}
 use Rattle.meaning.specs.declared.types.Ground.{Ground}
@@ -28,6 +28,12 @@ pub record AreExposuresOf (schema : SchemaParts) (proof : Proving) (fact : Groun
       (number : ℕ) × (firing ≡ Expose number fact) × Contains numbers number × CanFire schema proof number fact
   pub all : (number : ℕ) → Contains numbers number → CanFire schema proof number fact → Contains found (Expose number fact)
   pub once : AreDistinct found
+
+-- The list goes on by exactly the active exposures of the fact by methods with these numbers, each once.
+pub record AddsExposures (schema : SchemaParts) (proof : Proving) (fact : Ground) (numbers : List ℕ) (before after : List Firing) : Type 0 where
+  pub more : List Firing
+  pub after_is : after ≡ before ++ more
+  pub are : AreExposuresOf schema proof fact numbers more
 
 -- The place has a value, which is one of these.
 abbrev pub IsInput : List Val → List Val → ℕ → Type 0

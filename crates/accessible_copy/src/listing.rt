@@ -1,5 +1,5 @@
 // The exposures that are active.
-ghost use Rattle.std.specs.Prelude.{◌≡◌, ◌↔◌, ℕ, IsTrue, IfOk, Contains, slice_get, Some};
+ghost use Rattle.std.specs.Prelude.{◌≡◌, ◌↔◌, ℕ, IsTrue, IfOk, OnOk, Contains, slice_get, Some};
 ghost use Rattle.meaning.specs.declared.types.Ground.{Ground as TheGround};
 ghost use Rattle.meaning.specs.declared.types.Method.{Method as TheMethod};
 ghost use Rattle.meaning.specs.Search.{AreDistinct};
@@ -7,7 +7,7 @@ ghost use Rattle.access_schema.specs.Meaning.{meaning_of};
 ghost use Rattle.accessible_copy.specs.Proving.{IsProofOf};
 ghost use Rattle.accessible_copy.specs.Known.{known_values, facts_of};
 ghost use Rattle.accessible_copy.specs.Methods.{IsMethodIndex};
-ghost use Rattle.accessible_copy.specs.Listing.{CanFire, AreExposures, AreExposuresOf, AreInputs, IsInput};
+ghost use Rattle.accessible_copy.specs.Listing.{CanFire, AreExposures, AddsExposures, AreInputs, IsInput};
 
 use crate::known::Known;
 use crate::method_index::MethodIndex;
@@ -50,8 +50,14 @@ fn exposures_at(
     let mut found = Vec::new(alloc);
     for number in numbers {
         if let Some(fact) = proof.base(*number) {
-            let mut more = exposures_of(alloc, proof, schema, methods.numbers(fact.rel), fact)?;
-            found.append(&mut more)?;
+            add_exposures(
+                alloc,
+                proof,
+                schema,
+                methods.numbers(fact.rel),
+                fact,
+                &mut found,
+            )?;
         }
     }
     Ok(Seq::from_vec(found))
@@ -72,30 +78,37 @@ pub fn indexed_exposures(
     let mut found = Vec::new(alloc);
     for number in 0..proof.base.store().len() {
         if let Some(fact) = proof.base(number) {
-            let mut more = exposures_of(alloc, proof, schema, methods.numbers(fact.rel), fact)?;
-            found.append(&mut more)?;
+            add_exposures(
+                alloc,
+                proof,
+                schema,
+                methods.numbers(fact.rel),
+                fact,
+                &mut found,
+            )?;
         }
     }
     Ok(Seq::from_vec(found))
 }
 
-/// The exposures of a base fact by these methods, each once.
-fn exposures_of(
+/// Puts the exposures of a base fact by these methods, each once, at the end of the list. Where memory is refused, some of them may
+/// stand there.
+fn add_exposures(
     alloc: Global,
     proof: &Proof,
     schema: &Schema,
     numbers: &[u32],
     fact: &Ground,
-) -> Result<Vec<Firing>, NoMemory>
+    found: &mut Vec<Firing>,
+) -> Result<(), NoMemory>
     requires base { Contains proof.now.end.base fact.now }
     requires once { AreDistinct numbers.now }
     requires named { (number : ℕ) → Contains numbers.now number →
         (method : TheMethod) × (slice_get schema.now.methods number ≡ Some method) × (method.rel ≡ fact.now.rel) }
-    ensures { IfOk result (λ found. AreExposuresOf (meaning_of schema.now) proof.now fact.now numbers.now found.items) }
+    ensures { OnOk result (AddsExposures (meaning_of schema.now) proof.now fact.now numbers.now found.old.items found.new.items) }
 {
-    let mut found = Vec::new(alloc);
     if numbers.is_empty() || proof.known.has(fact) {
-        return Ok(found);
+        return Ok(());
     }
     for number in numbers {
         if can_expose(proof, schema, *number, fact) {
@@ -105,7 +118,7 @@ fn exposures_of(
             })?;
         }
     }
-    Ok(found)
+    Ok(())
 }
 
 /// Whether the method, which is one of the fact's relation, can expose the fact, which is not exposed.

@@ -6,19 +6,19 @@ use Rattle.access_schema.specs.Meaning.{meaning_of}
 use Rattle.accessible_copy.specs.Methods.{methods_of}
 use Rattle.accessible_copy.proofs.Listed.{at_got, not_before, fire_listed, proof_once}
 use Rattle.accessible_copy.proofs.OpenListed.{AreFound, found_none, found_nothing, found_more, found_all}
-use Rattle.accessible_copy.proofs.listing.exposures_at.Goals.{in-Some+in_ok-more+in_ok-append, in_default}
+use Rattle.accessible_copy.proofs.listing.exposures_at.Goals.{in-Some+in_ok-add_exposures, in_default}
 use Rattle.accessible_copy.proofs.listing.exposures_at.Goals as goal
 
 pub loop-number-init : goal.loop-number-init
 loop-number-init c = rw c.new-found.ensures.items (found_none (meaning_of c.args.schema.now) c.args.proof.now)
 
-pub exposures_of-requires-clause-base : goal.exposures_of-requires-clause-base
-exposures_of-requires-clause-base c =
+pub add_exposures-requires-clause-base : goal.add_exposures-requires-clause-base
+add_exposures-requires-clause-base c =
     let got : slice_get c.args.proof.now.end.base (slice_index c.args.numbers.now c.loop-number.number-index) ≡ Some c.in-Some.fact.now = search rules in
     contains_got c.args.proof.now.end.base (slice_index c.args.numbers.now c.loop-number.number-index) c.in-Some.fact.now got
 
-pub exposures_of-requires-clause-named : goal.exposures_of-requires-clause-named
-exposures_of-requires-clause-named c = λ number among. c.requires.methods.each c.in-Some.fact.now.rel number (subst (λ l. Contains l number) c.numbers.ensures among)
+pub add_exposures-requires-clause-named : goal.add_exposures-requires-clause-named
+add_exposures-requires-clause-named c = λ number among. c.requires.methods.each c.in-Some.fact.now.rel number (subst (λ l. Contains l number) c.numbers.ensures among)
 
 pub loop-number-preserved : goal.loop-number-preserved
 loop-number-preserved c =
@@ -29,12 +29,12 @@ loop-number-preserved c =
     let number = slice_index numbers index in
     let turn : take (index + 1) numbers ≡ take index numbers ++ number ∷ [] = take_more numbers index 0 c.loop-number-test.true in
     elim c.match-base.branch [
-      | in-Some+in_ok-more+in_ok-append w ↦
+      | in-Some+in_ok-add_exposures w ↦
           let got : slice_get c.args.proof.now.end.base (slice_index c.args.numbers.now c.loop-number.number-index) ≡ Some w.in-Some.fact.now = search rules in
-          rw (w.found-is, turn, w.in_ok-append.ensures.items)
-          (found_more schema proof (take index numbers) number w.in-Some.fact.now (methods_of c.args.methods.now w.in-Some.fact.now.rel) c.loop-number.found.items w.in_ok-more.more.items
-          (proof_once schema proof c.requires.run) (not_before numbers index number c.requires.once (at_got numbers index c.loop-number-test.true)) got
-          (rw w.numbers.ensures at w.in_ok-more.ensures)
+          let adds = rw w.numbers.ensures at w.in_ok-add_exposures.ensures in
+          rw (w.found-is, turn, adds.after_is)
+          (found_more schema proof (take index numbers) number w.in-Some.fact.now (methods_of c.args.methods.now w.in-Some.fact.now.rel) c.loop-number.found.items adds.more
+          (proof_once schema proof c.requires.run) (not_before numbers index number c.requires.once (at_got numbers index c.loop-number-test.true)) got adds.are
           (λ method can. fire_listed schema c.args.methods.now proof method w.in-Some.fact.now c.requires.methods can) c.loop-number.invariant)
       | in_default w ↦
           let none : slice_get c.args.proof.now.end.base (slice_index c.args.numbers.now c.loop-number.number-index) ≡ None = search rules in

@@ -1,7 +1,0 @@
-use Rattle.std.proofs.Common.{take}
-use Rattle.access_schema.specs.Meaning.{meaning_of}
-use Rattle.accessible_copy.specs.Listing.{AreExposuresOf}
-use Rattle.accessible_copy.proofs.listing.exposures_of.Given as goal
-
-abbrev pub invariant-loop-number : goal.invariant-loop-number
-invariant-loop-number l = AreExposuresOf (meaning_of l.schema) l.proof l.fact (take l.number-index l.numbers) l.found.items
