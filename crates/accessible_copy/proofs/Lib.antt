@@ -15,5 +15,6 @@ pub mod HeadMatches
 pub mod BaseStaysMet
 pub mod Labelled
 pub mod Pushing
+pub mod Begun
 pub mod Rounding
 pub mod Shown

@@ -5,7 +5,6 @@ use Rattle.std.proofs.lemmas.Bool.{cases_lt}
 use Rattle.std.proofs.lemmas.Option.{slice_get_within}
 use Rattle.std.proofs.lemmas.List.{append-nil, map-append, length_push}
 use Rattle.lists.proofs.Members.{got_push, got_before, some_injective}
-use Rattle.lists.proofs.Places.{got_none}
 use Rattle.meaning.specs.Added.{with_facts}
 use Rattle.meaning_laws.proofs.Added.{with_new}
 use Rattle.meaning.specs.declared.types.Val.{Val}

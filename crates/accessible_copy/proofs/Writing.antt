@@ -12,7 +12,7 @@ use Rattle.meaning.specs.declared.types.Firing.TheVariants.{Base, Copy, Expose}
 use Rattle.meaning.specs.Triggers.{LabelsBelow, AreNumbered, fired}
 use Rattle.meaning.specs.Runs.{Proof, base_state, copy_state, Fires, part_of, last_part, IsRun}
 use Rattle.meaning_laws.proofs.Carrying.{run_below}
-use Rattle.meaning_laws.proofs.Running.{run_once}
+use Rattle.meaning_laws.proofs.Running.{fires_once, run_once}
 use Rattle.rule_pass.proofs.Parts.{AllBegin, run_begins}
 use Rattle.accessible_copy.specs.declared.entry.Entry.{Entry}
 use Rattle.accessible_copy.specs.declared.entry.Exposed.{Exposed}
@@ -38,6 +38,19 @@ module _ (schema : SchemaParts) (constants : List (List ℕ)) where
   pub written_run : (part : ℕ) (proof : Proof) (entries : List Entry) (end : Proof) → IsWritten schema constants part proof entries end → IsRun schema constants part proof (firings_of entries) end
   written_run part proof [] end e = e
   written_run part proof (entry ∷ entries) end (order, sizes, (next, fires, more)) = (order, (next, fires, written_run (part_of entry.firing) next entries end more))
+
+  -- the firings fix the sizes before them
+  pub written_once : (part other : ℕ) (proof : Proof) (entries others : List Entry) (end after : Proof) → IsWritten schema constants part proof entries end → IsWritten schema constants other proof others after → firings_of entries ≡ firings_of others → entries ≡ others
+  written_once part other proof [] [] end after is its e = refl
+  written_once part other proof [] (one ∷ others) end after is its e = absurd (cc)
+  written_once part other proof (entry ∷ entries) [] end after is its e = absurd (cc)
+  written_once part other proof (entry ∷ entries) (one ∷ others) end after (order, sizes, (next, fires, more)) (order', sizes', (next', fires', more')) e =
+      let head : entry.firing ≡ one.firing = cc in
+      let tail : firings_of entries ≡ firings_of others = cc in
+      let same : entry ≡ one = (λ i. record { firing = head i; before = (sizes ∙ sym sizes') i }) in
+      let there : next ≡ next' = fires_once schema constants proof entry.firing next next' fires (subst (λ f. Fires schema constants proof f next') (sym head) fires') in
+      let rest : entries ≡ others = written_once (part_of entry.firing) (part_of one.firing) next entries others end after more (subst (λ p. IsWritten schema constants (part_of one.firing) p others after) (sym there) more') tail in
+      cc
 
   -- one log after another
   pub written_on : (part : ℕ) (proof : Proof) (entries : List Entry) (middle : Proof) (more : List Entry) (end : Proof) → IsWritten schema constants part proof entries middle

@@ -34,7 +34,7 @@ pub fn goes_on(alloc: Global, proof: &Proof, schema: &Schema) -> Result<bool, No
 }
 
 /// Whether a base trigger is active. Where a fact is exposed, none is, and the rules are not looked at.
-pub(crate) fn base_goes_on(alloc: Global, proof: &Proof, schema: &Schema) -> Result<bool, NoMemory>
+fn base_goes_on(alloc: Global, proof: &Proof, schema: &Schema) -> Result<bool, NoMemory>
     requires { IsProofOf (meaning_of schema.now) proof.now }
     ensures some { IfOk result (λ going. going ≡ true → SomeActive schema.now.rules (base_state proof.now.end)) }
     ensures quiet { IfOk result (λ going. going ≡ false → IsBaseQuiet (meaning_of schema.now) proof.now.end) }
