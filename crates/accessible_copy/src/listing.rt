@@ -47,7 +47,7 @@ fn exposures_at(
         CanFire (meaning_of schema.now) proof.now number fact → Contains numbers.now n }
     ensures { IfOk result (λ found. AreExposures (meaning_of schema.now) proof.now proof.now.end.base found) }
 {
-    let mut found = Vec::new(alloc);
+    let mut found = Vec::with_capacity(alloc, numbers.len())?;
     for number in numbers {
         if let Some(fact) = proof.base(*number) {
             add_exposures(

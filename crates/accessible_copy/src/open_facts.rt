@@ -89,7 +89,8 @@ impl OpenFacts {
         ensures once { IfOk result (λ numbers. AreDistinct numbers.items) }
         ensures all { IfOk result (λ numbers. (n : ℕ) → Contains (drop self.now.passed self.now.listed.items) n → Contains numbers.items n) }
     {
-        let mut numbers = Vec::new(alloc);
+        let most = self.listed.len().saturating_sub(self.passed);
+        let mut numbers = Vec::with_capacity(alloc, most)?;
         for place in self.passed..self.listed.len() {
             numbers.push(self.listed[place])?;
         }

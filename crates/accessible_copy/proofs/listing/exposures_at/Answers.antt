@@ -10,7 +10,7 @@ use Rattle.accessible_copy.proofs.listing.exposures_at.Goals.{in-Some+in_ok-add_
 use Rattle.accessible_copy.proofs.listing.exposures_at.Goals as goal
 
 pub loop-number-init : goal.loop-number-init
-loop-number-init c = rw c.new-found.ensures.items (found_none (meaning_of c.args.schema.now) c.args.proof.now)
+loop-number-init c = rw c.in_ok-found.ensures.items (found_none (meaning_of c.args.schema.now) c.args.proof.now)
 
 pub add_exposures-requires-clause-base : goal.add_exposures-requires-clause-base
 add_exposures-requires-clause-base c =
