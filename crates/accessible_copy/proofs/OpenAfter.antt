@@ -3,7 +3,7 @@ use Rattle.std.proofs.Common.{◌≡◌, ℕ, zero, suc, ◌+◌, ◌<◌, ◌�
 use Rattle.std.specs.Prelude.{◌⊎◌, Contains, slice_get, Option, IfSome}
 use Rattle.std.proofs.lemmas.Option.{slice_get_within}
 use Rattle.std.proofs.lemmas.List.{take_all, take-take, take-append-le, drop-append-le, length-take-le, length_push, length-append}
-use Rattle.std.proofs.lemmas.List.Elements.{Contains-append_left, Contains-append_right}
+use Rattle.std.proofs.lemmas.List.Elements.{Contains-append_left}
 use Rattle.lists.proofs.Places.{got_none}
 use Rattle.meaning.specs.declared.types.Ground.{Ground}
 use Rattle.accessible_copy.specs.declared.entry.Exposed.{Exposed}
@@ -52,11 +52,10 @@ module _ (facts : List Ground) (constants : List (List ℕ)) (exposed : List Exp
 
   -- what was open before is listed, and so is what is new
   pub listed_more : ((n : ℕ) → IsOpen old.ways.items facts (known_values constants (facts_of (exposed ++ one ∷ []))) (facts_of (exposed ++ one ∷ [])) n
-      → IsOpen old.ways.items facts (take (length (known_values constants (facts_of exposed))) (known_values constants (facts_of (exposed ++ one ∷ [])))) (facts_of (exposed ++ one ∷ [])) n ⊎ Contains more n)
+      → IsOpen old.ways.items facts (take (length (known_values constants (facts_of exposed))) (known_values constants (facts_of (exposed ++ one ∷ [])))) (facts_of (exposed ++ one ∷ [])) n ⊎ Contains (drop old.passed old.listed.items ++ more) n)
       → Now (drop old.passed (old.listed.items ++ more))
   listed_more found n can_be = subst (λ l. Contains l n) (sym (drop-append-le old.passed old.listed.items more is.low))
-      (⊎_elim (λ h. Contains-append_left (drop old.passed old.listed.items) more n (is.now n (earlier (subst (λ values. IsOpen old.ways.items facts values (facts_of (exposed ++ one ∷ [])) n) known_front h))))
-      (λ h. Contains-append_right (drop old.passed old.listed.items) more n h) (found n can_be))
+      (⊎_elim (λ h. Contains-append_left (drop old.passed old.listed.items) more n (is.now n (earlier (subst (λ values. IsOpen old.ways.items facts values (facts_of (exposed ++ one ∷ [])) n) known_front h)))) (λ h. h) (found n can_be))
     where
       earlier : IsOpen old.ways.items facts (known_values constants (facts_of exposed)) (facts_of (exposed ++ one ∷ [])) n → IsOpen old.ways.items facts (known_values constants (facts_of exposed)) (facts_of exposed) n
       earlier (fact, got, not, can) = (fact, got, (λ c. not (subst (λ l. Contains l fact) (sym (facts_push exposed one)) (Contains-append_left (facts_of exposed) (one.fact ∷ []) fact c))), can)

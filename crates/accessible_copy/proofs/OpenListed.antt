@@ -1,8 +1,8 @@
 -- The active exposures of facts by their numbers, number by number.
-use Rattle.std.proofs.Common.{◌≡◌, ℕ, zero, suc, ◌<◌, List, [], ◌∷◌, ◌++◌, Some, None, refl, sym, ap, ◌∙◌, subst, ⊎_elim, arith}
+use Rattle.std.proofs.Common.{◌≡◌, ℕ, zero, suc, ◌<◌, ◌≤◌, List, [], ◌∷◌, ◌++◌, drop, Some, None, refl, sym, ap, ◌∙◌, subst, ⊎_elim, arith}
 use Rattle.std.specs.Prelude.{Contains, slice_get, slice_index_or}
 use Rattle.std.specs.List.{AllPairs}
-use Rattle.std.proofs.lemmas.List.Elements.{Contains-append_left, Contains-push, Contains-push_cases}
+use Rattle.std.proofs.lemmas.List.Elements.{Contains-append_left, Contains-append_right, Contains-append_cases, Contains-push, Contains-push_cases}
 use Rattle.lists.proofs.Members.{contains_got, some_injective, contains_none}
 use Rattle.lists.proofs.Places.{got_member}
 use Rattle.homomorphism.proofs.Members.{distinct_push}
@@ -30,6 +30,17 @@ ascending_distinct (x ∷ xs) ascend = (
   (λ (k, low, same). let less : x < slice_index_or xs k x = ascend 0 (suc k) x (omega arith) (omega arith) in absurd (omega arith)),
   ascending_distinct xs (λ i j d l m. ascend (suc i) (suc j) d (omega arith) (omega arith)),
 )
+
+-- a member that stands behind others is one of the rest
+pub got_dropped : (count : ℕ) (xs : List ℕ) (place x : ℕ) → count ≤ place → slice_get xs place ≡ Some x → Contains (drop count xs) x
+got_dropped zero xs place x low got = contains_got xs place x got
+got_dropped (suc count) [] place x low got = absurd (cc)
+got_dropped (suc count) (y ∷ xs) zero x low got = absurd (omega arith)
+got_dropped (suc count) (y ∷ xs) (suc place) x low got = got_dropped count xs place x (omega arith) got
+
+-- behind the same members, more are more
+pub kept_behind : (front xs ys : List ℕ) → ((n : ℕ) → Contains xs n → Contains ys n) → (n : ℕ) → Contains (front ++ xs) n → Contains (front ++ ys) n
+kept_behind front xs ys kept n among = ⊎_elim (λ h. Contains-append_left front ys n h) (λ h. Contains-append_right front ys n (kept n h)) (Contains-append_cases front xs n among)
 
 -- the exposures found are those of the facts with the numbers so far
 pub record AreFound (schema : SchemaParts) (proof : Proving) (numbers : List ℕ) (found : List Firing) : Type 0 where

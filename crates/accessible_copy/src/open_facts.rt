@@ -1,5 +1,5 @@
 // Base facts that can be exposed, found from the values that are new.
-ghost use Rattle.std.specs.Prelude.{◌≡◌, ◌↔◌, ◌⊎◌, ◌∷◌, [], ◌++◌, ◌≤◌, ℕ, IsTrue, IfOk, OnOk, List, Contains, length, take, drop, slice_get, option_copied, Some};
+ghost use Rattle.std.specs.Prelude.{◌≡◌, ◌↔◌, ◌⊎◌, ◌∷◌, [], ◌++◌, ◌≤◌, ℕ, IsTrue, IfOk, OnOk, List, Contains, length, take, drop, slice_get, option_copied, Some, true, false};
 ghost use Rattle.meaning.specs.declared.types.Val.{Val as TheVal};
 ghost use Rattle.meaning.specs.declared.types.Ground.{Ground as TheGround};
 ghost use Rattle.meaning.specs.Search.{AreDistinct};
@@ -33,12 +33,15 @@ pub struct Reached {
 /// those of facts that are exposed stay.
 ///
 /// The first `passed` are exposed. `before` has how far the list reached before each exposure, so that an undo cuts it back.
+/// `places` has for a fact the place at which it was listed last. It may be wrong, so that an undo need not look at it: a
+/// fact is listed where it stands at its place.
 #[derive(Drop)]
 pub struct OpenFacts {
     ways: Vec<Way>,
     index: MethodIndex,
     holders: Holders,
     listed: Vec<usize>,
+    places: Vec<usize>,
     passed: usize,
     before: Vec<Reached>,
 }
@@ -62,11 +65,14 @@ impl OpenFacts {
             index,
             holders,
             listed: Vec::new(alloc),
+            places: Vec::new(alloc),
             passed: 0,
             before: Vec::new(alloc),
         };
         let numbers = kept.all_open(alloc, facts, known)?;
+        let places = places_of(alloc, facts.len(), numbers.as_slice())?;
         kept.listed = numbers;
+        kept.places = places;
         Ok(kept)
     }
 
@@ -117,6 +123,7 @@ impl OpenFacts {
             listed: self.listed.len(),
             passed: self.passed,
         })?;
+        note_places(&mut self.places, self.listed.len(), more.as_slice());
         self.listed.append(&mut more)?;
         self.passed = self.next_open(facts, known);
         Ok(())
@@ -163,7 +170,8 @@ impl OpenFacts {
         Ok(numbers)
     }
 
-    /// The numbers of the facts that are open, and would not be so by the first `width` known values alone.
+    /// The numbers of the facts that are open, would not be so by the first `width` known values alone, and are not listed
+    /// behind those that were passed.
     fn newly_open(
         &self,
         alloc: Global,
@@ -176,7 +184,7 @@ impl OpenFacts {
         ensures { IfOk result (λ numbers. (n : ℕ) →
             IsOpen self.now.ways.items facts.now (known_values known.now.constants (facts_of known.now.exposed)) (facts_of known.now.exposed) n →
             IsOpen self.now.ways.items facts.now (take width (known_values known.now.constants (facts_of known.now.exposed))) (facts_of known.now.exposed) n
-            ⊎ Contains numbers.items n) }
+            ⊎ Contains (drop self.now.passed self.now.listed.items ++ numbers.items) n) }
     {
         let mut numbers = Vec::new(alloc);
         for place in width..known.width() {
@@ -187,7 +195,7 @@ impl OpenFacts {
         Ok(numbers)
     }
 
-    /// Adds the numbers of the open facts that hold the value.
+    /// Adds the numbers of the open facts that hold the value and are not listed behind those that were passed.
     fn add_open(
         &self,
         facts: &Store,
@@ -199,15 +207,38 @@ impl OpenFacts {
         ensures kept { OnOk result ((n : ℕ) → Contains numbers.old.items n → Contains numbers.new.items n) }
         ensures added { OnOk result ((n : ℕ) → Contains (held_by self.now.holders val.now) n →
             IsOpen self.now.ways.items facts.now (known_values known.now.constants (facts_of known.now.exposed)) (facts_of known.now.exposed) n →
-            Contains numbers.new.items n) }
+            Contains (drop self.now.passed self.now.listed.items ++ numbers.new.items) n) }
     {
         let held = self.holders.numbers(val);
         for number in held {
-            if self.is_open(facts, known, *number) {
+            if self.is_to_list(facts, known, *number) {
                 numbers.push(*number)?;
             }
         }
         Ok(())
+    }
+
+    /// Whether the fact is open, unless it is listed behind those that were passed. Takes no memory.
+    fn is_to_list(&self, facts: &Store, known: &Known, number: usize) -> bool
+        requires { IsWayIndex self.now.ways.items self.now.index }
+        ensures { result ≡ false → IsOpen self.now.ways.items facts.now (known_values known.now.constants (facts_of known.now.exposed))
+            (facts_of known.now.exposed) number → Contains (drop self.now.passed self.now.listed.items) number }
+    {
+        if self.is_listed(number) {
+            return false;
+        }
+        self.is_open(facts, known, number)
+    }
+
+    /// Whether the number stands at its place, behind those that were passed. Takes no memory.
+    fn is_listed(&self, number: usize) -> bool
+        ensures { result ≡ true → Contains (drop self.now.passed self.now.listed.items) number }
+    {
+        let place = place_of(self.places.as_slice(), number);
+        if place < self.passed {
+            return false;
+        }
+        has_at(self.listed.as_slice(), place, number)
     }
 
     /// Whether the fact is open. Takes no memory.
@@ -259,6 +290,45 @@ impl OpenFacts {
             }
         }
         self.listed.len()
+    }
+}
+
+/// Places for so many facts, of which those with these numbers are listed in this order.
+fn places_of(alloc: Global, count: usize, listed: &[usize]) -> Result<Vec<usize>, NoMemory> {
+    let mut places = Vec::with_capacity(alloc, count)?;
+    for _ in 0..count {
+        places.push(0)?;
+    }
+    note_places(&mut places, 0, listed);
+    Ok(places)
+}
+
+/// Notes the places of these numbers, which are listed behind the first `count`. Takes no memory.
+fn note_places(places: &mut Vec<usize>, count: usize, numbers: &[usize]) {
+    let mut next = count;
+    for number in numbers {
+        if let Some(place) = places.get_mut(*number) {
+            *place = next;
+        }
+        next = next.saturating_add(1);
+    }
+}
+
+/// The place of the number, or 0 where there is none. Takes no memory.
+fn place_of(places: &[usize], number: usize) -> usize {
+    match places.get(number) {
+        Some(place) => *place,
+        None => 0,
+    }
+}
+
+/// Whether the number stands at the place. Takes no memory.
+fn has_at(listed: &[usize], place: usize, number: usize) -> bool
+    ensures { result ≡ true → slice_get listed.now place ≡ Some number }
+{
+    match listed.get(place) {
+        Some(found) => *found == number,
+        None => false,
     }
 }
 
