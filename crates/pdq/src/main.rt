@@ -1,33 +1,34 @@
 //! The program: the top call over the files of the system, standard output and standard error.
 //!
 //! `main` makes the files and the two outputs, and eight lanes whose kind `csv` is a folder of data files and whose kind `world` is a
-//! source of generated rows, and ends with the exit status of `run_words`, which says what the program does.
-//! Begin at `main`; `system_io` has the adapters.
+//! new source of generated rows, and ends with the exit status of `run_words`, which says what the program does.
+//! Begin at `main`; `lanes.rt` makes the lanes, and `system_io` has the adapters.
 #![tactic(auto)]
 
-ghost use Rattle.std.specs.Prelude.{◌≡◌, ◌∷◌, ◌++◌, [], List, map, drop, codes, IfOk};
+ghost use Rattle.std.specs.Prelude.{◌≡◌, List, map, drop, length, IfOk};
 ghost use Rattle.std.specs.Iterator.{IsFinite, Drains};
 ghost use Rattle.std.specs.String.{string_bytes};
 ghost use Rattle.std.specs.Process.{exit_status};
-ghost use Rattle.source_trait.specs.Lanes.{names_of};
 ghost use Rattle.command_io.specs.Status.{code_of};
+ghost use Rattle.pdq_core.specs.Runs.{Runs};
+ghost use Rattle.pdq.specs.Lanes.{AreLanes};
+
+mod any_source;
+mod lanes;
 
 use command_io::{Outputs, Outside};
-use csv_sources::CsvFolder;
+use lanes::{folders, lanes_over};
 use lists::{NoMemory, Text};
 use pdq_core::{Status, run_words};
-use source_trait::{Boxed, Kind, Lane, Sink};
+use source_trait::{Files, Lane, Sink, Source};
 use std::alloc::Global;
 use std::env;
 use std::env::Env;
 use std::io::ErrorKind;
 use std::mem::forget;
 use std::process::ExitCode;
+use std::thread::Threads;
 use system_io::{RealErr, RealFiles, RealOut, System};
-use world_source::WorldSource;
-
-/// How many lanes there are, and so the most workers. A lane that is not used opens no file.
-const LANES: usize = 8;
 
 fn main(rt: HostRuntime) -> ExitCode {
     let alloc = rt.alloc();
@@ -41,27 +42,32 @@ fn main(rt: HostRuntime) -> ExitCode {
     let Ok(words) = words_of(&rt) else {
         return want_of_memory(&mut outside.outputs.err);
     };
-    let mut lanes = Vec::new(alloc);
-    for _ in 0..LANES {
-        let Ok(folder) = Box::new(
-            alloc,
-            CsvFolder::new(alloc, RealFiles::new(System::new(rt))),
-        ) else {
-            return want_of_memory(&mut outside.outputs.err);
-        };
-        let Ok(generator) = Box::new(alloc, WorldSource::new(alloc)) else {
-            return want_of_memory(&mut outside.outputs.err);
-        };
-        let (folder, generator) = (Boxed { object: folder }, Boxed { object: generator });
-        let Ok(()) = add_lane(alloc, &mut lanes, folder, generator) else {
-            return want_of_memory(&mut outside.outputs.err);
-        };
-    }
+    let Ok(folders) = folders(alloc, rt) else {
+        return want_of_memory(&mut outside.outputs.err);
+    };
+    let Ok(mut lanes) = lanes_over(alloc, folders) else {
+        return want_of_memory(&mut outside.outputs.err);
+    };
     let words = words.as_slice();
-    let status = run_words(&rt, alloc, words, &mut outside, &mut lanes);
+    let status = run_on_lanes(&rt, alloc, words, &mut outside, &mut lanes);
     // the rows are not freed one by one: the system takes them back with the process
     forget(lanes);
     exit(status)
+}
+
+// The top call, which the program makes over eight lanes with new generators alone.
+fn run_on_lanes<R: Threads + Sync, F: Files, S: Source + Send + Drop, O: Sink, E: Sink>(
+    rt: &R,
+    alloc: Global,
+    words: &[Text],
+    outside: &mut Outside<F, O, E>,
+    lanes: &mut Vec<Lane<S>>,
+) -> Status
+    requires eight { length lanes.old.items ≡ 8 }
+    requires lanes { AreLanes S.seen lanes.old.items }
+    ensures { Runs S.seen words.now outside.old outside.new lanes.old.items lanes.new.items result }
+{
+    run_words(rt, alloc, words, outside, lanes)
 }
 
 // The exit status of the program.
@@ -99,29 +105,6 @@ fn words_after_first<I: Iterator<Item = String> + Drop>(
         }
     }
     Ok(words)
-}
-
-// One more lane, with the one source under the kind `csv`, and the other under the kind `world`.
-fn add_lane(
-    alloc: Global,
-    lanes: &mut Vec<Lane<Boxed>>,
-    folder: Boxed,
-    generator: Boxed,
-) -> Result<(), NoMemory>
-    ensures { IfOk result (λ _. map (λ lane. names_of lane.kinds.items) lanes.new.items
-        ≡ map (λ lane. names_of lane.kinds.items) lanes.old.items ++ (codes "csv" ∷ codes "world" ∷ []) ∷ []) }
-{
-    let mut kinds = Vec::new(alloc);
-    kinds.push(Kind {
-        name: Text::from_str(alloc, "csv")?,
-        object: folder,
-    })?;
-    kinds.push(Kind {
-        name: Text::from_str(alloc, "world")?,
-        object: generator,
-    })?;
-    lanes.push(Lane::new(kinds))?;
-    Ok(())
 }
 
 // The answer where the program finds no memory before the top call.

@@ -1,0 +1,2 @@
+pub mod AnySource
+pub mod Lanes
