@@ -1,7 +1,7 @@
 -- The records of a plain text, cut at commas and line feeds.
 use Rattle.std.proofs.Common.{◌≡◌, ◌≢◌, ◌+◌, ◌-◌, ◌<◌, ◌≤◌, ℕ, zero, suc, List, [], ◌∷◌, ◌++◌, length, take, drop, get_or, nat_eq, Option, None, Some, Bool, true, false, cond, refl, sym, ◌∙◌, ap, subst, arith, append_assoc}
 use Rattle.std.specs.List.{AllByRecursion}
-use Rattle.std.proofs.lemmas.List.{append-nil, take_rest}
+use Rattle.std.proofs.lemmas.List.{append-nil, nil_from_length, take_rest}
 use Rattle.std.proofs.lemmas.Bool.Decides.{nat_tests}
 use Rattle.lists.proofs.Booleans.{both_false}
 use Rattle.memchr.specs.Find.{is_byte2}
@@ -153,10 +153,6 @@ no_records = at_first [] ∙ ap all_of (end_at_record [] [])
 abbrev pub IsBlank : List (List ℕ) → List ℕ → Type 0
 IsBlank line run = (length line ≡ 0) × (length run ≡ 0)
 
-nothing : {X : Type 0} (xs : List X) → length xs ≡ 0 → xs ≡ []
-nothing [] none = refl
-nothing (x ∷ xs) none = absurd (omega (arith, none))
-
 ends_line : (line : List (List ℕ)) (run rest : List ℕ) → ¬ (IsBlank line run) → next_record default_config (after (state_of line) run) line run (10 ∷ rest) ≡ Some (line ++ run ∷ [], st.StartRecord, rest)
 ends_line line (c ∷ run) rest filled = feed_in_field line (c ∷ run) rest
 ends_line (field ∷ line) [] rest filled = feed_at_field (field ∷ line) [] rest
@@ -201,10 +197,10 @@ pub cut_blank : (line : List (List ℕ)) (text : List ℕ) (start place : ℕ) (
 cut_blank line text start place later cut is blank =
     let rest = drop (place + 1) text in
     at_cut line text start place later 10 cut is
-    ∙ ap (λ (run : List ℕ). all_of (next_record default_config (after (state_of line) run) line run (10 ∷ rest))) (nothing (take (place - start) (drop start text)) blank.1)
-    ∙ ap (λ (l : List (List ℕ)). all_of (next_record default_config (state_of l) l [] (10 ∷ rest))) (nothing line blank.0)
+    ∙ ap (λ (run : List ℕ). all_of (next_record default_config (after (state_of line) run) line run (10 ∷ rest))) (nil_from_length (take (place - start) (drop start text)) blank.1)
+    ∙ ap (λ (l : List (List ℕ)). all_of (next_record default_config (state_of l) l [] (10 ∷ rest))) (nil_from_length line blank.0)
     ∙ ap all_of (feed_at_record [] [] rest)
-    ∙ ap (λ (l : List (List ℕ)). left_at l rest) (sym (nothing line blank.0))
+    ∙ ap (λ (l : List (List ℕ)). left_at l rest) (sym (nil_from_length line blank.0))
 
 -- what is behind the last separator is a record, unless it is blank
 at_end : (line : List (List ℕ)) (run : List ℕ) → AllByRecursion Joins run → left_at line run ≡ all_of (next_record default_config (after (state_of line) run) line run [])
@@ -214,4 +210,4 @@ pub last_record : (line : List (List ℕ)) (run : List ℕ) → AllByRecursion J
 last_record line run joins filled = at_end line run joins ∙ ap all_of (ends_text line run filled)
 
 pub no_record : (line : List (List ℕ)) (run : List ℕ) → IsBlank line run → left_at line run ≡ []
-no_record line run blank = ap (left_at line) (nothing run blank.1) ∙ ap (λ (l : List (List ℕ)). left_at l []) (nothing line blank.0) ∙ ap all_of (end_at_record [] [])
+no_record line run blank = ap (left_at line) (nil_from_length run blank.1) ∙ ap (λ (l : List (List ℕ)). left_at l []) (nil_from_length line blank.0) ∙ ap all_of (end_at_record [] [])

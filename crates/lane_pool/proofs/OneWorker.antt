@@ -7,7 +7,7 @@ use Rattle.lane_pool.specs.Numbers.{EachOnce, AllAscend}
 use Rattle.lane_pool.specs.Work.{WorkedBy, AllWorked, FansOut}
 use Rattle.lane_pool.proofs.Moves.{times_at}
 
-tail_up : (x : ℕ) (xs : List ℕ) → IsStrictlyIncreasing (x ∷ xs) → IsStrictlyIncreasing xs
+pub tail_up : (x : ℕ) (xs : List ℕ) → IsStrictlyIncreasing (x ∷ xs) → IsStrictlyIncreasing xs
 tail_up x xs up k h = let e : suc k + 1 ≡ suc (k + 1) = omega arith in subst (λ m. get_or xs k 0 < get_or (x ∷ xs) m 0) e (up (suc k) (omega arith))
 
 -- each of the ascending numbers is at least as far from the first as its place

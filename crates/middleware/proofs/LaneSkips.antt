@@ -9,6 +9,7 @@ use mathlib.Core.Logic.{dite}
 use Rattle.lists.proofs.Members.{contains_here, contains_there, some_injective}
 use Rattle.lane_pool.specs.Numbers.{total, times, AllAscend}
 use Rattle.lane_pool.specs.Work.{WorkedBy, AllWorked, FansOut}
+use Rattle.lane_pool.proofs.OneWorker.{tail_up}
 use Rattle.lane_pool.proofs.Totals.{hit-other}
 use Rattle.source_trait.specs.Asking.{Seen}
 use Rattle.source_trait.specs.Works.{Works}
@@ -31,12 +32,6 @@ behind j k ks up (i, within, is) =
     let less : j < get_or ks i k = AllPairs-from_increasing (j ∷ ks) up 0 (suc i) k (omega arith) (omega arith) in
     omega (arith, less, is)
 
-rest_ascends : (j : ℕ) (ks : List ℕ) → IsStrictlyIncreasing (j ∷ ks) → IsStrictlyIncreasing ks
-rest_ascends j ks up i within =
-    let next : suc i + 1 ≡ suc (i + 1) = omega arith in
-    let less = up (suc i) (omega arith) in
-    rw next at less
-
 module _ {S : Type 0} (seen : S → Seen) (asks : List Ask) (answers : List Asked) (k : ℕ) (below : RowsBelow answers k) (skipped : slice_get answers k ≡ Some asked.Skipped) where
   clash : false ≡ true → ⊥
   clash e = cc
@@ -54,7 +49,7 @@ module _ {S : Type 0} (seen : S → Seen) (asks : List Ask) (answers : List Aske
       let (rows, at) = below j (behind j k ks up (stands k ks later)) in
       let is : answer ≡ asked.Rows rows = some_injective answer (asked.Rows rows) (sym answer_at ∙ at) in
       let here : Works seen w item (asked.Rows rows) next = subst (λ (a : Asked). Works seen w item a next) is works in
-      not_by ks next u (rest_ascends j ks up) later here.1 rest)
+      not_by ks next u (tail_up j ks up) later here.1 rest)
 
   not_by_any : (lists : List (List ℕ)) (ws us : List (Lane S)) → AllAscend lists → 0 < total (times k) lists → AllWorked (Works seen) asks answers lists (map started ws) us → ⊥
   not_by_any [] ws us up some all = absurd (omega arith)

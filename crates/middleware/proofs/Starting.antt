@@ -64,7 +64,3 @@ module _ (schema : Schema) (plan : Plan) where
 pub some_first : (rels : List ℕ) → (length rels ≡ 0 → ⊥) → (rel : ℕ) × Contains rels rel
 some_first [] h = absurd (h refl)
 some_first (x ∷ xs) h = (x, contains_here x xs)
-
-pub no_lanes : {X : Type 0} (xs : List X) → length xs ≡ 0 → xs ≡ []
-no_lanes [] e = refl
-no_lanes (x ∷ xs) e = absurd (omega arith)

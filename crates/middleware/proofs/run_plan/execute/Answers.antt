@@ -1,9 +1,10 @@
 use Rattle.std.proofs.Common.{List, ℕ, rules, refl, ap, ◌∙◌}
+use Rattle.std.proofs.lemmas.List.{nil_from_length}
 use Rattle.std.proofs.lemmas.Option.{slice_get_read}
 use Rattle.access_schema.specs.declared.schema.SourceLine.{SourceLine}
 use Rattle.middleware.specs.Sources.{first_lineless}
 use Rattle.middleware.specs.declared.fault.RunFault.TheVariants as fault
-use Rattle.middleware.proofs.Starting.{all_lines, none_accessed, no_lanes}
+use Rattle.middleware.proofs.Starting.{all_lines, none_accessed}
 use Rattle.middleware.proofs.LaneFinished.{refused, no_memory, no_source, no_lane}
 use Rattle.middleware.proofs.run_plan.execute.Goals as goal
 
@@ -28,7 +29,7 @@ returns-in-Some g c = record {
 pub returns-then-is_empty-2 : goal.returns-then-is_empty-2
 returns-then-is_empty-2 g c = record {
   executes = refused g.S.Source.seen c.args.schema.now c.args.plan.now c.args.cap c.args.lanes.now (fault.UnknownKind c.index.result.now)
-      (no_lane g.S.Source.seen c.args.schema.now c.args.plan.now c.in-Ok.rels.items c.in-Ok.ensures.ascends c.in-Ok.ensures.exactly (all_lines c.args.schema.now c.args.plan.now c.in-Ok.rels.items c.in-Ok.ensures.exactly (c.in_default.ensures ∙ ap (λ (l : List SourceLine). first_lineless l c.as_slice-2.result.now) c.as_slice.ensures ∙ ap (λ (r : List ℕ). first_lineless c.args.schema.now.sources r) c.as_slice-2.ensures.value)) c.args.cap c.args.lanes.now (no_lanes c.args.lanes.now (search rules)) c.index.result.now (slice_get_read c.in-Ok.rels.items _ 0 c.index.result.now refl (search rules) c.index.ensures));
+      (no_lane g.S.Source.seen c.args.schema.now c.args.plan.now c.in-Ok.rels.items c.in-Ok.ensures.ascends c.in-Ok.ensures.exactly (all_lines c.args.schema.now c.args.plan.now c.in-Ok.rels.items c.in-Ok.ensures.exactly (c.in_default.ensures ∙ ap (λ (l : List SourceLine). first_lineless l c.as_slice-2.result.now) c.as_slice.ensures ∙ ap (λ (r : List ℕ). first_lineless c.args.schema.now.sources r) c.as_slice-2.ensures.value)) c.args.cap c.args.lanes.now (nil_from_length c.args.lanes.now (search rules)) c.index.result.now (slice_get_read c.in-Ok.rels.items _ 0 c.index.result.now refl (search rules) c.index.ensures));
 }
 
 pub execute_on-requires-clause-exactly : goal.execute_on-requires-clause-exactly
