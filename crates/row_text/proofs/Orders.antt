@@ -14,7 +14,8 @@ use Rattle.row_text.specs.RowText.{row_cmp}
 not_both : (o p : Ordering) → p ≡ ordering_reverse o → o ≡ Less → p ≡ Less → ⊥
 not_both o p r e f = let g : ordering_reverse Less ≡ Less = sym (ap ordering_reverse e) ∙ sym r ∙ f in cc
 
-not_itself : (x : List (List ℕ)) → row_cmp x x ≡ Less → ⊥
+-- no row is below itself
+pub not_itself : (x : List (List ℕ)) → row_cmp x x ≡ Less → ⊥
 not_itself x e = let g : Less ≡ Equal = sym e ∙ tied_itself rows_total x in cc
 
 heads_same : (x y : List (List ℕ)) (xs ys : List (List (List ℕ))) → AllByRecursion (λ z. row_cmp x z ≡ Less) xs → AllByRecursion (λ z. row_cmp y z ≡ Less) ys

@@ -3,18 +3,18 @@ use Rattle.std.proofs.Common.{◌≡◌, ◌<◌, ◌-◌, ◌+◌, ℕ, min, Li
 use Rattle.std.specs.List.{AllByRecursion}
 use Rattle.std.proofs.lemmas.List.{append-nil, drop-drop, drop_at, length-append, length-drop}
 use Rattle.std.proofs.Math.Seq.{take-append_seam}
-use Rattle.row_text.specs.Packed.{AreEnds, rows_cut, values_of}
+use Rattle.row_text.specs.Packed.{AreEnds, cut_at, values_of}
 
 -- rows of which some end at these ends, and the others lie behind a place of the values
 pub record AreBehind (width : ℕ) (values : List (List ℕ)) (ends : List ℕ) (place : ℕ) (rows : List (List (List ℕ))) : Type 0 where
   pub rest : List (List (List ℕ))
-  pub all : rows ≡ rows_cut 0 ends values ++ rest
+  pub all : rows ≡ cut_at 0 ends values ++ rest
   pub behind : values_of rest ≡ drop place values
   pub wide : AllByRecursion (λ row. length row ≡ width) rest
 
 -- one more end
 rows_end : (start : ℕ) (ends : List ℕ) (values : List (List ℕ)) (place end : ℕ) → AreEnds start ends place
-    → rows_cut start (ends ++ end ∷ []) values ≡ rows_cut start ends values ++ take (end - place) (drop place values) ∷ []
+    → cut_at start (ends ++ end ∷ []) values ≡ cut_at start ends values ++ take (end - place) (drop place values) ∷ []
 rows_end start [] values place end are = ap (λ s. take (end - s) (drop s values) ∷ []) are
 rows_end start (first ∷ ends) values place end are =
     ap (λ (l : List (List (List ℕ))). take (first - start) (drop start values) ∷ l) (rows_end first ends values place end are.1)
@@ -35,25 +35,25 @@ pub behind_more : (width : ℕ) (values : List (List ℕ)) (ends : List ℕ) (pl
     → step ≡ min width (length values - place) → AreBehind width values ends place rows → AreBehind width values (ends ++ (place + step) ∷ []) (place + step) rows
 behind_more width values ends place step rows are below cut behind = by behind.rest behind.all behind.behind behind.wide
   where
-    by : (rest : List (List (List ℕ))) → rows ≡ rows_cut 0 ends values ++ rest → values_of rest ≡ drop place values → AllByRecursion (λ row. length row ≡ width) rest
+    by : (rest : List (List (List ℕ))) → rows ≡ cut_at 0 ends values ++ rest → values_of rest ≡ drop place values → AllByRecursion (λ row. length row ≡ width) rest
         → AreBehind width values (ends ++ (place + step) ∷ []) (place + step) rows
     by [] all is wide = absurd (omega (arith, ap length is, length-drop place values, below))
     by (row ∷ rest) all is wide =
         let next = next_row width values place step row rest is wide.0 cut in
         let size : place + step - place ≡ step = omega arith in
-        let one : rows_cut 0 (ends ++ (place + step) ∷ []) values ≡ rows_cut 0 ends values ++ row ∷ [] =
-        rows_end 0 ends values place (place + step) are ∙ ap (λ n. rows_cut 0 ends values ++ take n (drop place values) ∷ []) size ∙ ap (λ (r : List (List ℕ)). rows_cut 0 ends values ++ r ∷ []) next.1 in
+        let one : cut_at 0 (ends ++ (place + step) ∷ []) values ≡ cut_at 0 ends values ++ row ∷ [] =
+        rows_end 0 ends values place (place + step) are ∙ ap (λ n. cut_at 0 ends values ++ take n (drop place values) ∷ []) size ∙ ap (λ (r : List (List ℕ)). cut_at 0 ends values ++ r ∷ []) next.1 in
         record {
           rest = rest;
-          all = all ∙ sym (append_assoc (rows_cut 0 ends values) (row ∷ []) rest) ∙ ap (λ (l : List (List (List ℕ))). l ++ rest) (sym one);
+          all = all ∙ sym (append_assoc (cut_at 0 ends values) (row ∷ []) rest) ∙ ap (λ (l : List (List (List ℕ))). l ++ rest) (sym one);
           behind = next.2;
           wide = wide.1;
         }
 
 -- behind all values there is no row
-pub behind_none : (width : ℕ) (values : List (List ℕ)) (ends : List ℕ) (place : ℕ) (rows : List (List (List ℕ))) → 0 < width → place ≡ length values → AreBehind width values ends place rows → rows_cut 0 ends values ≡ rows
+pub behind_none : (width : ℕ) (values : List (List ℕ)) (ends : List ℕ) (place : ℕ) (rows : List (List (List ℕ))) → 0 < width → place ≡ length values → AreBehind width values ends place rows → cut_at 0 ends values ≡ rows
 behind_none width values ends place rows some last behind = by behind.rest behind.all behind.behind behind.wide
   where
-    by : (rest : List (List (List ℕ))) → rows ≡ rows_cut 0 ends values ++ rest → values_of rest ≡ drop place values → AllByRecursion (λ row. length row ≡ width) rest → rows_cut 0 ends values ≡ rows
-    by [] all is wide = sym (all ∙ append-nil (rows_cut 0 ends values))
+    by : (rest : List (List (List ℕ))) → rows ≡ cut_at 0 ends values ++ rest → values_of rest ≡ drop place values → AllByRecursion (λ row. length row ≡ width) rest → cut_at 0 ends values ≡ rows
+    by [] all is wide = sym (all ∙ append-nil (cut_at 0 ends values))
     by (row ∷ rest) all is wide = absurd (omega (arith, some, wide.0, last, ap length is, length-append row (values_of rest), length-drop place values))

@@ -6,6 +6,7 @@
 
 pub mod laws;
 mod lent;
+mod lent_rows;
 mod order;
 mod packed;
 mod recent;
@@ -13,6 +14,7 @@ mod started;
 mod text;
 
 pub use lent::LentRow;
+pub use lent_rows::LentRows;
 pub use order::ascending_distinct;
 pub use packed::PackedRows;
 pub use recent::Recent;

@@ -23,11 +23,11 @@ pub struct PackedRows {
 impl Model for PackedRows {
     ghost use Rattle.std.specs.Prelude.{List, ℕ, length};
     ghost use Rattle.csv.specs.Records.{fields_of};
-    ghost use Rattle.row_text.specs.Packed.{AreEnds, rows_cut};
+    ghost use Rattle.row_text.specs.Packed.{AreEnds, cut_at};
 
     ghost Value = { List (List (List ℕ)) };
 
-    ghost view = { λ p. rows_cut 0 p.ends.items (fields_of p.values) };
+    ghost view = { λ p. cut_at 0 p.ends.items (fields_of p.values) };
 
     ghost invariant = { λ p. AreEnds 0 p.ends.items (length (fields_of p.values)) };
 }
@@ -113,6 +113,20 @@ impl PackedRows {
         Ok(PackedRows { values, ends })
     }
 
+    /// The rows, and those of another list behind them. These are taken and not copied where no row stands before them.
+    pub fn with_all(self, rows: PackedRows) -> Result<PackedRows, AllocError>
+        ensures { IfOk result (λ more. more ≡ self ++ rows) }
+    {
+        if self.len() == 0 {
+            return Ok(rows);
+        }
+        let mut more = self;
+        for number in 0..rows.len() {
+            more = more.with_lent(&rows.at(number))?;
+        }
+        Ok(more)
+    }
+
     /// How many rows there are.
     pub fn len(&self) -> usize
         ensures { result ≡ length self.now }
@@ -171,8 +185,8 @@ fn push_texts(values: &mut StringRecord, texts: &[&str]) -> Result<(), AllocErro
     Ok(())
 }
 
-// How many values there are up to the start of a row, and up to its end.
-fn bounds(ends: &Vec<usize>, number: usize) -> (usize, usize)
+/// How many members there are up to the start of a part, and up to its end.
+pub(crate) fn bounds(ends: &Vec<usize>, number: usize) -> (usize, usize)
     requires { number < length ends.now.items }
     ensures start { result.0 ≡ prev 0 ends.now.items number }
     ensures end { result.1 ≡ slice_index ends.now.items number }

@@ -1,7 +1,7 @@
 use Rattle.std.proofs.Common.{◌∙◌, sym}
 use Rattle.csv.specs.Records.{fields_of}
-use Rattle.row_text.proofs.Packing.{length-rows_cut}
+use Rattle.row_text.proofs.Packing.{length-cut_at}
 use Rattle.row_text.proofs.packed.PackedRows.len.Goals as goal
 
 pub returns : goal.returns
-returns c = rw (← c.self.view_is) (c.len.ensures ∙ c.self.inside.ends.ok.0 ∙ sym (length-rows_cut 0 c.self.inside.ends.items (fields_of c.self.inside.values)))
+returns c = rw (← c.self.view_is) (c.len.ensures ∙ c.self.inside.ends.ok.0 ∙ sym (length-cut_at 0 c.self.inside.ends.items (fields_of c.self.inside.values)))
