@@ -5,3 +5,4 @@ pub mod Works
 pub mod Tables
 pub mod Indexing
 pub mod Crowding
+pub mod RequestLogs

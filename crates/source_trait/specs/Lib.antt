@@ -8,3 +8,4 @@ pub mod Index
 pub mod Failing
 pub mod Memory
 pub mod Tables
+pub mod RequestLog

@@ -3,9 +3,9 @@ ghost use Rattle.std.specs.Prelude.{◌≡◌, ◌≤◌, ◌<◌, ◌↔◌, fa
 ghost use Rattle.source_trait.specs.Asking.{Seen, AttachGives, CallGives, CanAsk};
 ghost use Rattle.source_trait.specs.Lanes.{names_of, place_from, StepsAt, StepsOn, AtKind, KindsStay};
 
+use crate::request_log::RequestLog;
 use crate::source::{AttachFault, CallFault, Source};
 use lists::{Places, Row, Text, Texts};
-use meaning::types::Requests;
 use row_text::PackedRows;
 use std::alloc::Global;
 
@@ -176,7 +176,7 @@ impl Source for Boxed {
         self.object.call(alloc, rel, positions, values)
     }
 
-    fn told(&self) -> Option<&Requests> {
+    fn told(&self) -> Option<&RequestLog> {
         self.object.told()
     }
 }

@@ -8,10 +8,10 @@ ghost use Rattle.source_trait.specs.Tables.{rows_under, offered, bad_row, Offers
 
 use crate::failing::FailingCalls;
 use crate::holding::Holding;
+use crate::request_log::RequestLog;
 use crate::source::{AttachFault, CallFault, Source};
 use crate::table::{Table, Tables};
-use lists::{Copies, NoMemory, Numbers, Places, Row, Rows, Seq, Text, Texts};
-use meaning::types::{Request, Requests};
+use lists::{NoMemory, Numbers, Places, Row, Rows, Text, Texts};
 use row_text::PackedRows;
 use std::alloc::Global;
 
@@ -22,7 +22,7 @@ pub struct MemorySource {
     attaches: FailingCalls,
     calls: FailingCalls,
     holding: Holding,
-    asked: Requests,
+    asked: RequestLog,
     failures: u64,
 }
 
@@ -47,7 +47,7 @@ impl MemorySource {
             attaches: FailingCalls::new(failing_attach),
             calls: FailingCalls::new(failing_calls),
             holding: Holding::new(alloc),
-            asked: Seq::new(alloc),
+            asked: RequestLog::new(alloc),
             failures: 0,
         }
     }
@@ -136,7 +136,7 @@ impl Source for MemorySource {
         }
     }
 
-    fn told(&self) -> Option<&Requests> {
+    fn told(&self) -> Option<&RequestLog> {
         Some(&self.asked)
     }
 }
@@ -145,7 +145,7 @@ impl Source for MemorySource {
 fn answer(
     alloc: Global,
     holding: &mut Holding,
-    asked: &mut Requests,
+    asked: &mut RequestLog,
     rel: u32,
     positions: &Places,
     values: &Row,
@@ -156,25 +156,9 @@ fn answer(
     ensures noted { OnOk result (asked.new ≡ asked.old ++ record { rel = rel; positions = positions.now; values = values.now } ∷ []) }
     ensures stays { OnErr result (asked.new ≡ asked.old) }
 {
-    let request = copy_request(alloc, rel, positions, values)?;
     let rows = holding.ask(alloc, rel, positions.as_slice(), values.as_slice())?;
-    asked.push(request)?;
+    asked.push(alloc, rel, positions, values)?;
     Ok(rows)
-}
-
-fn copy_request(
-    alloc: Global,
-    rel: u32,
-    positions: &Places,
-    values: &Row,
-) -> Result<Request, NoMemory>
-    ensures { IfOk result (λ request. request ≡ record { rel = rel; positions = positions.now; values = values.now }) }
-{
-    Ok(Request {
-        rel,
-        positions: positions.copy(alloc)?,
-        values: values.copy(alloc)?,
-    })
 }
 
 // A copy of the rows under the locator, where each is so long.

@@ -2,8 +2,8 @@
 ghost use Rattle.std.specs.Prelude.{◌≡◌, ◌≤◌, option_copied, length};
 ghost use Rattle.source_trait.specs.Asking.{Seen, AttachGives, CallGives, CanAsk};
 
+use crate::request_log::RequestLog;
 use lists::{Places, Row, Text, Texts};
-use meaning::types::Requests;
 use row_text::PackedRows;
 use std::alloc::Global;
 
@@ -55,6 +55,6 @@ pub trait Source {
         ensures { CallGives (seen self.old) (seen self.new) rel positions.now values.now result };
 
     /// The requests so far, where it tells them. Takes no memory.
-    fn told(&self) -> Option<&Requests>
+    fn told(&self) -> Option<&RequestLog>
         ensures { option_copied result ≡ (seen self.now).asked };
 }
