@@ -1,5 +1,5 @@
 -- How counts of faults go on.
-use Rattle.std.proofs.Common.{◌≡◌, ◌∙◌, refl, arith}
+use Rattle.std.proofs.Common.{◌∙◌, refl, arith}
 use Rattle.source_trait.specs.Asking.{Seen, FaultsGoOn}
 
 pub FaultsGoOn-refl : (s : Seen) → FaultsGoOn s s

@@ -1,5 +1,5 @@
 -- Kinds of sources on a lane, and what a step of one source does to its lane.
-use Rattle.std.specs.Prelude.{◌≡◌, ℕ, ◌+◌, ◌≤◌, List, [], ◌∷◌, map, Option, None, Some, IsSomeAnd, slice_get, slice_set, nat_eq, if◌then◌else◌}
+use Rattle.std.specs.Prelude.{◌≡◌, ℕ, ◌+◌, List, [], ◌∷◌, map, Option, None, Some, IsSomeAnd, slice_get, slice_set, nat_eq, if◌then◌else◌}
 use Rattle.std.specs.List.{AllZip}
 use Rattle.std.specs.Cmp.Lexicographic.{pointwise}
 use Rattle.source_trait.specs.Asking.{Seen, FaultsGoOn}
