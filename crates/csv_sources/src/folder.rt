@@ -8,9 +8,9 @@ ghost use Rattle.csv_sources.specs.Folder.{CountsBytes, CountsData, IsFresh, off
 ghost use Rattle.csv_sources.specs.Loading.{LoadGives};
 
 use crate::data_file::read_offer;
-use lists::{Copies, NoMemory, Places, Row, Text, Texts};
+use lists::{NoMemory, Places, Row, Text, Texts};
 use row_text::PackedRows;
-use source_trait::{AttachFault, CallFault, FileFault, Files, Holding, Request, Requests, Source};
+use source_trait::{AttachFault, CallFault, FileFault, Files, Holding, RequestLog, Source};
 use std::alloc::Global;
 
 /// The most bytes that a data file may have.
@@ -35,7 +35,7 @@ struct Loaded {
 pub struct CsvFolder<F> {
     files: F,
     holding: Holding,
-    asked: Requests,
+    asked: RequestLog,
     data_faults: u64,
 }
 
@@ -47,7 +47,7 @@ impl<F: Files + Send + Drop> CsvFolder<F> {
         CsvFolder {
             files,
             holding: Holding::new(alloc),
-            asked: Requests::new(alloc),
+            asked: RequestLog::new(alloc),
             data_faults: 0,
         }
     }
@@ -110,10 +110,6 @@ impl<F: Files + Send + Drop> Source for CsvFolder<F> {
         ensures works { ¬ (IsErrOf result CallFault.Failed) }
         ensures faults { (⟦<CsvFolder<F> as Source>⟧.seen self.new).faults ≡ (⟦<CsvFolder<F> as Source>⟧.seen self.old).faults }
     {
-        let request = match copy_request(alloc, rel, positions, values) {
-            Ok(request) => request,
-            Err(_) => return Err(CallFault::NoMemory),
-        };
         let rows = match self
             .holding
             .ask(alloc, rel, positions.as_slice(), values.as_slice())
@@ -121,30 +117,15 @@ impl<F: Files + Send + Drop> Source for CsvFolder<F> {
             Ok(rows) => rows,
             Err(_) => return Err(CallFault::NoMemory),
         };
-        match self.asked.push(request) {
+        match self.asked.push(alloc, rel, positions, values) {
             Ok(()) => Ok(rows),
             Err(_) => Err(CallFault::NoMemory),
         }
     }
 
-    fn told(&self) -> Option<&Requests> {
+    fn told(&self) -> Option<&RequestLog> {
         Some(&self.asked)
     }
-}
-
-fn copy_request(
-    alloc: Global,
-    rel: u32,
-    positions: &Places,
-    values: &Row,
-) -> Result<Request, NoMemory>
-    ensures { IfOk result (λ request. request ≡ record { rel = rel; positions = positions.now; values = values.now }) }
-{
-    Ok(Request {
-        rel,
-        positions: positions.copy(alloc)?,
-        values: values.copy(alloc)?,
-    })
 }
 
 // The rows of a file that are taken beside what is held, and every fault of the data counted.
