@@ -1,4 +1,5 @@
 pub mod Lists
+pub mod Beside
 pub mod Placing
 pub mod MethodLists
 pub mod Writing

@@ -1,6 +1,6 @@
 -- What is kept of the open facts, from exposure to exposure and back.
-use Rattle.std.proofs.Common.{◌≡◌, ℕ, zero, suc, ◌+◌, ◌<◌, ◌≤◌, List, [], ◌∷◌, ◌++◌, length, take, drop, Some, None, refl, sym, ap, ◌∙◌, subst, ⊎_elim, arith}
-use Rattle.std.specs.Prelude.{◌⊎◌, Contains, slice_get, Option, IfSome}
+use Rattle.std.proofs.Common.{◌≡◌, ℕ, zero, suc, ◌+◌, ◌<◌, ◌≤◌, List, [], ◌∷◌, ◌++◌, length, take, drop, Some, None, Bool, IsTrue, refl, sym, ap, ◌∙◌, subst, ⊎_elim, arith}
+use Rattle.std.specs.Prelude.{◌⊎◌, Contains, slice_get, Option, IfSome, Box}
 use Rattle.std.proofs.lemmas.Option.{slice_get_within}
 use Rattle.std.proofs.lemmas.List.{take_all, take-take, take-append-le, drop-append-le, length-take-le, length_push, length-append}
 use Rattle.std.proofs.lemmas.List.Elements.{Contains-append_left}
@@ -48,7 +48,7 @@ module _ (facts : List Ground) (constants : List (List ℕ)) (exposed : List Exp
   Now list = HasOpen old.ways.items facts constants (exposed ++ one ∷ []) list
 
   known_front : take (length (known_values constants (facts_of exposed))) (known_values constants (facts_of (exposed ++ one ∷ []))) ≡ known_values constants (facts_of exposed)
-  known_front = rw (known_push constants exposed one) (take_front (known_values constants (facts_of exposed)) one.fact.vals)
+  known_front = rw (facts_push exposed one, known_push constants (facts_of exposed) one.fact) (take_front (known_values constants (facts_of exposed)) one.fact.vals)
 
   -- what was open before is listed, and so is what is new
   pub listed_more : ((n : ℕ) → IsOpen old.ways.items facts (known_values constants (facts_of (exposed ++ one ∷ []))) (facts_of (exposed ++ one ∷ [])) n
@@ -141,8 +141,14 @@ module _ (facts : List Ground) (constants : List (List ℕ)) (exposed : List Exp
       before_got e other got = got_front count old.before.items e other (subst (λ (l : List Reached). slice_get l e ≡ Some other) before got)
 
 -- what is asked of what is kept where an exposure was made
-pub kept_before : (kept : Option OpenFacts) (old new : Proving) (method : ℕ) (fact : Ground) (width : ℕ) → new ≡ with_exposure old method fact → width ≡ length (known_values old.constants (facts_of old.exposed))
-    → IfSome kept (λ one. AreOpenFacts old.end.base old.constants old.exposed one)
-    → IfSome kept (λ k. (exposed : List Exposed) × (one : Exposed) × (new.exposed ≡ exposed ++ one ∷ []) × (width ≡ length (known_values new.constants (facts_of exposed))) × AreOpenFacts new.end.base new.constants exposed k)
+pub kept_before : {A : Type 0} (kept : Option (Box OpenFacts A)) (old new : Proving) (method : ℕ) (fact : Ground) (width : ℕ) → new ≡ with_exposure old method fact → width ≡ length (known_values old.constants (facts_of old.exposed))
+    → IfSome kept (λ one. AreOpenFacts old.end.base old.constants old.exposed one.value)
+    → IfSome kept (λ k. (exposed : List Exposed) × (one : Exposed) × (new.exposed ≡ exposed ++ one ∷ []) × (width ≡ length (known_values new.constants (facts_of exposed))) × AreOpenFacts new.end.base new.constants exposed k.value)
 kept_before None old new method fact width e wide is = tt
 kept_before (Some kept) old new method fact width e wide is = rw e (old.exposed, record { method = method; fact = fact }, refl, wide, is)
+
+-- where the base facts stay, so does what is kept for them
+pub kept_staying : {A : Type 0} (kept : Option (Box OpenFacts A)) (stays : Bool) (old new : List Ground) (constants : List (List ℕ)) (exposed : List Exposed) → IfSome kept (λ one. IsTrue stays) → (IsTrue stays → new ≡ old)
+    → IfSome kept (λ one. AreOpenFacts old constants exposed one.value) → IfSome kept (λ one. AreOpenFacts new constants exposed one.value)
+kept_staying None stays old new constants exposed so same is = tt
+kept_staying (Some kept) stays old new constants exposed so same is = rw (same so) is

@@ -1,5 +1,6 @@
 -- Known values.
-use Rattle.std.specs.Prelude.{List, ◌++◌, map, flat_map}
+use Rattle.std.specs.Prelude.{ℕ, List, ◌++◌, map, flat_map}
+use Rattle.std.specs.List.{zip}
 use Rattle.meaning.specs.declared.types.Val.{Val}
 use Rattle.meaning.specs.declared.types.Ground.{Ground}
 use Rattle.meaning.specs.declared.types.Val.TheVariants.{Const}
@@ -9,6 +10,10 @@ use Rattle.accessible_copy.specs.declared.entry.Exposed.{Exposed}
 -- The facts alone.
 abbrev pub facts_of : List Exposed → List Ground
 facts_of exposed = map (λ (one : Exposed). one.fact) exposed
+
+-- The facts with the methods that stand beside them.
+abbrev pub shown_by : List ℕ → List Ground → List Exposed
+shown_by methods facts = map (λ (one : ℕ × Ground). record { method = one.0; fact = one.1 }) (zip methods facts)
 
 -- The known values are the constants, and then the values of the exposed facts in order.
 abbrev pub known_values : List Value → List Ground → List Val

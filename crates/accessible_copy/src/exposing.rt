@@ -1,5 +1,5 @@
 // One more exposure.
-ghost use Rattle.std.specs.Prelude.{◌≡◌, ◌≤◌, ◌++◌, ◌∷◌, [], List, length, OnOk, OnErr, IfSome};
+ghost use Rattle.std.specs.Prelude.{◌≡◌, ◌≤◌, ◌++◌, ◌∷◌, [], List, length, IfOk, OnOk, OnErr, IfSome};
 ghost use Rattle.meaning.specs.declared.types.Method.{Method};
 ghost use Rattle.meaning.specs.Runs.{last_part, IsActiveExposure, IsBaseQuiet};
 ghost use Rattle.access_schema.specs.Meaning.{meaning_of};
@@ -49,9 +49,9 @@ pub fn expose(
 }
 
 /// What is kept of the open facts, taken out of the proof; where no fact is exposed yet, it is made. It may be lost.
-fn taken_open(alloc: Global, proof: &mut Proof, schema: &Schema) -> Option<OpenFacts>
+fn taken_open(alloc: Global, proof: &mut Proof, schema: &Schema) -> Option<Box<OpenFacts>>
     ensures same { proof.new ≡ proof.old }
-    ensures kept { IfSome result (λ kept. AreOpenFacts proof.old.end.base proof.old.constants proof.old.exposed kept) }
+    ensures kept { IfSome result (λ kept. AreOpenFacts proof.old.end.base proof.old.constants proof.old.exposed kept.value) }
 {
     if let Some(kept) = proof.open_facts.take() {
         return Some(kept);
@@ -59,23 +59,32 @@ fn taken_open(alloc: Global, proof: &mut Proof, schema: &Schema) -> Option<OpenF
     if proof.known.len() > 0 {
         return None;
     }
-    match OpenFacts::of(alloc, schema, proof.base.store(), &proof.known) {
+    match opened(alloc, proof, schema) {
         Ok(kept) => Some(kept),
         Err(_) => None,
     }
+}
+
+/// The open facts of a proof without exposed facts.
+fn opened(alloc: Global, proof: &Proof, schema: &Schema) -> Result<Box<OpenFacts>, NoMemory>
+    requires { proof.now.exposed ≡ [] }
+    ensures { IfOk result (λ kept. AreOpenFacts proof.now.end.base proof.now.constants proof.now.exposed kept.value) }
+{
+    let kept = OpenFacts::of(alloc, schema, proof.base.store(), &proof.known)?;
+    Ok(Box::new(alloc, kept)?)
 }
 
 /// What is kept of the open facts after the last exposure, before which there were `width` known values. It may be lost.
 fn followed(
     alloc: Global,
     proof: &Proof,
-    kept: Option<OpenFacts>,
+    kept: Option<Box<OpenFacts>>,
     width: usize,
-) -> Option<OpenFacts>
+) -> Option<Box<OpenFacts>>
     requires { IfSome kept (λ kept. (exposed : List TheExposed) × (one : TheExposed) × (proof.now.exposed ≡ exposed ++ one ∷ [])
         × (width ≡ length (known_values proof.now.constants (facts_of exposed)))
-        × AreOpenFacts proof.now.end.base proof.now.constants exposed kept) }
-    ensures { IfSome result (λ kept. AreOpenFacts proof.now.end.base proof.now.constants proof.now.exposed kept) }
+        × AreOpenFacts proof.now.end.base proof.now.constants exposed kept.value) }
+    ensures { IfSome result (λ kept. AreOpenFacts proof.now.end.base proof.now.constants proof.now.exposed kept.value) }
 {
     let Some(mut kept) = kept else {
         return None;

@@ -1,10 +1,9 @@
 // The known values, and the exposed facts that they come from.
-ghost use Rattle.std.specs.Prelude.{◌≡◌, ◌↔◌, ◌++◌, ◌∷◌, [], IsTrue, IfSome, IfNone, Contains, IfOk, OnOk, OnErr, length, take, map, slice_get, option_copied, Some};
+ghost use Rattle.std.specs.Prelude.{◌≡◌, ◌↔◌, ◌++◌, ◌∷◌, [], IsTrue, IfSome, IfNone, Contains, IfOk, OnOk, OnErr, length, take, map, slice_get, option_copied, None, Some};
 ghost use Rattle.meaning.specs.declared.types.Val.{Val as TheVal};
 ghost use Rattle.meaning.specs.declared.types.Val.TheVariants.{Const};
 ghost use Rattle.accessible_copy.specs.Known.{known_values, facts_of};
 
-use crate::entry::Exposed;
 use crate::values::Values;
 use homomorphism::{Positions, Store};
 use lists::{Copies, NoMemory, Texts};
@@ -12,24 +11,24 @@ use meaning::types::{Ground, Val};
 use std::alloc::Global;
 use std::marker::Model;
 
-/// Constants, exposed facts with their methods, and the values that these make known.
+/// Constants, exposed facts with the numbers of their methods beside them, and the values that these make known.
 #[derive(Drop)]
 pub struct Known {
     constants: Texts,
-    list: Vec<Exposed>,
+    methods: Vec<u32>,
     facts: Store,
     values: Values,
 }
 
 impl Model for Known {
-    ghost use Rattle.std.specs.Prelude.{◌≡◌};
-    ghost use Rattle.accessible_copy.specs.Known.{Showing, known_values, facts_of};
+    ghost use Rattle.std.specs.Prelude.{◌≡◌, length};
+    ghost use Rattle.accessible_copy.specs.Known.{Showing, known_values, shown_by};
 
     ghost Value = { Showing };
 
-    ghost view = { λ k. record { constants = k.constants; exposed = k.list.items } };
+    ghost view = { λ k. record { constants = k.constants; exposed = shown_by k.methods.items k.facts } };
 
-    ghost invariant = { λ k. (k.values ≡ known_values k.constants (facts_of k.list.items)) × (k.facts ≡ facts_of k.list.items) };
+    ghost invariant = { λ k. (k.values ≡ known_values k.constants k.facts) × (length k.methods.items ≡ length k.facts) };
 }
 
 impl Known {
@@ -39,7 +38,7 @@ impl Known {
     {
         Ok(Known {
             constants: constants.copy(alloc)?,
-            list: Vec::new(alloc),
+            methods: Vec::new(alloc),
             facts: Store::found_by(alloc, Positions::none(alloc)),
             values: constant_values(alloc, constants)?,
         })
@@ -49,31 +48,38 @@ impl Known {
     pub fn len(&self) -> usize
         ensures { result ≡ length self.now.exposed }
     {
-        self.list.len()
+        self.facts.len()
     }
 
     /// How many values are known. Takes no memory.
+    #[tactic(auto, using(crate::proofs::Beside::facts_shown))]
     pub fn width(&self) -> usize
         ensures { result ≡ length (known_values self.now.constants (facts_of self.now.exposed)) }
     {
         self.values.len()
     }
 
-    /// The exposed fact with this number. Takes no memory.
-    pub fn get(&self, number: usize) -> Option<&Exposed>
-        ensures { option_copied result ≡ slice_get self.now.exposed number }
+    /// The exposed fact with this number, and the number of its method. Takes no memory.
+    pub fn get(&self, number: usize) -> Option<(&Ground, u32)>
+        ensures some { IfSome result (λ pair. slice_get self.now.exposed number ≡ Some (record { method = pair.1; fact = pair.0.now })) }
+        ensures none { IfNone result (slice_get self.now.exposed number ≡ None) }
     {
-        self.list.get(number)
+        match self.facts.get(number) {
+            Some(fact) => Some((fact, self.methods[number])),
+            None => None,
+        }
     }
 
     /// The known value with this number. Takes no memory.
+    #[tactic(auto, using(crate::proofs::Beside::facts_shown))]
     pub fn value(&self, number: usize) -> Option<&Val>
         ensures { option_copied result ≡ slice_get (known_values self.now.constants (facts_of self.now.exposed)) number }
     {
-        self.values.as_slice().get(number)
+        self.values.get(number)
     }
 
     /// The known value with this number, if it is not known by an earlier one. Takes no memory.
+    #[tactic(auto, using(crate::proofs::Beside::facts_shown))]
     pub fn new_value(&self, number: usize) -> Option<&Val>
         ensures some { IfSome result (λ val. slice_get (known_values self.now.constants (facts_of self.now.exposed)) number ≡ Some val.now) }
         ensures none { IfNone result ((val : TheVal) → slice_get (known_values self.now.constants (facts_of self.now.exposed)) number ≡ Some val →
@@ -83,6 +89,7 @@ impl Known {
     }
 
     /// Whether the fact is exposed. Takes no memory.
+    #[tactic(auto, using(crate::proofs::Beside::facts_shown))]
     pub fn has(&self, fact: &Ground) -> bool
         ensures { IsTrue result ↔ Contains (facts_of self.now.exposed) fact.now }
     {
@@ -90,6 +97,7 @@ impl Known {
     }
 
     /// Whether the value is known. Takes no memory.
+    #[tactic(auto, using(crate::proofs::Beside::facts_shown))]
     pub fn knows(&self, val: &Val) -> bool
         ensures { IsTrue result ↔ Contains (known_values self.now.constants (facts_of self.now.exposed)) val.now }
     {
@@ -102,20 +110,17 @@ impl Known {
         ensures pushed { OnOk result (self.new ≡ record self.old { exposed = self.old.exposed ++ record { method = method; fact = fact.now } ∷ [] }) }
         ensures refused { OnErr result (self.new ≡ self.old) }
     {
-        let count = self.list.len();
+        let count = self.facts.len();
         let shown = fact.copy(alloc)?;
-        self.list.push(Exposed {
-            method,
-            fact: fact.copy(alloc)?,
-        })?;
+        self.methods.push(method)?;
         if let Err(fault) = self.facts.insert(alloc, shown) {
-            self.list.truncate(count);
+            self.methods.truncate(count);
             return Err(fault);
         }
         match self.values.add_all(alloc, fact.vals.as_slice()) {
             Ok(()) => Ok(()),
             Err(fault) => {
-                self.list.truncate(count);
+                self.methods.truncate(count);
                 self.facts.truncate(count);
                 Err(fault)
             }
@@ -127,7 +132,7 @@ impl Known {
         requires { width ≡ length (known_values self.old.constants (facts_of (take count self.old.exposed))) }
         ensures { self.new ≡ record self.old { exposed = take count self.old.exposed } }
     {
-        self.list.truncate(count);
+        self.methods.truncate(count);
         self.facts.truncate(count);
         self.values.truncate(width);
     }

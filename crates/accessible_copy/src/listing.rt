@@ -7,10 +7,13 @@ ghost use Rattle.access_schema.specs.Meaning.{meaning_of};
 ghost use Rattle.accessible_copy.specs.Proving.{IsProofOf};
 ghost use Rattle.accessible_copy.specs.Known.{known_values, facts_of};
 ghost use Rattle.accessible_copy.specs.Methods.{IsMethodIndex};
+ghost use Rattle.accessible_copy.specs.Ways.{ways_of};
+ghost use Rattle.accessible_copy.specs.OpenFacts.{AreOpenFacts};
 ghost use Rattle.accessible_copy.specs.Listing.{CanFire, AreExposures, AddsExposures, AreInputs, IsInput};
 
 use crate::known::Known;
 use crate::method_index::MethodIndex;
+use crate::open_facts::OpenFacts;
 use crate::proof::Proof;
 use access_schema::Schema;
 use lists::{Copies, NoMemory, Seq};
@@ -24,12 +27,30 @@ pub fn exposures(alloc: Global, proof: &Proof, schema: &Schema) -> Result<Firing
 {
     if let Some(kept) = &proof.open_facts {
         if kept.serves(schema) {
-            let numbers = kept.numbers(alloc)?;
-            return exposures_at(alloc, proof, schema, kept.methods(), numbers.as_slice());
+            return open_exposures(alloc, proof, schema, kept);
         }
     }
     let methods = MethodIndex::of(alloc, schema)?;
     indexed_exposures(alloc, proof, schema, &methods)
+}
+
+/// The active exposures, among the facts that are listed as open for the methods of this schema.
+fn open_exposures(
+    alloc: Global,
+    proof: &Proof,
+    schema: &Schema,
+    kept: &OpenFacts,
+) -> Result<Firings, NoMemory>
+    requires run { IsProofOf (meaning_of schema.now) proof.now }
+    requires ways { kept.now.ways.items ≡ ways_of schema.now.methods }
+    requires kept { AreOpenFacts proof.now.end.base proof.now.constants proof.now.exposed kept.now }
+    ensures { IfOk result (λ found. AreExposures (meaning_of schema.now) proof.now proof.now.end.base found) }
+{
+    if let Some(numbers) = kept.ascending() {
+        return exposures_at(alloc, proof, schema, kept.methods(), numbers);
+    }
+    let numbers = kept.numbers(alloc)?;
+    exposures_at(alloc, proof, schema, kept.methods(), numbers.as_slice())
 }
 
 /// The active exposures of the base facts with these numbers, among which is each that has one.

@@ -45,10 +45,10 @@ pub fn undo(proof: &mut Proof, mark: Mark)
 }
 
 /// What is kept of the open facts after the first `count` exposures, if the base facts stay. Takes no memory.
-fn cut_open(kept: Option<OpenFacts>, stays: bool, count: usize) -> Option<OpenFacts>
+fn cut_open(kept: Option<Box<OpenFacts>>, stays: bool, count: usize) -> Option<Box<OpenFacts>>
     ensures stays { IfSome result (λ after. IsTrue stays) }
     ensures cut { IfSome result (λ after. (facts : List Ground) (constants : List Value) (exposed : List TheExposed) →
-        IfSome kept (λ before. AreOpenFacts facts constants exposed before) → AreOpenFacts facts constants (take count exposed) after) }
+        IfSome kept (λ before. AreOpenFacts facts constants exposed before.value) → AreOpenFacts facts constants (take count exposed) after.value) }
 {
     match kept {
         Some(mut kept) if stays => {

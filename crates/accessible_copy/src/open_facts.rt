@@ -1,5 +1,6 @@
 // Base facts that can be exposed, found from the values that are new.
-ghost use Rattle.std.specs.Prelude.{◌≡◌, ◌↔◌, ◌⊎◌, ◌∷◌, [], ◌++◌, ◌≤◌, ℕ, IsTrue, IfOk, OnOk, List, Contains, length, take, drop, slice_get, option_copied, Some, true, false};
+ghost use Rattle.std.specs.Prelude.{◌≡◌, ◌↔◌, ◌⊎◌, ◌∷◌, [], ◌++◌, ◌≤◌, ℕ, IsTrue, IfOk, IfSome, OnOk, List, Contains, length, take, drop, slice_get, option_copied, Some, true, false};
+ghost use Rattle.std.specs.List.Sorted.{IsStrictlyIncreasing};
 ghost use Rattle.meaning.specs.declared.types.Val.{Val as TheVal};
 ghost use Rattle.meaning.specs.declared.types.Ground.{Ground as TheGround};
 ghost use Rattle.meaning.specs.Search.{AreDistinct};
@@ -88,6 +89,22 @@ impl OpenFacts {
         ensures { result.now ≡ self.now.index }
     {
         &self.index
+    }
+
+    /// The numbers behind those that were passed, lent, where they ascend. Takes no memory.
+    pub fn ascending(&self) -> Option<&[usize]>
+        ensures once { IfSome result (λ numbers. AreDistinct numbers.now) }
+        ensures all { IfSome result (λ numbers. numbers.now ≡ drop self.now.passed self.now.listed.items) }
+    {
+        if self.passed > self.listed.len() {
+            return None;
+        }
+        let numbers = &self.listed.as_slice()[self.passed..];
+        if ascends(numbers) {
+            Some(numbers)
+        } else {
+            None
+        }
     }
 
     /// The numbers behind those that were passed, ascending, each once.
@@ -293,6 +310,18 @@ impl OpenFacts {
     }
 }
 
+/// Whether each number is above the one before it. Takes no memory.
+fn ascends(numbers: &[usize]) -> bool
+    ensures { result ≡ true → IsStrictlyIncreasing numbers.now }
+{
+    for place in 1..numbers.len() {
+        if numbers[place] <= numbers[place - 1] {
+            return false;
+        }
+    }
+    true
+}
+
 /// Places for so many facts, of which those with these numbers are listed in this order.
 fn places_of(alloc: Global, count: usize, listed: &[usize]) -> Result<Vec<usize>, NoMemory> {
     let mut places = Vec::with_capacity(alloc, count)?;
@@ -343,7 +372,7 @@ fn is_exposed(facts: &Store, known: &Known, number: usize) -> bool
 }
 
 /// Puts what is kept into its place. Takes no memory.
-pub(crate) fn put(place: &mut Option<OpenFacts>, kept: Option<OpenFacts>)
+pub(crate) fn put(place: &mut Option<Box<OpenFacts>>, kept: Option<Box<OpenFacts>>)
     ensures { place.new ≡ kept }
 {
     *place = kept;

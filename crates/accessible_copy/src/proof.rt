@@ -23,7 +23,8 @@ use std::marker::Model;
 
 /// Base facts, exposed facts and copy facts, the next label, the known values, and the log of the firings.
 ///
-/// `open_facts` is what is kept to list exposures fast, from the first exposure on. Contracts do not see it.
+/// `open_facts` is what is kept to list exposures fast, from the first exposure on. Contracts do not see it. It stands in a box, so
+/// that little moves where it is taken out and put back.
 #[derive(Drop)]
 pub struct Proof {
     pub(crate) opening: State,
@@ -31,7 +32,7 @@ pub struct Proof {
     pub(crate) copy: State,
     pub(crate) known: Known,
     pub(crate) history: History,
-    pub(crate) open_facts: Option<OpenFacts>,
+    pub(crate) open_facts: Option<Box<OpenFacts>>,
 }
 
 impl Model for Proof {
@@ -51,7 +52,7 @@ impl Model for Proof {
     } };
 
     ghost invariant = { λ p. (p.copy.next ≡ p.base.next)
-        × IfSome p.open_facts (λ kept. AreOpenFacts p.base.facts p.known.constants p.known.exposed kept) };
+        × IfSome p.open_facts (λ kept. AreOpenFacts p.base.facts p.known.constants p.known.exposed kept.value) };
 }
 
 impl Proof {
@@ -105,10 +106,7 @@ impl Proof {
         ensures some { IfSome result (λ pair. slice_get self.now.exposed number ≡ Some (record { method = pair.1; fact = pair.0.now })) }
         ensures none { IfNone result (slice_get self.now.exposed number ≡ None) }
     {
-        match self.known.get(number) {
-            Some(exposed) => Some((&exposed.fact, exposed.method)),
-            None => None,
-        }
+        self.known.get(number)
     }
 
     /// The known value with this number. Takes no memory.

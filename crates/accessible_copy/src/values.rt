@@ -48,13 +48,6 @@ impl Values {
         self.list.len()
     }
 
-    /// The values, lent. Takes no memory.
-    pub fn as_slice(&self) -> &[Val]
-        ensures { result.now ≡ self.now }
-    {
-        self.list.as_slice()
-    }
-
     /// Whether the value stands here, found by a look at the place where it stood first. Takes no memory.
     pub fn contains(&self, val: &Val) -> bool
         ensures { IsTrue result ↔ Contains self.now val.now }

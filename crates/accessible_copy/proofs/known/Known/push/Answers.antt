@@ -1,16 +1,34 @@
-use Rattle.std.proofs.Common.{◌≡◌, ◌++◌, ◌∷◌, [], sym, subst, rules}
+use Rattle.std.proofs.Common.{◌≡◌, ◌+◌, ◌++◌, ◌∷◌, [], sym, ap, ◌∙◌, subst, rules}
 use Rattle.std.specs.Prelude.{Contains}
+use Rattle.std.proofs.lemmas.List.{length_push}
 use Rattle.meaning.specs.Added.{with_fact}
-use Rattle.accessible_copy.specs.declared.entry.Exposed.{Exposed}
+use Rattle.meaning_laws.proofs.Added.{with_new}
 use Rattle.accessible_copy.specs.Known.{Showing, facts_of}
-use Rattle.accessible_copy.proofs.Lists.{known_push, facts_added}
+use Rattle.accessible_copy.proofs.Lists.{known_push}
+use Rattle.accessible_copy.proofs.Beside.{facts_shown, shown_push}
 use Rattle.accessible_copy.proofs.known.Known.push.Goals as goal
 
 pub invariant_of-self-in-Ok : goal.invariant_of-self-in-Ok
 invariant_of-self-in-Ok c =
-    let one : Exposed = record { method = c.args.method; fact = c.args.fact.now } in
-    let list : c.push.new.self.items ≡ c.self.inside.list.items ++ one ∷ [] = search rules in
-    let values : c.add_all.new.self ≡ c.self.inside.values ++ c.args.fact.now.vals = search rules in
-    let facts : c.insert.new.self ≡ with_fact c.self.inside.facts c.args.fact.now = search rules in
-    let not : Contains (facts_of c.self.inside.list.items) c.args.fact.now → ⊥ = λ h. c.requires.new (subst (λ (s : Showing). Contains (facts_of s.exposed) c.args.fact.now) c.self.view_is h) in
-    (rw (values, list, c.self.invariant.0) (sym (known_push c.self.inside.constants c.self.inside.list.items one)), rw (facts, list) (facts_added c.self.inside.list.items one c.self.inside.facts c.self.invariant.1 not))
+    let methods = c.self.inside.methods.items in
+    let facts = c.self.inside.facts in
+    let fact = c.args.fact.now in
+    let even = c.self.invariant.1 in
+    let beside : c.push.new.self.items ≡ methods ++ c.args.method ∷ [] = search rules in
+    let values : c.add_all.new.self ≡ c.self.inside.values ++ fact.vals = search rules in
+    let not : Contains facts fact → ⊥ = λ h. c.requires.new (subst (λ (s : Showing). Contains (facts_of s.exposed) fact) c.self.view_is (rw (facts_shown methods facts even) h)) in
+    let inserted : c.insert.new.self ≡ with_fact facts fact = search rules in
+    let added : c.insert.new.self ≡ facts ++ fact ∷ [] = inserted ∙ with_new facts fact not in
+    (rw (values, added, c.self.invariant.0) (sym (known_push c.self.inside.constants facts fact)), rw (beside, added) (length_push methods c.args.method ∙ ap (λ n. n + 1) even ∙ sym (length_push facts fact)))
+
+pub returns-in-Ok-clause-pushed : goal.returns-in-Ok-clause-pushed
+returns-in-Ok-clause-pushed c =
+    let methods = c.self.inside.methods.items in
+    let facts = c.self.inside.facts in
+    let fact = c.args.fact.now in
+    let even = c.self.invariant.1 in
+    let beside : c.push.new.self.items ≡ methods ++ c.args.method ∷ [] = search rules in
+    let not : Contains facts fact → ⊥ = λ h. c.requires.new (subst (λ (s : Showing). Contains (facts_of s.exposed) fact) c.self.view_is (rw (facts_shown methods facts even) h)) in
+    let inserted : c.insert.new.self ≡ with_fact facts fact = search rules in
+    let added : c.insert.new.self ≡ facts ++ fact ∷ [] = inserted ∙ with_new facts fact not in
+    rw (beside, added, ← c.self.view_is) (ap (λ l. record { constants = c.self.inside.constants; exposed = l }) (shown_push methods facts c.args.method fact even))
