@@ -1,5 +1,5 @@
 // The generator as a source.
-ghost use Rattle.std.specs.Prelude.{◌≡◌, ◌≤◌, ◌++◌, ◌∷◌, [], Some, false, true, OnOk, OnErr, IsErrOf};
+ghost use Rattle.std.specs.Prelude.{◌≡◌, ◌≤◌, Some, false, true, IsErrOf};
 ghost use Rattle.source_trait.specs.Asking.{CallGives, CanAsk};
 ghost use Rattle.source_trait.specs.Holding.{facts_held, attached_in};
 ghost use Rattle.world_source.specs.Formulas.{offered};
@@ -7,9 +7,9 @@ ghost use Rattle.world_source.specs.Generated.{IsFresh, Offers, offers};
 
 use crate::formula::Formula;
 use crate::generated::Relations;
-use lists::{Copies, NoMemory, Places, Row, Text, Texts};
+use lists::{Places, Row, Text, Texts};
 use row_text::PackedRows;
-use source_trait::{AttachFault, CallFault, Request, Requests, Source};
+use source_trait::{AttachFault, CallFault, RequestLog, Source};
 use std::alloc::Global;
 
 /// A source of relations of two columns, whose rows are those of the formula that their locator `k/n` names.
@@ -18,7 +18,7 @@ use std::alloc::Global;
 #[derive(Drop)]
 pub struct WorldSource {
     relations: Relations,
-    asked: Requests,
+    asked: RequestLog,
 }
 
 impl WorldSource {
@@ -28,7 +28,7 @@ impl WorldSource {
     {
         WorldSource {
             relations: Relations::new(alloc),
-            asked: Requests::new(alloc),
+            asked: RequestLog::new(alloc),
         }
     }
 }
@@ -80,13 +80,13 @@ impl Source for WorldSource {
             Ok(rows) => rows,
             Err(_) => return Err(CallFault::NoMemory),
         };
-        match note(alloc, &mut self.asked, rel, positions, values) {
+        match self.asked.push(alloc, rel, positions, values) {
             Ok(()) => Ok(rows),
             Err(_) => Err(CallFault::NoMemory),
         }
     }
 
-    fn told(&self) -> Option<&Requests> {
+    fn told(&self) -> Option<&RequestLog> {
         Some(&self.asked)
     }
 }
@@ -101,23 +101,4 @@ fn offered_formula(alloc: Global, columns: usize, locator: &Text) -> Result<Form
         Ok(None) => Err(AttachFault::Missing),
         Err(_) => Err(AttachFault::NoMemory),
     }
-}
-
-// Puts a copy of a request behind those that were asked.
-fn note(
-    alloc: Global,
-    asked: &mut Requests,
-    rel: u32,
-    positions: &Places,
-    values: &Row,
-) -> Result<(), NoMemory>
-    ensures noted { OnOk result (asked.new ≡ asked.old ++ record { rel = rel; positions = positions.now; values = values.now } ∷ []) }
-    ensures stays { OnErr result (asked.new ≡ asked.old) }
-{
-    asked.push(Request {
-        rel,
-        positions: positions.copy(alloc)?,
-        values: values.copy(alloc)?,
-    })?;
-    Ok(())
 }
