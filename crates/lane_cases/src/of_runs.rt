@@ -1,12 +1,11 @@
 // A run of the program's top call on two lanes, whose look-ups wait for one another.
 use command_io::{Outputs, Outside};
 use lists::{Bytes, Places, Row, Seq, Text, Texts};
-use meaning::types::Requests;
 use pdq_core::{Status, run_words};
 use row_text::PackedRows;
 use source_trait::{
     AttachFault, CallFault, Files, Kind, Lane, MemoryFiles, MemorySink, MemorySource, NamedFile,
-    Sink, Source, Table, locators_differ, names_differ,
+    RequestLog, Sink, Source, Table, locators_differ, names_differ,
 };
 use std::alloc::{AllocError, Global};
 use std::sync::atomic::{AtomicU64, Ordering};
@@ -88,7 +87,7 @@ impl<'a> Source for Meeting<'a> {
         self.own.call(alloc, rel, positions, values)
     }
 
-    fn told(&self) -> Option<&Requests> {
+    fn told(&self) -> Option<&RequestLog> {
         self.own.told()
     }
 }

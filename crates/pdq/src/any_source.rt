@@ -2,9 +2,8 @@
 ghost use Rattle.pdq.specs.AnySource.{seen_of};
 
 use lists::{Places, Row, Text, Texts};
-use meaning::types::Requests;
 use row_text::PackedRows;
-use source_trait::{AttachFault, CallFault, Source};
+use source_trait::{AttachFault, CallFault, RequestLog, Source};
 use std::alloc::Global;
 
 /// The two kinds of sources of the program, as one type.
@@ -43,7 +42,7 @@ impl<A: Source, B: Source> Source for AnySource<A, B> {
         }
     }
 
-    fn told(&self) -> Option<&Requests> {
+    fn told(&self) -> Option<&RequestLog> {
         match self {
             AnySource::Folder(source) => source.told(),
             AnySource::Generator(source) => source.told(),
