@@ -32,3 +32,4 @@ pub mod LaneFinished
 pub mod Whole
 pub mod Lone
 pub mod Parting
+pub mod Chains

@@ -1,18 +1,14 @@
 -- An answer parted by the values at its known places.
-use Rattle.std.proofs.Common.{◌≡◌, inl, inr, ◌<◌, ◌+◌, ◌∙◌, ℕ, zero, suc, List, [], ◌∷◌, ◌++◌, length, map, take, get_or, Option, None, Some, Bool, true, false, cond, Vec, Global, refl, sym, ap, subst, arith}
-use Rattle.std.specs.Prelude.{Contains, slice_get, slice_set, slice_index_or, flat_map}
-use Rattle.std.specs.List.Sorted.{IsStrictlySortedBy}
-use Rattle.std.specs.declared.cmp.Ordering.TheVariants.{Less, Equal}
-use Rattle.std.proofs.lemmas.Cmp.{tied_itself}
+use Rattle.std.proofs.Common.{◌≡◌, inl, inr, ◌<◌, ◌+◌, ◌∙◌, ℕ, List, [], ◌∷◌, ◌++◌, length, map, take, get_or, Option, None, Some, Bool, true, false, cond, Vec, Global, refl, sym, ap, subst, arith}
+use Rattle.std.specs.Prelude.{Contains, slice_get, flat_map}
 use Rattle.std.proofs.lemmas.List.{append-nil, take_more}
 use Rattle.std.proofs.lemmas.List.Concat.{flat_map-append}
-use Rattle.std.proofs.lemmas.List.Elements.{filter-append}
 use Rattle.std.proofs.lemmas.Option.{slice_get-get_or}
-use Rattle.lists.proofs.Members.{contains_here, contains_there, contains_cases, contains_got, contains_map, map_same, contains_none, all_member}
-use Rattle.lists.proofs.Orders.{rows_equiv, rows_same_equal, rows_total}
+use Rattle.lists.proofs.Members.{contains_here, contains_there, contains_cases, contains_got, contains_map, map_same, contains_none}
+use Rattle.lists.proofs.Orders.{rows_equiv, rows_same_equal}
 use Rattle.meaning.specs.declared.types.Place.{Place}
 use Rattle.source_trait.specs.Asking.{RowList}
-use Rattle.row_text.specs.RowText.{row_cmp, row_eq}
+use Rattle.row_text.specs.RowText.{row_eq}
 use Rattle.middleware.specs.Joining.{OthersAreEmpty, joined, listed, grown, text_or, input_value_or, input_row_of}
 use Rattle.middleware.specs.Branches.{HasAdded, IsInput}
 use Rattle.middleware.specs.Parts.{key_of, part_of}
@@ -38,69 +34,6 @@ module _ (places : List Place) (columns : ℕ) where
 
   pub kept_known : (old new : Vec ℕ Global) → new ≡ old → AreKnown old.items → AreKnown new.items
   kept_known old new same each = subst (λ (v : Vec ℕ Global). AreKnown v.items) (sym same) each
-
--- ---- the parts after one row more
-
-module _ (positions : List ℕ) (taken : RowList) (row : List (List ℕ)) where
-  abbrev more : List (List ℕ) → RowList
-  more key = part_of positions (taken ++ row ∷ []) key
-
-  abbrev had : List (List ℕ) → RowList
-  had key = part_of positions taken key
-
-  part_pushed : (key : List (List ℕ)) (b : Bool) → row_eq (key_of positions row) key ≡ b → more key ≡ had key ++ cond b (row ∷ []) []
-  part_pushed key b e = filter-append (λ r. row_eq (key_of positions r) key) taken (row ∷ []) ∙ ap (λ (c : Bool). had key ++ cond c (row ∷ []) []) e
-
-  part_other : (key : List (List ℕ)) → (key_of positions row ≡ key → ⊥) → more key ≡ had key
-  part_other key other = go (row_eq (key_of positions row) key) refl
-    where
-      go : (b : Bool) → row_eq (key_of positions row) key ≡ b → more key ≡ had key
-      go true e = absurd (other (rows_same_equal (key_of positions row) key e))
-      go false e = part_pushed key false e ∙ append-nil (had key)
-
-  part_here : (key : List (List ℕ)) → key_of positions row ≡ key → more key ≡ had key ++ row ∷ []
-  part_here key e = part_pushed key true (subst (λ k. row_eq (key_of positions row) k ≡ true) e (rows_equiv.refl (key_of positions row)))
-
-  pub parts_same : (keys : RowList) → (Contains keys (key_of positions row) → ⊥) → map had keys ≡ map more keys
-  parts_same keys absent = map_same had more keys (λ key among. sym (part_other key (λ e. absent (subst (λ k. Contains keys k) (sym e) among))))
-
-  apart : (key : List (List ℕ)) → row_cmp key key ≡ Less → ⊥
-  apart key less = let tied : row_cmp key key ≡ Equal = tied_itself rows_total key in clash (sym less ∙ tied)
-    where
-      clash : Less ≡ Equal → ⊥
-      clash h = cc
-
-  pub parts_more : (keys : RowList) (n : ℕ) → IsStrictlySortedBy row_cmp keys → slice_get keys n ≡ Some (key_of positions row)
-      → slice_set (map had keys) n (slice_index_or (map had keys) n [] ++ row ∷ []) ≡ map more keys
-  unfolding IsStrictlySortedBy
-  parts_more [] n ascends at = absurd (cc)
-  parts_more (key ∷ keys) zero ascends at =
-      let same : key_of positions row ≡ key = cc in
-      let absent : Contains keys (key_of positions row) → ⊥ = λ c. apart key (all_member (λ z. row_cmp key z ≡ Less) keys key ascends.0 (subst (λ k. Contains keys k) same c)) in
-      ap (λ (l : RowList). l ∷ map had keys) (sym (part_here key same)) ∙ ap (λ (l : List RowList). more key ∷ l) (parts_same keys absent)
-  parts_more (key ∷ keys) (suc n) ascends at =
-      let among : Contains keys (key_of positions row) = contains_got keys n (key_of positions row) at in
-      let other : key_of positions row ≡ key → ⊥ = λ e. apart key (all_member (λ z. row_cmp key z ≡ Less) keys key ascends.0 (subst (λ k. Contains keys k) e among)) in
-      ap (λ (l : RowList). l ∷ slice_set (map had keys) n (slice_index_or (map had keys) n [] ++ row ∷ [])) (sym (part_other key other))
-      ∙ ap (λ (l : List RowList). more key ∷ l) (parts_more keys n ascends.1 at)
-
-module _ (positions : List ℕ) (answer keys : RowList) (i : ℕ) (row values : List (List ℕ)) (less : i < length answer) (at : row ≡ get_or answer i []) (key : values ≡ key_of positions row)
-    (old new : List RowList) (so_far : old ≡ map (part_of positions (take i answer)) keys) where
-  taken : take (i + 1) answer ≡ take i answer ++ row ∷ []
-  taken = take_more answer i [] less ∙ ap (λ (r : List (List ℕ)). take i answer ++ r ∷ []) (sym at)
-
-  -- the row has a key
-  pub parts_with : (place : ℕ) → IsStrictlySortedBy row_cmp keys → slice_get keys place ≡ Some values → new ≡ slice_set old place (slice_index_or old place [] ++ row ∷ []) → new ≡ map (part_of positions (take (i + 1) answer)) keys
-  parts_with place ascends found is =
-      is ∙ ap (λ (l : List RowList). slice_set l place (slice_index_or l place [] ++ row ∷ [])) so_far
-      ∙ parts_more positions (take i answer) row keys place ascends (subst (λ (v : List (List ℕ)). slice_get keys place ≡ Some v) key found)
-      ∙ ap (λ (l : RowList). map (part_of positions l) keys) (sym taken)
-
-  -- the row has none
-  pub parts_without : (Contains keys values → ⊥) → new ≡ old → new ≡ map (part_of positions (take (i + 1) answer)) keys
-  parts_without absent is =
-      is ∙ so_far ∙ parts_same positions (take i answer) row keys (subst (λ (v : List (List ℕ)). Contains keys v → ⊥) key absent)
-      ∙ ap (λ (l : RowList). map (part_of positions l) keys) (sym taken)
 
 -- a key that no row of the answer has
 part_less : (positions : List ℕ) (row : List (List ℕ)) (answer : RowList) (key : List (List ℕ)) (b : Bool) → row_eq (key_of positions row) key ≡ b → (key_of positions row ≡ key → ⊥)

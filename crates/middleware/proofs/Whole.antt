@@ -1,5 +1,5 @@
 -- The only answer of a round that only makes new columns is what the empty partial row grows to.
-use Rattle.std.proofs.Common.{◌≡◌, ◌≤◌, ◌<◌, ◌∙◌, ℕ, List, [], ◌∷◌, ◌++◌, length, map, Some, get_or, ◌⊎◌, inl, inr, refl, sym, ap, subst, arith}
+use Rattle.std.proofs.Common.{◌≡◌, ◌∙◌, ℕ, List, [], ◌∷◌, ◌++◌, length, map, Some, ◌⊎◌, inl, inr, refl, sym, ap, subst, arith}
 use Rattle.std.specs.Prelude.{Contains, flat_map}
 use Rattle.std.proofs.lemmas.List.{append-nil, append_assoc}
 use Rattle.meaning.specs.declared.types.Place.{Place}
@@ -47,8 +47,3 @@ first_is [] one fit = absurd (omega (arith, one))
 first_is ([] ∷ []) one fit = refl
 first_is ((value ∷ row) ∷ rows) one fit = absurd (omega (arith, fit.0))
 first_is ([] ∷ row ∷ rows) one fit = absurd (omega (arith, one))
-
-pub one_is : (answers : List RowList) (answer d : RowList) → 1 ≤ length answers → length answers < 2 → answer ≡ get_or answers 0 d → answers ≡ answer ∷ []
-one_is [] answer d some few is = absurd (omega (arith, some))
-one_is (x ∷ []) answer d some few is = ap (λ (a : RowList). a ∷ []) (sym is)
-one_is (x ∷ y ∷ xs) answer d some few is = absurd (omega (arith, few))

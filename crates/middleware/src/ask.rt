@@ -4,13 +4,11 @@ ghost use Rattle.source_trait.specs.Asking.{CallGives, CanAsk};
 ghost use Rattle.source_trait.specs.Lanes.{AtKind, StepsOn};
 ghost use Rattle.middleware.specs.Rounds.{AnswersAll};
 
-use lists::{Places, Seq, Text};
+use crate::answers::Answers;
+use lists::{Places, Text};
 use row_text::{LentRow, PackedRows};
 use source_trait::{CallFault, Lane, Source, call_on};
 use std::alloc::Global;
-
-/// The answers to requests, in their order.
-pub type Answers = Seq<PackedRows>;
 
 /// The answers of the lane's source of the kind to the requests, which are asked in order, each once.
 pub fn ask_all<S: Source + Send + Drop>(
@@ -26,18 +24,18 @@ pub fn ask_all<S: Source + Send + Drop>(
     ensures steps { StepsOn lane.old.kinds.items lane.new.kinds.items kind.now (λ s t. AnswersAll rel positions.now requests.now result (S.seen s) (S.seen t)) }
     ensures stopped { lane.new.stopped ≡ lane.old.stopped }
 {
-    let mut answers = Vec::new(alloc);
+    let mut answers = Answers::new(alloc);
     for number in 0..requests.len() {
         let answer = match ask_row(alloc, lane, kind, rel, positions, &requests.at(number)) {
             Ok(answer) => answer,
             Err(fault) => return Err(fault),
         };
-        match answers.push(answer) {
-            Ok(()) => {}
+        answers = match answers.with(answer) {
+            Ok(more) => more,
             Err(_) => return Err(CallFault::NoMemory),
-        }
+        };
     }
-    Ok(Seq::from_vec(answers))
+    Ok(answers)
 }
 
 // The answer to the request of these values, of which a copy is made for the call.

@@ -5,7 +5,8 @@ ghost use Rattle.middleware.specs.LaneBranches.{OnEach};
 ghost use Rattle.middleware.specs.LaneAsking.{ask_of, AsksWanted};
 ghost use Rattle.middleware.specs.LaneRounds.{NoneStopped};
 
-use crate::ask::{Answers, ask_all};
+use crate::answers::Answers;
+use crate::ask::ask_all;
 use crate::lane_round::{AskFault, ask_round};
 use crate::lookup::line_of;
 use access_schema::{Method, Schema};

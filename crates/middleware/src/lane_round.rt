@@ -7,9 +7,9 @@ ghost use Rattle.source_trait.specs.Works.{MayAsk, Works};
 ghost use Rattle.source_trait.specs.declared.work.Asked.TheVariants as asked;
 ghost use Rattle.middleware.specs.LaneRounds.{started, requests_in, HaveTheirKinds, AsksEach, AsksSome, AreAnswers, LanesHold, picked, NoneStopped, FirstRefused, AskCause, SkipsBehind};
 
-use crate::ask::Answers;
+use crate::answers::Answers;
 use lane_pool::fan_out;
-use lists::{NoMemory, Seq};
+use lists::NoMemory;
 use source_trait::{Ask, Asked, Lane, Source};
 use std::alloc::Global;
 use std::thread::Threads;
@@ -91,16 +91,16 @@ fn rows_of(alloc: Global, answers: Vec<Asked>) -> Result<Answers, AskFault>
     ensures rows { IfOk result (λ rows. map asked.Rows rows ≡ answers.items) }
     ensures first { IfErr result (λ fault. FirstRefused fault answers.items) }
 {
-    let mut rows = Vec::with_capacity(alloc, answers.len())?;
+    let mut rows = Answers::new(alloc);
     let mut number: u32 = 0;
     for answer in answers {
         match answer {
-            Asked::Rows(found) => rows.push_reserved(found),
+            Asked::Rows(found) => rows = rows.with(found)?,
             Asked::Failed => return Err(AskFault::CallFailed { request: number }),
             Asked::NoMemory => return Err(AskFault::NoMemory),
             Asked::Skipped => unreachable!(),
         }
         number += 1;
     }
-    Ok(Seq::from_vec(rows))
+    Ok(rows)
 }

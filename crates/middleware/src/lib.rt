@@ -6,6 +6,7 @@
 #![tactic(auto)]
 
 mod accesses;
+mod answers;
 mod ascending;
 mod ask;
 mod asking;
@@ -25,6 +26,7 @@ mod run_plan;
 mod whole_answer;
 
 pub use accesses::{first_kindless, first_lineless};
+pub use answers::Answers;
 pub use attach::{Refused, attach_all, attach_lanes};
 pub use fault::{Run, RunFault};
 pub use lane_round::{AskFault, ask_round};

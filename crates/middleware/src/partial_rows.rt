@@ -1,5 +1,5 @@
 // A round's answers joined with the partial rows.
-ghost use Rattle.std.specs.Prelude.{◌≡◌, ◌≤◌, ◌<◌, ◌++◌, ◌∷◌, [], List, ℕ, Contains, IfOk, IsErr, IsTrue, MatchOption, OnOk, Some, None, if◌then◌else◌, length, map, flat_map, option_copied, slice_get, slice_index_or};
+ghost use Rattle.std.specs.Prelude.{◌≡◌, ◌≤◌, ◌<◌, ◌++◌, ◌∷◌, [], List, ℕ, Contains, IfOk, IsErr, IsTrue, MatchOption, OnOk, Some, None, if◌then◌else◌, length, map, flat_map, slice_get, slice_index_or};
 ghost use Rattle.std.specs.List.Sorted.{IsStrictlySortedBy};
 ghost use Rattle.std.specs.declared.cmp.Ordering.TheVariants.{Less, Greater};
 ghost use Rattle.source_trait.specs.Asking.{RowList};
@@ -8,11 +8,12 @@ ghost use Rattle.middleware.specs.Joining.{OthersAreEmpty, joined, grown, is_at,
 ghost use Rattle.middleware.specs.Branches.{HasAdded};
 ghost use Rattle.middleware.specs.Parts.{part_of};
 
+use crate::answers::Answers;
 use crate::ascending::distinct_rows;
 use crate::parts::{key_rows, known_places, parts_by_key};
-use crate::whole_answer::{grows_to_answer, only_answer};
+use crate::whole_answer::grows_to_answer;
 use meaning::types::Place;
-use row_text::{LentRow, PackedRows};
+use row_text::{LentRow, LentRows, PackedRows};
 use std::alloc::{AllocError, Global};
 use std::cmp::Ordering;
 
@@ -25,24 +26,24 @@ pub fn join(
     places: &[Place],
     inputs: &[u32],
     requests: &PackedRows,
-    answers: Vec<PackedRows>,
+    answers: Answers,
     rows: &PackedRows,
 ) -> Result<PackedRows, AllocError>
     requires ascends { IsStrictlySortedBy row_cmp requests.now }
     requires asked { (row : List (List ℕ)) → Contains rows.now row → Contains requests.now (input_row_of places.now inputs.now row) }
-    ensures { (answer : List (List ℕ) → RowList) → answers.items ≡ map answer requests.now
+    ensures { (answer : List (List ℕ) → RowList) → answers ≡ map answer requests.now
         → IfOk result (λ next. next ≡ flat_map (λ row. grown places.now (answer (input_row_of places.now inputs.now row)) row) rows.now) }
 {
-    if grows_to_answer(places, answers.as_slice(), rows) {
-        return Ok(only_answer(alloc, answers));
+    if grows_to_answer(places, &answers, rows) {
+        return Ok(answers.into_rows());
     }
     if rows.len() > 1
-        && let [only] = answers.as_slice()
+        && let Some(only) = answers.lone()
     {
         let joined = join_only(alloc, places, only, rows)?;
         return Ok(joined);
     }
-    let next = join_each(alloc, places, inputs, requests, answers.as_slice(), rows)?;
+    let next = join_each(alloc, places, inputs, requests, &answers, rows)?;
     Ok(next)
 }
 
@@ -59,7 +60,7 @@ fn join_only(
     let positions = known.as_slice();
     let keys = keys_of(alloc, places, positions, answer, rows)?;
     let parts = parts_by_key(alloc, positions, &keys, answer)?;
-    let next = join_each(alloc, places, positions, &keys, parts.as_slice(), rows)?;
+    let next = join_each(alloc, places, positions, &keys, &parts, rows)?;
     Ok(next)
 }
 
@@ -103,7 +104,7 @@ fn join_each(
     places: &[Place],
     inputs: &[u32],
     requests: &PackedRows,
-    answers: &[PackedRows],
+    answers: &Answers,
     rows: &PackedRows,
 ) -> Result<PackedRows, AllocError>
     requires ascends { IsStrictlySortedBy row_cmp requests.now }
@@ -119,7 +120,7 @@ fn join_each(
         input_texts(places, inputs, &row, &mut values)?;
         match answer_for(requests, answers, values.as_slice(), &mut near) {
             Some(answer) => {
-                next = join_answer(places, answer, &row, &mut values, &mut texts, next)?;
+                next = join_answer(places, &answer, &row, &mut values, &mut texts, next)?;
             }
             None => {}
         }
@@ -197,30 +198,24 @@ pub fn text_at<'a>(row: &LentRow<'a>, column: u32) -> &'a str
 // first, which may be any number, and becomes this place, or the one where the request would stand.
 fn answer_for<'a>(
     requests: &PackedRows,
-    answers: &'a [PackedRows],
+    answers: &'a Answers,
     values: &[&str],
     near: &mut usize,
-) -> Option<&'a PackedRows>
+) -> Option<LentRows<'a>>
     requires ascends { IsStrictlySortedBy row_cmp requests.now }
     ensures { (answer : List (List ℕ) → RowList) → answers.now ≡ map answer requests.now
-        → MatchOption (option_copied result) (Contains requests.now (map (λ s. s.now) values.now) → ⊥) (λ found. found ≡ answer (map (λ s. s.now) values.now)) }
+        → MatchOption result (Contains requests.now (map (λ s. s.now) values.now) → ⊥) (λ found. found ≡ answer (map (λ s. s.now) values.now)) }
 {
     match place_near(requests, values, *near) {
         Ok(number) => {
             *near = number;
-            answer_at(answers, number)
+            answers.get(number)
         }
         Err(number) => {
             *near = number;
             None
         }
     }
-}
-
-fn answer_at(answers: &[PackedRows], number: usize) -> Option<&PackedRows>
-    ensures { option_copied result ≡ slice_get answers.now number }
-{
-    answers.get(number)
 }
 
 // The place among ascending rows of the one with these values, or else where it would stand. The place `near`, the next one and
@@ -327,7 +322,7 @@ fn compare(row: &LentRow<'_>, texts: &[&str]) -> Ordering
 // in them is dropped.
 fn join_answer<'a>(
     places: &[Place],
-    answer: &'a PackedRows,
+    answer: &LentRows<'a>,
     row: &LentRow<'a>,
     values: &mut Vec<&'a str>,
     texts: &mut Vec<&'a str>,

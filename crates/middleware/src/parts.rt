@@ -1,16 +1,16 @@
 // An answer parted by the values at the places whose values are known, so that no partial row is compared with each of its rows.
-ghost use Rattle.std.specs.Prelude.{◌≡◌, ◌<◌, ◌≤◌, ◌++◌, ◌∷◌, [], List, ℕ, Contains, IfOk, IsTrue, OnOk, length, map, slice_get, slice_set, slice_index_or};
+ghost use Rattle.std.specs.Prelude.{◌≡◌, ◌≤◌, ◌++◌, List, ℕ, Contains, IfOk, IsTrue, OnOk, length, map, slice_get};
 ghost use Rattle.std.specs.List.Sorted.{IsStrictlySortedBy};
 ghost use Rattle.row_text.specs.RowText.{row_cmp};
 ghost use Rattle.middleware.specs.Branches.{IsInput};
-ghost use Rattle.middleware.specs.Parts.{key_of, part_of};
+ghost use Rattle.middleware.specs.Parts.{HaveChains, IsChain, key_of, part_of};
 
+use crate::answers::Answers;
 use crate::partial_rows::{place_of, text_at};
 use crate::whole_answer::have_arity;
 use meaning::types::Place;
 use row_text::{LentRow, PackedRows};
 use std::alloc::{AllocError, Global};
-use std::mem;
 
 /// The positions of constants, and of columns that each of the rows has.
 pub fn known_places(
@@ -63,35 +63,73 @@ pub fn parts_by_key(
     positions: &[u32],
     keys: &PackedRows,
     answer: &PackedRows,
-) -> Result<Vec<PackedRows>, AllocError>
+) -> Result<Answers, AllocError>
     requires ascends { IsStrictlySortedBy row_cmp keys.now }
-    ensures { IfOk result (λ parts. parts.items ≡ map (part_of positions.now answer.now) keys.now) }
+    ensures { IfOk result (λ parts. parts ≡ map (part_of positions.now answer.now) keys.now) }
 {
-    let mut parts = no_parts(alloc, keys)?;
-    let mut values = Vec::new(alloc);
-    for number in 0..answer.len() {
-        let row = answer.at(number);
-        key_texts(positions, &row, &mut values)?;
-        parts = match place_of(keys, values.as_slice()) {
-            Ok(place) => {
-                let more = with_part_row(alloc, parts, place, &row)?;
-                more
-            }
-            Err(_) => parts,
-        };
+    let Chains { heads, next } = chains_by_key(alloc, positions, keys, answer)?;
+    let mut rows = PackedRows::new(alloc);
+    let mut ends = Vec::with_capacity(alloc, keys.len())?;
+    for number in 0..keys.len() {
+        rows = with_chain(rows, answer, next.as_slice(), heads[number])?;
+        ends.push(rows.len())?;
     }
-    Ok(parts)
+    Ok(Answers::cut(rows, ends))
 }
 
-// No rows for each of the keys.
-fn no_parts(alloc: Global, keys: &PackedRows) -> Result<Vec<PackedRows>, AllocError>
-    ensures { IfOk result (λ parts. parts.items ≡ map (λ key. []) keys.now) }
+// The rows of an answer in chains, one for each of some keys.
+#[derive(Drop)]
+struct Chains {
+    // the number of the first row of each chain, or the number of rows
+    heads: Vec<usize>,
+    // the number of the row behind each row in its chain, or the number of rows
+    next: Vec<usize>,
+}
+
+// For each of the keys, which ascend, the chain of the rows of the answer that have its values at the positions.
+fn chains_by_key(
+    alloc: Global,
+    positions: &[u32],
+    keys: &PackedRows,
+    answer: &PackedRows,
+) -> Result<Chains, AllocError>
+    requires ascends { IsStrictlySortedBy row_cmp keys.now }
+    ensures { IfOk result (λ chains. HaveChains positions.now answer.now keys.now 0 chains.heads.items chains.next.items) }
 {
-    let mut parts = Vec::with_capacity(alloc, keys.len())?;
-    for _number in 0..keys.len() {
-        parts.push(PackedRows::new(alloc))?;
+    let mut number = answer.len();
+    let mut heads = vec![in alloc; number; keys.len()]?;
+    let mut next = vec![in alloc; number; number]?;
+    let mut values = Vec::new(alloc);
+    while number > 0 {
+        number -= 1;
+        key_texts(positions, &answer.at(number), &mut values)?;
+        let Ok(place) = place_of(keys, values.as_slice()) else {
+            continue;
+        };
+        next[number] = heads[place];
+        heads[place] = number;
     }
-    Ok(parts)
+    Ok(Chains { heads, next })
+}
+
+// The rows, and behind them those of the answer that stand in a chain.
+fn with_chain(
+    rows: PackedRows,
+    answer: &PackedRows,
+    next: &[usize],
+    head: usize,
+) -> Result<PackedRows, AllocError>
+    requires long { length next.now ≡ length answer.now }
+    requires chain { (part : List (List (List ℕ))) × IsChain answer.now next.now 0 head part }
+    ensures { (part : List (List (List ℕ))) → IsChain answer.now next.now 0 head part → IfOk result (λ more. more ≡ rows ++ part) }
+{
+    let mut more = rows;
+    let mut number = head;
+    while number < answer.len() {
+        more = more.with_lent(&answer.at(number))?;
+        number = next[number];
+    }
+    Ok(more)
 }
 
 /// The values of each row at the positions.
@@ -124,20 +162,4 @@ fn key_texts<'a>(
         texts.push(text_at(row, *position))?;
     }
     Ok(())
-}
-
-// The parts with one row more in one of them.
-fn with_part_row(
-    alloc: Global,
-    parts: Vec<PackedRows>,
-    place: usize,
-    row: &LentRow<'_>,
-) -> Result<Vec<PackedRows>, AllocError>
-    requires { place < length parts.items }
-    ensures { IfOk result (λ more. more.items ≡ slice_set parts.items place (slice_index_or parts.items place [] ++ row.now ∷ [])) }
-{
-    let mut parts = parts;
-    let part = mem::replace(&mut parts[place], PackedRows::new(alloc));
-    parts[place] = part.with_lent(row)?;
-    Ok(parts)
 }

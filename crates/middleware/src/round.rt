@@ -10,6 +10,7 @@ ghost use Rattle.middleware.specs.LaneBranches.{OnEach, LanesGo, LanesHalt};
 ghost use Rattle.middleware.specs.LaneAsking.{RoundShared, RoundUnshared};
 ghost use Rattle.middleware.specs.LaneRounds.{NoneStopped};
 
+use crate::answers::Answers;
 use crate::ascending::distinct_rows;
 use crate::asking::ask_wanted;
 use crate::by_request::rows_by_request;
@@ -131,7 +132,7 @@ fn join_wanted<R: Threads + Sync, S: Source + Send + Drop>(
     match ask_wanted(rt, alloc, schema, lanes, method, requests) {
         Ok(answers) => {
             let inputs = method.inputs.as_slice();
-            match join_answers(alloc, places, inputs, wanted, answers.into_vec()) {
+            match join_answers(alloc, places, inputs, wanted, answers) {
                 Ok(next) => Ok(next),
                 Err(_) => Err(RoundFault::NoMemory),
             }
@@ -147,10 +148,10 @@ fn join_answers(
     places: &[Place],
     inputs: &[u32],
     wanted: &Wanted,
-    answers: Vec<PackedRows>,
+    answers: Answers,
 ) -> Result<PackedRows, AllocError>
     requires wanted { IsWanted places.now inputs.now wanted.now.rows wanted.now.requests }
-    ensures { IfOk result (λ next. AreJoined places.now inputs.now wanted.now.requests answers.items wanted.now.rows next) }
+    ensures { IfOk result (λ next. AreJoined places.now inputs.now wanted.now.requests answers wanted.now.rows next) }
 {
     let ordered = lone_in_order(alloc, answers, wanted.rows.len())?;
     let next = join(

@@ -1,18 +1,18 @@
 // An answer that is itself what the partial rows grow to.
 ghost use Rattle.std.specs.Prelude.{◌≡◌, ◌∷◌, [], IsTrue};
-ghost use Rattle.source_trait.specs.Asking.{HaveArity, RowList};
+ghost use Rattle.source_trait.specs.Asking.{HaveArity};
 ghost use Rattle.middleware.specs.WholeAnswer.{AreNew, GrowsToAnswer};
 
+use crate::answers::Answers;
 use meaning::types::Place;
 use row_text::PackedRows;
-use std::alloc::Global;
 
 /// Whether the only partial row has no column yet, and each row of the only answer has one value for each place, which all make new
 /// columns.
-pub fn grows_to_answer(places: &[Place], answers: &[PackedRows], rows: &PackedRows) -> bool
+pub fn grows_to_answer(places: &[Place], answers: &Answers, rows: &PackedRows) -> bool
     ensures { IsTrue result → GrowsToAnswer places.now answers.now rows.now }
 {
-    let [answer] = answers else {
+    let Some(answer) = answers.lone() else {
         return false;
     };
     if !is_first(rows) {
@@ -32,17 +32,6 @@ fn is_first(rows: &PackedRows) -> bool
         return false;
     }
     have_arity(rows, 0)
-}
-
-/// The only answer.
-pub fn only_answer(alloc: Global, answers: Vec<PackedRows>) -> PackedRows
-    ensures { (answer : RowList) → answers.items ≡ answer ∷ [] → result ≡ answer }
-{
-    let mut answers = answers;
-    match answers.pop() {
-        Some(answer) => answer,
-        None => PackedRows::new(alloc),
-    }
 }
 
 fn are_new(places: &[Place]) -> bool

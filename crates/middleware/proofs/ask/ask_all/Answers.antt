@@ -10,38 +10,38 @@ at_place rows k row within at = at ∙ get_or_default rows k [] row within
 
 pub loop-number-init : goal.loop-number-init
 loop-number-init g c = record {
-  steps = lane_none g.S.Source.seen c.args.rel c.args.positions.now c.args.requests.now c.args.kind.now c.args.lane.now.kinds.items c.new-answers.result.items c.new-answers.ensures.items c.requires.there;
+  steps = lane_none g.S.Source.seen c.args.rel c.args.positions.now c.args.requests.now c.args.kind.now c.args.lane.now.kinds.items c.new-answers.result c.new-answers.ensures c.requires.there;
   stopped = refl;
 }
 
 pub ask_row-requires-clause-ready : goal.ask_row-requires-clause-ready
 ask_row-requires-clause-ready g c κs within =
     let at = at_place c.args.requests.now c.loop-number.number c.at.result (omega arith) c.at.ensures in
-    lane_ready g.S.Source.seen c.args.rel c.args.positions.now c.args.requests.now c.args.kind.now c.args.lane.now.kinds.items c.loop-number.lane.kinds.items c.loop-number.number c.loop-number.answers.items
+    lane_ready g.S.Source.seen c.args.rel c.args.positions.now c.args.requests.now c.args.kind.now c.args.lane.now.kinds.items c.loop-number.lane.kinds.items c.loop-number.number c.loop-number.answers
     c.loop-number.invariant.steps c.at.result (c.requires.ready c.at.result (c.loop-number.number, omega arith, sym at))
 
 pub returns-in-Err-clause-steps : goal.returns-in-Err-clause-steps
 returns-in-Err-clause-steps g c =
     let at = at_place c.args.requests.now c.loop-number.number c.at.result (omega arith) c.at.ensures in
-    lane_stop g.S.Source.seen c.args.rel c.args.positions.now c.args.requests.now c.args.kind.now c.args.lane.now.kinds.items c.loop-number.lane.kinds.items c.loop-number.number c.loop-number.answers.items
+    lane_stop g.S.Source.seen c.args.rel c.args.positions.now c.args.requests.now c.args.kind.now c.args.lane.now.kinds.items c.loop-number.lane.kinds.items c.loop-number.number c.loop-number.answers
     c.loop-number.invariant.steps c.ask_row.new.lane.kinds.items c.at.result (omega arith) at c.in-Err.fault c.in-Err.ensures.steps
 
-pub returns-in-Err-push-clause-steps : goal.returns-in-Err-push-clause-steps
-returns-in-Err-push-clause-steps g c =
+pub returns-in-Err-with-clause-steps : goal.returns-in-Err-with-clause-steps
+returns-in-Err-with-clause-steps g c =
     let at = at_place c.args.requests.now c.loop-number.number c.at.result (omega arith) c.at.ensures in
-    lane_full g.S.Source.seen c.args.rel c.args.positions.now c.args.requests.now c.args.kind.now c.args.lane.now.kinds.items c.loop-number.lane.kinds.items c.loop-number.number c.loop-number.answers.items
+    lane_full g.S.Source.seen c.args.rel c.args.positions.now c.args.requests.now c.args.kind.now c.args.lane.now.kinds.items c.loop-number.lane.kinds.items c.loop-number.number c.loop-number.answers
     c.loop-number.invariant.steps c.ask_row.new.lane.kinds.items c.at.result (omega arith) at c.in-Ok.answer c.in-Ok.ensures.steps
 
 pub loop-number-preserved : goal.loop-number-preserved
 loop-number-preserved g c =
     let at = at_place c.args.requests.now c.loop-number.number c.at.result (omega arith) c.at.ensures in
     record {
-      steps = lane_more g.S.Source.seen c.args.rel c.args.positions.now c.args.requests.now c.args.kind.now c.args.lane.now.kinds.items c.loop-number.lane.kinds.items c.loop-number.number c.loop-number.answers.items
-          c.loop-number.invariant.steps c.ask_row.new.lane.kinds.items c.at.result (omega arith) at c.in-Ok.answer c.push.new.self.items c.in-Ok-push.ensures.items c.in-Ok.ensures.steps;
+      steps = lane_more g.S.Source.seen c.args.rel c.args.positions.now c.args.requests.now c.args.kind.now c.args.lane.now.kinds.items c.loop-number.lane.kinds.items c.loop-number.number c.loop-number.answers
+          c.loop-number.invariant.steps c.ask_row.new.lane.kinds.items c.at.result (omega arith) at c.in-Ok.answer c.in-Ok-with.more c.in-Ok-with.ensures c.in-Ok.ensures.steps;
       stopped = c.ask_row.ensures.stopped ∙ c.loop-number.invariant.stopped;
     }
 
 pub returns-clause-steps : goal.returns-clause-steps
 returns-clause-steps g c =
-    lane_done g.S.Source.seen c.args.rel c.args.positions.now c.args.requests.now c.args.kind.now c.args.lane.now.kinds.items c.loop-number.lane.kinds.items c.loop-number.number c.loop-number.answers.items
-    c.loop-number.invariant.steps c.from_vec.result c.from_vec.ensures (omega arith)
+    lane_done g.S.Source.seen c.args.rel c.args.positions.now c.args.requests.now c.args.kind.now c.args.lane.now.kinds.items c.loop-number.lane.kinds.items c.loop-number.number c.loop-number.answers
+    c.loop-number.invariant.steps c.loop-number.answers refl (omega arith)

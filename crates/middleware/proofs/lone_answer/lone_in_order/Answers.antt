@@ -1,22 +1,15 @@
-use Rattle.std.proofs.Common.{◌≡◌, ◌↔◌, ◌<◌, ◌∙◌, List, ℕ, [], get_or, length, sym, subst, arith}
-use Rattle.std.specs.Prelude.{Contains}
-use Rattle.std.proofs.lemmas.List.{get_or_default}
-use Rattle.lists.proofs.Places.{set_twice}
-use Rattle.source_trait.specs.Asking.{RowList}
+use Rattle.std.proofs.Common.{◌≡◌, ◌++◌, ◌∷◌, []}
+use Rattle.std.proofs.lemmas.Result.{IfOk-weaker}
 use Rattle.middleware.specs.Joining.{HaveSameRows}
-use Rattle.middleware.proofs.Lone.{same_answers, first_moved}
+use Rattle.middleware.proofs.Lone.{same_answers, lone_moved}
 use Rattle.middleware.proofs.lone_answer.lone_in_order.Goals as goal
 
 pub returns-then-not-is_lone_below : goal.returns-then-not-is_lone_below
-returns-then-not-is_lone_below c = same_answers c.args.answers.items
+returns-then-not-is_lone_below c = same_answers c.args.answers
 
 pub returns : goal.returns
 returns c =
-    let answers = c.args.answers.items in
-    let sorted = c.in_ok-answers.field-0 in
-    let within : 0 < length answers = omega arith in
-    let lone : c.replace-lone.result ≡ get_or answers 0 [] =
-    c.replace-lone.ensures.value ∙ c.index_mut.ensures.value ∙ get_or_default answers 0 c.index_mut.result.now [] within in
-    let moved : (row : List (List ℕ)) → Contains sorted row ↔ Contains (get_or answers 0 []) row =
-    λ row. subst (λ (l : RowList). Contains sorted row ↔ Contains l row) lone (c.in_ok-answers.ensures.same row) in
-    subst (λ (l : List RowList). HaveSameRows answers l) (sym (set_twice answers 0 c.replace-lone.new.dest sorted)) (first_moved answers sorted moved)
+    IfOk-weaker c.with.result (λ more. more ≡ c.new.result ++ c.in_ok-ordered.ordered ∷ []) (λ more. HaveSameRows c.args.answers more)
+    (λ more is. lone_moved c.args.answers more c.into_rows.result c.in_ok-ordered.ordered (c.is_lone_below.ensures c.if-not-is_lone_below.false) c.into_rows.ensures
+    (rw c.new.ensures at is) c.in_ok-ordered.ensures.same)
+    c.with.ensures

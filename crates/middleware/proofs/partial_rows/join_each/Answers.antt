@@ -12,7 +12,7 @@ loop-number-preserved c = λ answer is others.
     elim c.match-answer_for.branch [
       | in-Some+in_ok-next-in-Some w ↦
           joined_there places c.args.inputs.now answer c.args.rows.now c.loop-number.number c.at-row.result values (omega arith) c.at-row.ensures key
-          c.loop-number.next c.match-answer_for.next (c.loop-number.invariant answer is others) w.in-Some.answer.now (w.in-Some.ensures answer is) (w.next-is ∙ w.in_ok-next-in-Some.ensures)
+          c.loop-number.next c.match-answer_for.next (c.loop-number.invariant answer is others) w.in-Some.answer (w.in-Some.ensures answer is) (w.next-is ∙ w.in_ok-next-in-Some.ensures)
       | in-None w ↦
           joined_absent places c.args.inputs.now answer c.args.rows.now c.loop-number.number c.at-row.result values (omega arith) c.at-row.ensures key
           c.loop-number.next c.match-answer_for.next (c.loop-number.invariant answer is others) c.args.requests.now others (w.in-None.ensures answer is) w.next-is

@@ -1,20 +1,28 @@
-use Rattle.std.proofs.Common.{◌≡◌, ◌∙◌, List, ℕ, Vec, Global, Bor, ap, map, refl, arith}
-use Rattle.row_text.specs.declared.packed.PackedRows.{PackedRows}
-use Rattle.middleware.specs.Parts.{key_of}
-use Rattle.middleware.proofs.Parting.{parts_with, parts_without}
-use Rattle.middleware.proofs.parts.parts_by_key.Goals.{in-Ok+in_ok-more-in-Ok, in-Err}
+use Rattle.std.proofs.Common.{◌<◌, ◌∙◌, [], ap, get_or, length, arith}
+use Rattle.middleware.specs.Parts.{part_of}
+use Rattle.middleware.proofs.Chains.{chain_at, parts_next}
 use Rattle.middleware.proofs.parts.parts_by_key.Goals as goal
+
+pub with_chain-requires : goal.with_chain-requires
+with_chain-requires c =
+    let chains = c.in_ok-heads.field-0 in
+    let within : c.loop-number.number < length c.args.keys.now = omega (arith, c.loop-number-test.true, c.len-number-end.ensures) in
+    record {
+      long = ap length c.as_slice.ensures.value ∙ c.in_ok-heads.ensures.next_long;
+      chain = (
+        part_of c.args.positions.now c.args.answer.now (get_or c.args.keys.now c.loop-number.number []),
+        chain_at c.args.positions.now c.args.answer.now c.args.keys.now chains.heads.items chains.next.items c.as_slice.result.now c.loop-number.number c.index.result.now
+            c.in_ok-heads.ensures c.as_slice.ensures.value c.index.ensures within,
+      );
+    }
 
 pub loop-number-preserved : goal.loop-number-preserved
 loop-number-preserved c =
-    let values = map (λ s. s.now) c.as_slice.result.now in
-    let key : values ≡ key_of c.args.positions.now c.at-row.result = ap (λ (l : List (Bor (List ℕ))). map (λ s. s.now) l) c.as_slice.ensures.value ∙ c.in_ok-key_texts.ensures in
-    elim c.match-place_of.branch [
-      | in-Ok+in_ok-more-in-Ok w ↦
-          parts_with c.args.positions.now c.args.answer.now c.args.keys.now c.loop-number.number c.at-row.result values (omega arith) c.at-row.ensures key
-          c.loop-number.parts.items c.match-place_of.parts.items c.loop-number.invariant w.in-Ok.place c.requires.ascends w.in-Ok.ensures.there
-          (ap (λ (v : Vec PackedRows Global). v.items) w.parts-is ∙ w.in_ok-more-in-Ok.ensures)
-      | in-Err w ↦
-          parts_without c.args.positions.now c.args.answer.now c.args.keys.now c.loop-number.number c.at-row.result values (omega arith) c.at-row.ensures key
-          c.loop-number.parts.items c.match-place_of.parts.items c.loop-number.invariant (w.in-Err.ensures.absent refl) (ap (λ (v : Vec PackedRows Global). v.items) w.parts-is)
-    ]
+    let chains = c.in_ok-heads.field-0 in
+    let part = part_of c.args.positions.now c.args.answer.now (get_or c.args.keys.now c.loop-number.number []) in
+    let within : c.loop-number.number < length c.args.keys.now = omega (arith, c.loop-number-test.true, c.len-number-end.ensures) in
+    let chain = chain_at c.args.positions.now c.args.answer.now c.args.keys.now chains.heads.items chains.next.items c.as_slice.result.now c.loop-number.number c.index.result.now
+    c.in_ok-heads.ensures c.as_slice.ensures.value c.index.ensures within in
+    let next = parts_next c.args.positions.now c.args.answer.now c.args.keys.now c.loop-number.ends.items c.push.new.self.items c.loop-number.rows c.in_ok-rows.rows c.loop-number.number
+    c.len-in-loop-number.result within c.loop-number.invariant.are c.loop-number.invariant.cut (c.in_ok-rows.ensures part chain) c.len-in-loop-number.ensures c.in_ok-push.ensures.items in
+    record { are = next.0; cut = next.1 }

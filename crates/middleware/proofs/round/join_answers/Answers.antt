@@ -8,4 +8,4 @@ join-requires-clause-asked c = λ row among.
     refl c.requires.wanted among
 
 pub returns : goal.returns
-returns c = record { ordered = c.in_ok-ordered.ordered.items; same = c.in_ok-ordered.ensures; joins = c.in_ok-next.ensures }
+returns c = record { ordered = c.in_ok-ordered.ordered; same = c.in_ok-ordered.ensures; joins = c.in_ok-next.ensures }

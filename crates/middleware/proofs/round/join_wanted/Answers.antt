@@ -1,6 +1,4 @@
 use Rattle.std.proofs.Common.{List, ℕ, refl, subst, sym, arith}
-use Rattle.source_trait.specs.Asking.{RowList}
-use Rattle.middleware.specs.LaneAsking.{AnswersFrom}
 use Rattle.middleware.specs.Rounds.{IsWanted}
 use Rattle.middleware.specs.declared.round.RoundFault.TheVariants as round
 use Rattle.middleware.proofs.Laning.{wanted_length}
@@ -31,8 +29,8 @@ returns-in-Ok-join_answers-clause-shared g c =
     c.args.wanted.now.requests refl c.args.lanes.now c.ask_wanted.new.lanes
     c.as_slice-inputs.result.now c.as_slice-inputs.ensures joined.ordered joined.ordered refl c.in-Ok-join_answers.next
     joined.joins c.in-Ok.ensures.asks
-    (λ instance holds. answers_moved instance c.args.method.now c.args.wanted.now.requests c.into_vec.result.items joined.ordered joined.same
-    (subst (λ (l : List RowList). AnswersFrom instance c.args.method.now c.args.wanted.now.requests l) (sym c.into_vec.ensures) (c.in-Ok.ensures.answers instance holds)))
+    (λ instance holds. answers_moved instance c.args.method.now c.args.wanted.now.requests c.in-Ok.answers joined.ordered joined.same
+    (c.in-Ok.ensures.answers instance holds))
 
 pub returns-in-Err-clause-refused : goal.returns-in-Err-clause-refused
 returns-in-Err-clause-refused g c =
