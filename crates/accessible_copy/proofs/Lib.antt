@@ -1,5 +1,6 @@
 pub mod Lists
 pub mod Beside
+pub mod Relations
 pub mod Placing
 pub mod MethodLists
 pub mod Writing

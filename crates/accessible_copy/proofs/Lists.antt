@@ -1,5 +1,5 @@
 -- Fronts of lists.
-use Rattle.std.proofs.Common.{◌≡◌, ℕ, zero, suc, List, [], ◌∷◌, ◌++◌, length, map, take, refl, sym, ap, subst, inl, inr, ⊎_elim, ◌∙◌, append_assoc, arith}
+use Rattle.std.proofs.Common.{◌≡◌, ℕ, zero, suc, ◌<◌, List, [], ◌∷◌, ◌++◌, length, map, take, refl, sym, ap, subst, inl, inr, ⊎_elim, ◌∙◌, append_assoc, arith}
 use Rattle.std.specs.Prelude.{◌⊎◌, flat_map, Some, slice_get}
 use Rattle.std.proofs.lemmas.Bool.{cases_lt}
 use Rattle.std.proofs.lemmas.Option.{slice_get_within}
@@ -39,6 +39,19 @@ values_push (first ∷ facts) fact = ap (λ z. first.vals ++ z) (values_push fac
 -- one fact more
 pub known_push : (constants : List (List ℕ)) (facts : List Ground) (fact : Ground) → known_values constants (facts ++ fact ∷ []) ≡ known_values constants facts ++ fact.vals
 known_push constants facts fact = ap (λ z. map Const constants ++ z) (values_push facts fact) ∙ sym (append_assoc (map Const constants) (values_in facts) fact.vals)
+
+-- a member of a front, by its place
+pub got_front : {X : Type 0} (n : ℕ) (xs : List X) (k : ℕ) (x : X) → slice_get (take n xs) k ≡ Some x → (k < n) × (slice_get xs k ≡ Some x)
+got_front zero xs k x e = absurd (cc)
+got_front (suc n) [] k x e = absurd (cc)
+got_front (suc n) (y ∷ xs) zero x e = (omega arith, e)
+got_front (suc n) (y ∷ xs) (suc k) x e = let (low, got) = got_front n xs k x e in (omega arith, got)
+
+pub front_got : {X : Type 0} (n : ℕ) (xs : List X) (k : ℕ) (x : X) → k < n → slice_get xs k ≡ Some x → slice_get (take n xs) k ≡ Some x
+front_got zero xs k x l e = absurd (omega arith)
+front_got (suc n) [] k x l e = absurd (cc)
+front_got (suc n) (y ∷ xs) zero x l e = e
+front_got (suc n) (y ∷ xs) (suc k) x l e = front_got n xs k x (omega arith) e
 
 -- one member more, by its place
 pub got_cases : {X : Type 0} (xs : List X) (x : X) (k : ℕ) (y : X) → slice_get (xs ++ x ∷ []) k ≡ Some y → (slice_get xs k ≡ Some y) ⊎ ((k ≡ length xs) × (x ≡ y))

@@ -1,5 +1,5 @@
 -- What is kept of the open facts, from exposure to exposure and back.
-use Rattle.std.proofs.Common.{◌≡◌, ℕ, zero, suc, ◌+◌, ◌<◌, ◌≤◌, List, [], ◌∷◌, ◌++◌, length, take, drop, Some, None, Bool, IsTrue, refl, sym, ap, ◌∙◌, subst, ⊎_elim, arith}
+use Rattle.std.proofs.Common.{◌≡◌, ℕ, ◌+◌, ◌<◌, ◌≤◌, List, [], ◌∷◌, ◌++◌, length, take, drop, Some, None, Bool, IsTrue, refl, sym, ap, ◌∙◌, subst, ⊎_elim, arith}
 use Rattle.std.specs.Prelude.{◌⊎◌, Contains, slice_get, Option, IfSome, Box}
 use Rattle.std.proofs.lemmas.Option.{slice_get_within}
 use Rattle.std.proofs.lemmas.List.{take_all, take-take, take-append-le, drop-append-le, length-take-le, length_push, length-append}
@@ -14,15 +14,8 @@ use Rattle.accessible_copy.specs.Proving.{Proving}
 use Rattle.accessible_copy.specs.Exposing.{with_exposure}
 use Rattle.accessible_copy.specs.Ways.{IsWayIndex}
 use Rattle.accessible_copy.specs.OpenFacts.{AreHolders, IsOpen, HasOpen, AreOpenFacts}
-use Rattle.accessible_copy.proofs.Lists.{take_front, got_cases, known_push}
+use Rattle.accessible_copy.proofs.Lists.{take_front, got_front, got_cases, known_push}
 use Rattle.accessible_copy.proofs.ExposureEntries.{facts_push}
-
--- entries of lists
-got_front : {X : Type 0} (n : ℕ) (xs : List X) (k : ℕ) (x : X) → slice_get (take n xs) k ≡ Some x → (k < n) × (slice_get xs k ≡ Some x)
-got_front zero xs k x e = absurd (cc)
-got_front (suc n) [] k x e = absurd (cc)
-got_front (suc n) (y ∷ xs) zero x e = (omega arith, e)
-got_front (suc n) (y ∷ xs) (suc k) x e = let (low, got) = got_front n xs k x e in (omega arith, got)
 
 -- nothing is exposed yet
 pub kept_from_none : (facts : List Ground) (constants : List (List ℕ)) (exposed : List Exposed) (kept : OpenFacts) → exposed ≡ [] → kept.before.items ≡ [] → kept.passed ≡ 0

@@ -12,6 +12,7 @@ use Rattle.meaning.specs.declared.types.Val.{Val}
 use Rattle.meaning.specs.declared.types.Val.TheVariants.{Const, Label}
 use Rattle.accessible_copy.specs.declared.first_places.FirstPlaces.{FirstPlaces}
 use Rattle.accessible_copy.specs.Places.{AreFirstPlaces, place_in, text_cmp}
+use Rattle.accessible_copy.proofs.Lists.{front_got}
 
 pub index_grown : (xs : List ℕ) (k : ℕ) → slice_index (xs ++ 0 ∷ []) k ≡ slice_index xs k
 index_grown [] zero = refl
@@ -62,21 +63,15 @@ take_twice (suc n) zero xs = let e : min (suc n) 0 ≡ 0 = omega arith in rw e r
 take_twice (suc n) (suc m) [] = let e : min (suc n) (suc m) ≡ suc (min n m) = omega arith in rw e refl
 take_twice (suc n) (suc m) (x ∷ xs) = let e : min (suc n) (suc m) ≡ suc (min n m) = omega arith in rw e (ap (λ l. x ∷ l) (take_twice n m xs))
 
-got_front : (n : ℕ) (xs : List Val) (k : ℕ) (x : Val) → k < n → slice_get xs k ≡ Some x → slice_get (take n xs) k ≡ Some x
-got_front zero xs k x l e = absurd (omega arith)
-got_front (suc n) [] k x l e = absurd (cc)
-got_front (suc n) (y ∷ xs) zero x l e = e
-got_front (suc n) (y ∷ xs) (suc k) x l e = got_front n xs k x (omega arith) e
-
 pub placed_cut : (values : List Val) (place : Val → ℕ) (count : ℕ) → AreFirstPlaces values place → AreFirstPlaces (take count values) place
 placed_cut values place count are n v c =
     let h : Contains (take (min n count) values) v = subst (λ l. Contains l v) (take_twice n count values) c in
     let (low, e) = are (min n count) v h in
-    (omega arith, got_front count values (place v) v (omega arith) e)
+    (omega arith, front_got count values (place v) v (omega arith) e)
 
 -- a value whose place is before another one stands before that
 pub placed_early : (values : List Val) (place : Val → ℕ) (n : ℕ) (v : Val) → AreFirstPlaces values place → slice_get values n ≡ Some v → place v < n → Contains (take n values) v
-placed_early values place n v are got low = let (l, e) = placed values place v are (contains_got values n v got) in contains_got (take n values) (place v) v (got_front n values (place v) v low e)
+placed_early values place n v are got low = let (l, e) = placed values place v are (contains_got values n v got) in contains_got (take n values) (place v) v (front_got n values (place v) v low e)
 
 -- a value stands here exactly where its place has it
 pub tells : (b : Bool) (values : List Val) (place : Val → ℕ) (v : Val) → AreFirstPlaces values place → (IsTrue b ↔ (slice_get values (place v) ≡ Some v)) → IsTrue b ↔ Contains values v

@@ -1,9 +1,10 @@
 -- Where values stand first.
-use Rattle.std.specs.Prelude.{◌≡◌, ℕ, ◌<◌, List, Contains, take, slice_get, slice_index, unwrap_or, Some}
+use Rattle.std.specs.Prelude.{◌≡◌, ℕ, ◌<◌, ◌≤◌, List, Contains, take, slice_get, slice_index, unwrap_or, Some}
 use Rattle.std.specs.declared.cmp.Ordering.{Ordering}
 use Rattle.std.specs.Ordering.{nat_cmp}
 use Rattle.std.specs.Cmp.Lexicographic.{slice_cmp}
 use Rattle.std.specs.BTreeMap.{get}
+use Rattle.meaning.specs.declared.types.Ground.{Ground}
 use Rattle.meaning.specs.declared.types.Val.{Val}
 use Rattle.meaning.specs.declared.types.Val.TheVariants.{Const, Label}
 use Rattle.accessible_copy.specs.declared.first_places.FirstPlaces.{FirstPlaces}
@@ -20,3 +21,12 @@ place_in places (Label label) = slice_index places.labels.items label
 -- Each of the values has the place at which it stands first.
 abbrev pub AreFirstPlaces : List Val → (Val → ℕ) → Type 0
 AreFirstPlaces values place = (n : ℕ) (v : Val) → Contains (take n values) v → (place v < n) × (slice_get values (place v) ≡ Some v)
+
+-- A fact of the relation stands at the place.
+abbrev pub IsOfRelation : List Ground → ℕ → ℕ → Type 0
+IsOfRelation facts place rel = (fact : Ground) × (slice_get facts place ≡ Some fact) × (fact.rel ≡ rel)
+
+-- The relation of each fact has a place, not behind the fact's, at which a fact of the relation stands.
+abbrev pub AreFirstOfRelations : List Ground → List ℕ → Type 0
+AreFirstOfRelations facts places = (n : ℕ) (fact : Ground) → slice_get facts n ≡ Some fact →
+    (slice_index places fact.rel ≤ n) × IsOfRelation facts (slice_index places fact.rel) fact.rel

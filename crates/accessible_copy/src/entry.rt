@@ -18,7 +18,7 @@ pub struct Entry {
     pub before: Sizes,
 }
 
-/// An exposed fact, with the number of the method that exposed it.
+/// An exposed fact, with the number of the method that exposed it: contracts see the exposed facts of a proof as a list of these.
 #[derive(Drop)]
 pub struct Exposed {
     pub method: u32,

@@ -31,7 +31,7 @@ impl FirstPlaces {
         ensures { result ≡ place_in self.now val.now }
     {
         match val {
-            Val::Label(label) => label_place(self.labels.as_slice(), *label),
+            Val::Label(label) => place_at(self.labels.as_slice(), *label),
             Val::Const(text) => constant_place(&self.constants, text),
         }
     }
@@ -55,11 +55,11 @@ impl FirstPlaces {
     }
 }
 
-/// The place of the label, or 0 where there is none.
-fn label_place(places: &[usize], label: u32) -> usize
-    ensures { result ≡ slice_index places.now label }
+/// The place with this number, or 0 where there is none. Takes no memory.
+pub(crate) fn place_at(places: &[usize], number: u32) -> usize
+    ensures { result ≡ slice_index places.now number }
 {
-    match places.get(label as usize) {
+    match places.get(number as usize) {
         Some(place) => *place,
         None => 0,
     }
@@ -76,7 +76,7 @@ fn constant_place(places: &BTreeMap<Text, usize>, text: &Text) -> usize
 }
 
 /// Makes the list longer by zeros until it has the index.
-fn grow(places: &mut Vec<usize>, index: usize) -> Result<(), NoMemory>
+pub(crate) fn grow(places: &mut Vec<usize>, index: usize) -> Result<(), NoMemory>
     ensures stays { (k : ℕ) → slice_index places.new.items k ≡ slice_index places.old.items k }
     ensures long { OnOk result (index < length places.new.items) }
 {

@@ -23,8 +23,8 @@ use std::marker::Model;
 
 /// Base facts, exposed facts and copy facts, the next label, the known values, and the log of the firings.
 ///
-/// `open_facts` is what is kept to list exposures fast, from the first exposure on. Contracts do not see it. It stands in a box, so
-/// that little moves where it is taken out and put back.
+/// `open_facts` is what is kept to list exposures fast, from the first exposure on. Contracts do not see it. It stands in a
+/// box, so that a pointer moves where it is taken out and put back.
 #[derive(Drop)]
 pub struct Proof {
     pub(crate) opening: State,
