@@ -229,8 +229,8 @@ fn value_at<'a>(row: &LentRow<'a>, position: u32) -> &'a str
     }
 }
 
-// Copies of as many of the values, from the first on.
-fn first_values(alloc: Global, values: &[Text], count: usize) -> Result<Row, AllocError>
+/// Copies of as many of the values, from the first on.
+pub(crate) fn first_values(alloc: Global, values: &[Text], count: usize) -> Result<Row, AllocError>
     ensures { IfOk result (λ first. first ≡ take count values.now) }
 {
     let mut first = Vec::with_capacity(alloc, count)?;

@@ -26,7 +26,7 @@ pub use failing::FailingCalls;
 pub use files::{FileFault, Files};
 pub use holding::{Attachment, Holding};
 pub use lanes::{Boxed, Kind, Kinds, Lane, attach_on, call_on};
-pub use meaning::types::Request;
+pub use meaning::types::{Request, Requests};
 pub use memory_files::{MemoryFiles, NamedBytes, NamedFile, names_differ};
 pub use memory_sink::MemorySink;
 pub use memory_source::{MemorySource, locators_differ};

@@ -1,10 +1,12 @@
 // The requests that a source was asked.
-ghost use Rattle.std.specs.Prelude.{◌≡◌, ◌≤◌, ◌<◌, ◌+◌, ◌^◌, ◌↔◌, ◌++◌, ◌∷◌, [], length, IsTrue, OnOk, OnErr};
+ghost use Rattle.std.specs.Prelude.{◌≡◌, ◌≤◌, ◌<◌, ◌+◌, ◌^◌, ◌↔◌, ◌++◌, ◌∷◌, [], List, length, replicate, IfOk, IsTrue, OnOk, OnErr};
 ghost use Rattle.source_trait.specs.declared.request_log.Shape.{Shape};
-ghost use Rattle.source_trait.specs.RequestLog.{EndsWith, shapes_of};
+ghost use Rattle.source_trait.specs.RequestLog.{EndsWith, requests_in, shapes_of, width_of};
 
+use crate::crowded::first_values;
 use crate::packed_texts::PackedTexts;
-use lists::{Copies, Exact, NoMemory, Places, Row};
+use lists::{Copies, Exact, NoMemory, Places, Row, Text};
+use meaning::types::{Request, Requests};
 use std::alloc::Global;
 use std::marker::Model;
 
@@ -85,6 +87,14 @@ impl RequestLog {
         self.count = count;
         Ok(())
     }
+
+    /// Copies of the requests, in order.
+    pub fn requests(&self, alloc: Global) -> Result<Requests, NoMemory>
+        ensures { IfOk result (λ requests. requests ≡ self.now) }
+    {
+        let values = self.values.texts(alloc)?;
+        requests_of(alloc, self.runs.as_slice(), values.as_slice())
+    }
 }
 
 // Makes a run of this shape the last one: a new one, of no requests yet, where the last is of another shape.
@@ -135,4 +145,42 @@ fn count_one(runs: &mut Vec<Run>)
     let last = runs.len() - 1;
     let run = &mut runs[last];
     run.count += 1;
+}
+
+// The requests of runs with these values.
+fn requests_of(alloc: Global, runs: &[Run], values: &[Text]) -> Result<Requests, NoMemory>
+    requires { width_of (shapes_of runs.now) ≤ length values.now }
+    ensures { IfOk result (λ requests. requests ≡ requests_in (shapes_of runs.now) values.now) }
+{
+    let mut requests = Requests::new(alloc);
+    let mut later = runs;
+    let mut left = values;
+    while let [run, rest @ ..] = later {
+        left = add_requests(alloc, &mut requests, run, left)?;
+        later = rest;
+    }
+    Ok(requests)
+}
+
+// Adds the requests of a run, whose values are the first of these, and answers the values behind them.
+fn add_requests<'a>(
+    alloc: Global,
+    requests: &mut Requests,
+    run: &Run,
+    values: &'a [Text],
+) -> Result<&'a [Text], NoMemory>
+    requires { width_of (replicate run.now.count run.now.shape) ≤ length values.now }
+    ensures added { IfOk result (λ left. (later : List Shape) → requests.new ++ requests_in later left.now ≡ requests.old ++ requests_in (replicate run.now.count run.now.shape ++ later) values.now) }
+    ensures left { IfOk result (λ left. width_of (replicate run.now.count run.now.shape) + length left.now ≡ length values.now) }
+{
+    let mut left = values;
+    for _ in 0..run.count {
+        requests.push(Request {
+            rel: run.shape.rel,
+            positions: run.shape.positions.copy(alloc)?,
+            values: first_values(alloc, left, run.shape.width)?,
+        })?;
+        left = left.split_at(run.shape.width).1;
+    }
+    Ok(left)
 }

@@ -16,7 +16,7 @@ loop-text-preserved c =
     let more : take (i + 1) texts ≡ take i texts ++ text ∷ [] = search (rules, take_more) in
     let all : there ++ take (i + 1) texts ≡ there ++ take i texts ++ text ∷ [] = ap (λ (l : List (List ℕ)). there ++ l) more ∙ sym (append_assoc there (take i texts) (text ∷ [])) in
     record {
-      packed = rw (ends, bytes, all) (packed_more c.loop-text.ends.items c.loop-text.bytes.items text (there ++ take i texts) c.loop-text.invariant.packed);
+      packed = rw (ends, bytes, all) (packed_more c.loop-text.ends.items c.loop-text.bytes.items text (there ++ take i texts) c.loop-text.invariant.packed c.as_bytes.ensures.utf8);
       bytes = rw bytes (front_stays c.args.bytes.now.items c.loop-text.bytes.items text c.loop-text.invariant.bytes);
       ends = rw ends (front_stays c.args.ends.now.items c.loop-text.ends.items (length (c.loop-text.bytes.items ++ text) ∷ []) c.loop-text.invariant.ends);
     }
