@@ -92,3 +92,17 @@ fn copies_of_packed_rows_are_the_same_rows(rt: HostRuntime) -> Result<(), Fail> 
     assert!(rt; are(&made, &[&["x", "y"], &["z"], &["x", "y"]]));
     Ok(())
 }
+
+/// The rows of one list behind those of another.
+fn behind(alloc: Global, list: &[&[&str]], more: &[&[&str]]) -> Result<PackedRows, NoMemory> {
+    rows(alloc, list)?.with_all(rows(alloc, more)?)
+}
+
+#[test]
+fn rows_are_put_behind_others_and_behind_none(rt: HostRuntime) -> Result<(), Fail> {
+    let both = behind(rt.alloc(), &[&["x"]], &[&["y", "z"], &["x"]])?;
+    assert!(rt; are(&both, &[&["x"], &["y", "z"], &["x"]]));
+    let taken = behind(rt.alloc(), &[], &[&["y", "z"]])?;
+    assert!(rt; are(&taken, &[&["y", "z"]]));
+    Ok(())
+}
