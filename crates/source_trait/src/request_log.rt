@@ -67,7 +67,7 @@ impl RequestLog {
         self.count
     }
 
-    /// Notes a request behind the others; where memory is refused, the log stays.
+    /// Notes a request behind the others; where memory is refused, or there are 2^64 - 1 requests, the log stays.
     pub fn push(
         &mut self,
         alloc: Global,
