@@ -1,5 +1,5 @@
 // Distinct rows in ascending order.
-ghost use Rattle.std.specs.Prelude.{◌≡◌, ◌↔◌, Contains, IfOk, List, ℕ, map};
+ghost use Rattle.std.specs.Prelude.{◌≡◌, ◌↔◌, [], Contains, IfOk, List, ℕ, map};
 ghost use Rattle.std.specs.List.Sorted.{IsStrictlySortedBy};
 ghost use Rattle.row_text.specs.RowText.{row_cmp};
 
@@ -14,7 +14,8 @@ pub fn ascending_distinct(alloc: Global, rows: &PackedRows) -> Result<PackedRows
     ensures same { IfOk result (λ distinct. (row : List (List ℕ)) → Contains distinct row ↔ Contains rows.now row) }
 {
     let members = ascending_members(alloc, rows)?;
-    let distinct = rows_of(alloc, members.as_slice())?;
+    let room = rows.room_alike(alloc)?;
+    let distinct = rows_of(members.as_slice(), room)?;
     Ok(distinct)
 }
 
@@ -42,10 +43,12 @@ fn started(alloc: Global, rows: &PackedRows) -> Result<Vec<Started<'_>>, NoMemor
     Ok(members)
 }
 
-fn rows_of(alloc: Global, members: &[Started<'_>]) -> Result<PackedRows, NoMemory>
+// The rows of the members, in the room that there is for them.
+fn rows_of(members: &[Started<'_>], room: PackedRows) -> Result<PackedRows, NoMemory>
+    requires { room ≡ [] }
     ensures { IfOk result (λ rows. rows ≡ map (λ m. m.row) members.now) }
 {
-    let mut rows = PackedRows::new(alloc);
+    let mut rows = room;
     for member in members {
         rows = rows.with_lent(&member.row)?;
     }

@@ -43,6 +43,31 @@ impl PackedRows {
         }
     }
 
+    /// No rows, with room for copies of these.
+    pub fn room_alike(&self, alloc: Global) -> Result<PackedRows, AllocError>
+        ensures { IfOk result (λ room. room ≡ []) }
+    {
+        let bytes = byte_count(&self.values);
+        let room = with_room(alloc, self.len(), self.values.len(), bytes)?;
+        Ok(room)
+    }
+
+    /// No rows, with room for the rows of another list, each behind a row of these that is as long as they are on average.
+    pub fn room_beside(&self, alloc: Global, others: &PackedRows) -> Result<PackedRows, AllocError>
+        ensures { IfOk result (λ room. room ≡ []) }
+    {
+        let count = others.len();
+        let values = share(self.values.len(), self.len(), count);
+        let bytes = share(byte_count(&self.values), self.len(), count);
+        let room = with_room(
+            alloc,
+            count,
+            values.saturating_add(others.values.len()),
+            bytes.saturating_add(byte_count(&others.values)),
+        )?;
+        Ok(room)
+    }
+
     /// These rows, copied.
     pub fn from_rows(alloc: Global, rows: &[Row]) -> Result<PackedRows, AllocError>
         ensures { IfOk result (λ packed. packed ≡ rows.now) }
@@ -163,6 +188,34 @@ impl PackedRows {
         }
         Ok(rows)
     }
+}
+
+// No rows, with room for so many rows with so many values, whose texts have so many bytes.
+fn with_room(
+    alloc: Global,
+    rows: usize,
+    values: usize,
+    bytes: usize,
+) -> Result<PackedRows, AllocError>
+    ensures { IfOk result (λ room. room ≡ []) }
+{
+    Ok(PackedRows {
+        values: StringRecord::with_capacity(alloc, bytes, values)?,
+        ends: Vec::with_capacity(alloc, rows)?,
+    })
+}
+
+// How many bytes the values have.
+fn byte_count(values: &StringRecord) -> usize {
+    values.as_byte_record().as_slice().len()
+}
+
+// What `count` members have, where `of` members have this much.
+fn share(total: usize, of: usize, count: usize) -> usize {
+    if of == 0 {
+        return 0;
+    }
+    (total / of).saturating_add(1).saturating_mul(count)
 }
 
 // Adds values behind those that are there.
