@@ -59,6 +59,21 @@ impl Answers {
         Ok(Answers { rows: all, ends })
     }
 
+    // No rows, with room for a partial row and the row that it grows by, for each row of the answers. Where there are fewer partial rows,
+    // the room is that of the answers alone: few rows may be long.
+    pub(crate) fn room_beside(
+        &self,
+        alloc: Global,
+        partial: &PackedRows,
+    ) -> Result<PackedRows, AllocError>
+        ensures { IfOk result (λ room. room ≡ []) }
+    {
+        if partial.len() < self.rows.len() {
+            return self.rows.room_alike(alloc);
+        }
+        partial.room_beside(alloc, &self.rows)
+    }
+
     /// How many answers there are.
     pub fn len(&self) -> usize
         ensures { result ≡ length self.now }

@@ -79,7 +79,8 @@ fn sorted_by(
 {
     let mut members = asking_rows(alloc, first, rows)?;
     members.sort_unstable_by(|left, right| compare_asking(columns, left, right));
-    let sorted = rows_once(alloc, members.as_slice())?;
+    let room = rows.room_alike(alloc)?;
+    let sorted = rows_once(members.as_slice(), room)?;
     Ok(sorted)
 }
 
@@ -121,11 +122,12 @@ fn compare_asking<'a>(columns: &[u32], left: &Asking<'a>, right: &Asking<'a>) ->
     }
 }
 
-// The rows of the members, but for one that the member before it has, too.
-fn rows_once(alloc: Global, members: &[Asking<'_>]) -> Result<PackedRows, AllocError>
+// The rows of the members, but for one that the member before it has, too, in the room that there is for them.
+fn rows_once(members: &[Asking<'_>], room: PackedRows) -> Result<PackedRows, AllocError>
+    requires { room ≡ [] }
     ensures { IfOk result (λ list. HasAdded [] (map (λ m. m.row) members.now) list) }
 {
-    let mut list = PackedRows::new(alloc);
+    let mut list = room;
     for member in members {
         list = add_row(&member.row, list)?;
     }

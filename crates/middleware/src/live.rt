@@ -176,7 +176,7 @@ fn masked_rows(alloc: Global, mask: &[bool], rows: &PackedRows) -> Result<Packed
 {
     let mut values = Vec::new(alloc);
     let mut texts = Vec::new(alloc);
-    let mut kept = PackedRows::new(alloc);
+    let mut kept = rows.room_alike(alloc)?;
     for number in 0..rows.len() {
         values.clear();
         rows.at(number).add_to(&mut values)?;

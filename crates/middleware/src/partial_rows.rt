@@ -113,7 +113,7 @@ fn join_each(
 {
     let mut values = Vec::new(alloc);
     let mut texts = Vec::new(alloc);
-    let mut next = PackedRows::new(alloc);
+    let mut next = answers.room_beside(alloc, rows)?;
     let mut near = 0;
     for number in 0..rows.len() {
         let row = rows.at(number);
@@ -138,7 +138,7 @@ pub fn input_rows(
     ensures { IfOk result (λ list. HasAdded [] (map (input_row_of places.now inputs.now) rows.now) list) }
 {
     let mut texts = Vec::new(alloc);
-    let mut list = PackedRows::new(alloc);
+    let mut list = rows.room_alike(alloc)?;
     for number in 0..rows.len() {
         input_texts(places, inputs, &rows.at(number), &mut texts)?;
         list = add_unless_last(texts.as_slice(), list)?;

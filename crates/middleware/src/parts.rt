@@ -68,7 +68,7 @@ pub fn parts_by_key(
     ensures { IfOk result (λ parts. parts ≡ map (part_of positions.now answer.now) keys.now) }
 {
     let Chains { heads, next } = chains_by_key(alloc, positions, keys, answer)?;
-    let mut rows = PackedRows::new(alloc);
+    let mut rows = answer.room_alike(alloc)?;
     let mut ends = Vec::with_capacity(alloc, keys.len())?;
     for number in 0..keys.len() {
         rows = with_chain(rows, answer, next.as_slice(), heads[number])?;
@@ -141,7 +141,7 @@ pub fn key_rows(
     ensures { IfOk result (λ list. list ≡ map (key_of positions.now) rows.now) }
 {
     let mut texts = Vec::new(alloc);
-    let mut list = PackedRows::new(alloc);
+    let mut list = rows.room_alike(alloc)?;
     for number in 0..rows.len() {
         key_texts(positions, &rows.at(number), &mut texts)?;
         list = list.with_texts(texts.as_slice())?;

@@ -4,7 +4,7 @@ use Rattle.middleware.proofs.Steps.{added_next, added_none}
 use Rattle.middleware.proofs.by_request.rows_once.Goals as goal
 
 pub loop-member-init : goal.loop-member-init
-loop-member-init c = rw c.new-list.ensures added_none
+loop-member-init c = rw c.requires added_none
 
 pub loop-member-preserved : goal.loop-member-preserved
 loop-member-preserved c =

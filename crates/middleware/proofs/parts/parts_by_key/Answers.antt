@@ -23,6 +23,6 @@ loop-number-preserved c =
     let within : c.loop-number.number < length c.args.keys.now = omega (arith, c.loop-number-test.true, c.len-number-end.ensures) in
     let chain = chain_at c.args.positions.now c.args.answer.now c.args.keys.now chains.heads.items chains.next.items c.as_slice.result.now c.loop-number.number c.index.result.now
     c.in_ok-heads.ensures c.as_slice.ensures.value c.index.ensures within in
-    let next = parts_next c.args.positions.now c.args.answer.now c.args.keys.now c.loop-number.ends.items c.push.new.self.items c.loop-number.rows c.in_ok-rows.rows c.loop-number.number
-    c.len-in-loop-number.result within c.loop-number.invariant.are c.loop-number.invariant.cut (c.in_ok-rows.ensures part chain) c.len-in-loop-number.ensures c.in_ok-push.ensures.items in
+    let next = parts_next c.args.positions.now c.args.answer.now c.args.keys.now c.loop-number.ends.items c.push.new.self.items c.loop-number.rows c.in_ok-rows-2.rows c.loop-number.number
+    c.len-in-loop-number.result within c.loop-number.invariant.are c.loop-number.invariant.cut (c.in_ok-rows-2.ensures part chain) c.len-in-loop-number.ensures c.in_ok-push.ensures.items in
     record { are = next.0; cut = next.1 }
