@@ -1,6 +1,7 @@
 pub mod Lists
 pub mod Beside
 pub mod Relations
+pub mod Others
 pub mod Placing
 pub mod MethodLists
 pub mod Writing

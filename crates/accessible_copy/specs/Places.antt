@@ -1,5 +1,5 @@
 -- Where values stand first.
-use Rattle.std.specs.Prelude.{◌≡◌, ℕ, ◌<◌, ◌≤◌, List, Contains, take, slice_get, slice_index, unwrap_or, Some}
+use Rattle.std.specs.Prelude.{◌≡◌, ℕ, suc, ◌<◌, ◌≤◌, ◌==◌, List, [], ◌∷◌, Contains, take, slice_get, slice_index, unwrap_or, Some, if◌then◌else◌}
 use Rattle.std.specs.declared.cmp.Ordering.{Ordering}
 use Rattle.std.specs.Ordering.{nat_cmp}
 use Rattle.std.specs.Cmp.Lexicographic.{slice_cmp}
@@ -30,3 +30,13 @@ IsOfRelation facts place rel = (fact : Ground) × (slice_get facts place ≡ Som
 abbrev pub AreFirstOfRelations : List Ground → List ℕ → Type 0
 AreFirstOfRelations facts places = (n : ℕ) (fact : Ground) → slice_get facts n ≡ Some fact →
     (slice_index places fact.rel ≤ n) × IsOfRelation facts (slice_index places fact.rel) fact.rel
+
+-- The facts, of which the first stands at this place, that do not stand at the first place of their relation.
+abbrev pub others_of : ℕ → List ℕ → List Ground → List Ground
+others_of place firsts [] = []
+others_of place firsts (fact ∷ facts) =
+    if slice_index firsts fact.rel == place then others_of (suc place) firsts facts else fact ∷ others_of (suc place) firsts facts
+
+-- The facts with the places of the first ones of their relations, and the others.
+abbrev pub AreIndexed : List Ground → List ℕ → List Ground → Type 0
+AreIndexed facts firsts others = AreFirstOfRelations facts firsts × (others ≡ others_of 0 firsts facts)

@@ -4,40 +4,32 @@ ghost use Rattle.meaning.specs.declared.types.Ground.{Ground as TheGround};
 ghost use Rattle.meaning.specs.declared.types.Val.{Val as TheVal};
 ghost use Rattle.meaning.specs.declared.types.Val.TheVariants.{Const};
 ghost use Rattle.accessible_copy.specs.Known.{known_values, facts_of};
-ghost use Rattle.accessible_copy.specs.Places.{IsOfRelation, AreFirstOfRelations};
 
-use crate::first_places::{grow, place_at};
+use crate::exposed_facts::ExposedFacts;
 use crate::values::Values;
-use homomorphism::{Positions, Store};
 use lists::{Copies, NoMemory, Texts};
 use meaning::types::{Ground, Val};
 use std::alloc::Global;
 use std::marker::Model;
 
 /// Constants, exposed facts with the numbers of their methods beside them, and the values that these make known.
-///
-/// `firsts` has for each relation the place at which a fact of it was exposed first. Of a relation without exposed facts it may
-/// have any place, so that facts are dropped without a look at it.
 #[derive(Drop)]
 pub struct Known {
     constants: Texts,
     methods: Vec<u32>,
-    facts: Store,
-    firsts: Vec<usize>,
+    facts: ExposedFacts,
     values: Values,
 }
 
 impl Model for Known {
     ghost use Rattle.std.specs.Prelude.{◌≡◌, length};
     ghost use Rattle.accessible_copy.specs.Known.{Showing, known_values, shown_by};
-    ghost use Rattle.accessible_copy.specs.Places.{AreFirstOfRelations};
 
     ghost Value = { Showing };
 
     ghost view = { λ k. record { constants = k.constants; exposed = shown_by k.methods.items k.facts } };
 
-    ghost invariant = { λ k. (k.values ≡ known_values k.constants k.facts) × (length k.methods.items ≡ length k.facts)
-        × AreFirstOfRelations k.facts k.firsts.items };
+    ghost invariant = { λ k. (k.values ≡ known_values k.constants k.facts) × (length k.methods.items ≡ length k.facts) };
 }
 
 impl Known {
@@ -48,8 +40,7 @@ impl Known {
         Ok(Known {
             constants: constants.copy(alloc)?,
             methods: Vec::new(alloc),
-            facts: Store::found_by(alloc, Positions::none(alloc)),
-            firsts: Vec::new(alloc),
+            facts: ExposedFacts::new(alloc),
             values: constant_values(alloc, constants)?,
         })
     }
@@ -98,15 +89,11 @@ impl Known {
         self.values.new_at(number)
     }
 
-    /// Whether the fact is exposed. It is looked up only where a fact of its relation is exposed. Takes no memory.
+    /// Whether the fact is exposed. Takes no memory.
     #[tactic(auto, using(crate::proofs::Beside::facts_shown))]
     pub fn has(&self, fact: &Ground) -> bool
         ensures { IsTrue result ↔ Contains (facts_of self.now.exposed) fact.now }
     {
-        let first = place_at(self.firsts.as_slice(), fact.rel);
-        if !is_of_relation(&self.facts, first, fact.rel) {
-            return false;
-        }
         self.facts.contains(fact)
     }
 
@@ -125,10 +112,9 @@ impl Known {
         ensures refused { OnErr result (self.new ≡ self.old) }
     {
         let count = self.facts.len();
-        note_relation(&mut self.firsts, &self.facts, fact.rel)?;
         let shown = fact.copy(alloc)?;
         self.methods.push(method)?;
-        if let Err(fault) = self.facts.insert(alloc, shown) {
+        if let Err(fault) = self.facts.push(alloc, shown) {
             self.methods.truncate(count);
             return Err(fault);
         }
@@ -151,31 +137,6 @@ impl Known {
         self.facts.truncate(count);
         self.values.truncate(width);
     }
-}
-
-/// Whether a fact of the relation stands at the place. Takes no memory.
-fn is_of_relation(facts: &Store, place: usize, rel: u32) -> bool
-    ensures { IsTrue result ↔ IsOfRelation facts.now place rel }
-{
-    match facts.get(place) {
-        Some(fact) => fact.rel == rel,
-        None => false,
-    }
-}
-
-/// Notes the next place as the relation's first one, if no fact of it stands here.
-fn note_relation(firsts: &mut Vec<usize>, facts: &Store, rel: u32) -> Result<(), NoMemory>
-    ensures kept { AreFirstOfRelations facts.now firsts.old.items → AreFirstOfRelations facts.now firsts.new.items }
-    ensures next { OnOk result (AreFirstOfRelations facts.now firsts.old.items → (fact : TheGround) → fact.rel ≡ rel →
-        AreFirstOfRelations (facts.now ++ fact ∷ []) firsts.new.items) }
-{
-    let first = place_at(firsts.as_slice(), rel);
-    if is_of_relation(facts, first, rel) {
-        return Ok(());
-    }
-    grow(firsts, rel as usize)?;
-    firsts[rel as usize] = facts.len();
-    Ok(())
 }
 
 /// Each text as a constant.

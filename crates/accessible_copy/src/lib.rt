@@ -4,6 +4,7 @@
 #![tactic(auto)]
 
 mod entry;
+mod exposed_facts;
 mod exposing;
 mod first_places;
 mod goals;

@@ -2,7 +2,6 @@ use Rattle.std.proofs.Common.{◌≡◌, length, take, sym, ap, ◌∙◌, subst
 use Rattle.accessible_copy.specs.Known.{Showing, known_values, facts_of, shown_by}
 use Rattle.accessible_copy.proofs.Lists.{known_front}
 use Rattle.accessible_copy.proofs.Beside.{facts_shown, shown_cut, even_cut}
-use Rattle.accessible_copy.proofs.Relations.{firsts_cut}
 use Rattle.accessible_copy.proofs.known.Known.truncate.Goals as goal
 
 pub invariant_of-self : goal.invariant_of-self
@@ -16,7 +15,6 @@ invariant_of-self c =
     = ap facts_of (shown_cut methods facts c.args.count) ∙ facts_shown (take c.args.count methods) (take c.args.count facts) (even_cut methods facts c.args.count even) in (
       rw (c.truncate-3.ensures, c.truncate-2.ensures, c.self.invariant.0) (known_front c.self.inside.constants facts c.args.count c.args.width (rw shown at wide)),
       rw (c.truncate.ensures.items, c.truncate-2.ensures) (even_cut methods facts c.args.count even),
-      rw c.truncate-2.ensures (firsts_cut facts c.self.inside.firsts.items c.args.count c.self.invariant.2),
     )
 
 pub returns : goal.returns
