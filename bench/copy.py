@@ -20,6 +20,8 @@ HELPERS = ["calls", "queries", "schemas"]
 MEASURED = [("tree", [3750, 7500, 15000, 30000]), ("chain", [25, 50, 100, 200]), ("sets", [128, 512, 2048, 8190])]
 # The loops of the program that keep a proof: their invariants are that of the helpers' loop over calls.
 LOOPS = {"all_rounds": "loop", "expose_sets": "loop"}
+# The functions of the program that are proved as those of the helpers with the same names.
+ALIKE = ["is_quiet", "expose_listed"]
 
 
 def built(folder):
@@ -39,6 +41,9 @@ def built(folder):
         of = os.path.relpath(path, f"{tests}/proofs/of_proofs")
         write(f"{crate}/proofs/{of}", open(path).read().replace("planner_cases.proofs.of_proofs", f"{NAME}.proofs"))
     kept = open(f"{tests}/proofs/of_proofs/calls/make_all/Invariants.antt").read()
+    for function in ALIKE:
+        said = open(f"{tests}/proofs/of_proofs/calls/{function}/Answers.antt").read()
+        write(f"{crate}/proofs/{function}/Answers.antt", said.replace("planner_cases.proofs.of_proofs.calls", f"{NAME}.proofs"))
     for function, loop in LOOPS.items():
         said = kept.replace("planner_cases.proofs.of_proofs.calls.make_all", f"{NAME}.proofs.{function}").replace("invariant-loop-call", f"invariant-{loop}")
         write(f"{crate}/proofs/{function}/Invariants.antt", said)
