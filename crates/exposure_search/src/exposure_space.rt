@@ -61,7 +61,11 @@ impl<'a> ExposureSpace<'a> {
         ensures space { IfOk result (λ space. space ≡ exploring_of (meaning_of schema.now) proof queries.now head.now budget space.marks) }
         ensures founded { IfOk result (λ space. IsFounded space) }
     {
-        let aim = Aim::of(alloc, schema, &proof, queries, head, budget)?;
+        // a drop that is written out is proved as one call, and one at the end of a scope as a call for each list in the value
+        let Ok(aim) = Aim::of(alloc, schema, &proof, queries, head, budget) else {
+            drop(proof);
+            return Err(NoMemory);
+        };
         Ok(ExposureSpace { aim, proof })
     }
 
@@ -76,7 +80,13 @@ impl<'a> ExposureSpace<'a> {
         ensures none { IfOk result (λ found. IfNone found (HasRunBeyond self.entry ⊎ (HasGoalAt self.entry set.now → ⊥))) }
     {
         let ExposureSpace { aim, mut proof } = self;
-        let found = reach_set(&aim, &mut proof, path, set)?;
+        let reached = reach_set(&aim, &mut proof, path, set);
+        // written out for their proofs, as in `new`
+        drop(aim);
+        let Ok(found) = reached else {
+            drop(proof);
+            return Err(NoMemory);
+        };
         Ok(with_match(proof, found))
     }
 }
@@ -87,7 +97,10 @@ fn with_match(proof: Proof, found: Option<Match>) -> Option<(Proof, Match)>
 {
     match found {
         Some(found) => Some((proof, found)),
-        None => None,
+        None => {
+            drop(proof);
+            None
+        }
     }
 }
 

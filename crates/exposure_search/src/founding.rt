@@ -35,7 +35,11 @@ pub fn base_proof(
     ensures none { IfOk result (λ made. IfNone made (IsRunBeyond (meaning_of schema.now) known.now (opening query.now) budget)) }
 {
     let mut proof = Proof::start(alloc, schema, query, goals, known)?;
-    let quiet = fire_base(alloc, &mut proof, schema, budget)?;
+    let Ok(quiet) = fire_base(alloc, &mut proof, schema, budget) else {
+        // written out, since it is proved as one call, and at the end of the scope as a call for each list in the proof
+        drop(proof);
+        return Err(NoMemory);
+    };
     Ok(quiet.then_some(proof))
 }
 

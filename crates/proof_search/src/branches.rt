@@ -84,7 +84,10 @@ fn branch_for(
         firings,
     };
     let (proof, quiet) = prove(alloc, &question, Turn::All)?;
-    outcome_of(alloc, &question, &proof, quiet, search)
+    let outcome = outcome_of(alloc, &question, &proof, quiet, search);
+    // written out, since it is proved as one call, and at the end of the scope as a call for each list in the proof
+    drop(proof);
+    outcome
 }
 
 /// What a search of the query comes to, and whether nothing is active at its end.

@@ -78,9 +78,14 @@ fn choose_over(
         question.head,
         firings,
     )?;
-    let Outcome { better, ended } = cheapest(alloc, &mut space, bound, search as u64)?;
+    // a drop that is written out is proved as one call, and one at the end of a scope as a call for each list in the value
+    let Ok(Outcome { better, ended }) = cheapest(alloc, &mut space, bound, search as u64) else {
+        drop(space);
+        return Err(NoMemory);
+    };
     let least = least_of(ended, firings, search);
     let Some(node) = better else {
+        drop(space);
         return Ok(Choice {
             branch: first,
             least,
@@ -126,13 +131,17 @@ fn cheaper(
     let Some((proof, found)) = space.reach(&node.path, &node.set)? else {
         return Ok(None);
     };
-    let branch = extract(
+    let read = extract(
         alloc,
         &proof,
         question.schema,
         question.queries,
         question.head,
         &found,
-    )?;
+    );
+    // written out for their proofs, as in `choose_over`
+    drop(proof);
+    drop(found);
+    let branch = read?;
     Ok(Some(branch))
 }

@@ -34,7 +34,11 @@ pub fn prove(alloc: Global, question: &Question<'_>, turn: Turn) -> Result<(Proo
         question.queries,
         question.known,
     )?;
-    let quiet = fire_all(alloc, &mut proof, question.schema, question.firings, turn)?;
+    let Ok(quiet) = fire_all(alloc, &mut proof, question.schema, question.firings, turn) else {
+        // written out, since it is proved as one call, and at the end of the scope as a call for each list in the proof
+        drop(proof);
+        return Err(NoMemory);
+    };
     Ok((proof, quiet))
 }
 

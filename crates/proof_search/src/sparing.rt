@@ -48,5 +48,8 @@ fn spared(alloc: Global, question: &Question<'_>) -> Result<Option<Branch>, NoMe
     ensures { IfOk result (λ found. IfSome found (IsBranchOn question.now)) }
 {
     let (proof, _) = prove(alloc, question, Turn::Cheapest)?;
-    branch_in(alloc, question, &proof)
+    let branch = branch_in(alloc, question, &proof);
+    // written out, since it is proved as one call, and at the end of the scope as a call for each list in the proof
+    drop(proof);
+    branch
 }

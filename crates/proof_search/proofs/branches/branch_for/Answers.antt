@@ -13,8 +13,8 @@ prove-requires c = record {
   firings = c.requires.firings;
 }
 
-pub outcome_of-requires-clause-question : goal.outcome_of-requires-clause-question
-outcome_of-requires-clause-question c = record {
+pub outcome_of-outcome-requires-clause-question : goal.outcome_of-outcome-requires-clause-question
+outcome_of-outcome-requires-clause-question c = record {
   queries = c.requires.queries;
   few = c.requires.few;
   among = c.requires.among;

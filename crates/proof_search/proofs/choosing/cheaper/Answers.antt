@@ -13,26 +13,26 @@ returns-in_default-clause-none c =
     let none : HasRunBeyond c.args.space ⊎ (HasGoalAt c.args.space c.deref-2.result.now → ⊥) = rw c.in_default.is at c.in_ok-proof.ensures.none in
     not_reached_here c.args.question.now c.requires.question c.args.space c.requires.space c.args.node.now.set.items c.requires.goal (subst (λ s. HasRunBeyond c.args.space ⊎ (HasGoalAt c.args.space s → ⊥)) set none)
 
-pub extract-requires-clause-proof : goal.extract-requires-clause-proof
-extract-requires-clause-proof c =
+pub extract-read-requires-clause-proof : goal.extract-read-requires-clause-proof
+extract-read-requires-clause-proof c =
     let reached : IsReached c.args.space c.deref.result.now c.in-Some.proof = search rules in
     (c.args.question.now.query.now, reached_for c.args.question.now c.requires.question c.args.space c.requires.space c.deref.result.now c.in-Some.proof reached)
 
-pub extract-requires-clause-few : goal.extract-requires-clause-few
-extract-requires-clause-few c =
+pub extract-read-requires-clause-few : goal.extract-read-requires-clause-few
+extract-read-requires-clause-few c =
     let reached : IsReached c.args.space c.deref.result.now c.in-Some.proof = search rules in
     let few = reached_few c.args.question.now c.requires.question c.args.space c.requires.space c.deref.result.now c.in-Some.proof reached in
     let low = c.requires.question.firings in
     omega arith
 
-pub extract-requires-clause-known : goal.extract-requires-clause-known
-extract-requires-clause-known c constant among =
+pub extract-read-requires-clause-known : goal.extract-read-requires-clause-known
+extract-read-requires-clause-known c constant among =
     let reached : IsReached c.args.space c.deref.result.now c.in-Some.proof = search rules in
     let constants = reached_constants c.args.question.now c.requires.question c.args.space c.requires.space c.deref.result.now c.in-Some.proof reached in
     subst (λ known. Contains known constant) (sym constants) (c.requires.question.known constant among)
 
-pub extract-requires-clause-fits : goal.extract-requires-clause-fits
-extract-requires-clause-fits c other among = (c.requires.question.queries other among).fits
+pub extract-read-requires-clause-fits : goal.extract-read-requires-clause-fits
+extract-read-requires-clause-fits c other among = (c.requires.question.queries other among).fits
 
 pub returns-clause-branch : goal.returns-clause-branch
 returns-clause-branch c =

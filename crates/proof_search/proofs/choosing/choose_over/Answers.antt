@@ -14,22 +14,22 @@ pub cost-bound-requires-clause-named : goal.cost-bound-requires-clause-named
 cost-bound-requires-clause-named c =
     let question = c.args.question.now in lawful_named (meaning_of question.schema.now) question.known.now 0 c.args.first.steps c.args.first.output c.requires.first.rival.lawful
 
-pub returns-in_default : goal.returns-in_default
-returns-in_default c =
+pub returns-in_default-better : goal.returns-in_default-better
+returns-in_default-better c =
     let question = c.args.question.now in
     let space = c.in_ok-space.space in
     let its : IsSpaceOn question space = space_on question c.requires.question c.args.base c.requires.start c.requires.constants space c.in_ok-space.ensures.space c.in_ok-space.ensures.founded in
-    let found : c.in_ok-better.field-0.better ≡ None = search (c.in_default.is, c.in_ok-better.better-is, rules) in
+    let found : c.in-Ok.field-0.better ≡ None = search (c.in_default-better.is, rules) in
     let costs : CostsAtMost (meaning_of question.schema.now) c.args.first c.cost-bound.result = (c.cost-bound.result, c.cost-bound.ensures, omega arith) in
-    chosen_on question c.requires.question space its c.args.search c.args.first c.least_of-least.result c.requires.first c.cost-bound.result costs c.in_ok-better.field-0.ended
+    chosen_on question c.requires.question space its c.args.search c.args.first c.least_of-least.result c.requires.first c.cost-bound.result costs c.in-Ok.field-0.ended
     c.least_of-least.ensures.shown c.least_of-least.ensures.search c.least_of-least.ensures.firings
-    (λ end. subst (λ (b : Option Node). IsLeastCost (space_size space) (CanGain (CanExpose space) (GainsAt space)) (HasGoalAt space) (best_cost c.cost-bound.result b)) found (c.in_ok-better.ensures.shown end))
-    c.in_ok-better.ensures.search c.in_ok-better.ensures.firings
+    (λ end. subst (λ (b : Option Node). IsLeastCost (space_size space) (CanGain (CanExpose space) (GainsAt space)) (HasGoalAt space) (best_cost c.cost-bound.result b)) found (c.in-Ok.ensures.shown end))
+    c.in-Ok.ensures.search c.in-Ok.ensures.firings
 
 pub cheaper-requires-clause-space : goal.cheaper-requires-clause-space
 cheaper-requires-clause-space c =
     let question = c.args.question.now in
-    subst (IsSpaceOn question) (sym c.in_ok-better.ensures.back) (space_on question c.requires.question c.args.base c.requires.start c.requires.constants c.in_ok-space.space c.in_ok-space.ensures.space c.in_ok-space.ensures.founded)
+    subst (IsSpaceOn question) (sym c.in-Ok.ensures.back) (space_on question c.requires.question c.args.base c.requires.start c.requires.constants c.in_ok-space.space c.in_ok-space.ensures.space c.in_ok-space.ensures.founded)
 
 pub returns-in-Some-2 : goal.returns-in-Some-2
 returns-in-Some-2 c =
@@ -37,9 +37,9 @@ returns-in-Some-2 c =
     let space = c.in_ok-space.space in
     let its : IsSpaceOn question space = space_on question c.requires.question c.args.base c.requires.start c.requires.constants space c.in_ok-space.ensures.space c.in_ok-space.ensures.founded in
     let one : IsBranchOn question c.in-Some-2.branch = rw c.in-Some-2.is at c.in_ok-branch.ensures.branch in
-    let found : c.in_ok-better.field-0.better ≡ Some c.in-Some.node = search (c.in-Some.is, c.in_ok-better.better-is, rules) in
+    let found : c.in-Ok.field-0.better ≡ Some c.in-Some.node = search (c.in-Some.is, rules) in
     let costs : CostsAtMost (meaning_of question.schema.now) c.in-Some-2.branch c.in-Some.node.cost = rw c.in-Some-2.is at c.in_ok-branch.ensures.cost in
-    chosen_on question c.requires.question space its c.args.search c.in-Some-2.branch c.least_of-least.result one c.in-Some.node.cost costs c.in_ok-better.field-0.ended
+    chosen_on question c.requires.question space its c.args.search c.in-Some-2.branch c.least_of-least.result one c.in-Some.node.cost costs c.in-Ok.field-0.ended
     c.least_of-least.ensures.shown c.least_of-least.ensures.search c.least_of-least.ensures.firings
-    (λ end. subst (λ (b : Option Node). IsLeastCost (space_size space) (CanGain (CanExpose space) (GainsAt space)) (HasGoalAt space) (best_cost c.cost-bound.result b)) found (c.in_ok-better.ensures.shown end))
-    c.in_ok-better.ensures.search c.in_ok-better.ensures.firings
+    (λ end. subst (λ (b : Option Node). IsLeastCost (space_size space) (CanGain (CanExpose space) (GainsAt space)) (HasGoalAt space) (best_cost c.cost-bound.result b)) found (c.in-Ok.ensures.shown end))
+    c.in-Ok.ensures.search c.in-Ok.ensures.firings
