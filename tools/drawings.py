@@ -13,7 +13,7 @@ from pdq_texts import Misfit
 from streams import Words, finish
 
 LONGEST = 40  # columns of a cell; longer texts are cut
-MOST_ROOM = 1 << 25  # lanes times rows of a drawing
+MOST_ROOM = 1 << 24  # lanes times rows of a drawing
 COLOURS = ["#1f5fa8", "#b3461e", "#2a7d3f", "#7b3f98", "#8a6d00", "#0f7c86", "#a3235f", "#4d5560"]
 
 
