@@ -3,15 +3,17 @@
 A wire has a vertical trunk in a lane of its own, as far out as it must to keep clear of others: shorter wires lie further in. A row has at
 most one wire, so where two wires meet they cross.
 """
-import argparse
-import sys
 import unicodedata
+from bisect import bisect_left, bisect_right
+from itertools import accumulate
 from typing import NamedTuple
 from xml.sax.saxutils import escape
 
 from pdq_texts import Misfit
+from streams import Words, finish
 
 LONGEST = 40  # columns of a cell; longer texts are cut
+MOST_ROOM = 1 << 24  # lanes times rows of a drawing
 COLOURS = ["#1f5fa8", "#b3461e", "#2a7d3f", "#7b3f98", "#8a6d00", "#0f7c86", "#a3235f", "#4d5560"]
 
 
@@ -61,9 +63,7 @@ def cut(text):
     text = visible(text)
     if width(text) <= LONGEST:
         return text
-    while width(text) > LONGEST - 2:
-        text = text[:-1]
-    return text + ".."
+    return text[:sum(reach <= LONGEST - 2 for reach in accumulate(map(width, text)))] + ".."
 
 
 def padded(text, wanted):
@@ -94,28 +94,36 @@ def inner_width(boxes):
 # ---- lanes
 
 
-def lanes(wires, place):
-    """A lane for each wire, counted from the boxes on: shorter wires first, each in the first lane in which it meets no other. `place`
-    gives the height of a row."""
+def lanes(wires, places):
+    """A lane for each wire, counted from the boxes on: shorter wires first, each in the first lane in which it meets no other. `places`
+    has the height of each row."""
     spans = []
     for number, wire in enumerate(wires):
-        heights = [place(port) for port in wire.starts + wire.ends]
+        heights = [places[port] for port in wire.starts + wire.ends]
         spans.append((max(heights) - min(heights), number, min(heights), max(heights)))
-    taken, chosen = [], {}
+    taken, chosen = [], {}  # of each lane the heights at which a wire begins or ends, in ascending order
     for _, number, top, bottom in sorted(spans):
-        lane = next((lane for lane, others in enumerate(taken) if all(bottom < low or high < top for low, high in others)), len(taken))
+        lane = next((lane for lane, ends in enumerate(taken) if is_free(ends, top, bottom)), len(taken))
         if lane == len(taken):
             taken.append([])
-        taken[lane].append((top, bottom))
+        if len(taken) * len(places) > MOST_ROOM:
+            raise Misfit("drawing: too large")
+        at = bisect_left(taken[lane], top)
+        taken[lane][at:at] = [top, bottom]
         chosen[number] = lane
     return [chosen[number] for number in range(len(wires))]
 
 
+def is_free(ends, top, bottom):
+    """Whether no wire of a lane meets one from top to bottom: none ends there, and as many as begin above it end above it."""
+    above = bisect_left(ends, top)
+    return above % 2 == 0 and above == bisect_right(ends, bottom)
+
+
 # ---- in characters
 
-NORTH, EAST, SOUTH, WEST = 1, 2, 4, 8
-STROKES = {NORTH | SOUTH: "│", EAST | WEST: "─", NORTH | WEST: "┘", SOUTH | WEST: "┐", NORTH | SOUTH | WEST: "┤",
-           NORTH | EAST | SOUTH | WEST: "┼"}
+LEVEL = str.maketrans(" │", "─┼")
+CORNERS = {(False, True): "┐", (True, False): "┘", (True, True): "┤"}  # whether the trunk comes from above, and whether it goes on below
 
 
 def as_characters(sections):
@@ -125,19 +133,34 @@ def as_characters(sections):
 
 def section_lines(section):
     lines, line_of = box_lines(section.boxes)
-    right = inner_width(section.boxes) + 3  # the column of the right edges
-    strokes = {}
-    for wire, lane in zip(section.wires, lanes(section.wires, line_of.get)):
-        strokes_of(wire, right + 3 + 2 * lane, right, line_of, strokes)
     for wire in section.wires:
         for port in wire.starts:
             lines[line_of[port]] = lines[line_of[port]][:-1] + "├"
-    for number, line in enumerate(lines):
-        beside = {column: stroke for (at, column), stroke in strokes.items() if at == number}
-        for column in range(right + 1, max(beside, default=right) + 1):
-            line += beside[column] if isinstance(beside.get(column), str) else STROKES.get(beside.get(column, 0), " ")
-        lines[number] = line
-    return ([section.title] if section.title else []) + lines
+    beside = lines_beside(section.wires, line_of, len(lines))
+    return ([section.title] if section.title else []) + [line + wires for line, wires in zip(lines, beside)]
+
+
+def lines_beside(wires, line_of, count):
+    """What stands beside each line of the boxes: the trunks that pass it, and the level part of the wire that has a port there."""
+    chosen = lanes(wires, line_of)
+    ports, last = {}, set()  # the trunk and the tip of the wire at a line; the trunks with the lines at which they end
+    for wire, lane in zip(wires, chosen):
+        trunk = 2 + 2 * lane
+        ports.update({line_of[port]: (trunk, "─") for port in wire.starts})
+        ports.update({line_of[port]: (trunk, "<") for port in wire.ends})
+        last.add((trunk, max(line_of[port] for port in wire.starts + wire.ends)))
+    upright, passing, lines = [" "] * (3 + 2 * max(chosen, default=0)), "", []
+    for line in range(count):
+        if line not in ports:
+            lines.append(passing)
+            continue
+        trunk, tip = ports[line]
+        above, below = upright[trunk] != " ", (trunk, line) not in last
+        upright[trunk] = "│" if below else " "
+        passing = "".join(upright)
+        lines.append(tip + passing[1:trunk].translate(LEVEL) + CORNERS[above, below] + passing[trunk + 1:])
+        passing = passing.rstrip()
+    return lines
 
 
 def box_lines(boxes):
@@ -160,23 +183,6 @@ def row_line(row, columns, inner):
     for begins, cell in zip(offsets(row, columns)[0], row.cells):
         text = padded(text, begins) + cell.text
     return "│ " + padded(text, inner) + " │"
-
-
-def strokes_of(wire, trunk, right, line_of, strokes):
-    """Adds the strokes of a wire to those at each line and column: directions, or the tip of an arrow."""
-    heights = sorted(line_of[port] for port in wire.starts + wire.ends)
-    for height in range(heights[0], heights[-1] + 1):
-        add(strokes, height, trunk, (NORTH if height > heights[0] else 0) | (SOUTH if height < heights[-1] else 0))
-    for port in wire.starts + wire.ends:
-        for column in range(right + 1, trunk):
-            add(strokes, line_of[port], column, EAST | WEST)
-        add(strokes, line_of[port], trunk, WEST)
-    for port in wire.ends:
-        strokes[line_of[port], right + 1] = "<"
-
-
-def add(strokes, line, column, directions):
-    strokes[line, column] = strokes.get((line, column), 0) | directions
 
 
 # ---- as SVG
@@ -227,7 +233,7 @@ def section_svg(section, top):
         lines += box_svg(box, top, inner)
         top += (len(box.rows) + 1) * LINE + GAP
     right = EDGE + inner
-    chosen = lanes(section.wires, height_of.get)
+    chosen = lanes(section.wires, height_of)
     trunks = [right + 14 + LANE * (lane + 1) for lane in chosen]
     lines += wires_svg(section.wires, trunks, right, height_of)
     title_end = EDGE + width(section.title) * CHARACTER
@@ -286,37 +292,17 @@ def line_svg(kind, colour, start, end):
             f'stroke="{colour}"/>')
 
 
-# ---- the words and the files of a tool
+# ---- the words of a tool that draws
 
 
 def words(about, name, what):
     """The words of a tool that draws one text: an option for characters, and the name of the text's file."""
-    parser = argparse.ArgumentParser(description=about, allow_abbrev=False)
+    parser = Words(about)
     parser.add_argument("--text", action="store_true", help="draw in characters, and not as SVG")
     parser.add_argument(name, nargs="?", help=f"the file of {what}; without it, standard input")
     return parser
 
 
-def read(name):
-    """The bytes of the file, or of standard input where there is no name."""
-    try:
-        if name is None:
-            return sys.stdin.buffer.read()
-        with open(name, "rb") as file:
-            return file.read()
-    except FileNotFoundError:
-        raise Misfit(f"read {name}: missing") from None
-    except OSError:
-        raise Misfit(f"read {name}: failed") from None
-
-
-def finish(draw, in_characters):
-    """Writes the drawing of what `draw` gives, or why there is none. The status is then 2."""
-    try:
-        sections = draw()
-    except Misfit as misfit:
-        print(misfit, file=sys.stderr)
-        return 2
-    drawing = as_characters(sections) if in_characters else as_svg(sections)
-    sys.stdout.buffer.write(drawing.encode("utf-8"))
-    return 0
+def draw(make_sections, in_characters):
+    """Writes the drawing of the sections, or reports why there is none; gives the exit status."""
+    return finish(lambda: as_characters(make_sections()) if in_characters else as_svg(make_sections()))

@@ -1,12 +1,14 @@
-"""Schema texts and plan texts, read as docs/GUIDE.md says: what is none is refused by the line that the program gives for it.
+"""Schema texts, plan texts and refutations, read as docs/GUIDE.md says: what is none is refused by the line that the program gives for it.
 
 `read_schema` and `read_plan` take the bytes of a text, and raise `Misfit` with that line. `first_fault` gives the first reason why a plan
-is not lawful, over a schema or, without one, as far as the plan alone shows it.
+is not lawful, over a schema or, without one, as far as the plan alone shows it. `read_refutation` takes the bytes of what `pdq explain`
+prints where there is no plan, and `query_constants` those of a query, of which it looks at the tokens alone.
 """
 import re
 from typing import NamedTuple, Optional
 
 MOST_BYTES = 1 << 20
+MOST_QUERY_BYTES = 1 << 16
 MARK = b"\xef\xbb\xbf"
 MOST_WIDTH = 64
 MOST_COLUMN = 4_294_967_295
@@ -16,6 +18,15 @@ TOKEN = re.compile(r"""
       (?P<blank>   [ \t\r]+ )
     | (?P<comment> \#[^\n]* )
     | (?P<end>     \n )
+    | (?P<word>    [A-Za-z_][A-Za-z0-9_]* )
+    | (?P<quoted>  "(?:[^"]|"")+" )
+    | (?P<text>    '(?:[^']|'')*' )
+    | (?P<number>  [0-9]+ )
+    | (?P<symbol>  <= | >= | <> | != | -> | [(),;.:=*<>+\-/|$] )
+    """, re.VERBOSE)
+SQL_TOKEN = re.compile(r"""
+      (?P<blank>   [ \t\r\n]+ )
+    | (?P<comment> --[^\n]* )
     | (?P<word>    [A-Za-z_][A-Za-z0-9_]* )
     | (?P<quoted>  "(?:[^"]|"")+" )
     | (?P<text>    '(?:[^']|'')*' )
@@ -103,6 +114,17 @@ class Branch(NamedTuple):
 class Plan(NamedTuple):
     width: int
     branches: list
+
+
+class Fact(NamedTuple):
+    relation: str
+    values: tuple
+
+
+class Refutation(NamedTuple):
+    answer: tuple
+    first: list  # of facts, each once, in the order of the text
+    second: list
 
 
 # ---- tokens and lines
@@ -492,6 +514,82 @@ def place_fault(places, inputs, began):
     return None, made
 
 
+# ---- refutations
+
+
+class RefutationReader:
+    """Reads a refutation line by line: the heads `no plan`, `answer`, `first`, `second` and `end`, in this order, and facts behind two of
+    them."""
+
+    def __init__(self, schema):
+        self.widths = {relation.name: len(relation.columns) for relation in schema.relations}
+        self.heads, self.answer, self.first, self.second = ["no", "answer", "first", "second", "end"], (), {}, {}
+
+    def take(self, tokens):
+        line = Reader(tokens)
+        facts = {2: self.first, 1: self.second}[len(self.heads)] if len(self.heads) in (1, 2) else None
+        if facts is not None and len(tokens) > 1:
+            fact = Fact(line.name(), tuple(line.in_brackets(lambda: read_value(line))))
+            if self.widths.get(fact.relation) != len(fact.values):
+                raise NotThere
+            facts[fact] = None
+        elif not self.heads:
+            raise NotThere
+        else:
+            self.head(line, self.heads.pop(0))
+        line.finish()
+
+    def head(self, line, word):
+        line.keyword(word)
+        if word == "no":
+            line.keyword("plan")
+        elif word == "answer":
+            self.answer = tuple(line.listed(lambda: read_value(line)))
+
+
+def read_value(line):
+    return line.one_of("text", "number").text
+
+
+def read_refutation(text, schema):
+    """The refutation that the bytes are, over the relations of the schema."""
+    text = decoded("refutation", text)
+    reader = RefutationReader(schema)
+    for line in lines_of(text):
+        try:
+            if line.tokens is None:
+                raise NotThere
+            reader.take(line.tokens)
+        except NotThere:
+            raise Misfit(f"refutation: line {line.number} does not fit") from None
+    if reader.heads:
+        raise Misfit("refutation: line {} does not fit".format(text.count("\n") + 1))
+    return Refutation(reader.answer, list(reader.first), list(reader.second))
+
+
+# ---- constants
+
+
+def schema_constants(schema):
+    """The constants of a schema, those of its rules too."""
+    return set(schema.constants).union(*(constants(rule) for rule in schema.rules if isinstance(rule, Rule)))
+
+
+def query_constants(text):
+    """The constants of the query that the bytes are: its texts in single quotes and its numbers. Its grammar is not looked at."""
+    text = decoded("query", text)
+    found, at = set(), 0
+    while at < len(text):
+        token = SQL_TOKEN.match(text, at)
+        if not token:
+            fault = "open quote" if text[at] in "'\"" and not text.startswith('""', at) else "bad byte"
+            raise Misfit(f"query: {fault} at byte {len(text[:at].encode())}")
+        if token.lastgroup in ("text", "number"):
+            found.add(meaning(token.lastgroup, token.group()))
+        at = token.end()
+    return found
+
+
 # ---- texts for people
 
 
@@ -503,3 +601,8 @@ def shown_name(name):
 def shown_value(value):
     """A value as the program prints it."""
     return "'" + value.replace("'", "''") + "'"
+
+
+def shown_fact(fact):
+    """A fact as the program prints it."""
+    return f"{shown_name(fact.relation)}({', '.join(map(shown_value, fact.values))})"
