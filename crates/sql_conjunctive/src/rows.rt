@@ -12,7 +12,7 @@ ghost use Rattle.access_schema.specs.Meaning.{meaning_of};
 ghost use Rattle.row_text.specs.RowText.{row_cmp};
 ghost use Rattle.homomorphism.specs.Instances.{AreFactsOf};
 ghost use Rattle.sql_conjunctive.specs.Form.{IsNumbered};
-ghost use Rattle.sql_conjunctive.specs.Rows.{AreFree, FitsWithFew, HasFew, head_under};
+ghost use Rattle.sql_conjunctive.specs.Rows.{AreFree, AreRowsOf, FitsWithFew, HasFew, head_under};
 
 use crate::conjoin::conjunctive;
 use crate::form::Conjunctive;
@@ -35,15 +35,46 @@ pub fn answers(
     ensures members { IfOk result (λ rows. (row : Row) → Contains rows row ↔ Answers statement.now instance.now row) }
     ensures ascends { IfOk result (λ rows. IsStrictlySortedBy row_cmp rows) }
 {
+    let rows = found_rows(alloc, statement.selects.as_slice(), schema, instance)?;
+    let packed = PackedRows::from_rows(alloc, rows.as_slice())?;
+    drop(rows);
+    let distinct = ascending_distinct(alloc, &packed)?;
+    unpacked(alloc, &distinct)
+}
+
+/// The answers of the selects on the instance, in any order.
+fn found_rows(
+    alloc: Global,
+    selects: &[Select],
+    schema: &Schema,
+    instance: &Instance,
+) -> Result<Vec<Row>, NoMemory>
+    requires fits { All (FitsWithFew (meaning_of schema.now)) selects.now }
+    requires instance { IsInstance (meaning_of schema.now) instance.now }
+    ensures { IfOk result (λ rows. AreRowsOf instance.now selects.now rows.items) }
+{
     let store = Store::of_instance(alloc, instance)?;
+    // lent, so that its drop is proved at this one way out, and not at each of the loop
+    all_rows(alloc, selects, schema, &store)
+}
+
+/// The answers of the selects on the facts of the store, in any order.
+fn all_rows(
+    alloc: Global,
+    selects: &[Select],
+    schema: &Schema,
+    store: &Store,
+) -> Result<Vec<Row>, NoMemory>
+    requires { All (FitsWithFew (meaning_of schema.now)) selects.now }
+    ensures { IfOk result (λ rows. (facts : List Fact) → IsInstance (meaning_of schema.now) facts → AreFactsOf facts store.now →
+        AreRowsOf facts selects.now rows.items) }
+{
     let mut rows = Vec::new(alloc);
-    for select in statement.selects.as_slice() {
-        let mut more = select_rows(alloc, select, schema, &store)?;
+    for select in selects {
+        let mut more = select_rows(alloc, select, schema, store)?;
         rows.append(&mut more)?;
     }
-    let packed = PackedRows::from_rows(alloc, rows.as_slice())?;
-    let distinct = ascending_distinct(alloc, &packed)?;
-    Ok(unpacked(alloc, &distinct)?)
+    Ok(rows)
 }
 
 /// The rows, each with memory of its own.
