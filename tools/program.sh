@@ -11,11 +11,11 @@ note=$top/dist/made-from
 seen=$out/shipped-is-right
 
 # the words by which `find` knows the sources
-sources=(-type f \( -name '*.rt' -o -name '*.antt' -o -name crates.txt \))
+source_words=(-type f \( -name '*.rt' -o -name '*.antt' -o -name crates.txt \))
 
 # one sum over the names and contents of all sources
 sum_of_sources() {
-    (set -o pipefail && cd "$top" && find crates.txt crates -name out -prune -o "${sources[@]}" -print0 |
+    (set -o pipefail && cd "$top" && find crates.txt crates -name out -prune -o "${source_words[@]}" -print0 |
         LC_ALL=C sort -z | xargs -0 sha256sum | sum_of_input)
 }
 
@@ -27,7 +27,7 @@ sum_of_input() {
 # Whether a source is newer than a file, or a folder, in which one was then added, renamed or removed. Further words say which folders count.
 newer_than() {
     local found
-    found=$(cd "$top" && find crates.txt crates -name out -prune -o \( "${sources[@]}" -o -type d "${@:2}" \) -newer "$1" -print -quit) || return 0
+    found=$(cd "$top" && find crates.txt crates -name out -prune -o \( "${source_words[@]}" -o -type d "${@:2}" \) -newer "$1" -print -quit) || return 0
     [ -n "$found" ]
 }
 
@@ -35,7 +35,7 @@ newer_than() {
 # The gate leaves no sum: then only times can say it, and those of the crates' own folders do not, as the gate makes their folders `out`.
 is_built() {
     [ -x "$built" ] || return 1
-    if [ ! -e "$built.sum" ] || [ "$built" -nt "$built.sum" ]; then
+    if [ ! -s "$built.sum" ] || [ "$built" -nt "$built.sum" ]; then
         ! newer_than "$built" -regextype posix-extended -regex 'crates(/[^/]*/(src|specs|proofs)(/.*)?)?' || return 1
         { sum_of_sources >"$built.sum"; } 2>/dev/null || :
     elif newer_than "$built"; then
