@@ -24,10 +24,12 @@ sum_of_input() {
     sum=$(sha256sum) && printf '%s\n' "${sum%% *}"
 }
 
-# Whether a source is newer than a file, or a folder, in which one was then added, renamed or removed. Further words say which folders count.
+# Whether a source is newer than a file, or a folder, in which one was then added, renamed or removed. Further words say which folders
+# count.
 newer_than() {
     local found
-    found=$(cd "$top" && find crates.txt crates -name out -prune -o \( "${source_words[@]}" -o -type d "${@:2}" \) -newer "$1" -print -quit) || return 0
+    found=$(cd "$top" && find crates.txt crates -name out -prune -o \
+        \( "${source_words[@]}" -o -type d "${@:2}" \) -newer "$1" -print -quit) || return 0
     [ -n "$found" ]
 }
 
@@ -56,7 +58,8 @@ noted() {
 is_shipped() {
     why=
     [ -e "$shipped" ] || return 1
-    if [ -e "$seen" ] && [ ! "$top/dist" -nt "$seen" ] && [ ! "$shipped" -nt "$seen" ] && [ ! "$note" -nt "$seen" ] && ! newer_than "$seen"; then
+    if [ -e "$seen" ] && [ ! "$top/dist" -nt "$seen" ] && [ ! "$shipped" -nt "$seen" ] && [ ! "$note" -nt "$seen" ] &&
+        ! newer_than "$seen"; then
         return 0
     fi
     why="the shipped program has no note dist/made-from"
@@ -72,7 +75,8 @@ is_shipped() {
     { mkdir -p "$out" && : >"$seen"; } 2>/dev/null || :
 }
 
-# Gives `program` that of these sources, if there is one: the one that was built here, or else the shipped one, unless PDQ_BUILD_HERE is set.
+# Gives `program` that of these sources, if there is one: the one that was built here, or else the shipped one, unless PDQ_BUILD_HERE
+# is set.
 find_program() {
     why=
     if is_built; then
