@@ -21,6 +21,10 @@ import sys
 import tempfile
 
 TOP = os.path.dirname(os.path.dirname(os.path.realpath(__file__)))
+sys.path.insert(0, f"{TOP}/tools")
+
+import programs  # noqa: E402
+
 MIB = 1 << 20
 SIZES = (1, 2, 4, 8)
 COLUMNS = ("id", "name", "city", "kind", "amount", "note")
@@ -106,7 +110,7 @@ def program_of(path):
     if path:
         return os.path.abspath(path)
     subprocess.run([f"{TOP}/pdq"], stdin=subprocess.DEVNULL, stderr=subprocess.DEVNULL)
-    return f"{TOP}/crates/pdq/out/pdq"
+    return programs.first() or sys.exit(programs.NONE)
 
 
 def run_case(folder, words, repeats, further={}):

@@ -4,7 +4,7 @@
 usage: bench/lanes.py [--repeats N] [--scratch FOLDER] [--working FILE] [--program FILE]
 
 Copies the crates to a scratch folder, adds the program of bench/lane_speed.main there, and proves and builds it by `rt run`: that takes as
-long as the launcher's first build where the machine has not proved the libraries. Then, medians of N runs each (5 if left out), by 1, 2, 4
+long as a build by the launcher where the machine has not proved the libraries. Then, medians of N runs each (5 if left out), by 1, 2, 4
 and 8 workers:
 
 - `working`: `world 200` over a source whose calls take some thousandth of a second each, 1,401 of them in eight rounds. What counts is
@@ -12,7 +12,7 @@ and 8 workers:
 - `look-ups`: `exec` of 60,000 look-ups in a file, where what counts is CPU time.
 - `chain`: `exec` of a plan of 2,000 steps with one request each over generated rows, where what counts is CPU time.
 
-The last two are run by --program, or else crates/pdq/out/pdq. All runs of a kind have to write the same bytes.
+The last two are run by --program, or else by the program that ./pdq would run. All runs of a kind have to write the same bytes.
 """
 import argparse
 import os
@@ -25,6 +25,10 @@ import tempfile
 import time
 
 TOP = os.path.realpath(f"{os.path.dirname(os.path.realpath(__file__))}/..")
+sys.path.insert(0, f"{TOP}/bench")
+
+import bench  # noqa: E402
+
 WORKERS = (1, 2, 4, 8)
 PERSONS, ROWS, STEPS = 200, 60_000, 2_000
 NAME = "lane_speed"
@@ -95,9 +99,9 @@ def main():
     parser.add_argument("--repeats", type=int, default=5)
     parser.add_argument("--scratch")
     parser.add_argument("--working")
-    parser.add_argument("--program", default=f"{TOP}/crates/pdq/out/pdq")
+    parser.add_argument("--program")
     words = parser.parse_args()
-    program = os.path.realpath(words.program)
+    program = bench.program_of(words.program)
     with tempfile.TemporaryDirectory(prefix="lanes-") as own:
         working = os.path.realpath(words.working or built(words.scratch or f"{own}/crates_of_it"))
         print("| runs | workers | wall s | of one worker's | CPU s | of one worker's |\n| --- | --- | --- | --- | --- | --- |")
