@@ -127,7 +127,7 @@ def carry_out(words: argparse.Namespace, secrets: Secrets) -> None:
     limits = Limits(words.workers, words.calls, words.rate)
     sources = Sources(methods, os.path.dirname(os.path.abspath(words.services)), secrets, limits.rate, ending)
     journal = Journal(words.journal, words.fresh) if words.journal is not None else None
-    asker = Asker(methods, sources, journal, limits, ending, Progress())
+    asker = Asker(methods, sources, journal, limits, ending, Progress(sys.stderr))
     try:
         run = Run(plan, methods, asker)
         if words.dry_run:

@@ -24,11 +24,11 @@ TABLE = """CREATE TABLE answers (method TEXT NOT NULL, definition TEXT NOT NULL,
 class Journal:
     """A journal that is open. All workers share it, and take turns."""
 
-    def __init__(self, path: str, fresh: Optional[float]):
+    def __init__(self, path: str, fresh: Optional[float], patience: float = PATIENCE):
         self.path, self.fresh, self.lock = path, fresh, threading.Lock()
         self.used, self.oldest = 0, None  # how many answers were taken from it, and when the oldest of them came
         try:
-            self.file = sqlite3.connect(path, timeout=PATIENCE, check_same_thread=False, isolation_level=None)
+            self.file = sqlite3.connect(path, timeout=patience, check_same_thread=False, isolation_level=None)
             self.begin()
         except sqlite3.Error as fault:
             raise self.broken(fault) from None

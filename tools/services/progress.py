@@ -2,7 +2,6 @@
 from __future__ import annotations
 
 import shutil
-import sys
 import time
 from typing import TextIO
 
@@ -12,7 +11,7 @@ EVERY = 0.2  # seconds between two states of the line
 class Progress:
     """The line of the step that is under way."""
 
-    def __init__(self, stream: TextIO = sys.stderr):
+    def __init__(self, stream: TextIO):
         self.stream, self.there = stream, stream.isatty()
         self.title, self.wanted, self.began, self.last = "", 0, 0.0, 0.0
 

@@ -164,14 +164,14 @@ def is_utf_8(text: str) -> bool:
     return True
 
 
-def json_rows(value: object, rows: Pointer, single: bool, form: RowForm) -> Iterator[List[object]]:
-    """The values of each row of a JSON text, column by column."""
+def json_rows(text: str, value: object, rows: Pointer, single: bool, form: RowForm) -> Iterator[List[object]]:
+    """The values of each row of a JSON text, which says this value, column by column."""
     found = rows.value_in(value)
     if single and isinstance(found, dict):
         found = [found]
     if not isinstance(found, list):
         wanted = "object" if single else "list"
-        raise AnswerFault(f"no {wanted} is at {rows.written!r}: {first_line(json.dumps(found if found is not MISSING else value))}")
+        raise AnswerFault(f"no {wanted} is at {rows.written!r}: {first_line(text)}")
     pointers = [Pointer(column.at) for column in form.columns]
     for row in found:
         yield [None if column.asked else pointer.value_in(row) for column, pointer in zip(form.columns, pointers)]

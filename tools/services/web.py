@@ -249,8 +249,9 @@ class WebSource:
         if self.call.format == "csv":
             rows, value = list(csv_rows(reply.text(), self.form)), None
         else:
-            value = json_value(reply.text())
-            rows = list(json_rows(value, self.call.rows, self.call.single, self.form))
+            text = reply.text()
+            value = json_value(text)
+            rows = list(json_rows(text, value, self.call.rows, self.call.single, self.form))
         following = next_link(reply.headers) if self.call.next == "Link" else self.by_path(value)
         if following is None:
             return rows, None
@@ -265,7 +266,7 @@ class WebSource:
             return None
         if isinstance(found, str) and (self.call.next_parameter or not isinstance(found, Number)):
             return str(found)
-        raise AnswerFault(f"what is at {self.call.next!r} is no next page: {first_line(json.dumps(found))}")
+        raise AnswerFault(f"what is at {self.call.next!r} is no next page: {first_line(str(found))}")
 
     def first_url(self, values: Mapping[str, str]) -> str:
         url = self.call.url.filled(values, percent_encoded)
