@@ -109,7 +109,8 @@ class Handler(BaseHTTPRequestHandler):
         self.send_header("Content-Length", str(len(data)))
         self.end_headers()
         self.wfile.write(data)
-        print(verb, self.path, body.decode("utf-8", "replace") if body else "", flush=True)
+        sys.stdout.write(f"{verb} {self.path} {body.decode('utf-8', 'replace') if body else ''}".rstrip() + "\n")
+        sys.stdout.flush()
 
     def log_message(self, *_):
         pass

@@ -66,7 +66,8 @@ class Call:
 class Reply:
     """What the server gives: a status, headers, and a body, as bytes, a text or a value for JSON."""
 
-    def __init__(self, body=b"", status=200, **headers):
+    def __init__(self, body=b"", status=200, slowly=0, **headers):
+        self.slowly = slowly  # seconds between two bytes of the body
         self.status, self.headers = status, {name.replace("_", "-"): value for name, value in headers.items()}
         self.body = body if isinstance(body, bytes) else (body if isinstance(body, str) else json.dumps(body)).encode()
 
@@ -127,8 +128,10 @@ class Server:
         for name, value in {"Content-Type": "application/json", "Content-Length": str(len(reply.body)), **reply.headers}.items():
             handler.send_header(name, value)
         handler.end_headers()
-        handler.wfile.write(reply.body)
-        handler.wfile.flush()
+        for at in range(len(reply.body) if reply.slowly else 0):
+            handler.wfile.write(reply.body[at:at + 1])
+            time.sleep(reply.slowly)
+        handler.wfile.write(b"" if reply.slowly else reply.body)
         with self.lock:
             self.answered.append(call.target)
 

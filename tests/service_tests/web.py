@@ -281,6 +281,9 @@ def test_a_slow_service(room):
     services = SERVICES.replace("wait = 0.01", "wait = 0.01\nretries = 1\ntimeout = 0.3")
     server = refused(room, slow, 9, WHERE + "no answer within 0.3 seconds, after 2 calls", services=services)
     same(len(server.calls), 2)
+    # a body of which a byte comes from time to time
+    services = SERVICES.replace("wait = 0.01", "retries = 0\ntimeout = 0.4")
+    refused(room, fixed("[" + " " * 100 + "]", slowly=0.1), 9, WHERE + "no answer within 0.4 seconds, after 1 call", services=services)
 
 
 def test_so_many_calls_a_second(room):

@@ -67,13 +67,16 @@ def test_the_answer_in_a_file(room):
     os.chmod(room.path("answer"), 0o640)
     same(room.carry("--output", room.path("answer")), (0, "", ""))
     same((room.read("answer").decode(), stat.S_IMODE(os.stat(room.path("answer")).st_mode)), (ANSWER, 0o640))
+    os.symlink(room.path("answer"), room.path("link"))
+    room.write("answer", "old\n")
+    same((room.carry("--output", room.path("link")), os.path.islink(room.path("link"))), ((0, "", ""), True))
     there = sorted(os.listdir(room.folder))
     server.answer = lambda call: Reply("", 400) if call.query.get("id") == "3" else shop(call)
     same(room.carry("--output", room.path("answer"))[:2], (9, ""))
     same((room.read("answer").decode(), sorted(os.listdir(room.folder))), (ANSWER, there))
     server.calls.clear()
-    for name in ("none/answer", "."):
-        same(room.carry("--output", room.path(name)), (6, "", f"output {room.path(name)}: it cannot be written there\n"))
+    for path in (room.path("none/answer"), room.path("."), "/dev/null"):
+        same(room.carry("--output", path), (6, "", f"output {path}: it cannot be written there\n"))
     same(server.calls, [])
 
 

@@ -32,8 +32,9 @@ def check_place(path: Optional[str]) -> None:
     """Refuses, before anything is asked, a file that cannot be written."""
     if path is None:
         return
-    folder = os.path.dirname(os.path.abspath(path))
-    if os.path.isdir(path) or not os.path.isdir(folder) or not os.access(folder, os.W_OK):
+    folder = os.path.dirname(os.path.realpath(path))
+    is_taken = os.path.exists(path) and not os.path.isfile(path)  # by a folder or a device
+    if is_taken or not os.path.isdir(folder) or not os.access(folder, os.W_OK):
         raise OutputFault(f"output {visible(path)}: it cannot be written there")
 
 
@@ -44,7 +45,7 @@ def write(path: Optional[str], text: bytes) -> None:
             sys.stdout.buffer.write(text)
             sys.stdout.buffer.flush()
         else:
-            replace(os.path.abspath(path), text)
+            replace(os.path.realpath(path), text)
     except OSError as fault:
         if path is None:
             silence()

@@ -7,6 +7,7 @@ import os
 import re
 import sys
 import time
+import traceback
 from typing import Dict, List, Mapping, Optional, Sequence
 
 from pdq_texts import Misfit, Plan, Schema, first_fault, read_plan, read_schema, shown_name
@@ -159,5 +160,7 @@ def main(words: Sequence[str]) -> int:
         fault = MemoryFault("out of memory")
     except KeyboardInterrupt:
         fault = Stopped("stopped before anything was asked")
+    except Exception:  # a fault of this program: what Python says of it, without secrets
+        fault = Fault(traceback.format_exc().rstrip())
     print(secrets.hidden(str(fault)), file=sys.stderr)
     return fault.status

@@ -29,7 +29,7 @@ class Secrets:
         """What a text of the file stands for."""
         if isinstance(value, str):
             return value
-        found = self.environment.get(value.name)
+        found = self.environment.get(value.name, "").rstrip("\r\n")  # a text that was read from a file may have one
         if not found:
             raise MachineFault(f"environment: {value.name} is not set")
         self.taken.add(found)
@@ -38,7 +38,7 @@ class Secrets:
     def hidden(self, text: str) -> str:
         """The text with stars in place of each value that was taken."""
         for secret in sorted(self.taken, key=len, reverse=True):
-            for written in (secret, secret.strip(), quote(secret, safe=""), quote_plus(secret)):
+            for written in (secret, quote(secret, safe=""), quote_plus(secret)):
                 if len(written) >= SHORTEST:
                     text = text.replace(written, "***")
         return text

@@ -152,6 +152,8 @@ class Caller:
             raise unreached(fault.reason, self.service.timeout) from None
         except (OSError, http.client.HTTPException) as fault:
             raise unreached(fault, self.service.timeout) from None
+        except ValueError as fault:  # a host or a URL that the library refuses
+            raise CallFault(f"no connection: {visible(str(fault))}") from None
         if 200 <= reply.status <= 299 or reply.status in empty:
             return reply
         raise refused(reply)
@@ -203,8 +205,7 @@ def refused(reply: Reply) -> Exception:
 
 
 def header_text(name: str, text: str) -> str:
-    """A value that may stand in a header. One of the environment may have a line feed at its end, from a file that it was read from."""
-    text = text.strip()
+    """A value that may stand in a header."""
     if not text.isprintable() or not text.isascii():
         raise MachineFault(f"environment: the header {name} would have a character that no header may have")
     return text
