@@ -139,7 +139,7 @@ def test_the_guide_has_all_keys(_):
         table = section.split(f"| Key of a {kind} |")[1].split("\n\n")[0]
         for cell in re.findall(r"^\| (`[^|]*) \|", table, re.MULTILINE):
             named[kind] += re.findall(r"`(\w+)`", cell)
-    with open(f"{TOP}/tools/services/settings.py", encoding="utf-8") as file:
+    with open(f"{TOP}/tools/services/reading.py", encoding="utf-8") as file:
         services, methods = file.read().split("# ---- methods\n")
     keys = r"\bkeys\.(?:text|flag|table|choice|whole|number|any|texts|statuses)\(\"(\w+)\""
     same(sorted(set(named["service"])), sorted(set(re.findall(keys, services))))

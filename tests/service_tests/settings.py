@@ -2,7 +2,7 @@
 from pdq_texts import read_schema
 
 from services.faults import TextFault
-from services.settings import read_settings
+from services.reading import read_settings
 
 from .room import SCHEMA, same
 
@@ -41,7 +41,9 @@ FAULTS = [
      'service s: headers.Authorization is a secret, and has to come from the environment: { env = "NAME" }'),
     (SERVICE + 'headers = { X-Api-Key = "x" }\n', 'service s: headers.X-Api-Key is a secret, and has to come from the environment: { env = "NAME" }'),
     (SERVICE + 'headers = { "A B" = "x" }\n', "service s: headers: 'A B' is no name of a header"),
-    (SERVICE + 'headers = { A = "x\\r\\nB: y" }\n', "service s: headers.A has a control character"),
+    (SERVICE + 'headers = { A = "x\\r\\nB: y" }\n', "service s: headers.A has a character that no header may have"),
+    (SERVICE + 'headers = { A = "é" }\n', "service s: headers.A has a character that no header may have"),
+    (SERVICE + 'headers = { A = { env = "B", before = "é" } }\n', "service s: headers.A has a character that no header may have"),
     (SERVICE + "headers = { A = 1 }\n", 'service s: headers.A has to be a text, or { env = "NAME" }'),
     (SERVICE + 'headers = { A = { env = "" } }\n', "service s: headers.A: '' is no name of a variable"),
     (SERVICE + 'headers = { A = { env = "B", value = "c" } }\n', "service s: headers.A: unknown key 'value'"),
@@ -94,6 +96,10 @@ FAULTS = [
     ('[service.s]\nkind = "dbapi"\nmodule = "m"\nconnect = { password = 5 }\n',
      'service s: connect.password has to be a text, or { env = "NAME" }'),
     ('[service.s]\nkind = "csv"\n' + ITEMS, "method all_items: the key file is missing"),
+    ('[service.s]\nkind = "csv"\nrate = 1\n', "service s: unknown key 'rate'"),
+    ('[service.s]\nkind = "csv"\n' + PRICE.replace('url = "/p?id={id}"', 'file = "f"\ncolumns.id.asked = true'),
+     "method price_of: columns: a file has the values at its inputs, and none is the one that was asked for"),
+    (DATABASE + ITEMS + 'select = "SELECT 1"\ncolumns.id.optional = true\n', "method all_items: columns.id: optional belongs to rows of JSON"),
 ]
 
 

@@ -51,6 +51,15 @@ def test_values_are_percent_encoded(room):
     same(server.calls[1].query, {"of": "<a/b c?&=é%+#>"})
 
 
+def test_names_of_columns_in_any_characters(room):
+    room.write("s.pdq", 'relation r("full name?", "Größe")\nmethod m on r("full name?", "Größe") cost 1\n')
+    room.write("p.plan", "plan 1\nbranch\naccess m('a', 'b')\noutput 'c'\nend\n")
+    server = room.serve(fixed([{"full name?": "a", "Größe": "b"}]),
+                        '[service.s]\nkind = "http"\nurl = "URL"\n[method.m]\nservice = "s"\nurl = "/x/{full name?}/{Größe}"\n')
+    same(room.carry(), (0, "column1\nc\n", ""))
+    same(server.targets, ["/x/a/b"])
+
+
 def test_a_value_that_would_change_the_path_is_not_sent(room):
     services = SERVICES.replace("/prices?id={id}", "/prices/{id}/now")
     for value, sent in [("", False), (".", False), ("..", False), ("...", True)]:

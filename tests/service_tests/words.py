@@ -5,7 +5,9 @@ import stat
 import subprocess
 import sys
 
-from .room import ANSWER, SECONDS, TOOL, TOP, Reply, ended, same, shop
+from services.rounds import Run
+
+from .room import ANSWER, SECONDS, TOOL, Reply, ended, same, shop
 
 
 
@@ -91,6 +93,26 @@ def test_standard_output_that_refuses(room):
     same(ended(process)[0::2], (6, "write failed\n"))
 
 
+def test_standard_error_that_refuses(room):
+    room.serve(lambda call: Reply("", 400))
+    with open("/dev/full", "wb") as full:
+        same(ended(room.start(stderr=full))[:2], (9, ""))
+
+
+def test_a_fault_of_the_program_itself_shows_no_secret(room):
+    room.serve()
+    room.write("services.toml", room.read("services.toml").replace(b"wait = 0.01", b'headers = { A = { env = "SHOP_TOKEN" } }'))
+
+    def broken(self):
+        raise RuntimeError("with hidden-token")
+    kept, Run.rows = Run.rows, broken
+    try:
+        status, out, err = room.carry(environment={"SHOP_TOKEN": "hidden-token"})
+    finally:
+        Run.rows = kept
+    same((status, out, err.splitlines()[-1]), (1, "", "RuntimeError: with ***"))
+
+
 def test_a_terminal_shows_how_far_the_run_is(room):
     room.serve()
     leader, follower = pty.openpty()
@@ -116,8 +138,3 @@ def test_an_older_python(room):
     version = ".".join(map(str, sys.version_info[:3]))
     wanted = f"services: the module tomllib is missing: Python 3.11 or newer is needed, and this is {version}\n"
     same((run.returncode, run.stdout, run.stderr.decode()), (12, b"", wanted))
-
-
-def test_nothing_is_left_in_the_repository(room):
-    run = subprocess.run(["git", "status", "--short", "--ignored", "tools"], cwd=TOP, capture_output=True, timeout=SECONDS)
-    same(run.stdout if run.returncode == 0 else b"", b"")

@@ -4,7 +4,7 @@ from __future__ import annotations
 import os
 import sys
 import tempfile
-from typing import Iterable, Optional, Sequence
+from typing import Iterable, Optional, Sequence, TextIO
 
 from .faults import OutputFault, visible
 from .texts import Row
@@ -48,13 +48,22 @@ def write(path: Optional[str], text: bytes) -> None:
             replace(os.path.realpath(path), text)
     except OSError as fault:
         if path is None:
-            silence()
+            silence(sys.stdout)
         raise OutputFault(f"output {visible(path)}: {fault.strerror}" if path else "write failed") from None
 
 
-def silence() -> None:
-    """Lets the end of the program not try once more to write what standard output did not take."""
-    os.dup2(os.open(os.devnull, os.O_WRONLY), sys.stdout.fileno())
+def silence(stream: TextIO) -> None:
+    """Lets the end of the program not try once more to write what the stream did not take."""
+    os.dup2(os.open(os.devnull, os.O_WRONLY), stream.fileno())
+
+
+def say(line: str) -> None:
+    """Writes a line to standard error; where that does not take it, the line is lost."""
+    try:
+        sys.stderr.write(line + "\n")
+        sys.stderr.flush()
+    except OSError:
+        silence(sys.stderr)
 
 
 def replace(path: str, text: bytes) -> None:

@@ -1,11 +1,13 @@
 """Makes the requests of a step: each once, several at a time, with the answers that the journal has in place of calls."""
 from __future__ import annotations
 
+import threading
 import time
-from concurrent.futures import FIRST_COMPLETED, Future, ThreadPoolExecutor, wait
-from dataclasses import dataclass
+from concurrent.futures import Future, ThreadPoolExecutor
+from dataclasses import dataclass, field
 from typing import Dict, List, Mapping, Optional, Protocol, Sequence
 
+from .calls import Caller
 from .databases import Connections, DatabaseSource, module_connections, sqlite_connections
 from .ending import Ending
 from .faults import CapFault, Fault, MemoryFault, Stopped, at
@@ -14,9 +16,9 @@ from .journal import Journal
 from .pace import Pace
 from .progress import Progress
 from .secrets import Secrets
-from .settings import Database, Folder, MethodSettings, Service, WebService
+from .settings import Folder, MethodSettings, Service, WebService
 from .texts import Row, shown
-from .web import Caller, WebSource
+from .web import WebSource
 
 LOOK = 0.1  # seconds between two looks at what has come
 
@@ -35,6 +37,22 @@ class Limits:
     workers: int = 1
     calls: int = 100_000
     rate: Optional[float] = None
+
+
+@dataclass
+class Tally:
+    """How many of the requests of a step have ended."""
+
+    wanted: int
+    done: int = 0
+    lock: threading.Lock = field(default_factory=threading.Lock)
+    complete: threading.Event = field(default_factory=threading.Event)
+
+    def one_more(self, _: Future) -> None:
+        with self.lock:
+            self.done += 1
+            if self.done == self.wanted:
+                self.complete.set()
 
 
 def request_text(settings: MethodSettings, asked: Row) -> str:
@@ -130,11 +148,12 @@ class Asker:
     def asked(self, place: str, method: str, wanted: Sequence[Row]) -> Dict[Row, List[Row]]:
         """Makes the requests. Where one fails no further one begins, and those under way are awaited and kept."""
         self.progress.begin(f"{place} {method}", len(wanted))
+        tally = Tally(len(wanted))
         futures = {self.pool.submit(self.answer, method, asked): asked for asked in wanted}
-        left = set(futures)
-        while left:
-            _, left = wait(left, LOOK, FIRST_COMPLETED)
-            self.progress.show(len(futures) - len(left), self.ending.event.is_set())
+        for future in futures:
+            future.add_done_callback(tally.one_more)
+        while not tally.complete.wait(LOOK):
+            self.progress.show(tally.done, self.ending.event.is_set())
         self.progress.clear()
         answers, faults = self.sorted_out(futures)
         self.made += len(answers)

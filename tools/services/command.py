@@ -18,9 +18,11 @@ from .ending import Ending
 from .faults import Fault, FileFault, MemoryFault, Stopped, TextFault, WordsFault, visible
 from .journal import Journal
 from .progress import Progress
+from .reading import read_settings
 from .rounds import Run
 from .secrets import Secrets
-from .settings import MethodSettings, read_settings
+from .settings import MethodSettings
+from .texts import is_utf_8
 
 UNITS = {"": 1, "s": 1, "m": 60, "h": 3600, "d": 86400}
 MOST_WORKERS, MOST_CALLS = 64, 10_000_000
@@ -111,6 +113,8 @@ def names_of(plan: Plan, asked: Optional[str]) -> List[str]:
     if asked is None:
         return [f"column{number}" for number in range(1, plan.width + 1)]
     names = next(csv.reader([asked]), [])
+    if not is_utf_8(asked):
+        raise WordsFault("words: --names is not UTF-8")
     if len(names) != plan.width:
         raise WordsFault(f"words: --names has {len(names)} names, and the plan has {plan.width} columns")
     return names
@@ -139,7 +143,7 @@ def carry_out(words: argparse.Namespace, secrets: Secrets) -> None:
         answers.write(words.output, answers.csv_text(names, rows))
         if journal is not None and journal.used:
             since = time.strftime("%Y-%m-%d %H:%M:%S", time.localtime(journal.oldest))
-            print(f"journal: {journal.used} answer{'s' * (journal.used > 1)} used, the oldest of {since}", file=sys.stderr)
+            answers.say(f"journal: {journal.used} answer{'s' * (journal.used > 1)} used, the oldest of {since}")
     finally:
         asker.close()
         if journal is not None:
@@ -162,5 +166,5 @@ def main(words: Sequence[str]) -> int:
         fault = Stopped("stopped before anything was asked")
     except Exception:  # a fault of this program: what Python says of it, without secrets
         fault = Fault(traceback.format_exc().rstrip())
-    print(secrets.hidden(str(fault)), file=sys.stderr)
+    answers.say(secrets.hidden(str(fault)))
     return fault.status
