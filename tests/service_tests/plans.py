@@ -5,6 +5,8 @@ import os
 import sqlite3
 import subprocess
 
+from pdq_texts import read_plan
+
 from .room import SECONDS, TOP, Reply, same, shop
 
 COUNT = 100
@@ -20,6 +22,7 @@ def plans_agree():
 
 
 AGREE = plans_agree()
+KINDS_OF_PLACES = {"value": AGREE.CONST, "column": AGREE.COLUMN, "new": AGREE.NEW}
 
 
 def methods_of(case):
@@ -34,7 +37,7 @@ def columns_of(relation):
 
 
 def web_services(case, url):
-    text = f'[service.s]\nkind = "http"\nurl = "{url}"\n'
+    text = f'[service.s]\nkind = "http"\nurl = "{url}"\nwait = 0\nretries = 100\n'
     for name, relation, inputs in methods_of(case):
         query = ", ".join(f'{column} = "{{{column}}}"' for column in inputs)
         text += f'[method.{name}]\nservice = "s"\nurl = "/{name}"\nquery = {{ {query} }}\nrows = "/rows"\nnext = "/next"\n'
@@ -65,18 +68,39 @@ def table_file(path, case):
     file.close()
 
 
+def requests_of(case, plan):
+    """The requests of a plan, each once: its method and what it asks for, found by going through all rows for each partial row."""
+    inputs = {name: (relation, [columns_of(relation).index(column) for column in names]) for name, relation, names in methods_of(case)}
+    wanted = set()
+    for branch in plan.branches:
+        partials = [[]]
+        for access in branch.accesses:
+            relation, taken = inputs[access.method]
+            places = [(KINDS_OF_PLACES[place.kind], place.value) for place in access.places]
+            for row in partials:
+                wanted.add((access.method, *(row[what] if kind == AGREE.COLUMN else what for kind, what in (places[at] for at in taken))))
+            partials = [AGREE.joined(row, places, values) for row in partials for values in relation.rows]
+            partials = [row for row in partials if row is not None]
+    return sorted(wanted)
+
+
 class Answers:
-    """A server for the methods of a case: it demands the inputs, and gives three rows a page."""
+    """A server for the methods of a case: it demands the inputs, gives three rows a page, and refuses every fifth call at first."""
 
     def __init__(self):
-        self.case, self.missed = None, []
+        self.case, self.missed, self.first_pages, self.count = None, [], [], 0
 
     def __call__(self, call):
+        self.count += 1
+        if self.count % 5 == 0:
+            return Reply("", 503)
         name, relation, inputs = next(method for method in methods_of(self.case) if f"/{method[0]}" == call.path)
         page = int(call.query.pop("page", "0"))
         if sorted(call.query) != sorted(inputs):
             self.missed.append(call.target)
             return Reply("", 400)
+        if not page:
+            self.first_pages.append((name, *(call.query[column] for column in inputs)))
         rows = [dict(zip(columns_of(relation), row)) for row in relation.rows]
         rows = [row for row in rows if all(row[column] == call.query[column] for column in inputs)]
         following = call.target.split("&page=")[0] + ("" if inputs else "?") + f"&page={page + 1}"
@@ -100,8 +124,10 @@ def test_random_plans(room):
                                 timeout=SECONDS).stdout, wanted)
         for kind in KINDS:
             room.write("services.toml", texts[kind](case, server.url))
-            server.calls.clear()
+            answers.first_pages.clear()
             same((number, kind, *room.carry("--workers", str(number % 3 + 1))), (number, kind, 0, wanted.decode(), ""))
+            if kind == "http":
+                same(sorted(answers.first_pages), requests_of(case, read_plan(room.read("p.plan"))))
         room.write("services.toml", web_services(case, server.url))
         same(room.carry("--output", room.path("answer.csv"), "--journal", room.path(f"{number}.journal"))[:2], (0, ""))
         same(room.read("answer.csv"), wanted)

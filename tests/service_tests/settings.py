@@ -68,6 +68,10 @@ FAULTS = [
     (SERVICE + PRICE + 'numbers = ["amount"]\n', "method price_of: numbers: amount is no input of the method"),
     (SERVICE + PRICE + 'numbers = "id"\n', "method price_of: numbers has to be a list of texts"),
     (SERVICE + PRICE + 'query = { token = "x" }\n', 'method price_of: query.token is a secret, and has to come from the environment: { env = "NAME" }'),
+    (SERVICE + PRICE + 'verb = "POST"\nform = { password = "x" }\n',
+     'method price_of: form.password is a secret, and has to come from the environment: { env = "NAME" }'),
+    (SERVICE + PRICE + 'verb = "POST"\njson = { a = [{ key = "x" }] }\n',
+     "method price_of: json.a.key is a secret, and has to come from the environment, by a header, query or form"),
     (SERVICE + PRICE + 'format = "xml"\n', "method price_of: format has to be one of json, csv"),
     (SERVICE + PRICE + 'rows = "data"\n', "method price_of: rows has to be a path as /data/items, or empty: 'data'"),
     (SERVICE + PRICE + 'rows = "/a~b"\n', "method price_of: rows: in a path ~ is written as ~0, and a / in a name as ~1"),
@@ -122,7 +126,7 @@ def test_each_fault_of_the_services_file(_):
 
 def test_forms_that_are_taken(_):
     for text in ["", "\ufeff", SERVICE, SERVICE + PRICE, SERVICE + PRICE.replace("/p", "https://other:8080/p"),
-                 SERVICE + PRICE + 'query = { token = "{id}", a = { env = "KEY" } }\n',
+                 SERVICE + PRICE + 'query = { token = "{id}", key = { env = "KEY" }, author = "a", sort_key = "name" }\n',
                  SERVICE + PRICE + 'next = ""\nempty = [404]\nsingle = false\n',
                  SERVICE + 'timeout = 1\nrate = 0.5\nmax_wait = 0\nwait = 0\n', DATABASE + ITEMS + 'select = "\\n with a as (select 1) select 1"\n',
                  '[service.s]\nkind = "dbapi"\nmodule = "a.b"\nconnect = { dsn = { env = "D" }, autocommit = true, host = "h" }\n']:

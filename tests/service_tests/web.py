@@ -97,6 +97,9 @@ def test_headers_and_a_secret_of_the_environment(room):
     headers = server.calls[0].headers
     same((headers["X-Version"], headers["Authorization"]), ("3", "Bearer hidden-token"))
     same(server.targets, ["/prices?id=2&key=hidden%2Fkey"])
+    services = SERVICES.replace('url = "/prices?id={id}"', 'url = "/prices"\nverb = "POST"\nform = { id = "{id}", key = { env = "SHOP_KEY" } }')
+    got, server = one(room, fixed([{"id": "2", "amount": "20"}]), services=services, environment=environment)
+    same((got, server.calls[0].body), ((0, ONE_ROW, ""), b"id=2&key=hidden%2Fkey"))
     refused(room, fixed("no: hidden-token, hidden%2Fkey, hidden/key", 403), 9, WHERE + "status 403: `no: ***, ***, ***`", more, environment=environment)
     server = refused(room, shop, 12, "environment: SHOP_TOKEN is not set", more)
     same(server.calls, [])

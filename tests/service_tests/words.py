@@ -4,6 +4,7 @@ import pty
 import stat
 import subprocess
 import sys
+import unittest.mock
 
 from services.rounds import Run
 
@@ -73,9 +74,13 @@ def test_the_answer_in_a_file(room):
     room.write("answer", "old\n")
     same((room.carry("--output", room.path("link")), os.path.islink(room.path("link"))), ((0, "", ""), True))
     there = sorted(os.listdir(room.folder))
-    server.answer = lambda call: Reply("", 400) if call.query.get("id") == "3" else shop(call)
+    answer, server.answer = server.answer, lambda call: Reply("", 400) if call.query.get("id") == "3" else shop(call)
     same(room.carry("--output", room.path("answer"))[:2], (9, ""))
     same((room.read("answer").decode(), sorted(os.listdir(room.folder))), (ANSWER, there))
+    server.answer = answer
+    with unittest.mock.patch("os.replace", side_effect=OSError(28, "No space left on device")):
+        same(room.carry("--output", room.path("new")), (6, "", f"output {room.path('new')}: No space left on device\n"))
+    same(sorted(os.listdir(room.folder)), there)
     server.calls.clear()
     for path in (room.path("none/answer"), room.path("."), "/dev/null"):
         same(room.carry("--output", path), (6, "", f"output {path}: it cannot be written there\n"))

@@ -110,9 +110,12 @@ class Asker:
         self.pool.shutdown(wait=True, cancel_futures=True)
         self.sources.close()
 
+    def is_file(self, method: str) -> bool:
+        return isinstance(self.methods[method].service, Folder)
+
     def is_kept(self, method: str) -> bool:
         """Whether answers of the method go into the journal; those of files do not, since they can be read again."""
-        return self.journal is not None and not isinstance(self.methods[method].service, Folder)
+        return self.journal is not None and not self.is_file(method)
 
     def kept(self, method: str, requests: Sequence[Row]) -> Dict[Row, List[Row]]:
         """The answers that the journal has."""
@@ -124,14 +127,19 @@ class Asker:
                     found[asked] = rows
         return found
 
-    def without_calls(self, place: str, method: str, requests: Sequence[Row]) -> Dict[Row, List[Row]]:
-        """The answers for which no service is called: those of the journal, and of files."""
-        if not isinstance(self.methods[method].service, Folder):
-            return self.kept(method, requests)
+    def from_file(self, place: str, method: str, requests: Sequence[Row]) -> Dict[Row, List[Row]]:
+        """The answers of a file, which need no workers."""
         try:
             return {asked: self.sources.of[method].rows(asked) for asked in requests}
         except Fault as fault:
-            raise at(f"{place} {method}", fault) from None
+            raise self.in_place(place, method, requests[0], fault) from None
+
+    def without_calls(self, place: str, method: str, requests: Sequence[Row]) -> Dict[Row, List[Row]]:
+        """The answers for which no service is called: those of the journal, and of files."""
+        return self.from_file(place, method, requests) if self.is_file(method) else self.kept(method, requests)
+
+    def in_place(self, place: str, method: str, asked: Row, fault: Fault) -> Fault:
+        return at(f"{place}: {request_text(self.methods[method], asked)}", fault)
 
     def answers(self, place: str, method: str, requests: Sequence[Row]) -> Dict[Row, List[Row]]:
         """The rows of each request of a step, which makes those that the journal lacks."""
@@ -142,7 +150,8 @@ class Asker:
         if self.made + len(wanted) > self.limits.calls:
             raise CapFault(f"{place} {method}: call cap: {self.made} made, {len(wanted)} wanted, cap {self.limits.calls}")
         if wanted:
-            found.update(self.asked(place, method, wanted))
+            found.update(self.from_file(place, method, wanted) if self.is_file(method) else self.asked(place, method, wanted))
+        self.made += len(wanted)
         return found
 
     def asked(self, place: str, method: str, wanted: Sequence[Row]) -> Dict[Row, List[Row]]:
@@ -156,13 +165,12 @@ class Asker:
             self.progress.show(tally.done, self.ending.event.is_set())
         self.progress.clear()
         answers, faults = self.sorted_out(futures)
-        self.made += len(answers)
         if self.ending.signal is not None:
             kept = "; the journal has their answers" if self.is_kept(method) else ""
             raise self.ending.stopped(f"stopped in {place}: {len(answers)} of {len(wanted)} requests of {method} were answered{kept}")
         if faults:
             asked = min(faults)
-            raise at(f"{place}: {request_text(self.methods[method], asked)}", faults[asked])
+            raise self.in_place(place, method, asked, faults[asked])
         return answers
 
     def sorted_out(self, futures: Mapping[Future, Row]):

@@ -2,8 +2,7 @@
 from __future__ import annotations
 
 import os
-import threading
-from typing import Dict, List
+from typing import Dict, List, Optional
 
 from .faults import AnswerFault, CallFault, visible
 from .settings import MethodSettings
@@ -16,12 +15,11 @@ class FileSource:
     def __init__(self, settings: MethodSettings, base: str):
         self.form, self.most = settings.form, settings.service.max_bytes
         self.path = os.path.join(base, settings.service.folder, settings.call.file)
-        self.lock, self.kept = threading.Lock(), None
+        self.kept: Optional[Dict[Row, List[Row]]] = None
 
     def rows(self, asked: Row) -> List[Row]:
-        with self.lock:
-            if self.kept is None:
-                self.kept = self.read()
+        if self.kept is None:
+            self.kept = self.read()
         return self.kept.get(asked, [])
 
     def read(self) -> Dict[Row, List[Row]]:

@@ -15,12 +15,13 @@ from pdq_texts import Method, Schema, shown_name
 from .faults import MachineFault, TextFault
 from .keys import REQUIRED, Keys
 from .secrets import FromEnvironment
-from .settings import Database, DataFile, Folder, MethodSettings, Select, Service, Value, WebCall, WebService
+from .settings import Database, DataFile, Folder, MethodSettings, Pair, Select, Service, Value, WebCall, WebService
 from .templates import NoTemplate, Statement, Template
 from .texts import Column, Pointer, RowForm
 
 MOST_BYTES = 1 << 20
-SECRET_WORDS = re.compile(r"auth|cookie|token|secret|passw|pwd|credential|api-?_?key|access-?_?key|session|signature|dsn", re.IGNORECASE)
+SECRET_WORDS = re.compile(r"auth(?!or(?!i[sz]))|cookie|token|secret|passw|pwd|credential|^key$|(api|access|app|private)[-_]?key|session|signature|dsn",
+                          re.IGNORECASE)
 HEADER_NAME = re.compile(r"[A-Za-z0-9!#$%&'*+.^_`|~-]+")
 CONTROL = re.compile(r"[\x00-\x1f\x7f]")
 
@@ -252,11 +253,11 @@ def read_web_call(keys: Keys, service: WebService, inputs: Tuple[str, ...]) -> W
     whole = written if written.startswith(("http://", "https://")) else service.url + written
     check_url(keys, whole)
     url = template(keys, "url", whole, inputs)
-    query = tuple(read_query(keys, inputs))
+    query = read_pairs(keys, "query", inputs)
     verb = keys.choice("verb", ("GET", "POST"), "GET")
     body, numbers = json_templates(keys, "json", keys.any("json"), inputs), keys.texts("numbers")
     known_only(keys, "numbers", numbers, inputs)
-    form = tuple((name, template(keys, f"form.{name}", text, inputs)) for name, text in keys.table("form", {}).items())
+    form = read_pairs(keys, "form", inputs)
     if (body is not None or form) and verb != "POST" or body is not None and form:
         raise keys.fault("json or form, one of them, belongs to verb = \"POST\"")
     names = url.columns.union(*(part.columns for _, part in query + form if isinstance(part, Template)), columns_of(body))
@@ -264,18 +265,24 @@ def read_web_call(keys: Keys, service: WebService, inputs: Tuple[str, ...]) -> W
     return WebCall(url, query, verb, body, numbers, form, read_headers(keys), *read_answer_form(keys))
 
 
-def read_query(keys: Keys, inputs: Tuple[str, ...]) -> List[Tuple[str, Union[Template, FromEnvironment]]]:
-    query = []
-    for name, value in keys.table("query", {}).items():
-        where = f"query.{name}"
+def read_pairs(keys: Keys, key: str, inputs: Tuple[str, ...]) -> Tuple[Pair, ...]:
+    """The parameters of a URL, or the fields of a form."""
+    pairs: List[Pair] = []
+    for name, value in keys.table(key, {}).items():
+        where = f"{key}.{name}"
         if isinstance(value, dict):
-            query.append((name, read_value(keys, where, value)))
-            continue
-        text = template(keys, where, value, inputs)
-        if SECRET_WORDS.search(name) and not text.columns:
-            raise keys.fault(f"{where} is a secret, and has to come from the environment: {{ env = \"NAME\" }}")
-        query.append((name, text))
-    return query
+            pairs.append((name, read_value(keys, where, value)))
+        else:
+            text = template(keys, where, value, inputs)
+            refuse_secret(keys, where, name, text)
+            pairs.append((name, text))
+    return tuple(pairs)
+
+
+def refuse_secret(keys: Keys, where: str, name: str, text: Template) -> None:
+    """Refuses a text for what a name says is a secret, unless it has the value of a column."""
+    if SECRET_WORDS.search(name) and not text.columns:
+        raise keys.fault(f"{where} is a secret, and has to come from the environment: {{ env = \"NAME\" }}")
 
 
 def read_answer_form(keys: Keys) -> Tuple[str, Pointer, bool, Tuple[int, ...], str, str]:
@@ -300,7 +307,11 @@ def json_templates(keys: Keys, where: str, value: object, inputs: Tuple[str, ...
     if isinstance(value, str):
         return template(keys, where, value, inputs)
     if isinstance(value, dict):
-        return {name: json_templates(keys, f"{where}.{name}", inner, inputs) for name, inner in value.items()}
+        found = {name: json_templates(keys, f"{where}.{name}", inner, inputs) for name, inner in value.items()}
+        for name, inner in found.items():
+            if isinstance(inner, Template) and SECRET_WORDS.search(name) and not inner.columns:
+                raise keys.fault(f"{where}.{name} is a secret, and has to come from the environment, by a header, query or form")
+        return found
     if isinstance(value, list):
         return [json_templates(keys, where, inner, inputs) for inner in value]
     if value is None or isinstance(value, (bool, int)) or isinstance(value, float) and value - value == 0:

@@ -13,6 +13,7 @@ from .templates import Statement, Template
 from .texts import Pointer, RowForm
 
 Value = Union[str, FromEnvironment]
+Pair = Tuple[str, Union[Template, FromEnvironment]]
 
 
 @dataclass(frozen=True)
@@ -71,11 +72,11 @@ class WebCall:
     """A request by HTTP, and where its answer has the rows."""
 
     url: Template  # the whole URL, with that of the service before it
-    query: Tuple[Tuple[str, Union[Template, FromEnvironment]], ...]
+    query: Tuple[Pair, ...]
     verb: str
     json: object  # a value of JSON with templates in place of texts, or None
     numbers: Tuple[str, ...]  # inputs that are written into the JSON as numbers
-    form: Tuple[Tuple[str, Template], ...]
+    form: Tuple[Pair, ...]
     headers: Tuple[Tuple[str, Value], ...]
     format: str
     rows: Pointer

@@ -7,14 +7,14 @@ from __future__ import annotations
 import http.client
 import json
 import re
-from typing import Dict, List, Mapping, Optional, Tuple
+from typing import Dict, List, Mapping, Optional, Sequence, Tuple
 from urllib.parse import parse_qsl, quote, urlencode, urljoin, urlsplit, urlunsplit
 from urllib.request import Request
 
 from .calls import Caller, Reply, header_text
 from .faults import AnswerFault, CallFault, visible
 from .secrets import FromEnvironment, Secrets
-from .settings import MethodSettings, WebCall
+from .settings import MethodSettings, Pair, WebCall
 from .templates import Name, Template, percent_encoded
 from .texts import MISSING, Number, Pointer, Row, csv_rows, first_line, json_rows, json_value, shown
 
@@ -60,7 +60,11 @@ class WebSource:
             self.headers[name.title()] = text
         if self.call.verb == "POST":
             self.headers.setdefault("Content-Type", "application/x-www-form-urlencoded" if self.call.json is None else "application/json")
-        self.query = [(name, secrets.text(part) if isinstance(part, FromEnvironment) else part) for name, part in self.call.query]
+        self.query, self.fields = self.known(self.call.query), self.known(self.call.form)
+
+    def known(self, pairs: Sequence[Pair]) -> List[Tuple[str, Template]]:
+        """Parameters or fields, with the values of the environment as texts in which no column stands."""
+        return [(name, Template("", (self.secrets.text(part),)) if isinstance(part, FromEnvironment) else part) for name, part in pairs]
 
     def rows(self, asked: Row) -> List[Row]:
         """The rows of a request: those of all its pages."""
@@ -108,8 +112,8 @@ class WebSource:
     def first_url(self, values: Mapping[str, str]) -> str:
         url = self.call.url.filled(values, percent_encoded)
         self.check_path(url)
-        pairs = [(name, part.filled(values) if isinstance(part, Template) else part) for name, part in self.query]
-        if pairs:
+        if self.query:
+            pairs = [(name, text.filled(values)) for name, text in self.query]
             url += ("&" if "?" in url else "?") + urlencode(pairs, quote_via=quote)
         return url
 
@@ -126,7 +130,7 @@ class WebSource:
             return None
         if self.call.json is not None:
             return json.dumps(self.json(self.call.json, values), ensure_ascii=False).encode("utf-8")
-        return urlencode([(name, part.filled(values)) for name, part in self.call.form]).encode("ascii")
+        return urlencode([(name, text.filled(values)) for name, text in self.fields]).encode("ascii")
 
     def json(self, value: object, values: Mapping[str, str]) -> object:
         """The JSON body with the values in place of the templates."""
