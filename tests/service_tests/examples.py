@@ -141,7 +141,7 @@ def test_the_guide_has_all_keys(_):
             named[kind] += re.findall(r"`(\w+)`", cell)
     with open(f"{TOP}/tools/services/reading.py", encoding="utf-8") as file:
         services, methods = file.read().split("# ---- methods\n")
-    keys = r"\bkeys\.(?:text|flag|table|choice|whole|number|any|texts|statuses)\(\"(\w+)\""
+    keys = r"(?:\bkeys\.(?:text|flag|table|choice|whole|number|any|texts|statuses)\(|read_pairs\(keys, )\"(\w+)\""
     same(sorted(set(named["service"])), sorted(set(re.findall(keys, services))))
     same(sorted(set(named["method"]) - {"headers"}), sorted(set(re.findall(keys, methods))))
     statuses = {kind.status for kind in vars(faults).values() if isinstance(kind, type) and issubclass(kind, faults.Fault)}

@@ -180,6 +180,9 @@ def test_one_object_and_no_row(room):
 def test_a_body_over_the_limit(room):
     services = SERVICES.replace("wait = 0.01", "wait = 0.01\nmax_bytes = 30")
     same(one(room, fixed('[{"id": "2", "amount": "20"}]' + " "), services=services)[0], (0, ONE_ROW, ""))
+    services = services.replace("max_bytes = 30", "max_bytes = 200")  # of three pages of some 80 bytes each
+    refused(room, pages, 10, WHERE + "the answer has more than the 200 bytes of max_bytes", 'rows = "/rows"\nnext = "/next"\n', services)
+    services = services.replace("max_bytes = 200", "max_bytes = 30")
     refused(room, fixed('[{"id": "2", "amount": "20"}]' + "  "), 10, WHERE + "the answer has more than the 30 bytes of max_bytes",
             services=services)
 
@@ -193,7 +196,7 @@ def pages(call):
     more = page < 3
     body = {"rows": [{"id": call.query["id"], "amount": str(page)}], "next": f"prices?id=2&page={page + 1}" if more else None,
             "cursor": page + 1 if more else ""}
-    return Reply(body, Link=f'<{call.path}?page=1>; rel="first", </prices?id=2&page={page + 1}>; title="a, b"; rel="last next"' if more else "")
+    return Reply(body, Link=f'</other>, <{call.path}?page=1>; rel="first", </prices?id=2&page={page + 1}>; title="a, b"; rel="last next"' if more else "")
 
 
 def test_pages_are_followed(room):
