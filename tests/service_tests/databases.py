@@ -82,7 +82,7 @@ def test_a_statement_that_fails(room):
 
 
 def test_a_file_that_is_missing(room):
-    same(asked(room, SQLITE + method("all_items", "SELECT 1"), ALL), (12, "", "service d: there is no file d.db\n"))
+    same(asked(room, SQLITE + method("all_items", "SELECT 1"), ALL), (12, "", f"service d: there is no file {room.path('d.db')}\n"))
     same(os.path.exists(room.path("d.db")), False)
 
 

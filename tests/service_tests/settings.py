@@ -109,7 +109,7 @@ FAULTS = [
 
 def fault_of(text):
     try:
-        read_settings(text if isinstance(text, bytes) else text.encode(), read_schema(SCHEMA.encode()))
+        read_settings(text if isinstance(text, bytes) else text.encode(), read_schema(SCHEMA.encode()), "/base")
     except TextFault as fault:
         return str(fault)
     return None

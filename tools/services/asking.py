@@ -64,15 +64,15 @@ def request_text(settings: MethodSettings, asked: Row) -> str:
 class Sources:
     """The sources of the methods of a plan. Those of one service share its pace and its connections."""
 
-    def __init__(self, methods: Mapping[str, MethodSettings], base: str, secrets: Secrets, rate: Optional[float], ending: Ending):
-        self.base, self.secrets, self.rate, self.ending = base, secrets, rate, ending
+    def __init__(self, methods: Mapping[str, MethodSettings], secrets: Secrets, rate: Optional[float], ending: Ending):
+        self.secrets, self.rate, self.ending = secrets, rate, ending
         self.shared: Dict[str, object] = {}
         self.of: Dict[str, Source] = {name: self.source(settings) for name, settings in methods.items()}
 
     def source(self, settings: MethodSettings) -> Source:
         service = settings.service
         if isinstance(service, Folder):
-            return FileSource(settings, self.base)
+            return FileSource(settings)
         if service.name not in self.shared:
             self.shared[service.name] = self.shared_by_all(service)
         if isinstance(service, WebService):
@@ -86,7 +86,7 @@ class Sources:
         if isinstance(service, WebService):
             return Caller(service, self.secrets, pace)
         if service.kind == "sqlite":
-            return sqlite_connections(service, self.base, pace)
+            return sqlite_connections(service, pace)
         return module_connections(service, self.secrets, pace)
 
     def close(self) -> None:

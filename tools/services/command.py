@@ -125,12 +125,12 @@ def carry_out(words: argparse.Namespace, secrets: Secrets) -> None:
     if words.fresh is not None and words.journal is None:
         raise WordsFault("words: --fresh belongs to --journal")
     schema = read_schema(read(words.schema))
-    settings = read_settings(read(words.services), schema)
+    settings = read_settings(read(words.services), schema, os.path.dirname(os.path.abspath(words.services)))
     plan = plan_of(read(words.plan), schema)
     names, methods, ending = names_of(plan, words.names), used_methods(plan, settings), Ending()
     answers.check_place(words.output)
     limits = Limits(words.workers, words.calls, words.rate)
-    sources = Sources(methods, os.path.dirname(os.path.abspath(words.services)), secrets, limits.rate, ending)
+    sources = Sources(methods, secrets, limits.rate, ending)
     journal = Journal(words.journal, words.fresh) if words.journal is not None else None
     asker = Asker(methods, sources, journal, limits, ending, Progress(sys.stderr))
     try:

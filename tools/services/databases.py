@@ -63,13 +63,12 @@ def said(fault: BaseException) -> str:
     return visible(f"{type(fault).__name__}: {fault}")
 
 
-def sqlite_connections(service: Database, base: str, pace: Pace) -> Connections:
-    path = os.path.abspath(os.path.join(base, service.file))
-    if not os.path.exists(path):
+def sqlite_connections(service: Database, pace: Pace) -> Connections:
+    if not os.path.exists(service.file):
         raise MachineFault(f"service {service.name}: there is no file {visible(service.file)}")
 
     def opened() -> sqlite3.Connection:
-        connection = sqlite3.connect(f"file:{quote(path)}?mode=ro", uri=True, timeout=service.timeout, check_same_thread=False,
+        connection = sqlite3.connect(f"file:{quote(os.path.abspath(service.file))}?mode=ro", uri=True, timeout=service.timeout, check_same_thread=False,
                                      isolation_level=None)
         connection.execute("PRAGMA query_only = 1")
         return connection

@@ -12,9 +12,9 @@ from .texts import RowForm, Row, csv_rows
 class FileSource:
     """Answers the requests of one method from a CSV file."""
 
-    def __init__(self, settings: MethodSettings, base: str):
+    def __init__(self, settings: MethodSettings):
         self.form, self.most = settings.form, settings.service.max_bytes
-        self.path = os.path.join(base, settings.service.folder, settings.call.file)
+        self.path = os.path.join(settings.service.folder, settings.call.file)
         self.kept: Optional[Dict[Row, List[Row]]] = None
 
     def rows(self, asked: Row) -> List[Row]:

@@ -5,6 +5,7 @@ a template without an input, a secret in the file. Nothing is opened, and no var
 """
 from __future__ import annotations
 
+import os
 import re
 import sys
 from typing import Dict, Iterable, List, Mapping, Tuple, Union
@@ -43,13 +44,13 @@ def parsed(data: bytes) -> Mapping[str, object]:
         raise TextFault(f"services: not TOML: {fault}") from None
 
 
-def read_settings(data: bytes, schema: Schema) -> Dict[str, MethodSettings]:
-    """The settings of each method that the file speaks of, by the method's name."""
+def read_settings(data: bytes, schema: Schema, base: str) -> Dict[str, MethodSettings]:
+    """The settings of each method that the file speaks of, by the method's name. Other files are looked up from the folder `base`."""
     top = Keys("", parsed(data))
     service_tables = top.tables("service")
     method_tables = top.tables("method")
     top.finish()
-    services = {name: read_service(name, keys) for name, keys in service_tables.items()}
+    services = {name: read_service(name, keys, base) for name, keys in service_tables.items()}
     methods = {method.name: method for method in schema.methods}
     relations = {relation.name: relation.columns for relation in schema.relations}
     settings = {}
@@ -64,14 +65,14 @@ def read_settings(data: bytes, schema: Schema) -> Dict[str, MethodSettings]:
 # ---- services
 
 
-def read_service(name: str, keys: Keys) -> Service:
+def read_service(name: str, keys: Keys, base: str) -> Service:
     kind = keys.choice("kind", ("http", "sqlite", "dbapi", "csv"))
-    service = {"http": read_web, "sqlite": read_sqlite, "dbapi": read_dbapi, "csv": read_folder}[kind](name, keys)
+    service = {"http": read_web, "sqlite": read_sqlite, "dbapi": read_dbapi, "csv": read_folder}[kind](name, keys, base)
     keys.finish()
     return service
 
 
-def read_web(name: str, keys: Keys) -> WebService:
+def read_web(name: str, keys: Keys, _base: str) -> WebService:
     url = keys.text("url", "")
     if url:
         check_url(keys, url)
@@ -80,12 +81,12 @@ def read_web(name: str, keys: Keys) -> WebService:
                       keys.whole("max_bytes", 16 << 20, 1, 1 << 32), keys.whole("pages", 1000, 1, 1_000_000))
 
 
-def read_sqlite(name: str, keys: Keys) -> Database:
-    return Database(name, "sqlite", keys.text("file"), "sqlite3", (), keys.number("rate", None, above=0),
+def read_sqlite(name: str, keys: Keys, base: str) -> Database:
+    return Database(name, "sqlite", os.path.join(base, keys.text("file")), "sqlite3", (), keys.number("rate", None, above=0),
                     keys.number("timeout", 30.0, above=0), keys.whole("max_rows", 1_000_000, 1, 1 << 32))
 
 
-def read_dbapi(name: str, keys: Keys) -> Database:
+def read_dbapi(name: str, keys: Keys, _base: str) -> Database:
     module = keys.text("module")
     if not all(part.isidentifier() for part in module.split(".")):
         raise keys.fault(f"module {module!r} is no name of a Python module")
@@ -107,8 +108,8 @@ def read_connect(keys: Keys) -> Union[FromEnvironment, Tuple[Tuple[str, object],
     return tuple(words)
 
 
-def read_folder(name: str, keys: Keys) -> Folder:
-    return Folder(name, keys.text("folder", "."), keys.whole("max_bytes", 256 << 20, 1, 1 << 32))
+def read_folder(name: str, keys: Keys, base: str) -> Folder:
+    return Folder(name, os.path.join(base, keys.text("folder", "")), keys.whole("max_bytes", 256 << 20, 1, 1 << 32))
 
 
 def read_value(keys: Keys, where: str, value: object, secret: bool = False) -> Value:
