@@ -194,7 +194,8 @@ def test_a_csv_file(room):
     place = "branch 1 step 1: item_of(id '2'): "
     for content, status, err in [
             (b"", 10, "no CSV: there is no header"), (b"id,name\n", 10, "no column unit price: 'Price' does not stand once in `id, name`"),
-            (b"id,Price,name\n1,2\n", 10, "row 1 has 2 fields, and the header has 3"), (b"id,Price,name\n1,2,\xff\n", 10, "the file is not UTF-8 at byte 18")]:
+            (b"id,Price,name\n1,2\n", 10, "row 1 has 2 fields, and the header has 3"),
+            (b"id,Price,name\n1,2,\xff\n", 10, "the file is not UTF-8 at byte 18")]:
         room.write("data/i.csv", content)
         same(asked(room, services, ONE), (status, "", place + err + "\n"))
     os.unlink(room.path("data/i.csv"))

@@ -116,7 +116,8 @@ def test_the_one_text_of_each_value(room):
     values = ['"x"', "1", "-0", "1.50", "1e3", "1E+400", "123456789012345678901234567890", "true", "false", '""', '"\\u00e9"', '"1"']
     rows = ", ".join(f'{{"k": [0, {number}], "v": {value}}}' for number, value in enumerate(values, 10))
     room.serve(fixed(f'\ufeff{{"a/b": [{{"~": [{rows}]}}]}}'), services)
-    wanted = "column1,column2\n10,x\n11,1\n12,-0\n13,1.50\n14,1e3\n15,1E+400\n16,123456789012345678901234567890\n17,true\n18,false\n19,\n20,é\n21,1\n"
+    wanted = ("column1,column2\n10,x\n11,1\n12,-0\n13,1.50\n14,1e3\n15,1E+400\n16,123456789012345678901234567890\n17,true\n18,false\n"
+              "19,\n20,é\n21,1\n")
     same(room.carry(), (0, wanted, ""))
 
 
@@ -198,7 +199,8 @@ def pages(call):
     more = page < 3
     body = {"rows": [{"id": call.query["id"], "amount": str(page)}], "next": f"prices?id=2&page={page + 1}" if more else None,
             "cursor": page + 1 if more else ""}
-    return Reply(body, Link=f'</other>, <{call.path}?page=1>; rel="first", </prices?id=2&page={page + 1}>; title="a, b"; rel="last next"' if more else "")
+    link = f'</other>, <{call.path}?page=1>; rel="first", </prices?id=2&page={page + 1}>; title="a, b"; rel="last next"'
+    return Reply(body, Link=link if more else "")
 
 
 def test_pages_are_followed(room):
@@ -210,7 +212,8 @@ def test_pages_are_followed(room):
 
 def test_pages_that_lead_round_or_do_not_end(room):
     def round_about(call):
-        return Reply({"rows": [], "next": "/prices?id=2&page=1" if call.query.get("page") == "2" else f"/prices?id=2&page={2 if 'page' in call.query else 1}"})
+        following = {None: "1", "1": "2", "2": "1"}[call.query.get("page")]
+        return Reply({"rows": [], "next": f"/prices?id=2&page={following}"})
     server = refused(room, round_about, 10, WHERE + "the pages lead round: page 3 leads back to one before it", 'rows = "/rows"\nnext = "/next"\n')
     same(len(server.calls), 3)
 
@@ -323,3 +326,15 @@ def test_several_workers(room):
     server = room.serve(slow)
     same(room.carry("--workers", "3"), (0, ANSWER, ""))
     same((sorted(server.targets[1:]), server.most_at_once), (["/prices?id=1", "/prices?id=2", "/prices?id=3"], 3))
+
+
+def test_the_earliest_of_several_failures_is_reported(room):
+    together = threading.Barrier(3)
+
+    def refusing(call):
+        if call.path == "/prices":
+            together.wait(60)
+            return Reply("", 400)
+        return shop(call)
+    room.serve(refusing)
+    same(room.carry("--workers", "3"), (9, "", "branch 1 step 2: price_of(id '1'): status 400: nothing\n"))

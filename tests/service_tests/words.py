@@ -108,14 +108,17 @@ def test_a_fault_of_the_program_itself_shows_no_secret(room):
     room.serve()
     room.write("services.toml", room.read("services.toml").replace(b"wait = 0.01", b'headers = { A = { env = "SHOP_TOKEN" } }'))
 
-    def broken(self):
-        raise RuntimeError("with hidden-token")
-    kept, Run.rows = Run.rows, broken
-    try:
+    with unittest.mock.patch.object(Run, "rows", side_effect=RuntimeError("with hidden-token")):
         status, out, err = room.carry(environment={"SHOP_TOKEN": "hidden-token"})
-    finally:
-        Run.rows = kept
     same((status, out, err.splitlines()[-1]), (1, "", "RuntimeError: with ***"))
+
+
+def test_want_of_memory(room):
+    room.serve()
+    with unittest.mock.patch.object(Run, "rows", side_effect=MemoryError):
+        same(room.carry(), (8, "", "out of memory\n"))
+    with unittest.mock.patch("services.web.WebSource.rows", side_effect=MemoryError):
+        same(room.carry(), (8, "", "branch 1 step 1: all_items(): out of memory\n"))
 
 
 def test_a_terminal_shows_how_far_the_run_is(room):
@@ -139,7 +142,8 @@ def test_an_older_python(room):
     room.serve()
     os.mkdir(room.path("lib"))
     room.write("lib/tomllib.py", "raise ImportError\n")
-    run = subprocess.run([sys.executable, TOOL, *room.words()], capture_output=True, timeout=SECONDS, env={**os.environ, "PYTHONPATH": room.path("lib")})
+    run = subprocess.run([sys.executable, TOOL, *room.words()], capture_output=True, timeout=SECONDS,
+                         env={**os.environ, "PYTHONPATH": room.path("lib")})
     version = ".".join(map(str, sys.version_info[:3]))
     wanted = f"services: the module tomllib is missing: Python 3.11 or newer is needed, and this is {version}\n"
     same((run.returncode, run.stdout, run.stderr.decode()), (12, b"", wanted))

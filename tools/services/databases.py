@@ -68,10 +68,8 @@ def sqlite_connections(service: Database, pace: Pace) -> Connections:
         raise MachineFault(f"service {service.name}: there is no file {visible(service.file)}")
 
     def opened() -> sqlite3.Connection:
-        connection = sqlite3.connect(f"file:{quote(os.path.abspath(service.file))}?mode=ro", uri=True, timeout=service.timeout, check_same_thread=False,
-                                     isolation_level=None)
-        connection.execute("PRAGMA query_only = 1")
-        return connection
+        name = f"file:{quote(os.path.abspath(service.file))}?mode=ro"
+        return sqlite3.connect(name, uri=True, timeout=service.timeout, check_same_thread=False, isolation_level=None)
 
     return Connections(service, opened, "named", False, pace)
 

@@ -21,8 +21,9 @@ from .templates import NoTemplate, Statement, Template
 from .texts import Column, Pointer, RowForm
 
 MOST_BYTES = 1 << 20
-SECRET_WORDS = re.compile(r"auth(?!or(?!i[sz]))|cookie|token|secret|passw|pwd|credential|^key$|(api|access|app|private)[-_]?key|session|signature|dsn",
-                          re.IGNORECASE)
+SECRET_WORDS = re.compile(r"""
+    auth(?!or(?!i[sz])) | cookie | token | secret | passw | pwd | credential | session | signature | dsn | ^key$ | (api|access|app|private)[-_]?key
+    """, re.IGNORECASE | re.VERBOSE)
 HEADER_NAME = re.compile(r"[A-Za-z0-9!#$%&'*+.^_`|~-]+")
 CONTROL = re.compile(r"[\x00-\x1f\x7f]")
 
