@@ -130,6 +130,12 @@ def test_only_fresh_answers_are_used(room):
     server.calls.clear()
     status, out, err = room.carry("--journal", room.path("j"), "--fresh", "12h")
     same((status, out, used(err), server.targets), (0, ANSWER, 3, ["/prices?id=2"]))
+    aged(room, 3600, "inputs = '[\"1\"]'")
+    file = sqlite3.connect(room.path("j"))
+    oldest = file.execute("SELECT min(asked) FROM answers").fetchone()[0]
+    file.close()
+    wanted = time.strftime("journal: 4 answers used, the oldest of %Y-%m-%d %H:%M:%S\n", time.localtime(oldest))
+    same(room.carry("--journal", room.path("j")), (0, ANSWER, wanted))
     for time_word in ("1s", "1", "0.01m", "0.001h"):
         aged(room, 5)
         server.calls.clear()

@@ -113,22 +113,17 @@ class Asker:
     def is_file(self, method: str) -> bool:
         return isinstance(self.methods[method].service, Folder)
 
-    def is_kept(self, method: str) -> bool:
-        """Whether answers of the method go into the journal; those of files do not, since they can be read again."""
-        return self.journal is not None and not self.is_file(method)
-
     def kept(self, method: str, requests: Sequence[Row]) -> Dict[Row, List[Row]]:
         """The answers that the journal has."""
         found: Dict[Row, List[Row]] = {}
-        if self.is_kept(method):
-            for asked in requests:
-                rows = self.journal.find(method, self.sums[method], asked)
-                if rows is not None:
-                    found[asked] = rows
+        for asked in requests if self.journal is not None else ():
+            rows = self.journal.find(method, self.sums[method], asked)
+            if rows is not None:
+                found[asked] = rows
         return found
 
     def from_file(self, place: str, method: str, requests: Sequence[Row]) -> Dict[Row, List[Row]]:
-        """The answers of a file, which need no workers."""
+        """The answers of a file, which need no workers; they can be read again, and so the journal does not have them."""
         try:
             return {asked: self.sources.of[method].rows(asked) for asked in requests}
         except Fault as fault:
@@ -143,7 +138,7 @@ class Asker:
 
     def answers(self, place: str, method: str, requests: Sequence[Row]) -> Dict[Row, List[Row]]:
         """The rows of each request of a step, which makes those that the journal lacks."""
-        found = self.kept(method, requests)
+        found = {} if self.is_file(method) else self.kept(method, requests)
         wanted = [asked for asked in requests if asked not in found]
         if self.ending.signal is not None:
             raise self.ending.stopped(f"stopped before {place}")
@@ -166,7 +161,7 @@ class Asker:
         self.progress.clear()
         answers, faults = self.sorted_out(futures)
         if self.ending.signal is not None:
-            kept = "; the journal has their answers" if self.is_kept(method) else ""
+            kept = "; the journal has their answers" if self.journal is not None else ""
             raise self.ending.stopped(f"stopped in {place}: {len(answers)} of {len(wanted)} requests of {method} were answered{kept}")
         if faults:
             asked = min(faults)
@@ -193,7 +188,7 @@ class Asker:
         began = time.time()
         try:
             rows = self.sources.of[method].rows(asked)
-            if self.is_kept(method):
+            if self.journal is not None:
                 self.journal.keep(method, self.sums[method], asked, began, rows)
             return rows
         except Stopped:
