@@ -126,7 +126,8 @@ class Server:
             return
         handler.send_response(reply.status)
         for name, value in {"Content-Type": "application/json", "Content-Length": str(len(reply.body)), **reply.headers}.items():
-            handler.send_header(name, value)
+            if value is not None:
+                handler.send_header(name, value)
         handler.end_headers()
         for at in range(len(reply.body) if reply.slowly else 0):
             handler.wfile.write(reply.body[at:at + 1])

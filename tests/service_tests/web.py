@@ -170,6 +170,17 @@ def test_csv_in_another_character_set(room):
     same(one(room, fixed(body, Content_Type="text/csv; charset=ISO-8859-1"), more)[0], (0, 'column1\n"caf\u00e9, \n"\n', ""))
 
 
+def test_an_answer_that_does_not_say_where_it_ends(room):
+    refused(room, fixed("id,amount\n2,20\n", Content_Length=None), 10, WHERE + "a CSV text without Content-Length, of which rows may be missing",
+            'format = "csv"\n')
+    same(one(room, fixed([{"id": "2", "amount": "20"}], Content_Length=None))[0], (0, ONE_ROW, ""))
+    chunked = "7\r\nid,amou\r\n8\r\nnt\n2,20\n\r\n0\r\n\r\n"
+    same(one(room, fixed(chunked, Content_Length=None, Transfer_Encoding="chunked"), 'format = "csv"\n')[0], (0, ONE_ROW, ""))
+    cut = in_turn(*(Reply(body, Content_Length=None, Transfer_Encoding="chunked") for body in (chunked[:20], chunked)))
+    got, server = one(room, cut, 'format = "csv"\n')
+    same((got, len(server.calls)), ((0, ONE_ROW, ""), 2))
+
+
 def test_one_object_and_no_row(room):
     more = 'single = true\nempty = [404, 204]\ncolumns.id.asked = true\n'
     same(one(room, fixed({"amount": 20}), more)[0], (0, ONE_ROW, ""))

@@ -60,6 +60,10 @@ class Reply:
         except UnicodeDecodeError as fault:
             raise AnswerFault(f"the body is not {visible(charset)} at byte {fault.start}") from None
 
+    def says_its_end(self) -> bool:
+        """Whether a body that was cut would have been seen to be cut."""
+        return "Content-Length" in self.headers or "chunked" in self.headers.get("Transfer-Encoding", "").lower()
+
     def first_line(self) -> str:
         return first_line(self.body[:PIECE].decode("utf-8", "replace"))
 

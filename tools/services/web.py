@@ -88,6 +88,8 @@ class WebSource:
     def page(self, reply: Reply, url: str) -> Tuple[List[List[object]], Optional[str]]:
         """The rows of a page, and the URL of the next one."""
         if self.call.format == "csv":
+            if not reply.says_its_end():  # a JSON text that was cut is none, but a CSV text lacks rows
+                raise AnswerFault("a CSV text without Content-Length, of which rows may be missing")
             rows, value = list(csv_rows(reply.text(), self.form)), None
         else:
             text = reply.text()
