@@ -66,10 +66,12 @@ module _ (schema : Schema) (statement : Statement) (plan : Plan) (firings : ℕ)
     verdict_says _ (equivalent legal same) = read_with IsRight (record { legal = legal; equivalent = same })
     verdict_says _ (illegal fault (unlawful not first)) = read_with IsWrong (λ right. not right.legal.lawful)
     verdict_says _ (illegal fault (other_width lawful not e)) = read_with IsWrong (λ right. not right.legal.wide)
-    verdict_says _ (loses facts row legal lost) = read_with IsWrong (λ right. lost.no_row (right.equivalent.complete facts row lost.model lost.answered))
-    verdict_says _ (adds facts row legal none added) = read_with IsWrong (λ right. added.not_answered (right.equivalent.sound facts row added.model added.a_row))
+    verdict_says _ (loses number facts row legal before lost) =
+        read_with IsWrong (λ right. lost.no_row (right.equivalent.complete facts row lost.model (lost.select, contains_got statement.selects number lost.select lost.at, lost.answered)))
+    verdict_says _ (adds number facts row legal none before added) =
+        read_with IsWrong (λ right. added.not_answered (right.equivalent.sound facts row added.model (added.branch, contains_got plan.branches number added.branch added.at, added.a_row)))
     verdict_says _ (undecided (side.Select number) log legal none_lost none_added before spent) =
-        read_with (FiresOn firings) (longer spent.query spent.queries log (inl (spent.select, contains_got statement.selects number spent.select spent.at, spent.form)) spent.spent)
+        read_with (FiresOn firings) (longer spent.query spent.queries log (inl (spent.select, contains_got statement.selects number spent.select spent.at, spent.form, spent.numbered)) spent.spent)
     verdict_says _ (undecided (side.Branch number) log legal none_lost none_added before spent) =
         read_with (FiresOn firings) (longer spent.query spent.queries log (inr (spent.branch, contains_got plan.branches number spent.branch spent.at, spent.form)) spent.spent)
 

@@ -44,7 +44,7 @@ same_text {P = P} {Q = Q} told name limit given is =
 pub one_schema : (text : List ℕ) (one other : Schema) → IsSchemaText text one → IsSchemaText text other → one ≡ other
 one_schema text one other a b = read_only text (Ok one) a tt other b
 
-one_plan : (text : List ℕ) (one other : Plan) → IsPlanText text one → IsPlanText text other → one ≡ other
+pub one_plan : (text : List ℕ) (one other : Plan) → IsPlanText text one → IsPlanText text other → one ≡ other
 one_plan text one other a b = text_only text (Ok one) a tt other b
 
 pub same_schema : (told : Option Contents) (name : List ℕ) (schema read : Schema) → SchemaIsGiven told name schema → SchemaIsRead told name read → schema ≡ read

@@ -14,4 +14,5 @@ pub mod Complete
 pub mod Refusals
 pub mod CheckStatuses
 pub mod Statuses
+pub mod Exact
 pub mod CompleteOffers

@@ -48,6 +48,7 @@ longer schema statement firings select log is =
       end = next;
       of_statement = contains_got statement.selects select is.chosen is.of_statement;
       form = is.form;
+      numbered = is.numbered;
       run = more;
       long = omega (arith, count, one_more);
     }

@@ -2,4 +2,5 @@ pub mod Help
 pub mod Runs
 pub mod Complete
 pub mod Statuses
+pub mod Exact
 pub mod Generators

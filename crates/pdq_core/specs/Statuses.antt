@@ -15,6 +15,7 @@ use Rattle.meaning.specs.Triggers.{State}
 use Rattle.meaning.specs.Runs.{Proof, IsOrderedRun, opening, IsBaseRun, opening_state}
 use Rattle.access_schema.specs.declared.schema.Schema.{Schema}
 use Rattle.access_schema.specs.Meaning.{meaning_of}
+use Rattle.sql_conjunctive.specs.Form.{IsNumbered}
 use Rattle.proof_search.specs.Plans.{known_of, HasNoPlan}
 use Rattle.plan_check.specs.Verdicts.{IsLegalOver}
 use Rattle.command_io.specs.declared.exit_status.Status.{Status}
@@ -27,7 +28,8 @@ use Rattle.command_words.specs.Words.Command.{Explain, Run, Check}
 abbrev pub HasPlan : Schema → Statement → Type 0
 HasPlan schema statement = (plan : Plan) × IsLawful plan (meaning_of schema) (known_of schema statement) × IsEquivalent plan statement (meaning_of schema)
 
--- From the opening proof of a select of the statement there is an ordered run of more firings than these.
+-- From the opening proof of a select of the statement, by its conjunctive form with the variables numbered by first occurrence, there is an
+-- ordered run of more firings than these.
 pub record RunsOn (firings : ℕ) (schema : Schema) (statement : Statement) : Type 0 where
   pub select : Select
   pub query : Query
@@ -35,6 +37,7 @@ pub record RunsOn (firings : ℕ) (schema : Schema) (statement : Statement) : Ty
   pub end : Proof
   pub of_statement : Contains statement.selects select
   pub form : IsConjunctive (meaning_of schema) select query
+  pub numbered : IsNumbered query
   pub run : IsOrderedRun (meaning_of schema) (known_of schema statement) 0 (opening query) log end
   pub long : firings < length log
 
@@ -62,10 +65,10 @@ pub record IsRight (schema : Schema) (statement : Statement) (plan : Plan) : Typ
 abbrev pub IsWrong : Schema → Statement → Plan → Type 0
 IsWrong schema statement plan = IsRight schema statement plan → ⊥
 
--- The query is that of a select of the statement or of a branch of the plan.
+-- The query is that of a select of the statement, with its variables numbered by first occurrence, or that of a branch of the plan.
 abbrev pub IsTried : Schema → Statement → Plan → Query → Type 0
 IsTried schema statement plan query =
-    ((select : Select) × Contains statement.selects select × IsConjunctive (meaning_of schema) select query)
+    ((select : Select) × Contains statement.selects select × IsConjunctive (meaning_of schema) select query × IsNumbered query)
     ⊎ ((branch : Branch) × Contains plan.branches branch × IsBranchQuery (meaning_of schema) branch query)
 
 -- From a frozen select of the statement or a frozen branch of the plan there is a base run of more firings than these.

@@ -1,13 +1,18 @@
 // What runs of the program promise: laws on the definitions alone, as functions that do nothing.
-ghost use Rattle.std.specs.Prelude.{◌<◌, ℕ, List, length};
+ghost use Rattle.std.specs.Prelude.{◌≡◌, ◌≢◌, ◌↔◌, ◌<◌, ℕ, List, length};
 ghost use Rattle.meaning.specs.declared.types.Fact.{Fact};
 ghost use Rattle.meaning.specs.declared.types.Plan.{Plan};
+ghost use Rattle.meaning.specs.declared.types.Statement.{Statement};
 ghost use Rattle.access_schema.specs.declared.schema.Schema.{Schema};
+ghost use Rattle.tgd_reader.specs.SchemaText.{IsSchemaText};
+ghost use Rattle.sql_select.specs.Statements.{IsStatementText};
+ghost use Rattle.plan_form.specs.Grammar.{IsPlanText};
 ghost use Rattle.source_trait.specs.declared.lanes.Lane.{Lane};
 ghost use Rattle.middleware.specs.PlanSources.{IsAccessed};
 ghost use Rattle.middleware.specs.LaneBranches.{OnEach};
 ghost use Rattle.command_io.specs.declared.delivery.TheConstants.{CALLS};
 ghost use Rattle.command_io.specs.declared.exit_status.Status.{Status};
+ghost use Rattle.command_io.specs.declared.exit_status.Status.TheVariants as ends_in;
 ghost use Rattle.command_io.specs.Moments.{Moment};
 ghost use Rattle.command_words.specs.Words.{Command, IsCommand};
 ghost use Rattle.verify_command.specs.RuleRelations.{RulesName};
@@ -15,6 +20,7 @@ ghost use Rattle.verify_command.specs.Verifying.{used};
 ghost use Rattle.pdq_core.specs.Runs.{Runs};
 ghost use Rattle.pdq_core.specs.Complete.{NoneRose, OnLanes, NoSourceRose, OfferInstance, OfferUntold, KeepsCap, Serve, CanExecute, IsSupplied, IsAnswered};
 ghost use Rattle.pdq_core.specs.Statuses.{SaysOf};
+ghost use Rattle.pdq_core.specs.Exact.{HasNoLongRun, HasNone};
 
 use command_words::words_are_one_command;
 use source_trait::Source;
@@ -61,3 +67,25 @@ pub fn statuses_are_right<S: Source>()
 {
     words_are_one_command();
 }
+
+/// The status of `explain`, `run` and `check` is exact where the texts of their files are given and no run is longer than the firings
+/// given: no ordered run from a select, and for `check` no base run from a frozen select or branch. Then it is never `Undecided`; and
+/// where the command is answered and memory was found, it is `No` exactly where no lawful plan is equivalent to the statement, and for
+/// `check` exactly where the plan is not lawful or not equivalent to it.
+pub fn statuses_are_exact<S: Source>()
+    ensures undecided { (words : List (List ℕ)) (command : Command) (before after : Moment) (old new : List (Lane S)) (status : Status) →
+        Runs S.seen words before after old new status → IsCommand words command → HasNoLongRun command before.files → status ≢ ends_in.Undecided }
+    ensures none { (words : List (List ℕ)) (command : Command) (before after : Moment) (old new : List (Lane S)) (status : Status) →
+        Runs S.seen words before after old new status → IsCommand words command → IsAnswered status → status ≢ ends_in.Memory →
+        HasNoLongRun command before.files → (status ≡ ends_in.No) ↔ HasNone command before.files }
+{
+    words_are_one_command();
+}
+
+/// A text is that of one schema at most, over a schema of one statement at most, and of one plan at most. So what the laws above take
+/// as given is what the program read.
+pub fn texts_mean_one_thing()
+    ensures schema { (text : List ℕ) (one other : Schema) → IsSchemaText text one → IsSchemaText text other → one ≡ other }
+    ensures statement { (schema : Schema) (text : List ℕ) (one other : Statement) → IsStatementText schema text one → IsStatementText schema text other → one ≡ other }
+    ensures plan { (text : List ℕ) (one other : Plan) → IsPlanText text one → IsPlanText text other → one ≡ other }
+{}

@@ -1,5 +1,5 @@
 -- What the trials of both sides say of the plan.
-use Rattle.std.proofs.Common.{◌≡◌, ◌⊎◌, ◌↔◌, ℕ, List, ◌++◌, sym, ap, ◌∙◌, subst, inl, inr}
+use Rattle.std.proofs.Common.{◌≡◌, ℕ, List, inl, inr}
 use Rattle.std.specs.Prelude.{Contains, slice_get, Option, Some, None}
 use Rattle.std.specs.List.{AllZip}
 use Rattle.lists.proofs.Members.{contains_got}
@@ -10,7 +10,6 @@ use Rattle.meaning.specs.declared.types.Branch.{Branch}
 use Rattle.meaning.specs.declared.types.Plan.{Plan}
 use Rattle.meaning.specs.declared.types.Select.{Select}
 use Rattle.meaning.specs.declared.types.Statement.{Statement}
-use Rattle.meaning.specs.declared.types.Trigger.{Trigger}
 use Rattle.meaning.specs.Values.{Value, Row}
 use Rattle.meaning.specs.Instances.{IsInstance}
 use Rattle.meaning.specs.Answers.{Answers, AnswersSelect}
@@ -21,11 +20,12 @@ use Rattle.access_schema.specs.declared.schema.Schema.{Schema}
 use Rattle.access_schema.specs.Meaning.{meaning_of}
 use Rattle.access_schema.proofs.Keeping.{well_formed}
 use Rattle.plan_check.specs.declared.verdict.Verdict.{Verdict}
+use Rattle.plan_check.specs.declared.verdict.Verdict.TheVariants as verdict
 use Rattle.plan_check.specs.declared.trial.Tried.{Tried}
 use Rattle.plan_check.specs.declared.trial.Tried.TheVariants as all
 use Rattle.plan_check.specs.Forms.{IsSelectForm, IsBranchForm}
-use Rattle.plan_check.specs.Trials.{AnswersForm, AnswersSome, FormIsContained, FormIsSpent, NoneSeparates, AreTried}
-use Rattle.plan_check.specs.Verdicts.{known_of, IsLegalOver, IsSelectSpent, IsBranchSpent, GivesSelect, AnswersAlone, NoneLost, NoneAdded, IsVerdict, verdict_of, IsConclusion}
+use Rattle.plan_check.specs.Trials.{AnswersForm, AnswersSome, FormIsContained, FormStays, NoneSeparates, IsFirstSeparated, AreTried}
+use Rattle.plan_check.specs.Verdicts.{known_of, IsLegalOver, GivesSelect, AnswersAlone, IsKept, IsWithin, NoneLost, NoneAdded, IsVerdict, verdict_of, IsConclusion}
 use Rattle.plan_check.specs.Verdicts.IsConclusion.{same, lost, added, select_spent, branch_spent}
 use Rattle.plan_check.specs.Verdicts.IsVerdict.{equivalent, loses, adds, undecided}
 use Rattle.plan_check.specs.declared.verdict.Side.TheVariants as side
@@ -34,22 +34,13 @@ use Rattle.plan_check.proofs.Trying.{contained_none}
 
 -- ---- trials of both sides
 
-pub lost_at_once : (schema : SchemaParts) (selects branches : List (Option Query)) (firings : ℕ) (facts : List Fact) (row : Row) →
-    AreTried schema selects branches firings (all.Separated facts row) → (verdict : Verdict) → verdict ≡ verdict_of (all.Separated facts row) all.Contained → IsConclusion schema selects branches firings verdict
-lost_at_once schema selects branches firings facts row (query, among, is) verdict e =
-    subst (IsConclusion schema selects branches firings) (sym e)
-    (lost facts row (record { model = is.model; answered = (Some query, among, is.answered); not_others = is.not_others }))
-
 pub concluded : (schema : SchemaParts) (selects branches : List (Option Query)) (firings : ℕ) (first second : Tried) → AreTried schema selects branches firings first →
     AreTried schema branches selects firings second → IsConclusion schema selects branches firings (verdict_of first second)
-concluded schema selects branches firings (all.Separated facts row) second (query, among, is) other =
-    lost facts row (record { model = is.model; answered = (Some query, among, is.answered); not_others = is.not_others })
-concluded schema selects branches firings all.Contained (all.Separated facts row) one (query, among, is) =
-    added facts row (contained_none schema branches firings selects one) (record { model = is.model; answered = (Some query, among, is.answered); not_others = is.not_others })
+concluded schema selects branches firings (all.Separated facts row) second is other = lost facts row is
+concluded schema selects branches firings all.Contained (all.Separated facts row) one is = added facts row (contained_none schema branches firings selects one) is
 concluded schema selects branches firings all.Contained all.Contained one other = same one other
 concluded schema selects branches firings all.Contained (all.Spent number log) one first = branch_spent number log one first
-concluded schema selects branches firings (all.Spent number log) (all.Separated facts row) first (query, among, is) =
-    added facts row first.none (record { model = is.model; answered = (Some query, among, is.answered); not_others = is.not_others })
+concluded schema selects branches firings (all.Spent number log) (all.Separated facts row) first is = added facts row first.none is
 concluded schema selects branches firings (all.Spent number log) all.Contained first other = select_spent number log first (contained_none schema selects firings branches other)
 concluded schema selects branches firings (all.Spent number log) (all.Spent another its) first other = select_spent number log first other.none
 
@@ -115,31 +106,59 @@ module _ (schema : Schema) (statement : Statement) (plan : Plan) (firings : ℕ)
       some_answers schema statement selects forms facts model.fits row
       (contained facts row model.meets (rows_form schema (known_of schema statement) plan legal.lawful branches queries branch form (legal.lawful branch among).1 is facts row rows))
 
+  -- a select whose query stays is kept
+  is_kept : (number : ℕ) (select : Select) → slice_get statement.selects number ≡ Some select → (form : Option Query) → IsSelectForm schema select form → FormStays (meaning_of schema) branches firings form →
+      IsKept schema statement plan firings number select
+  is_kept number select at form is (inl contained) = inl (gives_select select form is contained)
+  is_kept number select at None is (inr (log, spent)) = absurd spent
+  is_kept number select at (Some query) is (inr (log, spent)) =
+      inr (log, record { select = select; query = query; queries = branches; at = at; form = is.form; numbered = is.numbered; are = queries; spent = spent })
+
+  -- and a branch whose query stays gives answers alone, or its firings are spent
+  is_within : (number : ℕ) (branch : Branch) → slice_get plan.branches number ≡ Some branch → (form : Option Query) → IsBranchForm (meaning_of schema) branch form →
+      FormStays (meaning_of schema) selects firings form → IsWithin schema statement plan firings number branch
+  is_within number branch at form is (inl contained) = inl (answers_alone branch form (contains_got plan.branches number branch at) is contained)
+  is_within number branch at None is (inr (log, spent)) = absurd spent
+  is_within number branch at (Some query) is (inr (log, spent)) =
+      inr (log, record { branch = branch; query = query; queries = selects; at = at; form = is; are = forms; spent = spent })
+
   none_lost : NoneSeparates (meaning_of schema) selects branches firings → NoneLost schema statement plan firings
   none_lost none number select at =
       let (form, there, is) = zip_from (IsSelectForm schema) statement.selects selects number select forms at in
-      by form is (none form (contains_got selects number form there))
-    where
-      by : (form : Option Query) → IsSelectForm schema select form →
-          FormIsContained (meaning_of schema) branches form ⊎ ((log : List Trigger) × FormIsSpent (meaning_of schema) branches firings form log) →
-          GivesSelect (meaning_of schema) plan select ⊎ ((log : List Trigger) × IsSelectSpent schema statement plan firings number log)
-      by form is (inl contained) = inl (gives_select select form is contained)
-      by None is (inr (log, spent)) = absurd spent
-      by (Some query) is (inr (log, spent)) =
-          inr (log, record { select = select; query = query; queries = branches; at = at; form = is.form; are = queries; spent = spent })
+      is_kept number select at form is (none form (contains_got selects number form there))
 
   none_added : NoneSeparates (meaning_of schema) branches selects firings → NoneAdded schema statement plan firings
   none_added none number branch at =
       let (form, there, is) = zip_from (IsBranchForm (meaning_of schema)) plan.branches branches number branch queries at in
-      by form is (none form (contains_got branches number form there))
-    where
-      by : (form : Option Query) → IsBranchForm (meaning_of schema) branch form →
-          FormIsContained (meaning_of schema) selects form ⊎ ((log : List Trigger) × FormIsSpent (meaning_of schema) selects firings form log) →
-          AnswersAlone (meaning_of schema) statement branch ⊎ ((log : List Trigger) × IsBranchSpent schema statement plan firings number log)
-      by form is (inl contained) = inl (answers_alone branch form (contains_got plan.branches number branch at) is contained)
-      by None is (inr (log, spent)) = absurd spent
-      by (Some query) is (inr (log, spent)) =
-          inr (log, record { branch = branch; query = query; queries = selects; at = at; form = is; are = forms; spent = spent })
+      is_within number branch at form is (none form (contains_got branches number form there))
+
+  -- the first that is separated
+  first_lost : (facts : List Fact) (row : Row) → IsFirstSeparated (meaning_of schema) selects branches firings facts row → IsVerdict schema statement plan firings (verdict.Loses facts row)
+  first_lost facts row first =
+      let (select, at, is) = zip_at (IsSelectForm schema) statement.selects selects first.number (Some first.query) forms first.at in
+      loses first.number facts row legal
+      (λ k earlier less its. let (form, there, of) = zip_from (IsSelectForm schema) statement.selects selects k earlier forms its in is_kept k earlier its form of (first.before k form less there))
+      (record {
+        select = select;
+        at = at;
+        model = first.separated.model;
+        answered = form_answers schema statement selects forms select (Some first.query) is facts first.separated.model.fits row first.separated.answered;
+        no_row = λ rows. first.separated.not_others (rows_some schema (known_of schema statement) plan legal.lawful branches queries facts row rows);
+      })
+
+  first_added : (facts : List Fact) (row : Row) → NoneSeparates (meaning_of schema) selects branches firings → IsFirstSeparated (meaning_of schema) branches selects firings facts row →
+      IsVerdict schema statement plan firings (verdict.Adds facts row)
+  first_added facts row none first =
+      let (branch, at, is) = zip_at (IsBranchForm (meaning_of schema)) plan.branches branches first.number (Some first.query) queries first.at in
+      adds first.number facts row legal (none_lost none)
+      (λ k earlier less its. let (form, there, of) = zip_from (IsBranchForm (meaning_of schema)) plan.branches branches k earlier queries its in is_within k earlier its form of (first.before k form less there))
+      (record {
+        branch = branch;
+        at = at;
+        model = first.separated.model;
+        a_row = form_rows schema (known_of schema statement) plan legal.lawful branches queries branch (Some first.query) (legal.lawful branch (contains_got plan.branches first.number branch at)).1 is facts row first.separated.answered;
+        not_answered = λ answers. first.separated.not_others (answers_some schema statement selects forms facts first.separated.model.fits row answers);
+      })
 
 -- ---- the verdict
 
@@ -153,18 +172,8 @@ verdict_is schema statement plan firings selects branches legal forms queries _ 
       complete = λ facts row model answers. some_rows schema (known_of schema statement) plan legal.lawful branches queries facts row
           (there facts row model.meets (answers_some schema statement selects forms facts model.fits row answers));
     })
-verdict_is schema statement plan firings selects branches legal forms queries _ (lost facts row is) =
-    loses facts row legal (record {
-      model = is.model;
-      answered = some_answers schema statement selects forms facts is.model.fits row is.answered;
-      no_row = λ rows. is.not_others (rows_some schema (known_of schema statement) plan legal.lawful branches queries facts row rows);
-    })
-verdict_is schema statement plan firings selects branches legal forms queries _ (added facts row none is) =
-    adds facts row legal (none_lost schema statement plan firings selects branches legal forms queries none) (record {
-      model = is.model;
-      a_row = some_rows schema (known_of schema statement) plan legal.lawful branches queries facts row is.answered;
-      not_answered = λ answers. is.not_others (answers_some schema statement selects forms facts is.model.fits row answers);
-    })
+verdict_is schema statement plan firings selects branches legal forms queries _ (lost facts row first) = first_lost schema statement plan firings selects branches legal forms queries facts row first
+verdict_is schema statement plan firings selects branches legal forms queries _ (added facts row none first) = first_added schema statement plan firings selects branches legal forms queries facts row none first
 verdict_is schema statement plan firings selects branches legal forms queries _ (select_spent number log first none) =
     let (select, there, is) = zip_at (IsSelectForm schema) statement.selects selects number (Some first.query) forms first.at in
     undecided (side.Select number) log legal
@@ -173,7 +182,7 @@ verdict_is schema statement plan firings selects branches legal forms queries _ 
     (λ k earlier less at.
     let (form, its, of) = zip_from (IsSelectForm schema) statement.selects selects k earlier forms at in
     gives_select schema statement plan firings selects branches legal forms queries earlier form of (first.before k form less its))
-    (record { select = select; query = first.query; queries = branches; at = there; form = is.form; are = queries; spent = first.spent })
+    (record { select = select; query = first.query; queries = branches; at = there; form = is.form; numbered = is.numbered; are = queries; spent = first.spent })
 verdict_is schema statement plan firings selects branches legal forms queries _ (branch_spent number log there first) =
     let (branch, it, is) = zip_at (IsBranchForm (meaning_of schema)) plan.branches branches number (Some first.query) queries first.at in
     undecided (side.Branch number) log legal

@@ -149,10 +149,22 @@ abbrev pub FormIsSpent : SchemaParts → List (Option Query) → ℕ → Option 
 FormIsSpent schema others firings None log = ⊥
 FormIsSpent schema others firings (Some query) log = IsSpent schema query others firings log
 
--- No trial separates: each of the queries is contained, or its firings are spent.
-abbrev pub NoneSeparates : SchemaParts → List (Option Query) → List (Option Query) → ℕ → Type 0
-NoneSeparates schema forms others firings = (form : Option Query) → Contains forms form →
+-- The trial of the query, if there is one, does not separate: it is contained, or its firings are spent.
+abbrev pub FormStays : SchemaParts → List (Option Query) → ℕ → Option Query → Type 0
+FormStays schema others firings form =
     FormIsContained schema others form ⊎ ((log : List Trigger) × FormIsSpent schema others firings form log)
+
+-- No trial separates.
+abbrev pub NoneSeparates : SchemaParts → List (Option Query) → List (Option Query) → ℕ → Type 0
+NoneSeparates schema forms others firings = (form : Option Query) → Contains forms form → FormStays schema others firings form
+
+-- The query of this number is the first that is separated, by this instance and row: no trial before it separates.
+pub record IsFirstSeparated (schema : SchemaParts) (forms others : List (Option Query)) (firings : ℕ) (facts : List Fact) (row : Row) : Type 0 where
+  pub number : ℕ
+  pub query : Query
+  pub at : slice_get forms number ≡ Some (Some query)
+  pub separated : IsSeparated schema query others facts row
+  pub before : (k : ℕ) (form : Option Query) → k < number → slice_get forms k ≡ Some form → FormStays schema others firings form
 
 -- The query of this number is the first whose firings are spent, since those before it are contained; and no trial separates.
 pub record IsFirstSpent (schema : SchemaParts) (forms others : List (Option Query)) (firings number : ℕ) (log : List Trigger) : Type 0 where
@@ -165,18 +177,5 @@ pub record IsFirstSpent (schema : SchemaParts) (forms others : List (Option Quer
 -- What trials of several queries come to.
 abbrev pub AreTried : SchemaParts → List (Option Query) → List (Option Query) → ℕ → Tried → Type 0
 AreTried schema forms others firings all.Contained = AreContained schema forms others
-AreTried schema forms others firings (all.Separated facts row) =
-    (query : Query) × Contains forms (Some query) × IsSeparated schema query others facts row
+AreTried schema forms others firings (all.Separated facts row) = IsFirstSeparated schema forms others firings facts row
 AreTried schema forms others firings (all.Spent number log) = IsFirstSpent schema forms others firings number log
-
--- Earlier trials come first.
-abbrev pub or_spent : Tried → ℕ → List Trigger → Tried
-or_spent all.Contained number log = all.Spent number log
-or_spent (all.Separated facts row) number log = all.Separated facts row
-or_spent (all.Spent earlier its) number log = all.Spent earlier its
-
--- What trials come to with one more.
-abbrev pub and_outcome : Tried → ℕ → Outcome → Tried
-and_outcome tried number one.Contained = tried
-and_outcome tried number (one.Separated facts row) = all.Separated facts row
-and_outcome tried number (one.Spent log) = or_spent tried number log

@@ -20,6 +20,7 @@ use Rattle.access_schema.specs.declared.schema.Schema.{Schema}
 use Rattle.access_schema.specs.Meaning.{meaning_of}
 use Rattle.access_schema.specs.Lists.{once_after}
 use Rattle.sql_select.specs.Known.{literals_in}
+use Rattle.sql_conjunctive.specs.Form.{IsNumbered}
 use Rattle.plan_form.specs.declared.fault.PlanFault.{PlanFault}
 use Rattle.plan_form.specs.declared.fault.PlanFaultKind.TheVariants.{WrongWidth}
 use Rattle.plan_form.specs.Faults.{IsFirstFault}
@@ -30,7 +31,7 @@ use Rattle.plan_check.specs.declared.verdict.Verdict.TheVariants as verdict
 use Rattle.plan_check.specs.declared.trial.Tried.{Tried}
 use Rattle.plan_check.specs.declared.trial.Tried.TheVariants as all
 use Rattle.plan_check.specs.Forms.{IsSelectForm, IsBranchForm}
-use Rattle.plan_check.specs.Trials.{AnswersSome, IsSpent, AreContained, NoneSeparates, IsFirstSpent}
+use Rattle.plan_check.specs.Trials.{IsSpent, AreContained, NoneSeparates, IsFirstSeparated, IsFirstSpent}
 
 -- ---- legal plans
 
@@ -60,26 +61,32 @@ pub data IsIllegalOver (schema : Schema) (statement : Statement) (plan : Plan) (
 
 -- ---- verdicts
 
--- The instance meets the rules, and the row is an answer of the statement there and no row of the plan.
-pub record IsLost (schema : SchemaParts) (statement : Statement) (plan : Plan) (facts : List Fact) (row : Row) : Type 0 where
+-- The instance meets the rules, and the row is an answer of the select of that number there and no row of the plan.
+pub record IsLost (schema : SchemaParts) (statement : Statement) (plan : Plan) (number : ℕ) (facts : List Fact) (row : Row) : Type 0 where
+  pub select : SelectOf
+  pub at : slice_get statement.selects number ≡ Some select
   pub model : IsModel schema facts
-  pub answered : Answers statement facts row
+  pub answered : AnswersSelect select facts row
   pub no_row : IsRow schema plan facts row → ⊥
 
--- The instance meets the rules, and the row is a row of the plan there and no answer of the statement.
-pub record IsAdded (schema : SchemaParts) (statement : Statement) (plan : Plan) (facts : List Fact) (row : Row) : Type 0 where
+-- The instance meets the rules, and the row is a row of the branch of that number there and no answer of the statement.
+pub record IsAdded (schema : SchemaParts) (statement : Statement) (plan : Plan) (number : ℕ) (facts : List Fact) (row : Row) : Type 0 where
+  pub branch : Branch
+  pub at : slice_get plan.branches number ≡ Some branch
   pub model : IsModel schema facts
-  pub a_row : IsRow schema plan facts row
+  pub a_row : IsBranchRow schema branch facts row
   pub not_answered : Answers statement facts row → ⊥
 
 -- The firings for the select of that number are spent: the log is a base run of just so many firings from the frozen conjunctive form of the
--- select, a further firing is active after it, and there no query of a branch of the plan has the frozen head.
+-- select, whose variables are numbered by first occurrence; a further firing is active after it, and there no query of a branch of the plan has
+-- the frozen head.
 pub record IsSelectSpent (schema : Schema) (statement : Statement) (plan : Plan) (firings number : ℕ) (log : List Trigger) : Type 0 where
   pub select : SelectOf
   pub query : Query
   pub queries : List (Option Query)
   pub at : slice_get statement.selects number ≡ Some select
   pub form : IsConjunctive (meaning_of schema) select query
+  pub numbered : IsNumbered query
   pub are : AllZip (IsBranchForm (meaning_of schema)) plan.branches queries
   pub spent : IsSpent (meaning_of schema) query queries firings log
 
@@ -106,15 +113,35 @@ GivesSelect schema plan select = (facts : List Fact) (row : Row) → IsModel sch
 abbrev pub AnswersAlone : SchemaParts → Statement → Branch → Type 0
 AnswersAlone schema statement branch = (facts : List Fact) (row : Row) → IsModel schema facts → IsBranchRow schema branch facts row → Answers statement facts row
 
--- No trial of a select separates: the plan gives each, or the firings for it are spent.
-abbrev pub NoneLost : Schema → Statement → Plan → ℕ → Type 0
-NoneLost schema statement plan firings = (number : ℕ) (select : SelectOf) → slice_get statement.selects number ≡ Some select →
+-- The trial of the select of that number does not separate: the plan gives the select, or the firings for it are spent.
+abbrev pub IsKept : Schema → Statement → Plan → ℕ → ℕ → SelectOf → Type 0
+IsKept schema statement plan firings number select =
     GivesSelect (meaning_of schema) plan select ⊎ ((log : List Trigger) × IsSelectSpent schema statement plan firings number log)
 
--- No trial of a branch separates: each gives answers alone, or the firings for it are spent.
+-- The trial of the branch of that number does not separate: the branch gives answers alone, or the firings for it are spent.
+abbrev pub IsWithin : Schema → Statement → Plan → ℕ → ℕ → Branch → Type 0
+IsWithin schema statement plan firings number branch =
+    AnswersAlone (meaning_of schema) statement branch ⊎ ((log : List Trigger) × IsBranchSpent schema statement plan firings number log)
+
+-- No trial of a select separates.
+abbrev pub NoneLost : Schema → Statement → Plan → ℕ → Type 0
+NoneLost schema statement plan firings = (number : ℕ) (select : SelectOf) → slice_get statement.selects number ≡ Some select →
+    IsKept schema statement plan firings number select
+
+-- No trial of a select before that number separates.
+abbrev pub NoneLostBefore : Schema → Statement → Plan → ℕ → ℕ → Type 0
+NoneLostBefore schema statement plan firings number = (k : ℕ) (select : SelectOf) → k < number → slice_get statement.selects k ≡ Some select →
+    IsKept schema statement plan firings k select
+
+-- No trial of a branch separates.
 abbrev pub NoneAdded : Schema → Statement → Plan → ℕ → Type 0
 NoneAdded schema statement plan firings = (number : ℕ) (branch : Branch) → slice_get plan.branches number ≡ Some branch →
-    AnswersAlone (meaning_of schema) statement branch ⊎ ((log : List Trigger) × IsBranchSpent schema statement plan firings number log)
+    IsWithin schema statement plan firings number branch
+
+-- No trial of a branch before that number separates.
+abbrev pub NoneAddedBefore : Schema → Statement → Plan → ℕ → ℕ → Type 0
+NoneAddedBefore schema statement plan firings number = (k : ℕ) (branch : Branch) → k < number → slice_get plan.branches k ≡ Some branch →
+    IsWithin schema statement plan firings k branch
 
 -- The trials before that of the side, first of the selects and then of the branches, show that all is contained.
 abbrev pub IsShownBefore : Schema → Statement → Plan → Side → Type 0
@@ -132,12 +159,14 @@ pub data IsVerdict (schema : Schema) (statement : Statement) (plan : Plan) (firi
   -- the plan is not lawful, or not as wide as the statement
   illegal : (fault : PlanFault) → IsIllegalOver schema statement plan (known_of schema statement) fault →
       IsVerdict schema statement plan firings (verdict.Illegal fault)
-  -- the plan loses a row
-  loses : (facts : List Fact) (row : Row) → IsLegalOver schema statement plan (known_of schema statement) →
-      IsLost (meaning_of schema) statement plan facts row → IsVerdict schema statement plan firings (verdict.Loses facts row)
-  -- the plan adds a row, and no trial of a select shows that it loses one
-  adds : (facts : List Fact) (row : Row) → IsLegalOver schema statement plan (known_of schema statement) →
-      NoneLost schema statement plan firings → IsAdded (meaning_of schema) statement plan facts row → IsVerdict schema statement plan firings (verdict.Adds facts row)
+  -- the plan loses a row of a select, and no trial of a select before it separates
+  loses : (number : ℕ) (facts : List Fact) (row : Row) → IsLegalOver schema statement plan (known_of schema statement) →
+      NoneLostBefore schema statement plan firings number → IsLost (meaning_of schema) statement plan number facts row →
+      IsVerdict schema statement plan firings (verdict.Loses facts row)
+  -- the plan adds a row by a branch, and no trial of a select separates, nor one of a branch before it
+  adds : (number : ℕ) (facts : List Fact) (row : Row) → IsLegalOver schema statement plan (known_of schema statement) →
+      NoneLost schema statement plan firings → NoneAddedBefore schema statement plan firings number →
+      IsAdded (meaning_of schema) statement plan number facts row → IsVerdict schema statement plan firings (verdict.Adds facts row)
   -- no trial shows that the plan loses or adds a row, and this is the first whose firings are spent
   undecided : (tried : Side) (log : List Trigger) → IsLegalOver schema statement plan (known_of schema statement) →
       NoneLost schema statement plan firings → NoneAdded schema statement plan firings → IsShownBefore schema statement plan tried →
@@ -155,19 +184,13 @@ verdict_of (all.Spent number log) (all.Separated facts row) = verdict.Adds facts
 verdict_of (all.Spent number log) all.Contained = verdict.Undecided (side.Select number) log
 verdict_of (all.Spent number log) (all.Spent other its) = verdict.Undecided (side.Select number) log
 
--- The one queries have a row that the others lack.
-pub record IsSeparating (schema : SchemaParts) (forms others : List (Option Query)) (facts : List Fact) (row : Row) : Type 0 where
-  pub model : IsModel schema facts
-  pub answered : AnswersSome forms facts row
-  pub not_others : AnswersSome others facts row → ⊥
-
 -- What the trials of the queries of selects and of branches say.
 pub data IsConclusion (schema : SchemaParts) (selects branches : List (Option Query)) (firings : ℕ) : Verdict → Type 0 where
   same : AreContained schema selects branches → AreContained schema branches selects →
       IsConclusion schema selects branches firings verdict.Equivalent
-  lost : (facts : List Fact) (row : Row) → IsSeparating schema selects branches facts row →
+  lost : (facts : List Fact) (row : Row) → IsFirstSeparated schema selects branches firings facts row →
       IsConclusion schema selects branches firings (verdict.Loses facts row)
-  added : (facts : List Fact) (row : Row) → NoneSeparates schema selects branches firings → IsSeparating schema branches selects facts row →
+  added : (facts : List Fact) (row : Row) → NoneSeparates schema selects branches firings → IsFirstSeparated schema branches selects firings facts row →
       IsConclusion schema selects branches firings (verdict.Adds facts row)
   select_spent : (number : ℕ) (log : List Trigger) → IsFirstSpent schema selects branches firings number log →
       NoneSeparates schema branches selects firings → IsConclusion schema selects branches firings (verdict.Undecided (side.Select number) log)

@@ -2,7 +2,7 @@
 ghost use Rattle.std.specs.Prelude.{◌≡◌, ◌≤◌, ◌^◌, IfOk, length, true, false};
 ghost use Rattle.access_schema.specs.Meaning.{meaning_of};
 ghost use Rattle.meaning.specs.Runs.{frozen_head, opening_state};
-ghost use Rattle.plan_check.specs.Trials.{IsTriable, AreTriable, FormIsTriable, AreCounted, IsTrial, SomeHas, IsChase, IsOutcome, FormOutcome, AreTried, or_spent, and_outcome};
+ghost use Rattle.plan_check.specs.Trials.{IsTriable, AreTriable, FormIsTriable, AreCounted, IsTrial, SomeHas, IsChase, IsOutcome, FormOutcome, AreTried};
 
 use crate::chase::{Chase, chase_from, looked_for, named_end};
 use crate::rows::some_has;
@@ -24,8 +24,8 @@ pub enum Outcome {
     Spent(Triggers),
 }
 
-/// What trials of several queries come to: all are contained; or the first that is separated; or the first whose firings are spent, by its
-/// number.
+/// What trials of several queries come to: all are contained; or the first that is separated; or, where none is, the first whose firings
+/// are spent, by its number.
 #[derive(Drop)]
 pub enum Tried {
     Contained,
@@ -53,35 +53,17 @@ pub fn try_each(
     requires few { length forms.now ≤ 2 ^ 32 }
     ensures { IfOk result (AreTried (meaning_of trial.now.schema.now) forms.now trial.now.others.now trial.now.firings) }
 {
-    let mut tried = Tried::Contained;
+    let mut spent = None;
     for number in 0..forms.len() {
-        let outcome = try_form(alloc, trial, &forms[number])?;
-        match outcome {
+        match try_form(alloc, trial, &forms[number])? {
+            Outcome::Contained => {}
             Outcome::Separated(instance, row) => return Ok(Tried::Separated(instance, row)),
-            other => tried = with_outcome(tried, number as u32, other),
+            Outcome::Spent(log) => spent = spent.or(Some((number as u32, log))),
         }
     }
-    Ok(tried)
-}
-
-// What the trials come to with one more, by its number.
-fn with_outcome(tried: Tried, number: u32, outcome: Outcome) -> Tried
-    ensures { result ≡ and_outcome tried number outcome }
-{
-    match outcome {
-        Outcome::Contained => tried,
-        Outcome::Separated(instance, row) => Tried::Separated(instance, row),
-        Outcome::Spent(log) => first_spent(tried, number, log),
-    }
-}
-
-// The first of the trials whose firings are spent.
-fn first_spent(tried: Tried, number: u32, log: Triggers) -> Tried
-    ensures { result ≡ or_spent tried number log }
-{
-    match tried {
-        Tried::Contained => Tried::Spent(number, log),
-        other => other,
+    match spent {
+        Some((number, log)) => Ok(Tried::Spent(number, log)),
+        None => Ok(Tried::Contained),
     }
 }
 

@@ -211,6 +211,7 @@ module _ (schema : Schema) (statement : Statement) (select : Select) (queries : 
         end = its.spent.end;
         of_statement = ap (λ list. slice_get list 0) one;
         form = are.form its.query among;
+        numbered = are.numbered its.query among;
         stand = stand;
         among = among;
         count = its.spent.count;

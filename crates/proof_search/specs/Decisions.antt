@@ -10,6 +10,7 @@ use Rattle.meaning.specs.Conjunctive.{IsConjunctive, StandFor}
 use Rattle.meaning.specs.Runs.{Proof, IsOrderedRun, HasGoal, opening, frozen_head}
 use Rattle.access_schema.specs.declared.schema.Schema.{Schema}
 use Rattle.access_schema.specs.Meaning.{meaning_of}
+use Rattle.sql_conjunctive.specs.Form.{IsNumbered}
 use Rattle.no_plan_witness.specs.declared.refutation.Witness.{Witness}
 use Rattle.no_plan_witness.specs.declared.decision.Chosen.{Chosen as Entry}
 use Rattle.no_plan_witness.specs.declared.decision.Decision.{Decision}
@@ -24,8 +25,8 @@ pub record IsRefutation (schema : Schema) (statement : Statement) (pair : Witnes
   pub wide : (select : Select) → Contains statement.selects select → length pair.answer ≡ length select.items
 
 -- The firings for the select with that number are spent. The log is an ordered run of just so many firings from the opening proof of
--- the select's conjunctive form, which is one of queries that stand for the statement. None of these has a goal after the run, and a
--- further firing is active.
+-- the select's conjunctive form, whose variables are numbered by first occurrence, and which is one of queries that stand for the
+-- statement. None of these has a goal after the run, and a further firing is active.
 pub record IsUndecided (schema : Schema) (statement : Statement) (firings select : ℕ) (log : List Firing) : Type 0 where
   pub chosen : Select
   pub queries : List Query
@@ -33,6 +34,7 @@ pub record IsUndecided (schema : Schema) (statement : Statement) (firings select
   pub end : Proof
   pub of_statement : slice_get statement.selects select ≡ Some chosen
   pub form : IsConjunctive (meaning_of schema) chosen query
+  pub numbered : IsNumbered query
   pub stand : StandFor (meaning_of schema) queries statement
   pub among : Contains queries query
   pub count : length log ≡ firings

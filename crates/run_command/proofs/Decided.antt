@@ -3,10 +3,12 @@ use Rattle.std.proofs.Common.{◌≡◌, ◌≢◌, ℕ, List, [], ◌∷◌, le
 use Rattle.std.specs.Prelude.{Contains}
 use Rattle.std.specs.Str.{IsUtf8}
 use Rattle.lists.proofs.Members.{contains_here}
+use Rattle.meaning.specs.declared.types.Fact.{Fact}
 use Rattle.meaning.specs.declared.types.Plan.{Plan as PlanOf}
 use Rattle.meaning.specs.declared.types.Select.{Select}
 use Rattle.meaning.specs.declared.types.Statement.{Statement}
 use Rattle.meaning.specs.Values.{Value}
+use Rattle.meaning.specs.Instances.{IsWithin}
 use Rattle.meaning.specs.Claims.{Refutes}
 use Rattle.meaning_laws.proofs.Members.{refutes_alike}
 use Rattle.access_schema.specs.declared.schema.Schema.{Schema}
@@ -17,8 +19,8 @@ use Rattle.no_plan_witness.specs.declared.refutation.Witness.{Witness}
 use Rattle.no_plan_witness.specs.declared.decision.Chosen.{Chosen}
 use Rattle.no_plan_witness.specs.declared.decision.Decision.{Decision}
 use Rattle.no_plan_witness.specs.declared.decision.Decision.TheVariants.{NoPlan}
-use Rattle.explain.specs.Printing.{IsDecisionText, planned_text}
-use Rattle.explain.specs.Grammar.{FitsSchema, IsReadAs}
+use Rattle.explain.specs.Printing.{IsListing, IsPrintedWitness, IsDecisionText, planned_text}
+use Rattle.explain.specs.Grammar.{FitsSchema, HasSameFacts, IsReadAs}
 use Rattle.explain.proofs.PrintLaws.{printed_again}
 use Rattle.explain.proofs.Entries.{planned_again}
 use Rattle.proof_search.specs.Plans.{IsPlanFor, known_of}
@@ -56,6 +58,25 @@ some_answer schema statement answer fits wide none = of_selects statement.select
         let some = (fits.bounded select among).some_items in
         omega (arith, empty, width, some)
 
+-- the listing of an instance is that of each instance with the same facts
+listing_alike : (instance other listing : List Fact) → IsWithin instance other → IsWithin other instance → IsListing instance listing → IsListing other listing
+listing_alike instance other listing there only is = record {
+  ascends = is.ascends;
+  same = λ fact. ((λ among. there fact ((is.same fact).0 among)), (λ among. (is.same fact).1 (only fact among)));
+}
+
+-- the text of a pair is that of each pair with the same facts and the same answer
+printed_alike : (schema : Schema) (pair other : Witness) (text : List ℕ) → HasSameFacts pair other → IsPrintedWitness schema pair text → IsPrintedWitness schema other text
+printed_alike schema pair other text same is = record {
+  ordered = is.ordered;
+  is_ordered = record {
+    first = listing_alike pair.first other.first is.ordered.first same.first_there same.first_only is.is_ordered.first;
+    second = listing_alike pair.second other.second is.ordered.second same.second_there same.second_only is.is_ordered.second;
+    answer = is.is_ordered.answer ∙ sym same.answer;
+  };
+  text_is = is.text_is;
+}
+
 -- what is read of a refutation refutes
 pub refuted : (schema : Schema) (statement : Statement) (pair : Witness) (text : List ℕ) → StatementFits schema statement → IsRefutation schema statement pair →
     IsDecisionText schema (NoPlan pair) text → IsUtf8 text → IsRefuted schema statement text
@@ -68,6 +89,7 @@ refuted schema statement pair text fits is of utf8 =
     let again : IsReadAs schema text pair = printed_again schema pair text fitting of in
     record {
       pair = again.read;
+      printed = printed_alike schema pair again.read text again.same of;
       reads = (utf8, again.says);
       refutes = record {
         refutes = subst (λ row. Refutes (meaning_of schema) (known_of schema statement) statement again.read.first again.read.second row) (sym again.same.answer)

@@ -14,7 +14,7 @@ use Rattle.no_plan_witness.specs.declared.decision.Decision.TheVariants.{Plan, N
 use Rattle.proof_search.specs.Plans.{IsPlanFor}
 use Rattle.proof_search.specs.Chosen.{AreChosen}
 use Rattle.proof_search.specs.Decisions.{IsRefutation, IsUndecided}
-use Rattle.explain.specs.Printing.{IsDecisionText, planned_text, undecided_text}
+use Rattle.explain.specs.Printing.{IsPrintedWitness, IsDecisionText, planned_text, undecided_text}
 use Rattle.explain.specs.Grammar.{IsWitnessText}
 use Rattle.command_io.specs.declared.outcome.Outcome.{Outcome}
 use Rattle.command_io.specs.declared.outcome.Outcome.TheVariants as outcome
@@ -37,14 +37,16 @@ pub data IsDecided (schema : Schema) (statement : Statement) (firings search : �
   undecided : (select : ℕ) (log : List Firing) → IsUndecided schema statement firings select log →
       IsDecided schema statement firings search (Undecided select log)
 
--- The text reads as two instances and a row that refute, so that no lawful plan is equivalent to the statement.
+-- The text is that of two instances and a row, with the facts of each instance once and in ascending order, and reads as them. They
+-- refute, so that no lawful plan is equivalent to the statement.
 pub record IsRefuted (schema : Schema) (statement : Statement) (text : List ℕ) : Type 0 where
   pub pair : Witness
+  pub printed : IsPrintedWitness schema pair text
   pub reads : IsWitnessText schema text pair
   pub refutes : IsRefutation schema statement pair
 
--- What the text of a decision shows, by the outcome: it reads as a plan for the statement, and says what is so of each select; it reads
--- as a refutation; or it is that of spent firings.
+-- What the text of a decision shows, by the outcome: it reads as a plan for the statement, and says what is so of each select; it is that
+-- of a refutation; or it is that of spent firings.
 pub data Shows (schema : Schema) (statement : Statement) (firings search : ℕ) (text : List ℕ) : Outcome → Type 0 where
   plan : (plan : PlanOf) (entries : List Chosen) → IsPlanned schema statement firings search plan entries → text ≡ planned_text entries plan →
       Shows schema statement firings search text outcome.Done

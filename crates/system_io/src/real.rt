@@ -1,9 +1,12 @@
 // The outside: files of the system, and sinks over standard output and standard error.
-ghost use Rattle.std.specs.Prelude.{◌≡◌, ◌≢◌, ◌↔◌, ◌≤◌, ◌<◌, ℕ, List, length, Option, IfOk, IfErr, IfSome, IsSomeAnd, IsErrOf, None, Some, refl};
+ghost use Rattle.std.specs.Prelude.{◌≡◌, ◌≢◌, ◌↔◌, ◌≤◌, ◌<◌, ℕ, List, length, Option, Result, IfOk, IfErr, IfSome, IsSomeAnd, IsErrOf, MatchOption, None, Some, refl};
 ghost use Rattle.std.specs.Option.{is_some};
 ghost use Rattle.std.specs.IoError.{error_kind};
+ghost use Rattle.std.specs.declared.io.Error.{Error};
+ghost use Rattle.source_trait.specs.Causes.{Rose};
 ghost use Rattle.source_trait.specs.Outside.{bytes_of};
 ghost use Rattle.system_io.specs.Heads.{head_of};
+ghost use Rattle.system_io.specs.Opened.{IsOpenFault, IsOfOpening};
 
 use lists::{Bytes, Text};
 use source_trait::{FileFault, Files, Sink, SinkFault};
@@ -24,8 +27,12 @@ pub trait Opens {
     /// The names and their bytes, where they are told.
     ghost contents: { Self → Option (List (List ℕ × List ℕ)) };
 
+    /// What opening a file of a name may answer.
+    ghost answers: { Self → List ℕ → Result Self.File Error → Type 0 };
+
     /// Opens the file of a name, at its first byte.
     fn open(&self, name: &str) -> io::Result<Self::File>
+        ensures answers { answers self.now name.now result }
         ensures opened { IfOk result (λ file. IfSome (contents self.now) (λ files. IsSomeAnd (bytes_of files name.now) (λ bytes. Self.File.remaining file ≡ Some bytes))) }
         ensures missing { IfErr result (λ fault. error_kind fault ≡ ErrorKind.NotFound → IfSome (contents self.now) (λ files. bytes_of files name.now ≡ None)) };
 }
@@ -46,6 +53,8 @@ impl<R: std::rt::Files> Opens for System<R> {
     type File = R::File;
 
     ghost contents = { λ s. None };
+
+    ghost answers = { λ s name answer. Unit {0} };
 
     fn open(&self, name: &str) -> io::Result<R::File> {
         fs::open(&self.rt, name)
@@ -76,7 +85,18 @@ impl<O: Opens + Drop> Files for RealFiles<O> {
 
     ghost faults = { λ f. f.failures };
 
-    fn read(&mut self, alloc: Global, name: &Text, limit: u64) -> Result<Bytes, FileFault> {
+    fn read(&mut self, alloc: Global, name: &Text, limit: u64) -> Result<Bytes, FileFault>
+        ensures size { IfOk result (λ bytes. length bytes ≤ limit) }
+        ensures bytes { IfOk result (λ bytes. IfSome (O.contents self.old.opener) (λ files. bytes_of files name.now ≡ Some bytes)) }
+        ensures missing { IsErrOf result FileFault.Missing
+            → MatchOption (O.contents self.old.opener) (Rose self.old.failures self.new.failures) (λ files. bytes_of files name.now ≡ None) }
+        ensures too_large { IsErrOf result FileFault.TooLarge
+            → MatchOption (O.contents self.old.opener) (Rose self.old.failures self.new.failures) (λ files. IsSomeAnd (bytes_of files name.now) (λ bytes. limit < length bytes)) }
+        ensures failed { IsErrOf result FileFault.Failed → Rose self.old.failures self.new.failures }
+        ensures later { self.old.failures ≤ self.new.failures }
+        ensures same { O.contents self.new.opener ≡ O.contents self.old.opener }
+        ensures opening { (answer : Result O.File Error) × O.answers self.old.opener name.now answer × IsOfOpening answer result }
+    {
         match read_named(alloc, &self.opener, name, limit) {
             Ok(bytes) => Ok(bytes),
             Err(FileFault::NoMemory) => Err(FileFault::NoMemory),
@@ -99,6 +119,7 @@ fn read_named<O: Opens>(
     ensures bytes { IfOk result (λ bytes. IfSome (O.contents opener.now) (λ files. bytes_of files name.now ≡ Some bytes)) }
     ensures missing { IsErrOf result FileFault.Missing → IfSome (O.contents opener.now) (λ files. bytes_of files name.now ≡ None) }
     ensures too_large { IsErrOf result FileFault.TooLarge → IfSome (O.contents opener.now) (λ files. IsSomeAnd (bytes_of files name.now) (λ bytes. limit < length bytes)) }
+    ensures opening { (answer : Result O.File Error) × O.answers opener.now name.now answer × IsOfOpening answer result }
 {
     match opener.open(name.as_str()) {
         Ok(file) => {
@@ -158,9 +179,7 @@ fn read_fault(fault: &io::Error) -> FileFault
 
 // Missing is said where no such file is there, and of nothing else.
 fn open_fault(fault: &io::Error) -> FileFault
-    ensures missing { (result ≡ FileFault.Missing) ↔ (error_kind fault.now ≡ ErrorKind.NotFound) }
-    ensures memory { (result ≡ FileFault.NoMemory) ↔ (error_kind fault.now ≡ ErrorKind.OutOfMemory) }
-    ensures whole { result ≢ FileFault.TooLarge }
+    ensures { IsOpenFault (error_kind fault.now) result }
 {
     match fault.kind() {
         ErrorKind::NotFound => FileFault::Missing,

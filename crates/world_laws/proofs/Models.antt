@@ -1,8 +1,8 @@
 -- Facts in a chain of relations are a model of the world, where each leads on.
-use Rattle.std.proofs.Common.{◌≡◌, ◌+◌, ◌-◌, ◌<◌, ◌≤◌, ℕ, List, [], ◌∷◌, slice_get, Some, cond, nat_lt, refl, sym, ap, subst, ◌∙◌, arith}
+use Rattle.std.proofs.Common.{◌≡◌, ◌+◌, ◌-◌, ◌<◌, ◌≤◌, ℕ, List, [], ◌∷◌, cond, nat_lt, refl, sym, subst, arith}
 use Rattle.std.specs.Prelude.{Contains, map}
 use Rattle.std.specs.List.{range_with_len}
-use Rattle.lists.proofs.Members.{contains_here, contains_mapped, map_got, contains_one, all_member}
+use Rattle.lists.proofs.Members.{contains_here, contains_mapped, contains_one, all_member}
 use Rattle.meaning.specs.declared.types.Term.{Term}
 use Rattle.meaning.specs.declared.types.Term.TheVariants.{Var, Const as Said}
 use Rattle.meaning.specs.declared.types.Atom.{Atom}
@@ -11,16 +11,10 @@ use Rattle.meaning.specs.Values.{Value}
 use Rattle.meaning.specs.Instances.{FitsRelation}
 use Rattle.meaning.specs.Matching.{value_of, MeetsRule, itself, FactsOf}
 use Rattle.meaning.specs.Claims.{IsModel}
-use Rattle.world_laws.specs.World.{relation_with, rule_from, world_relations}
+use Rattle.world_laws.specs.World.{relation_with, rule_from}
 use Rattle.world_laws.specs.Plan.{world}
 use Rattle.world_laws.proofs.Paths.{edge}
-use Rattle.world_laws.proofs.Chases.{range_bounds, range_got, body_of, head_of}
-
--- a relation of the world, by its number
-relation_there : (rel : ℕ) → rel < 8 → slice_get world_relations rel ≡ Some (relation_with (rel + 1))
-relation_there rel few =
-    let e : 1 + rel ≡ rel + 1 = omega arith in
-    map_got relation_with (range_with_len 1 8) rel (rel + 1) (range_got 1 8 rel few ∙ ap Some e)
+use Rattle.world_laws.proofs.Chases.{range_bounds, relation_there, body_of, head_of}
 
 fits_edge : (rel : ℕ) (a b : Value) → rel < 8 → FitsRelation world rel (a ∷ b ∷ [])
 fits_edge rel a b few = record { relation = relation_with (rel + 1); there = relation_there rel few; width = refl }

@@ -61,10 +61,10 @@ pub fn plan_of_a_world()
     ensures never_refuted { (first second : List Fact) (row : Row) → Refutes world [] world_statement first second row → ⊥ }
 {}
 
-/// A run of the statement's conjunctive form has at most 36 firings: 8 exposures, and 28 firings in the copy.
+/// A run of the statement's conjunctive form has at most 8 firings: each relation is exposed, or a fact of it is made in the copy.
 pub fn runs_of_a_world_are_short()
     ensures { (query : Query) (log : List Firing) (end : Proof) → IsConjunctive world world_select query → IsRun world [] 0 (opening query) log end
-        → length log ≤ 36 }
+        → length log ≤ 8 }
 {}
 
 /// The instance that the generator gives for n rows meets the rules, and the statement has n answers on it.

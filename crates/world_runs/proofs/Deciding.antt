@@ -95,7 +95,7 @@ counted_so (Base trigger ∷ log) = counted_so log
 counted_so (Copy trigger ∷ log) = counted_so log
 counted_so (Expose number fact ∷ log) = ap (λ m. m + 1) (counted_so log)
 
-enough : (query : Query) → IsConjunctive world world_select query → IsEnough world [] query FIRINGS UNITS 36 8
+enough : (query : Query) → IsConjunctive world world_select query → IsEnough world [] query FIRINGS UNITS 8 8
 enough query form = record {
   within = omega arith;
   few_firings = λ log (end, run). (runs_short query form log end run).0;
@@ -127,7 +127,7 @@ module _ (n : ℕ) (schema : Schema) (is : IsWorldSchema n schema) where
   said_least branch (SearchSpent units) cost rival costs (spent, of_form) =
       let form = subst (λ (s : SchemaParts). IsConjunctive s world_select of_form.query) meant of_form.form in
       let so : NoneIsEnough world [] FIRINGS UNITS of_form.query = subst (λ (cs : List Value). NoneIsEnough world cs FIRINGS UNITS of_form.query) known (subst (λ (s : SchemaParts). NoneIsEnough s (known_of schema world_statement) FIRINGS UNITS of_form.query) meant of_form.so) in
-      absurd (so 36 8 (enough of_form.query form))
+      absurd (so 8 8 (enough of_form.query form))
   said_least branch (FiringsSpent firings) cost rival costs (spent, of_form) =
       let form = subst (λ (s : SchemaParts). IsConjunctive s world_select of_form.query) meant of_form.form in
       let so : HasLongRun world [] FIRINGS of_form.query = subst (λ (cs : List Value). HasLongRun world cs FIRINGS of_form.query) known (subst (λ (s : SchemaParts). HasLongRun s (known_of schema world_statement) FIRINGS of_form.query) meant of_form.so) in

@@ -1,14 +1,12 @@
-use Rattle.std.proofs.Common.{refl, sym, subst}
+use Rattle.std.proofs.Common.{sym, subst}
 use Rattle.access_schema.specs.Meaning.{meaning_of}
-use Rattle.plan_check.specs.declared.verdict.Verdict.TheVariants.{Loses}
 use Rattle.plan_check.specs.Verdicts.{IsConclusion}
-use Rattle.plan_check.proofs.Concluding.{lost_at_once, concluded}
+use Rattle.plan_check.specs.Verdicts.IsConclusion.{lost}
+use Rattle.plan_check.proofs.Concluding.{concluded}
 use Rattle.plan_check.proofs.judge_plan.try_both.Goals as goal
 
 pub returns-in-Separated : goal.returns-in-Separated
-returns-in-Separated c =
-    lost_at_once (meaning_of c.args.schema.now) c.args.selects.now c.args.branches.now c.args.firings c.in-Separated.instance c.in-Separated.row (rw c.in-Separated.is at c.in_ok-lost.ensures)
-    (Loses c.in-Separated.instance c.in-Separated.row) refl
+returns-in-Separated c = lost c.in-Separated.instance c.in-Separated.row (rw c.in-Separated.is at c.in_ok-lost.ensures)
 
 pub returns-in_ok-added-in_default : goal.returns-in_ok-added-in_default
 returns-in_ok-added-in_default c =

@@ -1,0 +1,103 @@
+-- The status is exact where the texts are given and no run is longer than the firings.
+use Rattle.std.proofs.Common.{◌≡◌, ◌≢◌, ◌↔◌, ℕ, List, Option, refl, sym, subst}
+use Rattle.meaning.specs.declared.types.Plan.{Plan}
+use Rattle.meaning.specs.declared.types.Statement.{Statement}
+use Rattle.access_schema.specs.declared.schema.Schema.{Schema}
+use Rattle.proof_search.specs.Plans.{HasNoPlan}
+use Rattle.source_trait.specs.Asking.{Seen}
+use Rattle.source_trait.specs.declared.lanes.Lane.{Lane}
+use Rattle.command_io.specs.declared.exit_status.Status.{Status}
+use Rattle.command_io.specs.declared.exit_status.Status.TheVariants as ends_in
+use Rattle.command_io.specs.Inputs.{Contents}
+use Rattle.command_io.specs.Moments.{Moment}
+use Rattle.command_words.specs.Words.{Command, IsCommand}
+use Rattle.command_words.specs.Words.Command.{Help, Schema as Print, Explain, Run, Exec, Check, Verify, World}
+use Rattle.pdq_core.specs.Runs.{Runs}
+use Rattle.pdq_core.specs.Complete.{IsAnswered, QueryIsGiven, TextsAreGiven, CheckIsSupplied}
+use Rattle.pdq_core.specs.Complete.IsAnswered.{done, no, undecided, no_memory}
+use Rattle.pdq_core.specs.Statuses.{RunsOn, ReadAs, Says, IsWrong, FiresOn, ReadWith, SaysOfPlan, SaysOf}
+use Rattle.pdq_core.specs.Exact.{GivenAs, GivenWith, HasNoLongRun, HasNone}
+use Rattle.pdq_core.proofs.CompleteTexts.{same_schema, same_statement, same_plan}
+use Rattle.pdq_core.proofs.Statuses.{whole}
+
+-- what is so of what was read is so of what is given
+of_given : (told : Option Contents) (name query : List ℕ) (P : Schema → Statement → Type 0) (texts : TextsAreGiven told name query) → ReadAs told name query P → P texts.schema texts.statement
+of_given told name query P texts read =
+    let schemas : texts.schema ≡ read.schema = same_schema told name texts.schema read.schema texts.schema_given read.schema_is in
+    let statements : texts.statement ≡ read.statement =
+    same_statement told query read.schema texts.statement read.statement (subst (λ (s : Schema). QueryIsGiven told query s texts.statement) schemas texts.query_given) read.statement_is in
+    subst (λ (s : Schema). P s texts.statement) (sym schemas) (subst (λ (t : Statement). P read.schema t) (sym statements) read.so)
+
+of_three : (told : Option Contents) (name query its : List ℕ) (P : Schema → Statement → Plan → Type 0) (given : CheckIsSupplied told name query its) → ReadWith told name query its P →
+    P given.texts.schema given.texts.statement given.plan
+of_three told name query its P given read =
+    let plans : given.plan ≡ read.plan = same_plan told its given.plan read.plan given.plan_given read.plan_is in
+    subst (λ (p : Plan). P given.texts.schema given.texts.statement p) (sym plans)
+    (of_given told name query (λ schema statement. P schema statement read.plan) given.texts (record { schema = read.schema; statement = read.statement; schema_is = read.schema_is; statement_is = read.statement_is; so = read.so }))
+
+-- ---- the commands that decide a statement
+
+module _ (told : Option Contents) (name query : List ℕ) (firings : ℕ) where
+  decides : (status : Status) → Says status told name query firings → GivenAs told name query (λ schema statement. RunsOn firings schema statement → ⊥) → status ≢ ends_in.Undecided
+  decides status says given same = given.so (of_given told name query (RunsOn firings) given.texts (subst (λ (s : Status). Says s told name query firings) same says))
+
+  finds_none : (status : Status) → Says status told name query firings → TextsAreGiven told name query → status ≡ ends_in.No → GivenAs told name query HasNoPlan
+  finds_none status says texts same = record { texts = texts; so = of_given told name query HasNoPlan texts (subst (λ (s : Status). Says s told name query firings) same says) }
+
+  none_found : (status : Status) → Says status told name query firings → IsAnswered status → status ≢ ends_in.Memory → status ≢ ends_in.Undecided → GivenAs told name query HasNoPlan → status ≡ ends_in.No
+  none_found _ says done memory spent none = let (plan, lawful, equivalent) = of_given told name query _ none.texts says in absurd (none.so plan lawful equivalent)
+  none_found _ says no memory spent none = refl
+  none_found _ says undecided memory spent none = absurd (spent refl)
+  none_found _ says no_memory memory spent none = absurd (memory refl)
+
+-- ---- the command that judges a plan
+
+module _ (told : Option Contents) (name query its : List ℕ) (firings : ℕ) where
+  judges : (status : Status) → SaysOfPlan status told name query its firings → GivenWith told name query its (λ schema statement plan. FiresOn firings schema statement plan → ⊥) → status ≢ ends_in.Undecided
+  judges status says given same = given.so (of_three told name query its (FiresOn firings) given.given (subst (λ (s : Status). SaysOfPlan s told name query its firings) same says))
+
+  finds_wrong : (status : Status) → SaysOfPlan status told name query its firings → CheckIsSupplied told name query its → status ≡ ends_in.No → GivenWith told name query its IsWrong
+  finds_wrong status says given same = record { given = given; so = of_three told name query its IsWrong given (subst (λ (s : Status). SaysOfPlan s told name query its firings) same says) }
+
+  wrong_found : (status : Status) → SaysOfPlan status told name query its firings → IsAnswered status → status ≢ ends_in.Memory → status ≢ ends_in.Undecided → GivenWith told name query its IsWrong → status ≡ ends_in.No
+  wrong_found _ says done memory spent wrong = absurd (wrong.so (of_three told name query its _ wrong.given says))
+  wrong_found _ says no memory spent wrong = refl
+  wrong_found _ says undecided memory spent wrong = absurd (spent refl)
+  wrong_found _ says no_memory memory spent wrong = absurd (memory refl)
+
+-- ---- all of them
+
+never_spent : (command : Command) (told : Option Contents) (status : Status) → SaysOf command told status → HasNoLongRun command told → status ≢ ends_in.Undecided
+never_spent Help told status says short = absurd short
+never_spent (Print name) told status says short = absurd short
+never_spent (Explain name query firings search) told status says short = decides told name query firings status says short
+never_spent (Run name query firings search workers) told status says short = decides told name query firings status says short
+never_spent (Exec name plan workers) told status says short = absurd short
+never_spent (Check name query plan firings) told status says short = judges told name query plan firings status says short
+never_spent (Verify name) told status says short = absurd short
+never_spent (World size workers) told status says short = absurd short
+
+says_none : (command : Command) (told : Option Contents) (status : Status) → SaysOf command told status → IsAnswered status → status ≢ ends_in.Memory → HasNoLongRun command told → (status ≡ ends_in.No) ↔ HasNone command told
+says_none Help told status says answered memory short = absurd short
+says_none (Print name) told status says answered memory short = absurd short
+says_none (Explain name query firings search) told status says answered memory short =
+    (finds_none told name query firings status says short.texts, none_found told name query firings status says answered memory (decides told name query firings status says short))
+says_none (Run name query firings search workers) told status says answered memory short =
+    (finds_none told name query firings status says short.texts, none_found told name query firings status says answered memory (decides told name query firings status says short))
+says_none (Exec name plan workers) told status says answered memory short = absurd short
+says_none (Check name query plan firings) told status says answered memory short =
+    (finds_wrong told name query plan firings status says short.given, wrong_found told name query plan firings status says answered memory (judges told name query plan firings status says short))
+says_none (Verify name) told status says answered memory short = absurd short
+says_none (World size workers) told status says answered memory short = absurd short
+
+module _ {S : Type 0} (seen : S → Seen) (one : (words : List (List ℕ)) (command other : Command) → IsCommand words command → IsCommand words other → command ≡ other) where
+  pub not_undecided : (words : List (List ℕ)) (command : Command) (before after : Moment) (old new : List (Lane S)) (status : Status) →
+      Runs seen words before after old new status → IsCommand words command → HasNoLongRun command before.files → status ≢ ends_in.Undecided
+  not_undecided words command before after old new status runs is short =
+      never_spent command before.files status (whole seen one words command before after old new status runs is) short
+
+  pub exactly_none : (words : List (List ℕ)) (command : Command) (before after : Moment) (old new : List (Lane S)) (status : Status) →
+      Runs seen words before after old new status → IsCommand words command → IsAnswered status → status ≢ ends_in.Memory → HasNoLongRun command before.files →
+      (status ≡ ends_in.No) ↔ HasNone command before.files
+  exactly_none words command before after old new status runs is answered memory short =
+      says_none command before.files status (whole seen one words command before after old new status runs is) answered memory short
