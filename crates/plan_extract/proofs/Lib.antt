@@ -6,4 +6,6 @@ pub mod Read
 pub mod GoingBack
 pub mod Marked
 pub mod Noting
+pub mod Knowing
+pub mod AnyOrder
 pub mod Extracted

@@ -1,5 +1,5 @@
 -- The two passes back over a proof: what is wanted of the copy facts, and which exposures are marked.
-use Rattle.std.specs.Prelude.{◌≡◌, ◌≤◌, ℕ, Bool, true, List, Contains, length, take, slice_get, Some, None}
+use Rattle.std.specs.Prelude.{◌≡◌, ◌≤◌, ℕ, Bool, true, List, [], Contains, IsPermutation, length, take, slice_get, Some, None}
 use Rattle.std.specs.List.{AllZip}
 use Rattle.std.specs.Ordering.{nat_cmp}
 use Rattle.std.specs.BTreeMap.{BTreeMap, get}
@@ -16,6 +16,7 @@ use Rattle.meaning.specs.Extract.{Exposure, branch_of}
 use Rattle.accessible_copy.specs.Proving.{Proving, firings_of, exposed_in, IsWritten}
 use Rattle.plan_extract.specs.Resting.{RestsOnFact, IsFirstWith, RestsOn}
 use Rattle.plan_extract.specs.Trimmed.{IsShown, picked}
+use Rattle.plan_extract.specs.Arranged.{AreKnown}
 
 -- From each state with the wanted facts among these, whose next label is not higher, some firings lead to all the goal facts.
 abbrev pub Serves : List Rule → ℕ → List Ground → List Ground → List Ground → Type 0
@@ -83,12 +84,27 @@ pub record AreMarked (exposures : List Exposure) (wanted : List Ground) (marks :
   pub held : HoldsWanted exposures wanted marks
   pub closed : AreClosed exposures 0 marks
 
--- The branch is read off the proof's exposures of which those are kept that the two passes mark for the goal facts.
-pub record IsReadOff (schema : SchemaParts) (proof : Proving) (goals : List Ground) (head : List Val) (branch : Branch) : Type 0 where
+-- Those exposures of the proof are kept that the two passes mark for the goal facts.
+pub record AreKept (schema : SchemaParts) (proof : Proving) (goals : List Ground) (kept : List Exposure) : Type 0 where
   pub exposures : List Exposure
   pub shown : AllZip (IsShown schema) proof.exposed exposures
   pub wanted : List Ground
   pub are_wanted : AreWanted schema proof goals wanted
   pub marks : List Bool
   pub marked : AreMarked exposures wanted marks
-  pub branch_is : branch ≡ branch_of (picked exposures marks) head
+  pub kept_is : kept ≡ picked exposures marks
+
+-- The branch is read off the kept exposures, in the proof's order.
+pub record IsReadOff (schema : SchemaParts) (proof : Proving) (goals : List Ground) (head : List Val) (branch : Branch) : Type 0 where
+  pub kept : List Exposure
+  pub are_kept : AreKept schema proof goals kept
+  pub branch_is : branch ≡ branch_of kept head
+
+-- The branch is read off the kept exposures, in an order in which their inputs are known.
+pub record IsReadArranged (schema : SchemaParts) (proof : Proving) (goals : List Ground) (head : List Val) (branch : Branch) : Type 0 where
+  pub kept : List Exposure
+  pub are_kept : AreKept schema proof goals kept
+  pub ordered : List Exposure
+  pub same : IsPermutation kept ordered
+  pub known : AreKnown [] ordered
+  pub branch_is : branch ≡ branch_of ordered head

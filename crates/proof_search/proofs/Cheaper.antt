@@ -37,7 +37,8 @@ use Rattle.accessible_copy.specs.Proving.{Proving, IsProofOf}
 use Rattle.accessible_copy.specs.Goals.{IsGoal}
 use Rattle.exposure_search.specs.Visiting.{IsReached}
 use Rattle.plan_extract.specs.Branches.{IsProofFor}
-use Rattle.plan_extract.specs.Trimmed.{IsShown, IsTrimmedBranch}
+use Rattle.plan_extract.specs.Trimmed.{IsShown}
+use Rattle.plan_extract.specs.Arranged.{IsArrangedBranch}
 use Rattle.plan_extract.proofs.Shown.{same_shown}
 use Rattle.proof_search.specs.Searches.{AreSearchable}
 use Rattle.proof_search.specs.Chosen.{IsRunOf, NoneIsEnough, HasLongRun}
@@ -199,10 +200,10 @@ module _ (question : Question) (is : IsQuestion question) (space : Exploring) (i
         subst (λ vals. IsGoal question.queries.now proof.end.copy vals number values) (its.of_query.head ∙ sym is.head) (subst (λ list. IsGoal list proof.end.copy space.head number values) its.of_query.queries_are found)
 
     pub reached_cost : (node : Node) → IsNode (space_size space) (CanExpose space) node → path ≡ node.path.items → (values : List Val) (number : ℕ) (branch : Branch) →
-        IsTrimmedBranch (meaning_of question.schema.now) proof question.queries.now question.head.now number values branch → CostsAtMost (meaning_of question.schema.now) branch node.cost
-    reached_cost node node_is same values number branch trimmed =
+        IsArrangedBranch (meaning_of question.schema.now) proof question.queries.now question.head.now number values branch → CostsAtMost (meaning_of question.schema.now) branch node.cost
+    reached_cost node node_is same values number branch arranged =
         let shown : AllZip (IsShown (meaning_of question.schema.now)) proof.exposed reached.made = subst (λ s. AllZip (IsShown s) proof.exposed reached.made) its.of_query.schema_is reached.shown in
-        let made : trimmed.exposures ≡ reached.made = same_shown (meaning_of question.schema.now) proof.exposed trimmed.exposures reached.made trimmed.shown shown in
-        let all : exposures_cost trimmed.exposures ≡ node.cost = ap exposures_cost made ∙ reached.cost ∙ ap walk_cost same ∙ sym node_is.cost in
-        let cheap = trimmed.cheap in
-        (exposures_cost trimmed.kept, trimmed.cost, omega arith)
+        let made : arranged.exposures ≡ reached.made = same_shown (meaning_of question.schema.now) proof.exposed arranged.exposures reached.made arranged.shown shown in
+        let all : exposures_cost arranged.exposures ≡ node.cost = ap exposures_cost made ∙ reached.cost ∙ ap walk_cost same ∙ sym node_is.cost in
+        let cheap = arranged.cheap in
+        (exposures_cost arranged.kept, arranged.cost, omega arith)

@@ -20,7 +20,7 @@ use exposure_search::{ExposureSpace, base_proof};
 use least_search::{Ended, Node, Outcome, cheapest};
 use lists::NoMemory;
 use meaning::types::Branch;
-use plan_extract::extract;
+use plan_extract::extract_arranged;
 use std::alloc::Global;
 
 /// The first branch of a query, or one that costs less, and what is known of its cost.
@@ -131,7 +131,7 @@ fn cheaper(
     let Some((proof, found)) = space.reach(&node.path, &node.set)? else {
         return Ok(None);
     };
-    let read = extract(
+    let read = extract_arranged(
         alloc,
         &proof,
         question.schema,

@@ -7,7 +7,7 @@ use crate::question::Question;
 use accessible_copy::{Proof, goal};
 use lists::NoMemory;
 use meaning::types::Branch;
-use plan_extract::extract;
+use plan_extract::extract_arranged;
 use std::alloc::Global;
 
 /// The branch of a proof of the query, where one of the queries has a match in its copy.
@@ -24,7 +24,7 @@ pub fn branch_in(
     let Some(found) = goal(alloc, proof, question.queries, question.head)? else {
         return Ok(None);
     };
-    let branch = extract(
+    let branch = extract_arranged(
         alloc,
         proof,
         question.schema,

@@ -1,11 +1,13 @@
 use Rattle.std.proofs.Common.{◌≡◌, ◌∙◌, ◌≤◌, List, Some, length, map, sym, ap, subst}
-use Rattle.std.specs.Prelude.{Contains, IfOk, slice_get}
+use Rattle.std.specs.Prelude.{Contains, IfOk, IsPermutation, slice_get}
+use Rattle.std.proofs.lemmas.List.Sorted.{IsPermutation-refl}
 use Rattle.std.proofs.lemmas.Result.{IfOk-weaker}
 use Rattle.lists.proofs.Members.{contains_mapped}
 use Rattle.meaning.specs.declared.types.Query.{Query}
 use Rattle.meaning.specs.declared.types.Branch.{Branch}
 use Rattle.meaning.specs.declared.types.Ground.{Ground}
 use Rattle.meaning.specs.declared.types.Val.{Val}
+use Rattle.meaning.specs.Extract.{branch_of}
 use Rattle.meaning.specs.Triggers.{ground}
 use Rattle.homomorphism.specs.Bindings.{at}
 use Rattle.access_schema.specs.Meaning.{meaning_of}
@@ -46,14 +48,16 @@ returns c =
       branch = IfOk-weaker c.read_kept.result (IsReadOff schema proof (map (ground (at vals)) goal.atoms) head)
           (λ (branch : Branch). (query other : Query) → IsProofFor schema proof head query → slice_get queries number ≡ Some other → IsBranchFor schema proof.constants query other branch)
           (λ branch r query other its at_number.
-          subst (IsBranchFor schema proof.constants query other) (sym r.branch_is)
-          (branch_at c.args.schema.now proof queries head number vals c.requires.known c.requires.fits c.requires.found r.exposures r.shown r.wanted r.marks r.marked query its other at_number r.are_wanted))
+          let k = r.are_kept in
+          subst (IsBranchFor schema proof.constants query other) (sym (r.branch_is ∙ ap (λ list. branch_of list head) k.kept_is))
+          (branch_at c.args.schema.now proof queries head number vals c.requires.known c.requires.fits c.requires.found k.exposures k.shown k.wanted k.marks k.marked query its other at_number k.are_wanted))
           read;
       trimmed = IfOk-weaker c.read_kept.result (IsReadOff schema proof (map (ground (at vals)) goal.atoms) head) (IsTrimmedBranch schema proof queries head number vals)
           (λ branch r.
-          extracted_trimmed c.args.schema.now proof queries head number vals c.requires.known c.requires.fits c.requires.found r.exposures r.shown r.wanted r.marks r.marked query its goal got r.are_wanted branch r.branch_is)
+          let k = r.are_kept in
+          extracted_trimmed c.args.schema.now proof queries head number vals c.requires.known c.requires.fits c.requires.found k.exposures k.shown k.wanted k.marks k.marked query its goal got k.are_wanted branch (r.branch_is ∙ ap (λ list. branch_of list head) k.kept_is))
           read;
       few = IfOk-weaker c.read_kept.result (IsReadOff schema proof (map (ground (at vals)) goal.atoms) head) (λ (branch : Branch). length branch.steps ≤ length proof.entries)
-          (λ branch r. few_steps schema proof its.run r.exposures r.shown r.marks head branch r.branch_is)
+          (λ branch r. let k = r.are_kept in few_steps schema proof its.run k.exposures k.shown k.marks r.kept (subst (λ list. IsPermutation list r.kept) k.kept_is (IsPermutation-refl r.kept)) head branch r.branch_is)
           read;
     }

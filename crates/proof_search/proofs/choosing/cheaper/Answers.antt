@@ -13,26 +13,26 @@ returns-in_default-clause-none c =
     let none : HasRunBeyond c.args.space ⊎ (HasGoalAt c.args.space c.deref-2.result.now → ⊥) = rw c.in_default.is at c.in_ok-proof.ensures.none in
     not_reached_here c.args.question.now c.requires.question c.args.space c.requires.space c.args.node.now.set.items c.requires.goal (subst (λ s. HasRunBeyond c.args.space ⊎ (HasGoalAt c.args.space s → ⊥)) set none)
 
-pub extract-read-requires-clause-proof : goal.extract-read-requires-clause-proof
-extract-read-requires-clause-proof c =
+pub extract_arranged-read-requires-clause-proof : goal.extract_arranged-read-requires-clause-proof
+extract_arranged-read-requires-clause-proof c =
     let reached : IsReached c.args.space c.deref.result.now c.in-Some.proof = search rules in
     (c.args.question.now.query.now, reached_for c.args.question.now c.requires.question c.args.space c.requires.space c.deref.result.now c.in-Some.proof reached)
 
-pub extract-read-requires-clause-few : goal.extract-read-requires-clause-few
-extract-read-requires-clause-few c =
+pub extract_arranged-read-requires-clause-few : goal.extract_arranged-read-requires-clause-few
+extract_arranged-read-requires-clause-few c =
     let reached : IsReached c.args.space c.deref.result.now c.in-Some.proof = search rules in
     let few = reached_few c.args.question.now c.requires.question c.args.space c.requires.space c.deref.result.now c.in-Some.proof reached in
     let low = c.requires.question.firings in
     omega arith
 
-pub extract-read-requires-clause-known : goal.extract-read-requires-clause-known
-extract-read-requires-clause-known c constant among =
+pub extract_arranged-read-requires-clause-known : goal.extract_arranged-read-requires-clause-known
+extract_arranged-read-requires-clause-known c constant among =
     let reached : IsReached c.args.space c.deref.result.now c.in-Some.proof = search rules in
     let constants = reached_constants c.args.question.now c.requires.question c.args.space c.requires.space c.deref.result.now c.in-Some.proof reached in
     subst (λ known. Contains known constant) (sym constants) (c.requires.question.known constant among)
 
-pub extract-read-requires-clause-fits : goal.extract-read-requires-clause-fits
-extract-read-requires-clause-fits c other among = (c.requires.question.queries other among).fits
+pub extract_arranged-read-requires-clause-fits : goal.extract_arranged-read-requires-clause-fits
+extract_arranged-read-requires-clause-fits c other among = (c.requires.question.queries other among).fits
 
 pub returns-clause-branch : goal.returns-clause-branch
 returns-clause-branch c =
@@ -49,4 +49,4 @@ returns-clause-cost c =
     let question = c.args.question.now in
     let reached : IsReached c.args.space c.deref.result.now c.in-Some.proof = search rules in
     let path : c.deref.result.now ≡ c.args.node.now.path.items = search rules in
-    reached_cost question c.requires.question c.args.space c.requires.space c.deref.result.now c.in-Some.proof reached c.args.node.now c.requires.node path c.in-Some.found.assignment.vals c.in-Some.found.select c.in_ok-branch.branch c.in_ok-branch.ensures.trimmed
+    reached_cost question c.requires.question c.args.space c.requires.space c.deref.result.now c.in-Some.proof reached c.args.node.now c.requires.node path c.in-Some.found.assignment.vals c.in-Some.found.select c.in_ok-branch.branch c.in_ok-branch.ensures.arranged

@@ -1,0 +1,63 @@
+use Rattle.std.proofs.Common.{◌≡◌, ◌∙◌, ◌≤◌, List, Some, length, map, sym, ap, subst}
+use Rattle.std.specs.Prelude.{Contains, IfOk, IsPermutation, slice_get}
+use Rattle.std.proofs.lemmas.Result.{IfOk-weaker}
+use Rattle.lists.proofs.Members.{contains_mapped}
+use Rattle.meaning.specs.declared.types.Query.{Query}
+use Rattle.meaning.specs.declared.types.Branch.{Branch}
+use Rattle.meaning.specs.declared.types.Ground.{Ground}
+use Rattle.meaning.specs.declared.types.Val.{Val}
+use Rattle.meaning.specs.Triggers.{ground}
+use Rattle.homomorphism.specs.Bindings.{at}
+use Rattle.access_schema.specs.Meaning.{meaning_of}
+use Rattle.plan_extract.specs.Branches.{IsBranchFor, IsProofFor}
+use Rattle.plan_extract.specs.Arranged.{IsArrangedBranch}
+use Rattle.plan_extract.specs.Passes.{IsReadArranged}
+use Rattle.plan_extract.proofs.Extracted.{indexed, few_steps, extracted_arranged, arranged_at}
+use Rattle.plan_extract.proofs.extracting.extract_arranged.Goals as goal
+
+pub read_arranged-requires-clause-there : goal.read_arranged-requires-clause-there
+read_arranged-requires-clause-there c fact among =
+    let vals = c.args.found.now.assignment.vals in
+    let (goal, got, match) = c.requires.found in
+    let query_is : c.index-as_slice-found.result ≡ goal = indexed c.args.queries.now c.as_slice.result.now c.args.found.now.select goal c.index-as_slice-found.result c.as_slice.ensures got c.index-as_slice-found.is in
+    let atoms_is : c.in_ok-atoms.atoms.items ≡ map (ground (at vals)) goal.atoms =
+    c.in_ok-atoms.ensures ∙ ap (λ (list : List Val). map (ground (at list)) c.as_slice-2.result.now) c.as_slice-values.ensures
+    ∙ ap (map (ground (at vals))) (c.as_slice-2.ensures ∙ ap (λ (q : Query). q.atoms) query_is) in
+    let (atom, within, same) = contains_mapped (ground (at vals)) goal.atoms fact (subst (λ (atoms : List Ground). Contains atoms fact) atoms_is among) in
+    subst (Contains c.args.proof.now.end.copy) same (match.facts_are atom within)
+
+pub returns : goal.returns
+returns c =
+    let schema = meaning_of c.args.schema.now in
+    let proof = c.args.proof.now in
+    let queries = c.args.queries.now in
+    let head = c.args.head.now in
+    let number = c.args.found.now.select in
+    let vals = c.args.found.now.assignment.vals in
+    let (query, its) = c.requires.proof in
+    let (goal, got, match) = c.requires.found in
+    let query_is : c.index-as_slice-found.result ≡ goal = indexed queries c.as_slice.result.now number goal c.index-as_slice-found.result c.as_slice.ensures got c.index-as_slice-found.is in
+    let atoms_is : c.in_ok-atoms.atoms.items ≡ map (ground (at vals)) goal.atoms =
+    c.in_ok-atoms.ensures ∙ ap (λ (list : List Val). map (ground (at list)) c.as_slice-2.result.now) c.as_slice-values.ensures
+    ∙ ap (map (ground (at vals))) (c.as_slice-2.ensures ∙ ap (λ (q : Query). q.atoms) query_is) in
+    let read : IfOk c.read_arranged.result (IsReadArranged schema proof (map (ground (at vals)) goal.atoms) head) =
+    subst (λ (atoms : List Ground). IfOk c.read_arranged.result (IsReadArranged schema proof atoms head)) atoms_is c.read_arranged.ensures in
+    record {
+      branch = IfOk-weaker c.read_arranged.result (IsReadArranged schema proof (map (ground (at vals)) goal.atoms) head)
+          (λ (branch : Branch). (query other : Query) → IsProofFor schema proof head query → slice_get queries number ≡ Some other → IsBranchFor schema proof.constants query other branch)
+          (λ branch r query other its at_number.
+          let k = r.are_kept in
+          subst (IsBranchFor schema proof.constants query other) (sym r.branch_is)
+          (arranged_at c.args.schema.now proof queries head number vals c.requires.known c.requires.fits c.requires.found k.exposures k.shown k.wanted k.marks k.marked
+          r.ordered (subst (λ list. IsPermutation list r.ordered) k.kept_is r.same) r.known query its other at_number k.are_wanted))
+          read;
+      arranged = IfOk-weaker c.read_arranged.result (IsReadArranged schema proof (map (ground (at vals)) goal.atoms) head) (IsArrangedBranch schema proof queries head number vals)
+          (λ branch r.
+          let k = r.are_kept in
+          extracted_arranged c.args.schema.now proof queries head number vals c.requires.known c.requires.fits c.requires.found k.exposures k.shown k.wanted k.marks k.marked query its goal got k.are_wanted
+          r.ordered (subst (λ list. IsPermutation list r.ordered) k.kept_is r.same) r.known branch r.branch_is)
+          read;
+      few = IfOk-weaker c.read_arranged.result (IsReadArranged schema proof (map (ground (at vals)) goal.atoms) head) (λ (branch : Branch). length branch.steps ≤ length proof.entries)
+          (λ branch r. let k = r.are_kept in few_steps schema proof its.run k.exposures k.shown k.marks r.ordered (subst (λ list. IsPermutation list r.ordered) k.kept_is r.same) head branch r.branch_is)
+          read;
+    }
