@@ -1,6 +1,5 @@
 // The lanes of the program.
 ghost use Rattle.std.specs.Prelude.{◌≡◌, length, IfOk};
-ghost use Rattle.world_source.specs.Generated.{IsFresh};
 ghost use Rattle.pdq.specs.Lanes.{IsLane, AreLanes};
 
 use crate::any_source::AnySource;
@@ -28,7 +27,7 @@ pub(crate) fn folders(alloc: Global, rt: HostRuntime) -> Result<Vec<Folder>, NoM
     Ok(folders)
 }
 
-/// A lane for each of these sources, which stands under the kind `csv`, beside a new generator.
+/// A lane for each of these folders, which stands under the kind `csv`, beside a new generator.
 pub(crate) fn lanes_over<A: Source + Drop>(
     alloc: Global,
     folders: Vec<A>,
@@ -38,25 +37,26 @@ pub(crate) fn lanes_over<A: Source + Drop>(
 {
     let mut lanes = Vec::new(alloc);
     for folder in folders {
-        let generator = AnySource::Generator(WorldSource::new(alloc));
-        lanes.push(lane_of(alloc, AnySource::Folder(folder), generator)?)?;
+        lanes.push(lane_of(alloc, folder)?)?;
     }
     Ok(lanes)
 }
 
-/// A lane with the one source under the kind `csv`, and a new generator under the kind `world`.
-fn lane_of<S: Source + Drop>(alloc: Global, folder: S, generator: S) -> Result<Lane<S>, NoMemory>
-    requires { IsFresh (S.seen generator) }
-    ensures { IfOk result (λ lane. IsLane S.seen lane.kinds.items) }
+/// A lane with the folder under the kind `csv`, and a new generator under the kind `world`.
+fn lane_of<A: Source + Drop>(
+    alloc: Global,
+    folder: A,
+) -> Result<Lane<AnySource<A, WorldSource>>, NoMemory>
+    ensures { IfOk result (λ lane. IsLane ⟦<AnySource<A, WorldSource> as Source>⟧.seen lane.kinds.items) }
 {
     let mut kinds = Vec::new(alloc);
     kinds.push(Kind {
         name: Text::from_str(alloc, "csv")?,
-        object: folder,
+        object: AnySource::Folder(folder),
     })?;
     kinds.push(Kind {
         name: Text::from_str(alloc, "world")?,
-        object: generator,
+        object: AnySource::Generator(WorldSource::new(alloc)),
     })?;
     Ok(Lane::new(kinds))
 }

@@ -16,8 +16,9 @@ ghost use Rattle.pdq.specs.Lanes.{AreLanes};
 mod any_source;
 mod lanes;
 
+use any_source::AnySource;
 use command_io::{Outputs, Outside};
-use lanes::{folders, lanes_over};
+use lanes::{Folder, folders, lanes_over};
 use lists::{NoMemory, Text};
 use pdq_core::{Status, run_words};
 use source_trait::{Files, Lane, Sink, Source};
@@ -29,6 +30,7 @@ use std::mem::forget;
 use std::process::ExitCode;
 use std::thread::Threads;
 use system_io::{RealErr, RealFiles, RealOut, System};
+use world_source::WorldSource;
 
 fn main(rt: HostRuntime) -> ExitCode {
     let alloc = rt.alloc();
@@ -55,17 +57,17 @@ fn main(rt: HostRuntime) -> ExitCode {
     exit(status)
 }
 
-// The top call, which the program makes over eight lanes with new generators alone.
-fn run_on_lanes<R: Threads + Sync, F: Files, S: Source + Send + Drop, O: Sink, E: Sink>(
+// The top call, which the program makes over eight lanes alone, each with a folder of data files and a new generator.
+fn run_on_lanes<R: Threads + Sync, F: Files, O: Sink, E: Sink>(
     rt: &R,
     alloc: Global,
     words: &[Text],
     outside: &mut Outside<F, O, E>,
-    lanes: &mut Vec<Lane<S>>,
+    lanes: &mut Vec<Lane<AnySource<Folder, WorldSource>>>,
 ) -> Status
     requires eight { length lanes.old.items ≡ 8 }
-    requires lanes { AreLanes S.seen lanes.old.items }
-    ensures { Runs S.seen words.now outside.old outside.new lanes.old.items lanes.new.items result }
+    requires lanes { AreLanes ⟦<AnySource<Folder, WorldSource> as Source>⟧.seen lanes.old.items }
+    ensures { Runs ⟦<AnySource<Folder, WorldSource> as Source>⟧.seen words.now outside.old outside.new lanes.old.items lanes.new.items result }
 {
     run_words(rt, alloc, words, outside, lanes)
 }
