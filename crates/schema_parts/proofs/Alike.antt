@@ -1,5 +1,5 @@
 -- What reads relations and methods alone holds alike over two schemas that have the same.
-use Rattle.std.proofs.Common.{◌≡◌, ◌∷◌, [], List, ℕ, Some, refl, sym, subst}
+use Rattle.std.proofs.Common.{◌≡◌, ◌∷◌, [], List, ℕ, Some, refl, subst}
 use Rattle.std.specs.Prelude.{Contains, slice_get}
 use Rattle.meaning.specs.declared.types.Relation.{Relation}
 use Rattle.meaning.specs.declared.types.Method.{Method}
@@ -11,8 +11,8 @@ use Rattle.meaning.specs.declared.types.Branch.{Branch}
 use Rattle.meaning.specs.declared.types.Query.{Query}
 use Rattle.meaning.specs.declared.types.SchemaParts.{SchemaParts}
 use Rattle.meaning.specs.Instances.{FitsRelation, IsInstance}
-use Rattle.meaning.specs.Plans.{IsMethod, made, IsLawfulStep, AreLawfulFrom}
-use Rattle.meaning.specs.Rows.{StepsTo, LeadsTo, IsBranchRow}
+use Rattle.meaning.specs.Plans.{IsMethod, made, AreLawfulFrom}
+use Rattle.meaning.specs.Rows.{LeadsTo, IsBranchRow}
 use Rattle.meaning.specs.Claims.{IsModel}
 use Rattle.meaning.specs.Fitting.{QueryFits}
 use Rattle.meaning.specs.Extract.{IsQueryRival}

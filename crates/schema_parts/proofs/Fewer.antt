@@ -1,5 +1,5 @@
 -- A schema with some of the rules of another keeps what every schema keeps.
-use Rattle.std.proofs.Common.{◌≡◌, ◌⊎◌, ◌<◌, ◌≤◌, subst, refl, ℕ, zero, suc, List, [], ◌∷◌, Bool, true, false, length, arith, inl, inr, ⊎_elim}
+use Rattle.std.proofs.Common.{◌≡◌, ◌<◌, ◌≤◌, subst, refl, ℕ, List, [], ◌∷◌, Bool, true, false, length, arith, ⊎_elim}
 use Rattle.std.specs.Prelude.{Contains}
 use Rattle.meaning.specs.declared.types.Rule.{Rule}
 use Rattle.meaning.specs.declared.types.Relation.{Relation}
@@ -7,8 +7,8 @@ use Rattle.meaning.specs.declared.types.Method.{Method}
 use Rattle.meaning.specs.RuleOrder.{Feeds}
 use Rattle.lists.proofs.Members.{contains_here, contains_there, contains_cases}
 use Rattle.access_schema.specs.declared.schema.SourceLine.{SourceLine}
-use Rattle.access_schema.specs.Feeding.{IsChain, HasCycle, AreNonRecursive}
-use Rattle.access_schema.specs.Invariant.{IsSchema, AreRules, AreSources}
+use Rattle.access_schema.specs.Feeding.{IsChain, AreNonRecursive}
+use Rattle.access_schema.specs.Invariant.{IsSchema}
 use Rattle.schema_parts.specs.Parts.{marked}
 
 pub marked_among : {X : Type 0} (xs : List X) (marks : List Bool) (x : X) → Contains (marked xs marks) x → Contains xs x
