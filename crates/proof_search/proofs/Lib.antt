@@ -4,3 +4,4 @@ pub mod Searching
 pub mod Found
 pub mod Formed
 pub mod Cheaper
+mod Parts

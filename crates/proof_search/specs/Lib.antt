@@ -5,4 +5,5 @@ pub mod Chosen
 pub mod Choices
 pub mod Outcomes
 pub mod Questions
+pub mod Attempts
 pub mod Decisions

@@ -8,6 +8,7 @@ ghost use Rattle.proof_search.specs.Searches.{AreSearchable};
 ghost use Rattle.proof_search.specs.Outcomes.{IsQueryOutcome, IsWithoutGoal, IsOutcome};
 ghost use Rattle.proof_search.specs.Questions.{IsQuestion, IsSearchFor, IsOutcomeOn};
 
+use crate::attempting::attempted;
 use crate::choosing::choose;
 use crate::exposing::Turn;
 use crate::outcome::{Outcome, QueryOutcome};
@@ -57,7 +58,7 @@ pub fn branches_for(
     }
 }
 
-/// The branch of the query's proof, where one of the queries has a match in it, even if the firings are spent.
+/// The branch for the query among the queries, or why there is none.
 fn branch_for(
     alloc: Global,
     schema: &Schema,
@@ -83,8 +84,24 @@ fn branch_for(
         head: &head,
         firings,
     };
-    let (proof, quiet) = prove(alloc, &question, Turn::All)?;
-    let outcome = outcome_of(alloc, &question, &proof, quiet, search);
+    outcome_for(alloc, &question, search)
+}
+
+/// The branch of an attempt over some of the rules, or else what the proof over all of them comes to.
+fn outcome_for(
+    alloc: Global,
+    question: &Question<'_>,
+    search: u32,
+) -> Result<QueryOutcome, NoMemory>
+    requires { IsQuestion question.now }
+    ensures { IfOk result (IsOutcomeOn question.now search) }
+{
+    if let Some(first) = attempted(alloc, question, search)? {
+        let choice = choose(alloc, question, first, search)?;
+        return Ok(QueryOutcome::Branch(choice));
+    }
+    let (proof, quiet) = prove(alloc, question, Turn::All)?;
+    let outcome = outcome_of(alloc, question, &proof, quiet, search);
     // written out, since it is proved as one call, and at the end of the scope as a call for each list in the proof
     drop(proof);
     outcome

@@ -4,6 +4,7 @@
 //! instances that refute every plan, or the log of a proof whose firings are spent. Begin at `specs/Decisions.antt`.
 #![tactic(auto)]
 
+mod attempting;
 mod branches;
 mod choosing;
 mod deciding;

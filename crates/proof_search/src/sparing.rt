@@ -35,10 +35,19 @@ pub fn spare(
     let Some(branch) = spared(alloc, question)? else {
         return Ok(first);
     };
-    if cost(&branch, question.schema) < cost(&first, question.schema) {
-        Ok(branch)
+    Ok(cheaper_of(question, first, branch))
+}
+
+/// The other branch where it costs less, and else the first.
+pub fn cheaper_of(question: &Question<'_>, first: Branch, other: Branch) -> Branch
+    requires first { IsBranchOn question.now first }
+    requires other { IsBranchOn question.now other }
+    ensures { IsBranchOn question.now result }
+{
+    if cost(&other, question.schema) < cost(&first, question.schema) {
+        other
     } else {
-        Ok(first)
+        first
     }
 }
 

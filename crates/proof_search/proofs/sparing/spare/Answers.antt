@@ -1,14 +1,4 @@
-use Rattle.access_schema.specs.Meaning.{meaning_of}
-use Rattle.meaning.proofs.Steps.{lawful_named}
-use Rattle.proof_search.specs.Questions.{IsBranchOn}
 use Rattle.proof_search.proofs.sparing.spare.Goals as goal
 
-pub cost-requires-clause-named : goal.cost-requires-clause-named
-cost-requires-clause-named c =
-    let question = c.args.question.now in
-    let branch : IsBranchOn question c.in-Some.branch = rw c.in-Some.is at c.in_ok-branch.ensures in
-    lawful_named (meaning_of question.schema.now) question.known.now 0 c.in-Some.branch.steps c.in-Some.branch.output branch.rival.lawful
-
-pub cost-requires-2-clause-named : goal.cost-requires-2-clause-named
-cost-requires-2-clause-named c =
-    let question = c.args.question.now in lawful_named (meaning_of question.schema.now) question.known.now 0 c.args.first.steps c.args.first.output c.requires.first.rival.lawful
+pub cheaper_of-requires-clause-other : goal.cheaper_of-requires-clause-other
+cheaper_of-requires-clause-other c = rw c.in-Some.is at c.in_ok-branch.ensures
