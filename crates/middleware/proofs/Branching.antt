@@ -1,5 +1,5 @@
 -- What the rounds of a branch mean on an instance, and what requests leave of what a lane holds.
-use Rattle.std.proofs.Common.{◌≡◌, ◌↔◌, inl, inr, ⊎_elim, ℕ, zero, suc, ◌+◌, ◌-◌, ◌<◌, ◌≤◌, List, [], ◌∷◌, ◌++◌, length, map, take, drop, get_or, Option, None, Some, refl, sym, ◌∙◌, ap, subst, arith}
+use Rattle.std.proofs.Common.{◌≡◌, inl, inr, ⊎_elim, ℕ, zero, suc, ◌+◌, ◌<◌, ◌≤◌, List, [], ◌∷◌, ◌++◌, length, map, take, drop, get_or, Option, None, Some, refl, sym, ◌∙◌, ap, subst, arith}
 use Rattle.std.specs.Prelude.{Contains, IsSomeAnd, slice_get}
 use Rattle.std.specs.List.{AllZip}
 use Rattle.std.proofs.lemmas.List.{drop_more}
@@ -27,10 +27,11 @@ use Rattle.middleware.specs.Asked.{AsksLane, HasConstant, IsStepRequest}
 use Rattle.middleware.specs.Joining.{input_row_of, input_value_or}
 use Rattle.middleware.specs.Rounds.{requests_of, IsWanted, CanAskAll, next_rows}
 use Rattle.middleware.specs.Branches.{HasAdded, AddsBranch, IsInput, columns_after, IsReady, IsReadyOut, IsReadyBranch, out_value, output_of, IsAskable, Means}
-use Rattle.middleware.specs.Live.{AreAlike, is_live, is_shown}
-use Rattle.middleware.specs.declared.branch.BranchFault.TheVariants as branch
+use Rattle.middleware.specs.Live.{is_live, is_shown}
+use Rattle.middleware.specs.Naming.{AreNamed}
+use Rattle.middleware.specs.Blocks.{AreBlocks}
+use Rattle.middleware.specs.declared.blocks.Block.{Block}
 use Rattle.middleware.proofs.Steps.{steps_length, requests_append, requests_one, next_partial, is_round}
-use Rattle.middleware.proofs.Alike.{alike_through, outputs_alike, round_wanted, round_alike}
 
 -- ---- what a lawful branch makes ready
 
@@ -51,25 +52,27 @@ input_lawful constants inputs began (New ∷ places) p columns (suc q) l i h =
     let here : p + suc q ≡ (p + 1) + q = omega arith in
     input_lawful constants inputs began places (p + 1) (columns + 1) q l.1 (subst (λ n. Contains inputs n) here i) (omega arith)
 
--- a step is ready where there are so many columns before it
-record ReadyAt (schema : SchemaParts) (columns : ℕ) (step : Step) : Type 0 where
-  method : Method
-  named : IsMethod schema step.method method
-  inputs : (p : ℕ) → Contains method.inputs p → IsInput columns (slice_get step.places p)
+-- lawful places name columns that there are by then
+places_named : (constants : List (List ℕ)) (inputs : List ℕ) (began : ℕ) (places : List Place) (p columns : ℕ) → AreLawfulPlaces constants inputs began p columns places → AreNamed columns places
+places_named constants inputs began [] p columns l = tt
+places_named constants inputs began (Const t ∷ places) p columns l = places_named constants inputs began places (p + 1) columns l.1
+places_named constants inputs began (Col k ∷ places) p columns l = (l.0, places_named constants inputs began places (p + 1) columns l.2)
+places_named constants inputs began (New ∷ places) p columns l = places_named constants inputs began places (p + 1) (columns + 1) l.1
 
 module _ (schema : SchemaParts) (well : IsWellFormed schema) (constants : List (List ℕ)) where
   steps_ready : (columns : ℕ) (steps : List Step) (output : List Out) → AreLawfulFrom schema constants columns steps output → (i : ℕ) (step : Step) → slice_get steps i ≡ Some step
-      → ReadyAt schema (columns_after columns (take i steps)) step
+      → IsReady schema (columns_after columns (take i steps)) step
   steps_ready columns [] output l i step e = absurd (cc)
   steps_ready columns (s ∷ steps) output (method, l, rest) zero step e =
       let same : s ≡ step = cc in
-      subst (λ (x : Step). ReadyAt schema columns x) same (record {
+      subst (λ (x : Step). IsReady schema columns x) same (record {
         method = method;
         named = l.named;
         inputs = λ p c.
             let zeroth : p ≡ 0 + p = omega arith in
             let below : p < length l.arity.relation.columns = well.inputs method l.arity.relation p l.named.0 l.arity.there c in
             input_lawful constants method.inputs columns s.places 0 columns p l.places (subst (λ n. Contains method.inputs n) zeroth c) (rw l.arity.width below);
+        names = places_named constants method.inputs columns s.places 0 columns l.places;
       })
   steps_ready columns (s ∷ steps) output (method, l, rest) (suc i) step e = steps_ready (made columns s.places) steps output rest i step e
 
@@ -83,7 +86,7 @@ module _ (schema : SchemaParts) (well : IsWellFormed schema) (constants : List (
 
   pub branch_ready : (branch : Branch) → IsLawfulBranch schema constants branch → IsReadyBranch schema branch
   branch_ready branch l = record {
-    steps = λ i step e. let r = steps_ready 0 branch.steps branch.output l i step e in record { method = r.method; named = r.named; inputs = r.inputs };
+    steps = λ i step e. steps_ready 0 branch.steps branch.output l i step e;
     output = λ out c. outs_ready 0 branch.steps branch.output l out c;
   }
 
@@ -99,11 +102,11 @@ constants_zip places row columns (p ∷ inputs) are = (value_is (slice_get place
     value_is (Some (Col k)) i = tt
     value_is (Some New) i = absurd i
 
-pub inputs_for : (schema : SchemaParts) → IsWellFormed schema → (before : List Step) (step : Step) (method : Method) → IsMethod schema step.method method → IsReady schema before step
-    → (p : ℕ) → Contains method.inputs p → IsInput (columns_after 0 before) (slice_get step.places p)
-inputs_for schema well before step method named ready =
+pub inputs_for : (schema : SchemaParts) → IsWellFormed schema → (columns : ℕ) (step : Step) (method : Method) → IsMethod schema step.method method → IsReady schema columns step
+    → (p : ℕ) → Contains method.inputs p → IsInput columns (slice_get step.places p)
+inputs_for schema well columns step method named ready =
     let same : ready.method ≡ method = well.once ready.method method ready.named.0 named.0 (ready.named.1 ∙ sym named.1) in
-    subst (λ (m : Method). (p : ℕ) → Contains m.inputs p → IsInput (columns_after 0 before) (slice_get step.places p)) same ready.inputs
+    subst (λ (m : Method). (p : ℕ) → Contains m.inputs p → IsInput columns (slice_get step.places p)) same ready.inputs
 
 -- the wanted requests are requests of the step
 pub of_step : (schema : SchemaParts) (step : Step) (method : Method) (columns : ℕ) → IsMethod schema step.method method → ((p : ℕ) → Contains method.inputs p → IsInput columns (slice_get step.places p))
@@ -130,40 +133,36 @@ drop_all [] (suc i) over = refl
 drop_all (s ∷ steps) zero over = absurd (omega arith)
 drop_all (s ∷ steps) (suc i) over = drop_all steps i (omega arith)
 
--- rows that are alike where the steps from one on are lent
-pub near_rows : (steps rest : List Step) (outs : List Out) (number i : ℕ) (rows kept : RowList) → rest ≡ drop number steps → number ≡ i → AreAlike (is_live rest outs) rows kept → AreAlike (is_live (drop i steps) outs) rows kept
-near_rows steps rest outs number i rows kept is same near = subst (λ (s : List Step). AreAlike (is_live s outs) rows kept) (is ∙ ap (λ (n : ℕ). drop n steps) same) near
-
 -- ---- what the rounds of a branch mean on an instance
+
+pub columns_push : (n : ℕ) (steps : List Step) (step : Step) → columns_after n (steps ++ step ∷ []) ≡ made (columns_after n steps) step.places
+columns_push n [] step = refl
+columns_push n (s ∷ steps) step = columns_push (made n s.places) steps step
 
 -- one step more, whose round wants this list
 module _ (schema : SchemaParts) (well : IsWellFormed schema) (instance : List Fact) (outs : List Out) (before : List Step) (step : Step) (steps : List Step)
-    (method : Method) (named : IsMethod schema step.method method) (ready : IsReady schema before step) (rows kept list : RowList) (requests : List Request)
-    (m : Means schema instance (is_live (step ∷ steps) outs) before rows requests) (near : AreAlike (is_live (step ∷ steps) outs) rows kept)
-    (wanted : IsWanted step.places method.inputs kept list) where
+    (method : Method) (named : IsMethod schema step.method method) (ready : IsReady schema (columns_after 0 before) step) (blocks : List Block) (list : RowList) (requests : List Request)
+    (m : Means schema instance (is_live (step ∷ steps) outs) before blocks requests)
+    (wanted : IsWanted step.places method.inputs m.partial list) where
   step_inputs : (p : ℕ) → Contains method.inputs p → IsInput (columns_after 0 before) (slice_get step.places p)
-  step_inputs = inputs_for schema well before step method named ready
-
-  step_alike : AreAlike (is_live (step ∷ steps) outs) m.partial kept
-  step_alike = alike_through (is_live (step ∷ steps) outs) m.partial rows kept m.alike near
+  step_inputs = inputs_for schema well (columns_after 0 before) step method named ready
 
   pub round_means : IsRound schema instance before step (requests_of method.rel method.inputs list)
-  round_means =
-      is_round schema well instance before step method named step_inputs m.partial list m.partial_are (round_wanted step steps outs method.inputs m.partial kept list step_alike wanted)
+  round_means = is_round schema well instance before step method named step_inputs m.partial list m.partial_are wanted
 
-  pub means_more : (next : RowList) → ((row : List (List ℕ)) → Contains next row ↔ Contains (next_rows step.places method instance kept) row)
+  pub means_more : (next : List Block) → AreBlocks (is_live steps outs) (columns_after 0 (before ++ step ∷ [])) (next_rows step.places method instance m.partial) next
       → Means schema instance (is_live steps outs) (before ++ step ∷ []) next (requests ++ requests_of method.rel method.inputs list)
-  means_more next rows_are = record {
+  means_more next blocks_are = record {
     partial = next_rows step.places method instance m.partial;
     partial_are = next_partial schema well instance before step method named step_inputs m.partial (next_rows step.places method instance m.partial) m.partial_are (λ row. ((λ c. c), (λ c. c)));
-    alike = round_alike step steps outs method instance m.partial kept next step_alike rows_are;
+    blocks_are = blocks_are;
     are = requests_append schema instance [] before (step ∷ []) requests (requests_of method.rel method.inputs list) m.are
         (requests_one schema instance before step (requests_of method.rel method.inputs list) round_means);
   }
 
 -- the output of all its steps
-module _ (schema : SchemaParts) (instance : List Fact) (branch : Branch) (ready : IsReadyBranch schema branch) (partial rows next : RowList) (requests : List Request)
-    (added : HasAdded rows (map (output_of branch.output) partial) next) (m : Means schema instance (is_shown branch.output) branch.steps partial requests) where
+module _ (schema : SchemaParts) (instance : List Fact) (branch : Branch) (ready : IsReadyBranch schema branch) (blocks : List Block) (rows next : RowList) (requests : List Request)
+    (m : Means schema instance (is_shown branch.output) branch.steps blocks requests) (added : HasAdded rows (map (output_of branch.output) m.partial) next) where
   outputs_zip : (row : List (List ℕ)) (outs : List Out) → ((out : Out) → Contains outs out → IsReadyOut (length row) out) → AllZip (IsOut row) outs (output_of outs row)
   outputs_zip row [] are = tt
   outputs_zip row (out ∷ outs) are = (go out (are out (contains_here out outs)), outputs_zip row outs (λ o c. are o (contains_there out outs o c)))
@@ -184,19 +183,19 @@ module _ (schema : SchemaParts) (instance : List Fact) (branch : Branch) (ready 
 
   pub adds_branch : AddsBranch schema instance branch rows next requests
   adds_branch =
-      let same = outputs_alike branch.output m.partial partial m.alike in record {
+      record {
         exactly = λ row. (
           (λ c. elim ((added row).0 c) [
             | inl first ↦ inl first
             | inr second ↦
-                let (last, among, e) = contains_mapped (output_of branch.output) m.partial row ((same row).0 second) in
+                let (last, among, e) = contains_mapped (output_of branch.output) m.partial row second in
                 let leads = (m.partial_are last).0 among in
                 let long = steps_length schema instance branch.steps [] last leads in
                 inr (last, leads, subst (λ (v : List (List ℕ)). AllZip (IsOut last) branch.output v) e (outputs_zip last branch.output (λ out o. rw long (ready.output out o))))
           ]),
           (λ h. (added row).1 (⊎_elim
               (λ c. inl c)
-              (λ (last, leads, zip). inr ((same row).1
+              (λ (last, leads, zip). inr (
               (subst (λ (v : List (List ℕ)). Contains (map (output_of branch.output) m.partial) v) (sym (zip_outputs last branch.output row zip)) (contains_map (output_of branch.output) m.partial last ((m.partial_are last).1 leads)))))
               h)),
         );

@@ -21,7 +21,7 @@ use Rattle.lists.proofs.Orders.{rows_equal, rows_total}
 use Rattle.lists.proofs.Places.{got_after}
 use Rattle.middleware.specs.Joining.{input_row_of}
 use Rattle.middleware.specs.Rounds.{requests_of, IsWanted, next_rows}
-use Rattle.middleware.specs.Branches.{IsReady, AreReady, ArePartial}
+use Rattle.middleware.specs.Branches.{columns_after, IsReady, AreReady, ArePartial}
 use Rattle.middleware.proofs.Steps.{next_partial, is_round, requests_append, requests_one}
 
 -- a strictly ascending list with one row more
@@ -102,16 +102,16 @@ split_at (y ∷ xs) (suc n) x e = let one : suc n + 1 ≡ suc (n + 1) = omega ar
 
 module _ (schema : SchemaParts) (well : IsWellFormed schema) (facts : List Fact) where
   -- steps have requests, whatever comes before them
-  steps_from : (before steps : List Step) (rows : RowList) → ArePartial schema facts before rows → ((i : ℕ) (step : Step) → slice_get steps i ≡ Some step → IsReady schema (before ++ take i steps) step)
+  steps_from : (before steps : List Step) (rows : RowList) → ArePartial schema facts before rows → ((i : ℕ) (step : Step) → slice_get steps i ≡ Some step → IsReady schema (columns_after 0 (before ++ take i steps)) step)
       → (list : List Request) × AreStepsRequests schema facts before steps list
   steps_from before [] rows partial ready = ([], refl)
   steps_from before (step ∷ steps) rows partial ready =
-      let here : IsReady schema before step = subst (λ (l : List Step). IsReady schema l step) (append-nil before) (ready 0 step refl) in
+      let here : IsReady schema (columns_after 0 before) step = subst (λ (l : List Step). IsReady schema (columns_after 0 l) step) (append-nil before) (ready 0 step refl) in
       let (list, wanted) = wanted_exists step.places here.method.inputs rows in
       let round = is_round schema well facts before step here.method here.named here.inputs rows list partial wanted in
       let next = next_partial schema well facts before step here.method here.named here.inputs rows (next_rows step.places here.method facts rows) partial (λ row. ((λ c. c), (λ c. c))) in
       let (later, rest) = steps_from (before ++ step ∷ []) steps (next_rows step.places here.method facts rows) next
-      (λ i s e. subst (λ (l : List Step). IsReady schema l s) (sym (append_assoc before (step ∷ []) (take i steps))) (ready (suc i) s e)) in
+      (λ i s e. subst (λ (l : List Step). IsReady schema (columns_after 0 l) s) (sym (append_assoc before (step ∷ []) (take i steps))) (ready (suc i) s e)) in
       (requests_of here.method.rel here.method.inputs list ++ later, (requests_of here.method.rel here.method.inputs list, later, refl, round, rest))
 
   -- before the first step there is the empty partial row
@@ -129,7 +129,7 @@ module _ (schema : SchemaParts) (well : IsWellFormed schema) (facts : List Fact)
       → (earlier now : List Request) → AreStepsRequests schema facts [] (take n steps) earlier → IsRound schema facts (take n steps) step now
       → (later : List Request) × AreStepsRequests schema facts [] steps ((earlier ++ now) ++ later)
   steps_rest steps ready n step at rows partial earlier now earlier_are round =
-      let here : IsReady schema (take n steps) step = ready n step at in
+      let here : IsReady schema (columns_after 0 (take n steps)) step = ready n step at in
       let next = next_partial schema well facts (take n steps) step here.method here.named here.inputs rows (next_rows step.places here.method facts rows) partial (λ row. ((λ c. c), (λ c. c))) in
       let whole : steps ≡ take n steps ++ step ∷ drop (n + 1) steps = split_at steps n step at in
       let around : steps ≡ (take n steps ++ step ∷ []) ++ drop (n + 1) steps = whole ∙ sym (append_assoc (take n steps) (step ∷ []) (drop (n + 1) steps)) in
@@ -139,8 +139,19 @@ module _ (schema : SchemaParts) (well : IsWellFormed schema) (facts : List Fact)
       let all = requests_append schema facts [] (take n steps ++ step ∷ []) (drop (n + 1) steps) (earlier ++ now) later to_here rest in
       (later, subst (λ (l : List Step). AreStepsRequests schema facts [] l ((earlier ++ now) ++ later)) (sym around) all)
     where
-      after : (first second : List Step) → AreReady schema (first ++ second) → (i : ℕ) (s : Step) → slice_get second i ≡ Some s → IsReady schema (first ++ take i second) s
-      after first second are i s e = subst (λ (l : List Step). IsReady schema l s) (take_after first second i) (are (length first + i) s (got_after first second i ∙ e))
+      after : (first second : List Step) → AreReady schema (first ++ second) → (i : ℕ) (s : Step) → slice_get second i ≡ Some s → IsReady schema (columns_after 0 (first ++ take i second)) s
+      after first second are i s e = subst (λ (l : List Step). IsReady schema (columns_after 0 l) s) (take_after first second i) (are (length first + i) s (got_after first second i ∙ e))
+
+  -- the requests of the rounds before a step go on to those of all steps
+  pub steps_go_on : (steps : List Step) → AreReady schema steps → (n : ℕ) (step : Step) → slice_get steps n ≡ Some step → (rows : RowList) → ArePartial schema facts (take n steps) rows
+      → (earlier : List Request) → AreStepsRequests schema facts [] (take n steps) earlier → (later : List Request) × AreStepsRequests schema facts [] steps ((earlier ++ []) ++ later)
+  steps_go_on steps ready n step at rows partial earlier earlier_are =
+      let here : IsReady schema (columns_after 0 (take n steps)) step = ready n step at in
+      let (list, wanted) = wanted_exists step.places here.method.inputs rows in
+      let now = requests_of here.method.rel here.method.inputs list in
+      let round = is_round schema well facts (take n steps) step here.method here.named here.inputs rows list partial wanted in
+      let (later, all) = steps_rest steps ready n step at rows partial earlier now earlier_are round in
+      (now ++ later, subst (λ (l : List Request). AreStepsRequests schema facts [] steps l) (append_assoc earlier now later ∙ ap (λ (l : List Request). l ++ (now ++ later)) (sym (append-nil earlier))) all)
 
   pub branches_exist : (branches : List Branch) → ((branch : Branch) → Contains branches branch → AreReady schema branch.steps) → (list : List Request) × AreBranchesRequests schema facts branches list
   branches_exist [] ready = ([], refl)

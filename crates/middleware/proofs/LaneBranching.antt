@@ -1,5 +1,5 @@
 -- The rounds of a branch that lanes share: one more, one that stopped, and the output after all.
-use Rattle.std.proofs.Common.{◌≡◌, inl, inr, ℕ, ◌+◌, ◌-◌, ◌<◌, ◌≤◌, List, [], ◌∷◌, ◌++◌, length, length-append, map, take, drop, get_or, Some, Bool, refl, sym, ◌∙◌, ap, subst, arith}
+use Rattle.std.proofs.Common.{◌≡◌, inl, inr, ℕ, ◌+◌, ◌-◌, ◌<◌, ◌≤◌, List, [], ◌∷◌, ◌++◌, length, length-append, take, drop, get_or, Some, Bool, refl, sym, ◌∙◌, ap, subst, arith}
 use Rattle.std.specs.Prelude.{Contains, slice_get}
 use Rattle.std.proofs.lemmas.List.{take_more, append-nil, take_all}
 use Rattle.std.proofs.lemmas.Option.{slice_get_read}
@@ -16,27 +16,30 @@ use Rattle.access_schema.specs.declared.schema.Schema.{Schema}
 use Rattle.access_schema.specs.Meaning.{meaning_of}
 use Rattle.source_trait.specs.Asking.{RowList, Seen}
 use Rattle.source_trait.specs.declared.lanes.Lane.{Lane}
-use Rattle.middleware.specs.Asked.{IsStepRequest}
-use Rattle.middleware.specs.Rounds.{requests_of}
-use Rattle.middleware.specs.Branches.{HasAdded, IsInput, columns_after, AreReady, IsReadyBranch, IsReady, output_of, AreAskable, HoldSteps, ArePartial, Means, stop_of}
+use Rattle.meaning.specs.Plans.{made}
+use Rattle.middleware.specs.Rounds.{requests_of, next_rows}
+use Rattle.middleware.specs.Blocks.{AreTables, HaveLive, AreBlocks}
+use Rattle.middleware.specs.BlockRounds.{BlocksGo, RoundHalts, BlocksHalt, AddsOutputs}
+use Rattle.middleware.specs.Branches.{columns_after, AreReady, IsReadyBranch, IsReady, AreAskable, HoldSteps, Means, stop_of}
 use Rattle.middleware.specs.LaneRounds.{AsksEach, NoneStopped}
-use Rattle.middleware.specs.LaneBranches.{OnEach, LanesHoldSteps, LanesGo, HaltCause, LanesHalt, LanesReached, IsRoundAfter, StepsCause, StepsHalt, LanesAdd}
-use Rattle.middleware.specs.Live.{AreAlike, is_live, is_shown}
+use Rattle.middleware.specs.LaneBranches.{OnEach, LanesHoldSteps, HaltCause, LanesReached, IsRoundAfter, StepsCause, StepsHalt, LanesAdd}
+use Rattle.middleware.specs.Live.{is_live, is_shown}
+use Rattle.middleware.specs.declared.blocks.Block.{Block}
 use Rattle.middleware.specs.declared.round.RoundFault.{RoundFault}
 use Rattle.middleware.specs.declared.round.RoundFault.TheVariants as round
 use Rattle.middleware.specs.declared.branch.BranchFault.TheVariants as branch
 use Rattle.middleware.proofs.Steps.{in_append, append_first, append_second, len_requests}
-use Rattle.middleware.proofs.Existing.{first_partial, steps_exist, steps_rest}
-use Rattle.middleware.proofs.Alike.{all_alike}
-use Rattle.middleware.proofs.Branching.{inputs_for, of_step, left_at, drop_all, round_means, means_more, adds_branch, relation_later, askable_later}
+use Rattle.middleware.proofs.Existing.{first_partial, steps_rest, steps_go_on}
+use Rattle.middleware.proofs.Gathering.{tables_none}
+use Rattle.middleware.proofs.BlockSteps.{no_blocks}
+use Rattle.middleware.proofs.Branching.{left_at, drop_all, columns_push, round_means, means_more, adds_branch, relation_later, askable_later}
 use Rattle.middleware.proofs.LaneShares.{AsksEach-refl, AsksEach-trans, AsksSome-none, OnlyAsked, only_asked, each_later}
 
 pub no_request : (request : Request) → Contains [] request → ⊥
 no_request request c = omega arith
 
-take_length : (xs : RowList) → take (length xs) xs ≡ xs
-take_length [] = refl
-take_length (x ∷ xs) = ap (λ (l : RowList). x ∷ l) (take_length xs)
+one_taken : (steps : List Step) (i : ℕ) (step : Step) → i < length steps → step ≡ get_or steps i step → take (i + 1) steps ≡ take i steps ++ step ∷ []
+one_taken steps i step less at = take_more steps i step less ∙ ap (λ (s : Step). take i steps ++ s ∷ []) (sym at)
 
 module _ {S : Type 0} (seen : S → Seen) (schema : Schema) where
   abbrev parts : SchemaParts
@@ -61,83 +64,98 @@ module _ {S : Type 0} (seen : S → Seen) (schema : Schema) where
   -- ---- the rounds of the steps
 
   module _ (well : IsWellFormed parts) where
-    pub reached_none : (live : ℕ → Bool) (rows : RowList) → rows ≡ [] ∷ [] → (count : ℕ) (lanes : List (Lane S))
-        → LanesReached seen schema live [] rows count count lanes lanes
-    reached_none live rows e count lanes = record {
+    pub reached_none : (live : ℕ → Bool) (blocks : List Block) → blocks ≡ [] → (count : ℕ) (lanes : List (Lane S))
+        → LanesReached seen schema live [] blocks count count lanes lanes
+    reached_none live blocks e count lanes = record {
       list = [];
       asks = AsksEach-refl seen schema lanes;
       count = omega arith;
       of_steps = λ request c. absurd (no_request request c);
+      tables = subst (λ (b : List Block). AreTables 0 b) (sym e) (tables_none 0);
+      live_columns = λ k l is. absurd (omega (arith, l));
       means = λ instance holds. record {
-        partial = rows;
-        partial_are = subst (λ (r : RowList). ArePartial parts instance [] r) (sym e) (first_partial parts well instance);
-        alike = all_alike live rows;
+        partial = [] ∷ [];
+        partial_are = first_partial parts well instance;
+        blocks_are = subst (λ (b : List Block). AreBlocks live 0 ([] ∷ []) b) (sym e) (no_blocks live);
         are = refl;
       };
     }
 
-    goes_on : (before : List Step) (step : Step) (steps : List Step) (outs : List Out) (rows kept next : RowList) (start count after : ℕ)
-        (old mid new : List (Lane S)) → IsReady parts before step
-        → LanesReached seen schema (is_live (step ∷ steps) outs) before rows start count old mid → AreAlike (is_live (step ∷ steps) outs) rows kept
-        → LanesGo seen schema step kept next count after mid new
-        → LanesReached seen schema (is_live steps outs) (before ++ step ∷ []) next start after old new
-    goes_on before step steps outs rows kept next start count after old mid new ready r near goes = record {
+    -- the rounds of one step more, at its place among steps
+    goes_on : (before : List Step) (step : Step) (steps : List Step) (outs : List Out) (n next : ℕ) (blocks others : List Block) (start count after : ℕ)
+        (old mid new : List (Lane S)) → n ≡ columns_after 0 before → IsReady parts (columns_after 0 before) step
+        → LanesReached seen schema (is_live (step ∷ steps) outs) before blocks start count old mid
+        → BlocksGo seen schema step steps outs n blocks next others count after mid new
+        → LanesReached seen schema (is_live steps outs) (before ++ step ∷ []) others start after old new
+    goes_on before step steps outs n next blocks others start count after old mid new ne ready r goes = record {
       list = r.list ++ now;
       asks = AsksEach-trans seen schema r.list now old mid new r.asks goes.asks;
-      count = let a = r.count in let b = goes.count in omega (arith, a, b, length-append r.list now, len_requests goes.method.rel goes.method.inputs goes.list);
+      count = let a = r.count in let b = goes.made_is in omega (arith, a, b, length-append r.list now, len_requests goes.method.rel goes.method.inputs goes.list);
       of_steps = λ request c. elim (in_append r.list now request c) [
         | inl first ↦ let (s, among, is) = r.of_steps request first in (s, append_first before (step ∷ []) s among, is)
-        | inr second ↦ (
-          step,
-          append_second before (step ∷ []) step (contains_here step []),
-          of_step parts step goes.method (columns_after 0 before) goes.named inputs kept goes.list goes.wanted (length goes.list) request
-              (subst (λ (l : RowList). Contains (requests_of goes.method.rel goes.method.inputs l) request) (sym (take_length goes.list)) second),
-        )
+        | inr second ↦ (step, append_second before (step ∷ []) step (contains_here step []), goes.of_step request second)
       ];
+      tables = subst (λ k. AreTables k others) width goes.tables;
+      live_columns = subst (λ k. HaveLive (is_live steps outs) k others) width goes.live_columns;
       means = λ instance holds.
           let m = r.means instance (λ lane among s method line c. holds lane among s method line (append_first before (step ∷ []) s c)) in
           let here : LanesHoldSteps seen schema (step ∷ []) mid instance = steps_later (step ∷ []) instance old mid (each_asked r.list old mid r.asks)
           (λ lane among s method line c. holds lane among s method line (append_second before (step ∷ []) s c)) in
-          means_more parts well instance outs before step steps goes.method goes.named ready rows kept goes.list r.list m near goes.wanted next
-          (goes.rows_are instance here);
+          let were : AreBlocks (is_live (step ∷ steps) outs) n m.partial blocks = subst (λ k. AreBlocks (is_live (step ∷ steps) outs) k m.partial blocks) (sym ne) m.blocks_are in
+          means_more parts well instance outs before step steps goes.method goes.named ready blocks goes.list r.list m (goes.wanted m.partial were) others
+          (subst (λ k. AreBlocks (is_live steps outs) k (next_rows step.places goes.method instance m.partial) others) width (goes.blocks_are instance here m.partial were));
     }
       where
         now : List Request
         now = requests_of goes.method.rel goes.method.inputs goes.list
 
-        inputs : (p : ℕ) → Contains goes.method.inputs p → IsInput (columns_after 0 before) (slice_get step.places p)
-        inputs = inputs_for parts well before step goes.method goes.named ready
+        width : next ≡ columns_after 0 (before ++ step ∷ [])
+        width = goes.next_is ∙ ap (λ k. made k step.places) ne ∙ sym (columns_push 0 before step)
 
     -- the rounds of one step more
     pub one_more : (steps : List Step) → AreReady parts steps → (outs : List Out) (i : ℕ) (step : Step) → i < length steps
-        → step ≡ get_or steps i step → (rows kept next : RowList) (start count after : ℕ) (old mid new : List (Lane S))
-        → LanesReached seen schema (is_live (drop i steps) outs) (take i steps) rows start count old mid
-        → AreAlike (is_live (drop i steps) outs) rows kept → LanesGo seen schema step kept next count after mid new
-        → LanesReached seen schema (is_live (drop (i + 1) steps) outs) (take (i + 1) steps) next start after old new
-    one_more steps ready outs i step less at rows kept next start count after old mid new r near goes =
+        → step ≡ get_or steps i step → (rest : List Step) → rest ≡ drop (i + 1) steps → (n next : ℕ) (blocks others : List Block) (start count after : ℕ) (old mid new : List (Lane S))
+        → n ≡ columns_after 0 (take i steps)
+        → LanesReached seen schema (is_live (drop i steps) outs) (take i steps) blocks start count old mid
+        → BlocksGo seen schema step rest outs n blocks next others count after mid new
+        → LanesReached seen schema (is_live (drop (i + 1) steps) outs) (take (i + 1) steps) others start after old new
+    one_more steps ready outs i step less at rest rest_is n next blocks others start count after old mid new ne r goes =
         let got : slice_get steps i ≡ Some step = slice_get_read steps (length steps) i step refl less at in
-        let more : take (i + 1) steps ≡ take i steps ++ step ∷ [] = take_more steps i step less ∙ ap (λ (s : Step). take i steps ++ s ∷ []) (sym at) in
         let left = left_at steps i step less at in
-        subst (λ (s : List Step). LanesReached seen schema (is_live (drop (i + 1) steps) outs) s next start after old new) (sym more)
-        (goes_on (take i steps) step (drop (i + 1) steps) outs rows kept next start count after old mid new (ready i step got)
-        (subst (λ (s : List Step). LanesReached seen schema (is_live s outs) (take i steps) rows start count old mid) left r)
-        (subst (λ (s : List Step). AreAlike (is_live s outs) rows kept) left near) goes)
+        subst (λ (s : List Step). LanesReached seen schema (is_live (drop (i + 1) steps) outs) s others start after old new) (sym (one_taken steps i step less at))
+        (goes_on (take i steps) step (drop (i + 1) steps) outs n next blocks others start count after old mid new ne (ready i step got)
+        (subst (λ (s : List Step). LanesReached seen schema (is_live s outs) (take i steps) blocks start count old mid) left r)
+        (subst (λ (s : List Step). BlocksGo seen schema step s outs n blocks next others count after mid new) rest_is goes))
 
-    pub all_reached : (steps : List Step) (outs : List Out) (i : ℕ) → length steps ≤ i → (rows : RowList) (start after : ℕ) (old new : List (Lane S))
-        → LanesReached seen schema (is_live (drop i steps) outs) (take i steps) rows start after old new
-        → LanesReached seen schema (is_shown outs) steps rows start after old new
-    all_reached steps outs i over rows start after old new r =
-        subst (λ (s : List Step). LanesReached seen schema (is_shown outs) s rows start after old new) (take_all i steps over)
-        (subst (λ (s : List Step). LanesReached seen schema (is_live s outs) (take i steps) rows start after old new) (drop_all steps i over) r)
+    -- the live columns before a step
+    pub live_at : (steps : List Step) (outs : List Out) (i : ℕ) (step : Step) → i < length steps → step ≡ get_or steps i step → (rest : List Step) → rest ≡ drop (i + 1) steps
+        → (n : ℕ) → n ≡ columns_after 0 (take i steps) → (blocks : List Block) (start count : ℕ) (old mid : List (Lane S))
+        → LanesReached seen schema (is_live (drop i steps) outs) (take i steps) blocks start count old mid → HaveLive (is_live (step ∷ rest) outs) n blocks
+    live_at steps outs i step less at rest rest_is n ne blocks start count old mid r =
+        subst (λ k. HaveLive (is_live (step ∷ rest) outs) k blocks) (sym ne)
+        (subst (λ (s : List Step). HaveLive (is_live s outs) (columns_after 0 (take i steps)) blocks) (left_at steps i step less at ∙ ap (λ (l : List Step). step ∷ l) (sym rest_is)) r.live_columns)
 
-    -- the next round stopped
-    pub steps_halt : (steps : List Step) → AreReady parts steps → (n number : ℕ) → number ≡ n → (step : Step) → n < length steps
-        → step ≡ get_or steps n step → (outs : List Out) (rows kept : RowList) (start count most : ℕ) → count ≤ most → (why : RoundFault)
-        (old mid new : List (Lane S)) → NoneStopped mid
-        → LanesReached seen schema (is_live (drop n steps) outs) (take n steps) rows start count old mid
-        → AreAlike (is_live (drop n steps) outs) rows kept → LanesHalt seen schema step kept (most - count) why mid new
+    -- how many columns there are then
+    pub count_more : (steps : List Step) (i : ℕ) (step : Step) → i < length steps → step ≡ get_or steps i step → (n next : ℕ) → n ≡ columns_after 0 (take i steps) → next ≡ made n step.places
+        → next ≡ columns_after 0 (take (i + 1) steps)
+    count_more steps i step less at n next ne is =
+        is ∙ ap (λ k. made k step.places) ne ∙ sym (columns_push 0 (take i steps) step) ∙ ap (columns_after 0) (sym (one_taken steps i step less at))
+
+    pub all_reached : (steps : List Step) (outs : List Out) (i : ℕ) → length steps ≤ i → (blocks : List Block) (start after : ℕ) (old new : List (Lane S))
+        → LanesReached seen schema (is_live (drop i steps) outs) (take i steps) blocks start after old new
+        → LanesReached seen schema (is_shown outs) steps blocks start after old new
+    all_reached steps outs i over blocks start after old new r =
+        subst (λ (s : List Step). LanesReached seen schema (is_shown outs) s blocks start after old new) (take_all i steps over)
+        (subst (λ (s : List Step). LanesReached seen schema (is_live s outs) (take i steps) blocks start after old new) (drop_all steps i over) r)
+
+    -- the next round stopped, of which something was asked, or is known
+    asked_halt : (steps : List Step) → AreReady parts steps → (n number : ℕ) → number ≡ n → (step : Step) → n < length steps
+        → step ≡ get_or steps n step → (rest : List Step) → rest ≡ drop (n + 1) steps → (outs : List Out) (columns : ℕ) (blocks : List Block) (start count most : ℕ) → count ≤ most → (why : RoundFault)
+        (old mid new : List (Lane S)) → NoneStopped mid → columns ≡ columns_after 0 (take n steps)
+        → LanesReached seen schema (is_live (drop n steps) outs) (take n steps) blocks start count old mid
+        → RoundHalts seen schema step rest outs columns blocks (most - count) why mid new
         → StepsHalt seen schema steps start most (stop_of number count why) old new
-    steps_halt steps ready n number ne step less at outs rows kept start count most fits why old mid new going r near stops = record {
+    asked_halt steps ready n number ne step less at rest rest_is outs columns blocks start count most fits why old mid new going width r stops = record {
       middle = mid;
       earlier = r.list;
       now = now;
@@ -145,7 +163,7 @@ module _ {S : Type 0} (seen : S → Seen) (schema : Schema) where
       asks_now = stops.asks;
       of_steps = λ request c. elim (in_append r.list now request c) [
         | inl first ↦ let (s, among, is) = r.of_steps request first in (s, contains_take n steps s among, is)
-        | inr second ↦ (step, contains_got steps n step got, of_now request second)
+        | inr second ↦ (step, contains_got steps n step got, stops.of_step request second)
       ];
       part = λ instance holds.
           let m = means instance holds in
@@ -159,24 +177,17 @@ module _ {S : Type 0} (seen : S → Seen) (schema : Schema) where
         got : slice_get steps n ≡ Some step
         got = slice_get_read steps (length steps) n step refl less at
 
-        inputs : (p : ℕ) → Contains stops.method.inputs p → IsInput (columns_after 0 (take n steps)) (slice_get step.places p)
-        inputs = inputs_for parts well (take n steps) step stops.method stops.named (ready n step got)
-
         means : (instance : List Fact) → LanesHoldSteps seen schema steps old instance
-            → Means parts instance (is_live (drop n steps) outs) (take n steps) rows r.list
-        means instance holds = r.means instance (λ lane among s method line c. holds lane among s method line (contains_take n steps s c))
+            → Means parts instance (is_live (step ∷ rest) outs) (take n steps) blocks r.list
+        means instance holds =
+            subst (λ (s : List Step). Means parts instance (is_live s outs) (take n steps) blocks r.list) (left_at steps n step less at ∙ ap (λ (l : List Step). step ∷ l) (sym rest_is))
+            (r.means instance (λ lane among s method line c. holds lane among s method line (contains_take n steps s c)))
 
         round_at : (instance : List Fact) → LanesHoldSteps seen schema steps old instance → IsRound parts instance (take n steps) step now
         round_at instance holds =
-            let left = left_at steps n step less at in
-            round_means parts well instance outs (take n steps) step (drop (n + 1) steps) stops.method stops.named (ready n step got) rows kept stops.list r.list
-            (subst (λ (s : List Step). Means parts instance (is_live s outs) (take n steps) rows r.list) left (means instance holds))
-            (subst (λ (s : List Step). AreAlike (is_live s outs) rows kept) left near) stops.wanted
-
-        of_now : (request : Request) → Contains now request → IsStepRequest parts step request
-        of_now request c =
-            of_step parts step stops.method (columns_after 0 (take n steps)) stops.named inputs kept stops.list stops.wanted (length stops.list) request
-            (subst (λ (l : RowList). Contains (requests_of stops.method.rel stops.method.inputs l) request) (sym (take_length stops.list)) c)
+            let m = means instance holds in
+            round_means parts well instance outs (take n steps) step rest stops.method stops.named (ready n step got) blocks stops.list r.list m
+            (stops.wanted m.partial (subst (λ k. AreBlocks (is_live (step ∷ rest) outs) k m.partial blocks) (sym width) m.blocks_are))
 
         long : length now ≡ length stops.list
         long = len_requests stops.method.rel stops.method.inputs stops.list
@@ -193,7 +204,7 @@ module _ {S : Type 0} (seen : S → Seen) (schema : Schema) where
           method = stops.method;
           named = stops.named;
           some = let s = c.0 in omega (arith, s, long);
-          of_step = of_now;
+          of_step = stops.of_step;
           fits = let a = c.1 in let b = r.count in omega (arith, a, b, fits, long);
           fails = c.2;
           means = after;
@@ -211,24 +222,42 @@ module _ {S : Type 0} (seen : S → Seen) (schema : Schema) where
           means = after;
         }
 
+    -- the next round stopped
+    pub steps_halt : (steps : List Step) → AreReady parts steps → (i number : ℕ) → number ≡ i → (step : Step) → i < length steps
+        → step ≡ get_or steps i step → (rest : List Step) → rest ≡ drop (i + 1) steps → (outs : List Out) (n : ℕ) (blocks : List Block) (start count most : ℕ) → count ≤ most → (why : RoundFault)
+        (old mid new : List (Lane S)) → NoneStopped mid → n ≡ columns_after 0 (take i steps)
+        → LanesReached seen schema (is_live (drop i steps) outs) (take i steps) blocks start count old mid
+        → BlocksHalt seen schema step rest outs n blocks (most - count) why mid new
+        → StepsHalt seen schema steps start most (stop_of number count why) old new
+    steps_halt steps ready i number ne step less at rest rest_is outs n blocks start count most fits why old mid new going width r halts = elim halts [
+      | inl none ↦ subst (λ (w : RoundFault). StepsHalt seen schema steps start most (stop_of number count w) old new) (sym none.0)
+          (subst (λ (l : List (Lane S)). StepsHalt seen schema steps start most branch.NoMemory old l) (sym none.1) unasked)
+      | inr stops ↦ asked_halt steps ready i number ne step less at (drop (i + 1) steps) refl outs n blocks start count most fits why old mid new going width r
+          (subst (λ (s : List Step). RoundHalts seen schema step s outs n blocks (most - count) why mid new) rest_is stops)
+    ]
+      where
+        got : slice_get steps i ≡ Some step
+        got = slice_get_read steps (length steps) i step refl less at
+
+        unasked : StepsHalt seen schema steps start most branch.NoMemory old mid
+        unasked = record {
+          middle = mid;
+          earlier = r.list;
+          now = [];
+          asks_earlier = r.asks;
+          asks_now = AsksSome-none seen schema [] mid;
+          of_steps = λ request c.
+              let (s, among, is) = r.of_steps request (subst (λ (l : List Request). Contains l request) (append-nil r.list) c) in (s, contains_take i steps s among, is);
+          part = λ instance holds.
+              let m = r.means instance (λ lane among s method line c. holds lane among s method line (contains_take i steps s c)) in
+              steps_go_on parts well instance steps ready i step got m.partial m.partial_are r.list m.are;
+          cause = tt;
+        }
+
     -- ---- the whole branch
 
-    -- no memory for the first partial row
-    pub branch_none : (steps : List Step) → AreReady parts steps → (start most : ℕ) (lanes : List (Lane S))
-        → StepsHalt seen schema steps start most branch.NoMemory lanes lanes
-    branch_none steps ready start most lanes = record {
-      middle = lanes;
-      earlier = [];
-      now = [];
-      asks_earlier = AsksEach-refl seen schema lanes;
-      asks_now = AsksSome-none seen schema [] lanes;
-      of_steps = λ request c. absurd (no_request request c);
-      part = λ instance holds. steps_exist parts well instance steps ready;
-      cause = tt;
-    }
-
     -- no memory for its output
-    pub branch_full : (live : ℕ → Bool) (steps lent : List Step) → lent ≡ steps → (partial : RowList) (start after most : ℕ) (old new : List (Lane S))
+    pub branch_full : (live : ℕ → Bool) (steps lent : List Step) → lent ≡ steps → (partial : List Block) (start after most : ℕ) (old new : List (Lane S))
         → LanesReached seen schema live lent partial start after old new → StepsHalt seen schema steps start most branch.NoMemory old new
     branch_full live steps lent e partial start after most old new reached =
         let r = subst (λ (s : List Step). LanesReached seen schema live s partial start after old new) e reached in
@@ -248,17 +277,18 @@ module _ {S : Type 0} (seen : S → Seen) (schema : Schema) where
         }
 
     pub branch_adds : (its : Branch) → IsReadyBranch parts its → (steps : List Step) → steps ≡ its.steps → (outs : List Out) → outs ≡ its.output
-        → (partial rows next : RowList) (count after : ℕ) (old new : List (Lane S))
-        → LanesReached seen schema (is_shown outs) steps partial count after old new → HasAdded rows (map (output_of outs) partial) next
+        → (n : ℕ) → n ≡ columns_after 0 steps → (blocks : List Block) (rows next : RowList) (count after : ℕ) (old new : List (Lane S))
+        → LanesReached seen schema (is_shown outs) steps blocks count after old new → AddsOutputs outs n blocks rows next
         → LanesAdd seen schema its rows next count after old new
-    branch_adds its ready steps se outs oe partial rows next count after old new reached is =
-        let r = subst (λ (o : List Out). LanesReached seen schema (is_shown o) its.steps partial count after old new) oe
-        (subst (λ (s : List Step). LanesReached seen schema (is_shown outs) s partial count after old new) se reached) in
-        let added : HasAdded rows (map (output_of its.output) partial) next = subst (λ (o : List Out). HasAdded rows (map (output_of o) partial) next) oe is in
+    branch_adds its ready steps se outs oe n ne blocks rows next count after old new reached is =
+        let r = subst (λ (o : List Out). LanesReached seen schema (is_shown o) its.steps blocks count after old new) oe
+        (subst (λ (s : List Step). LanesReached seen schema (is_shown outs) s blocks count after old new) se reached) in
+        let adds : AddsOutputs its.output (columns_after 0 its.steps) blocks rows next =
+        subst (λ k. AddsOutputs its.output k blocks rows next) (ne ∙ ap (columns_after 0) se) (subst (λ (o : List Out). AddsOutputs o n blocks rows next) oe is) in
         record {
           list = r.list;
           asks = r.asks;
           count = r.count;
           of_steps = r.of_steps;
-          means = λ instance holds. adds_branch parts instance its ready partial rows next r.list added (r.means instance holds);
+          means = λ instance holds. let m = r.means instance holds in adds_branch parts instance its ready blocks rows next r.list m (adds m.partial m.blocks_are);
         }

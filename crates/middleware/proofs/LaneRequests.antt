@@ -1,5 +1,5 @@
 -- The requests of a method, asked of lanes: what each lane may be asked, was asked and answered.
-use Rattle.std.proofs.Common.{◌≡◌, ◌↔◌, ◌≤◌, ◌<◌, ◌+◌, ℕ, suc, List, [], ◌∷◌, length, map, get_or, Option, None, Some, refl, sym, ◌∙◌, ap, subst, arith, ◌++◌, set, take, true}
+use Rattle.std.proofs.Common.{◌≡◌, ◌↔◌, ◌≤◌, ◌<◌, ℕ, suc, List, [], ◌∷◌, length, map, get_or, Option, None, Some, refl, sym, ◌∙◌, ap, subst, arith, ◌++◌, set, take, true}
 use Rattle.std.specs.Prelude.{Contains, slice_get, IfSome, IsSomeAnd, option_map, Result, Ok, Err}
 use Rattle.std.proofs.lemmas.Option.{slice_get-get_or, slice_get_within}
 use Rattle.lists.proofs.Members.{contains_here, contains_mapped, contains_got, got_mapped, map_got, some_injective}

@@ -2,9 +2,14 @@ pub mod Orders
 pub mod LaneRuns
 pub mod Answering
 pub mod Steps
+pub mod TableJoins
+pub mod NamedPlaces
+pub mod Blocking
+pub mod Gathering
+pub mod BlockSteps
+pub mod CutBlocks
 pub mod Distinct
 pub mod Existing
-pub mod Alike
 pub mod Laning
 pub mod LaneAnswers
 pub mod LaneWorks
@@ -21,6 +26,7 @@ pub mod LaneGoing
 pub mod Finding
 pub mod Branching
 pub mod LaneBranching
+pub mod BlockRounding
 pub mod Attached
 pub mod Planning
 pub mod LanePlanning

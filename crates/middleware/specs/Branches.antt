@@ -25,7 +25,9 @@ use Rattle.middleware.specs.Held.{HoldsRelation}
 use Rattle.middleware.specs.Asked.{IsStepRequest}
 use Rattle.middleware.specs.Joining.{text_or}
 use Rattle.middleware.specs.Rounds.{CanAskAll}
-use Rattle.middleware.specs.Live.{AreAlike}
+use Rattle.middleware.specs.Naming.{AreNamed}
+use Rattle.middleware.specs.Blocks.{AreBlocks}
+use Rattle.middleware.specs.declared.blocks.Block.{Block}
 use Rattle.middleware.specs.declared.round.RoundFault.{RoundFault}
 use Rattle.middleware.specs.declared.branch.BranchFault.{BranchFault}
 use Rattle.middleware.specs.declared.branch.BranchFault.TheVariants as branch
@@ -47,15 +49,17 @@ abbrev pub columns_after : ℕ → List Step → ℕ
 columns_after n [] = n
 columns_after n (step ∷ steps) = columns_after (made n step.places) steps
 
--- a step has a method, and the values at its inputs are known after the steps before it
-pub record IsReady (schema : SchemaParts) (before : List Step) (step : Step) : Type 0 where
+-- a step has a method, the values at its inputs are known where there are so many columns before it, and its places name columns that
+-- there are by then
+pub record IsReady (schema : SchemaParts) (columns : ℕ) (step : Step) : Type 0 where
   pub method : Method
   pub named : IsMethod schema step.method method
-  pub inputs : (p : ℕ) → Contains method.inputs p → IsInput (columns_after 0 before) (slice_get step.places p)
+  pub inputs : (p : ℕ) → Contains method.inputs p → IsInput columns (slice_get step.places p)
+  pub names : AreNamed columns step.places
 
 -- each step is ready after those before it
 abbrev pub AreReady : SchemaParts → List Step → Type 0
-AreReady schema steps = (i : ℕ) (step : Step) → slice_get steps i ≡ Some step → IsReady schema (take i steps) step
+AreReady schema steps = (i : ℕ) (step : Step) → slice_get steps i ≡ Some step → IsReady schema (columns_after 0 (take i steps)) step
 
 -- a column of the output exists
 abbrev pub IsReadyOut : ℕ → Out → Type 0
@@ -113,11 +117,11 @@ ArePartial schema facts steps rows = (row : List (List ℕ)) → Contains rows r
 abbrev pub AreOfSteps : SchemaParts → List Step → List Request → Type 0
 AreOfSteps schema steps requests = (request : Request) → Contains requests request → (step : Step) × Contains steps step × IsStepRequest schema step request
 
--- on an instance: the partial rows of the steps, to which the rows are alike, and their requests
-pub record Means (schema : SchemaParts) (facts : List Fact) (live : ℕ → Bool) (steps : List Step) (rows : RowList) (requests : List Request) : Type 0 where
+-- on an instance: the partial rows of the steps, whose blocks these are, and their requests
+pub record Means (schema : SchemaParts) (facts : List Fact) (live : ℕ → Bool) (steps : List Step) (blocks : List Block) (requests : List Request) : Type 0 where
   pub partial : RowList
   pub partial_are : ArePartial schema facts steps partial
-  pub alike : AreAlike live partial rows
+  pub blocks_are : AreBlocks live (columns_after 0 steps) partial blocks
   pub are : AreStepsRequests schema facts [] steps requests
 
 -- a round's refusal as that of the branch

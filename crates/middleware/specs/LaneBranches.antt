@@ -17,7 +17,9 @@ use Rattle.source_trait.specs.declared.lanes.Lane.{Lane}
 use Rattle.middleware.specs.Held.{HoldPlan}
 use Rattle.middleware.specs.Asked.{IsStepRequest, IsStepAt, IsRoundAt}
 use Rattle.middleware.specs.Rounds.{requests_of, IsWanted, next_rows}
-use Rattle.middleware.specs.Branches.{HoldSteps, RoseAt, AreOfSteps, Means, AddsBranch, AreOfBranches, BranchesMean}
+use Rattle.middleware.specs.Blocks.{AreTables, HaveLive}
+use Rattle.middleware.specs.declared.blocks.Block.{Block}
+use Rattle.middleware.specs.Branches.{columns_after, HoldSteps, RoseAt, AreOfSteps, Means, AddsBranch, AreOfBranches, BranchesMean}
 use Rattle.middleware.specs.LaneRounds.{AsksEach, AsksSome, NoneStopped}
 use Rattle.middleware.specs.declared.round.RoundFault.{RoundFault}
 use Rattle.middleware.specs.declared.round.RoundFault.TheVariants as round
@@ -85,14 +87,16 @@ module _ {S : Type 0} (seen : S → Seen) (schema : Schema) where
 
   -- ---- the rounds of a branch
 
-  -- the rounds of these steps are done: rows alike the partial ones, and the requests
-  pub record LanesReached (live : ℕ → Bool) (steps : List Step) (rows : RowList) (before after : ℕ) (old new : List (Lane S)) : Type 0
+  -- the rounds of these steps are done: the blocks of the partial rows, and the requests
+  pub record LanesReached (live : ℕ → Bool) (steps : List Step) (blocks : List Block) (before after : ℕ) (old new : List (Lane S)) : Type 0
     where
       pub list : List Request
       pub asks : AsksEach seen schema list old new
       pub count : after ≡ before + length list
       pub of_steps : AreOfSteps (meaning_of schema) steps list
-      pub means : (instance : List Fact) → LanesHoldSteps steps old instance → Means (meaning_of schema) instance live steps rows list
+      pub tables : AreTables (columns_after 0 steps) blocks
+      pub live_columns : HaveLive live (columns_after 0 steps) blocks
+      pub means : (instance : List Fact) → LanesHoldSteps steps old instance → Means (meaning_of schema) instance live steps blocks list
 
   -- A call of the nth round failed, whose requests there was room for.
   pub record FailsIn (steps : List Step) (n before most : ℕ) (earlier now : List Request) (old middle new : List (Lane S)) : Type 0 where

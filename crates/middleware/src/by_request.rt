@@ -1,6 +1,7 @@
 // Partial rows in the order of what they ask for.
-ghost use Rattle.std.specs.Prelude.{◌≡◌, ◌↔◌, ◌∷◌, [], Contains, IfOk, IsTrue, List, ℕ, map};
+ghost use Rattle.std.specs.Prelude.{◌≡◌, ◌↔◌, ◌∷◌, [], Contains, IfOk, IsTrue, List, ℕ, map, slice_get};
 ghost use Rattle.middleware.specs.Branches.{HasAdded};
+ghost use Rattle.middleware.specs.Naming.{AddsAsked, AreAsked};
 
 use crate::ascending::distinct_rows;
 use crate::partial_rows::text_at;
@@ -29,15 +30,35 @@ pub fn rows_by_request(
     sorted_by(alloc, *first, columns.as_slice(), &rows)
 }
 
-// The columns whose values are asked for.
-fn input_columns(alloc: Global, places: &[Place], inputs: &[u32]) -> Result<Vec<u32>, AllocError> {
+/// The columns whose values are asked for.
+pub fn input_columns(
+    alloc: Global,
+    places: &[Place],
+    inputs: &[u32],
+) -> Result<Vec<u32>, AllocError>
+    ensures { IfOk result (λ columns. AreAsked columns.items places.now inputs.now) }
+{
     let mut columns = Vec::new(alloc);
     for input in inputs {
-        if let Some(Place::Col(column)) = places.get(*input as usize) {
-            columns.push(*column)?;
-        }
+        columns = with_asked(columns, places, *input)?;
     }
     Ok(columns)
+}
+
+// The columns, and that of the place at an input, if it names one.
+fn with_asked(columns: Vec<u32>, places: &[Place], input: u32) -> Result<Vec<u32>, AllocError>
+    ensures { IfOk result (λ more. AddsAsked (slice_get places.now input) columns.items more.items) }
+{
+    match places.get(input as usize) {
+        Some(Place::Col(column)) => {
+            let mut more = columns;
+            more.push(*column)?;
+            Ok(more)
+        }
+        Some(Place::Const(_)) => Ok(columns),
+        Some(Place::New) => Ok(columns),
+        None => Ok(columns),
+    }
 }
 
 // Whether each row comes before the next one.

@@ -1,7 +1,14 @@
 // Columns that no later place names: their values are dropped, so that rows that differ in them alone become doubles.
-ghost use Rattle.std.specs.Prelude.{◌≡◌, ◌∷◌, IfOk, OnOk, List, ℕ, map};
-ghost use Rattle.middleware.specs.Live.{AreAlike, KeepsLive, is_live, is_named, is_shown, masked};
+ghost use Rattle.std.specs.Prelude.{◌≡◌, ◌∷◌, ◌++◌, ◌↔◌, [], Contains, IfOk, List, ℕ};
+ghost use Rattle.middleware.specs.Blocks.{IsCut};
+ghost use Rattle.middleware.specs.Live.{is_live, is_named, is_shown};
+ghost use Rattle.middleware.specs.Cutting.{AddsKept, KeepsLive, KeepsOne};
 
+use crate::ascending::distinct_rows;
+use crate::blocks::Block;
+use crate::naming::fitting;
+use crate::parts::key_rows;
+use lists::{Places, Seq};
 use meaning::types::{Out, Place, Step};
 use row_text::{LentRow, PackedRows};
 use std::alloc::{AllocError, Global};
@@ -9,56 +16,66 @@ use std::alloc::{AllocError, Global};
 // The most bytes of a value that is kept although no place names it, since to drop it would cost more.
 const SHORT: usize = 16;
 
-/// The partial rows with the empty text at each column that no place of the steps and of the output names.
+/// The block without the columns that no place of the steps and of the output names.
 ///
-/// They stay as they are where there is no memory for that, and where the columns before the first of these tell the rows apart and no
+/// It stays as it is where there is no memory for that, and where the columns before the first of these tell its rows apart and no
 /// value from there on is long.
-pub fn live_rows(alloc: Global, steps: &[Step], outs: &[Out], rows: PackedRows) -> PackedRows
-    ensures { AreAlike (is_live steps.now outs.now) rows result }
+pub fn live_block(alloc: Global, steps: &[Step], outs: &[Out], block: Block) -> Block
+    ensures { IsCut (is_live steps.now outs.now) block result }
 {
-    if rows.len() < 2 || stay_apart(steps, outs, &rows) {
-        return rows;
+    if block.rows.len() < 2 || stay_apart(steps, outs, &block) {
+        return block;
     }
-    match without_dead(alloc, steps, outs, &rows) {
-        Ok(kept) => kept,
-        Err(_) => rows,
+    match cut_block(alloc, steps, outs, &block) {
+        Ok(cut) => cut,
+        Err(_) => block,
     }
 }
 
-fn without_dead(
+fn cut_block(
     alloc: Global,
     steps: &[Step],
     outs: &[Out],
-    rows: &PackedRows,
-) -> Result<PackedRows, AllocError>
-    ensures { IfOk result (λ kept. AreAlike (is_live steps.now outs.now) rows.now kept) }
+    block: &Block,
+) -> Result<Block, AllocError>
+    ensures { IfOk result (λ cut. IsCut (is_live steps.now outs.now) block.now cut) }
 {
-    let mask = live_columns(alloc, steps, outs, width_of(rows))?;
-    let kept = masked_rows(alloc, mask.as_slice(), rows)?;
-    Ok(kept)
+    let kept = live_columns(alloc, steps, outs, block.columns.as_slice())?;
+    let list = key_rows(alloc, kept.places.as_slice(), &block.rows)?;
+    let rows = once_if_bare(alloc, kept.columns.is_empty(), list)?;
+    Ok(Block {
+        columns: kept.columns,
+        rows,
+    })
 }
 
-// How many values the first row has.
-fn width_of(rows: &PackedRows) -> usize {
-    if rows.len() == 0 { 0 } else { rows.at(0).len() }
+// Each row once where they have no column, and the rows as they are where they have.
+fn once_if_bare(alloc: Global, bare: bool, rows: PackedRows) -> Result<PackedRows, AllocError>
+    ensures { IfOk result (λ same. (row : List (List ℕ)) → Contains same row ↔ Contains rows row) }
+{
+    if bare {
+        return distinct_rows(alloc, rows);
+    }
+    Ok(rows)
 }
 
 // Whether nothing is gained without the columns that are not live: there are none, or those before the first of them tell the rows
 // apart, and the values from there on are short.
-fn stay_apart(steps: &[Step], outs: &[Out], rows: &PackedRows) -> bool {
-    let width = width_of(rows);
-    let live = live_front(steps, outs, width);
-    live == width || (fronts_ascend(rows, live) && backs_are_short(rows, live))
+fn stay_apart(steps: &[Step], outs: &[Out], block: &Block) -> bool {
+    let columns = block.columns.as_slice();
+    let live = live_front(steps, outs, columns);
+    live == columns.len()
+        || (fronts_ascend(&block.rows, live) && backs_are_short(&block.rows, live))
 }
 
-// How many of the first columns come before one that is not live.
-fn live_front(steps: &[Step], outs: &[Out], width: usize) -> usize {
-    for column in 0..width {
-        if !is_live_column(steps, outs, column) {
-            return column;
+// How many of the columns come before one that is not live.
+fn live_front(steps: &[Step], outs: &[Out], columns: &[u32]) -> usize {
+    for number in 0..columns.len() {
+        if !is_live_column(steps, outs, columns[number] as usize) {
+            return number;
         }
     }
-    width
+    columns.len()
 }
 
 // Whether the first columns of each row are below those of the next one, so that no other column tells them apart.
@@ -105,20 +122,54 @@ fn is_back_short(row: &LentRow<'_>, columns: usize) -> bool {
     true
 }
 
-// Which of the first columns are live.
+/// The live ones of some columns, and which of these each is.
+#[derive(Drop)]
+pub struct Kept {
+    pub columns: Places,
+    pub places: Vec<u32>,
+}
+
 fn live_columns(
     alloc: Global,
     steps: &[Step],
     outs: &[Out],
-    width: usize,
-) -> Result<Vec<bool>, AllocError>
-    ensures { IfOk result (λ mask. KeepsLive (is_live steps.now outs.now) mask.items) }
+    columns: &[u32],
+) -> Result<Kept, AllocError>
+    ensures { IfOk result (λ kept. KeepsLive (is_live steps.now outs.now) columns.now columns.now kept) }
 {
-    let mut mask = Vec::new(alloc);
-    for column in 0..width {
-        mask.push(is_live_column(steps, outs, column))?;
+    let mut kept = Kept {
+        columns: Seq::new(alloc),
+        places: Vec::new(alloc),
+    };
+    for number in 0..columns.len() {
+        kept = with_live(steps, outs, kept, columns[number], number)?;
     }
-    Ok(mask)
+    Ok(kept)
+}
+
+// Keeps the column of a number, if it is live.
+fn with_live(
+    steps: &[Step],
+    outs: &[Out],
+    kept: Kept,
+    column: u32,
+    number: usize,
+) -> Result<Kept, AllocError>
+    ensures { IfOk result (λ more. KeepsOne (is_live steps.now outs.now) column number kept more) }
+{
+    if is_live_column(steps, outs, column as usize) {
+        return with_kept(kept, column, number);
+    }
+    Ok(kept)
+}
+
+fn with_kept(kept: Kept, column: u32, number: usize) -> Result<Kept, AllocError>
+    ensures { IfOk result (λ more. AddsKept column number kept more) }
+{
+    let mut more = kept;
+    more.columns.push(column)?;
+    more.places.push(fitting(number)?)?;
+    Ok(more)
 }
 
 fn is_live_column(steps: &[Step], outs: &[Out], column: usize) -> bool
@@ -169,47 +220,4 @@ fn is_shown_column(outs: &[Out], column: usize) -> bool
         left = rest;
     }
     false
-}
-
-fn masked_rows(alloc: Global, mask: &[bool], rows: &PackedRows) -> Result<PackedRows, AllocError>
-    ensures { IfOk result (λ kept. kept ≡ map (masked mask.now) rows.now) }
-{
-    let mut values = Vec::new(alloc);
-    let mut texts = Vec::new(alloc);
-    let mut kept = rows.room_alike(alloc)?;
-    for number in 0..rows.len() {
-        values.clear();
-        rows.at(number).add_to(&mut values)?;
-        masked_texts(mask, values.as_slice(), &mut texts)?;
-        kept = kept.with_texts(texts.as_slice())?;
-    }
-    Ok(kept)
-}
-
-// The texts that the mask keeps, and empty ones for the others, in place of the texts that were there.
-fn masked_texts<'a>(
-    mask: &[bool],
-    values: &[&'a str],
-    texts: &mut Vec<&'a str>,
-) -> Result<(), AllocError>
-    ensures { OnOk result (map (λ s. s.now) texts.new.items ≡ masked mask.now (map (λ s. s.now) values.now)) }
-{
-    texts.clear();
-    let mut left = mask;
-    for value in values {
-        let (text, rest) = masked_text(left, value);
-        texts.push(text)?;
-        left = rest;
-    }
-    Ok(())
-}
-
-// The value, or the empty text where the first of the mask drops it, and the rest of the mask.
-fn masked_text<'m, 'a>(mask: &'m [bool], value: &'a str) -> (&'a str, &'m [bool])
-    ensures { (row : List (List ℕ)) → result.0.now ∷ masked result.1.now row ≡ masked mask.now (value.now ∷ row) }
-{
-    match mask {
-        [keep, rest @ ..] => { if *keep { (value, rest) } else { ("", rest) } }
-        [] => (value, mask),
-    }
 }

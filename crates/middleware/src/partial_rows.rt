@@ -47,8 +47,8 @@ pub fn join(
     Ok(next)
 }
 
-// Each partial row joined with the only answer: with those of its rows alone that have its values at the known places.
-fn join_only(
+/// Each partial row joined with the only answer: with those of its rows alone that have its values at the known places.
+pub fn join_only(
     alloc: Global,
     places: &[Place],
     answer: &PackedRows,

@@ -15,7 +15,6 @@ use crate::ascending::distinct_rows;
 use crate::asking::ask_wanted;
 use crate::by_request::rows_by_request;
 use crate::lone_answer::lone_in_order;
-use crate::lookup::method_of;
 use crate::partial_rows::{input_rows, join};
 use access_schema::{Method, Schema};
 use meaning::types::{Place, Step};
@@ -39,34 +38,8 @@ pub enum RoundFault {
     OverCalls { wanted: usize },
 }
 
-/// Asks the round of a step on the lanes, and goes on to the next partial rows.
-pub fn next_round<R: Threads + Sync, S: Source + Send + Drop>(
-    rt: &R,
-    alloc: Global,
-    schema: &Schema,
-    lanes: &mut [Lane<S>],
-    step: &Step,
-    progress: Progress,
-    cap: u32,
-) -> Result<Progress, RoundFault>
-    requires lanes { (0 < length lanes.old) × (length lanes.old ≤ 8) }
-    requires named { (method : Method) × IsMethod (meaning_of schema.now) step.now.method method }
-    requires askable { (method : Method) → IsMethod (meaning_of schema.now) step.now.method method
-        → OnEach lanes.old (λ kinds. IsAskable S.seen schema.now kinds method) }
-    requires going { NoneStopped lanes.old }
-    requires made { progress.made ≤ cap }
-    requires cap { cap ≤ 1_000_000 }
-    ensures goes { IfOk result (λ p. LanesGo S.seen schema.now step.now progress.rows p.rows progress.made p.made lanes.old lanes.new) }
-    ensures within { IfOk result (λ p. p.made ≤ cap) }
-    ensures stops { IfErr result (λ fault. LanesHalt S.seen schema.now step.now progress.rows (cap - progress.made) fault lanes.old lanes.new) }
-    ensures going { OnOk result (NoneStopped lanes.new) }
-{
-    let method = method_of(schema, &step.method);
-    ask_step(rt, alloc, schema, lanes, step, method, progress, cap)
-}
-
-// Asks the distinct requests of a step, and joins the answers with the partial rows.
-fn ask_step<R: Threads + Sync, S: Source + Send + Drop>(
+/// Asks the distinct requests of a step, and joins the answers with the partial rows.
+pub fn ask_step<R: Threads + Sync, S: Source + Send + Drop>(
     rt: &R,
     alloc: Global,
     schema: &Schema,

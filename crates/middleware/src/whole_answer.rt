@@ -24,8 +24,8 @@ pub fn grows_to_answer(places: &[Place], answers: &Answers, rows: &PackedRows) -
     have_arity(answer, places.len())
 }
 
-// Whether the only row has no column.
-fn is_first(rows: &PackedRows) -> bool
+/// Whether the only row has no column.
+pub fn is_first(rows: &PackedRows) -> bool
     ensures { IsTrue result → rows.now ≡ [] ∷ [] }
 {
     if rows.len() != 1 {

@@ -1,4 +1,3 @@
-use Rattle.std.specs.Prelude.{slice_set}
 use Rattle.middleware.proofs.Finding.{line_there}
 use Rattle.middleware.proofs.LaneRequests.{first_there, first_ready, first_of}
 use Rattle.middleware.proofs.asking.ask_first.Goals as goal

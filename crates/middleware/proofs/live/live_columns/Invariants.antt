@@ -1,9 +1,7 @@
-use Rattle.std.proofs.Common.{◌≡◌, length}
-use Rattle.middleware.specs.Live.{KeepsLive, is_live}
+use Rattle.std.proofs.Common.{take}
+use Rattle.middleware.specs.Cutting.{KeepsLive}
+use Rattle.middleware.specs.Live.{is_live}
 use Rattle.middleware.proofs.live.live_columns.Given as goal
 
-abbrev pub invariant-loop-column : goal.invariant-loop-column
-invariant-loop-column l = record {
-  width : length l.mask.items ≡ l.column;
-  keeps : KeepsLive (is_live l.steps l.outs) l.mask.items;
-}
+abbrev pub invariant-loop-number : goal.invariant-loop-number
+invariant-loop-number l = KeepsLive (is_live l.steps l.outs) l.columns (take l.number l.columns) l.kept
