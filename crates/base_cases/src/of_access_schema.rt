@@ -1,5 +1,5 @@
-// Parts whose names are there or not, and texts that are added once.
-use access_schema::{Part, Parts, add_once, are_named};
+// Parts whose names are there or not.
+use access_schema::{Part, Parts, are_named};
 use lists::{NoMemory, Text, Texts};
 use std::alloc::Global;
 use std::test::Fail;
@@ -89,26 +89,5 @@ fn names_are_there_or_not(rt: HostRuntime) -> Result<(), Fail> {
         let has = has_names(rt.alloc(), kind, name, columns)?;
         assert_eq!(rt; has, *wanted, "{kind}");
     }
-    Ok(())
-}
-
-/// What is known after these texts are added, with one blank before each.
-fn added(alloc: Global, known: &[&str], more: &[&str]) -> Result<String, NoMemory> {
-    let mut known = texts(alloc, known)?.into_vec();
-    for text in more {
-        add_once(alloc, &mut known, &Text::from_str(alloc, text)?)?;
-    }
-    let mut made = String::new(alloc);
-    for text in &known {
-        made.push(' ')?;
-        made.push_str(text.as_str())?;
-    }
-    Ok(made)
-}
-
-#[test]
-fn a_text_is_added_once(rt: HostRuntime) -> Result<(), Fail> {
-    let more = ["b", "c", "", "a", "c", ""];
-    assert_eq!(rt; added(rt.alloc(), &["a", "b"], &more)?.as_str(), " a b c ");
     Ok(())
 }

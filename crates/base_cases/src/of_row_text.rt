@@ -1,6 +1,6 @@
-// Rows in one buffer, compared and put together, worked out by hand.
+// Rows in one buffer, copied and put together, worked out by hand.
 use lists::NoMemory;
-use row_text::{PackedRows, Recent, ascending_distinct};
+use row_text::{PackedRows, Recent};
 use std::alloc::Global;
 use std::test::Fail;
 
@@ -23,30 +23,6 @@ fn are(rows: &PackedRows, list: &[&[&str]]) -> bool {
         }
     }
     true
-}
-
-fn ascend_to(alloc: Global, list: &[&[&str]], wanted: &[&[&str]]) -> Result<bool, NoMemory> {
-    let distinct = ascending_distinct(alloc, &rows(alloc, list)?)?;
-    Ok(are(&distinct, wanted))
-}
-
-#[test]
-fn rows_that_begin_alike_are_told_apart_by_the_rest(rt: HostRuntime) -> Result<(), Fail> {
-    let list: [&[&str]; 5] = [
-        &["abcdefghb"],
-        &["abcdefgh"],
-        &["abcdefgha", "2"],
-        &["abcdefgha", "10"],
-        &["abcdefgh"],
-    ];
-    let ascending: [&[&str]; 4] = [
-        &["abcdefgh"],
-        &["abcdefgha", "10"],
-        &["abcdefgha", "2"],
-        &["abcdefghb"],
-    ];
-    assert!(rt; ascend_to(rt.alloc(), &list, &ascending)?);
-    Ok(())
 }
 
 /// The rows without those that came lately.
