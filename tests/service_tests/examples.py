@@ -8,6 +8,7 @@ import sqlite3
 import subprocess
 import sys
 
+import programs
 from services import faults
 
 from .room import SECONDS, TOOL, TOP, Reply, same
@@ -47,9 +48,9 @@ def carried(folder, command, plan, environment=()):
 
 
 def explained(folder, command, plan):
-    """Runs `pdq explain` of a command too, where the program is there, and compares the plan."""
-    program, words = f"{TOP}/crates/pdq/out/pdq", re.search(r"pdq (explain .*?) \|", command)
-    if words and os.access(program, os.X_OK):
+    """Runs `pdq explain` of a command too, where a program is of the sources, and compares the plan."""
+    program, words = programs.first(), re.search(r"pdq (explain .*?) \|", command)
+    if words and program:
         ran = subprocess.run([program, *words[1].split()], cwd=folder, stdin=subprocess.DEVNULL, capture_output=True, timeout=SECONDS)
         same((ran.returncode, ran.stdout.decode()), (0, plan))
 

@@ -112,7 +112,7 @@ def test_random_plans(room):
     answers = Answers()
     server = room.serve(answers)
     texts = {"http": web_services, "sqlite": table_services, "csv": file_services}
-    program = AGREE.PROGRAM if os.access(AGREE.PROGRAM, os.X_OK) else None
+    program = AGREE.programs.first()
     for number in range(COUNT):
         case = answers.case = AGREE.Case(f"services {number}")
         for name, content in case.files().items():
@@ -132,7 +132,7 @@ def test_random_plans(room):
         same(room.carry("--output", room.path("answer.csv"), "--journal", room.path(f"{number}.journal"))[:2], (0, ""))
         same(room.read("answer.csv"), wanted)
     same(answers.missed, [])
-    return None if program else "skipped: beside pdq exec: crates/pdq/out/pdq is not there; the plain join agreed"
+    return None if program else "skipped: beside pdq exec: no program is of the sources; the plain join agreed"
 
 
 # ---- small plans, with what was worked out by hand
