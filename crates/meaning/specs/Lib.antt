@@ -6,10 +6,12 @@ pub mod Access
 pub mod Plans
 pub mod Rows
 pub mod Requests
+pub mod Crawls
 pub mod Claims
 pub mod Costs
 pub mod Homomorphisms
 pub mod Added
+pub mod Feeding
 pub mod Triggers
 pub mod RuleOrder
 pub mod Runs

@@ -6,6 +6,7 @@
 #![tactic(auto)]
 
 mod copied;
+mod hashing;
 mod sameness;
 pub mod types;
 

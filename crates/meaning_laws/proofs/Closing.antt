@@ -17,7 +17,7 @@ use Rattle.meaning.specs.Conjunctive.{StandFor}
 use Rattle.meaning.specs.Extract.{IsQueryRival}
 
 -- more facts before, and the same fact can be accessed
-access_more : (schema : SchemaParts) (constants : List (List ℕ)) (earlier later : List Fact) (fact : Fact) → ((f : Fact) → Contains earlier f → Contains later f) → CanAccess schema constants earlier fact → CanAccess schema constants later fact
+pub access_more : (schema : SchemaParts) (constants : List (List ℕ)) (earlier later : List Fact) (fact : Fact) → ((f : Fact) → Contains earlier f → Contains later f) → CanAccess schema constants earlier fact → CanAccess schema constants later fact
 access_more schema constants earlier later fact within access = record {
   method = access.method;
   of_schema = access.of_schema;

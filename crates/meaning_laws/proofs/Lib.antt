@@ -22,9 +22,11 @@ pub mod Example
 pub mod StaffOffice
 pub mod StaffPlans
 pub mod StaffRequests
+pub mod StaffCrawl
 pub mod StaffRun
 pub mod Feeding
 pub mod Closing
+pub mod Crawling
 pub mod SameSets
 pub mod Members
 pub mod Running

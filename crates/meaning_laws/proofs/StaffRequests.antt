@@ -11,28 +11,25 @@ use Rattle.meaning.specs.Values.{Value, Row}
 use Rattle.meaning.specs.Rows.{Joins, LeadsTo}
 use Rattle.std.specs.declared.cmp.Ordering.TheVariants.{Less}
 use Rattle.meaning.specs.Requests.{rows_cmp, input_value, Wants, IsRound, AreRequests}
-use Rattle.meaning_laws.specs.Staff.{prof_by_eid, all_direct, staff, smith, jones, profile, entry, office, ask_directory, ask_profile, smiths_plan, profile_request, smiths_requests}
+use Rattle.meaning_laws.specs.Staff.{prof_by_eid, all_direct, staff, smith, jones, profile, entry, office, ask_directory, ask_profile, smiths_plan, profile_request, directory_request, smiths_requests}
 use Rattle.meaning_laws.proofs.StaffOffice.{OneOf, each_of, one_of, byte_at, one, two, three, first_onum, third_onum, one_no_zero}
 use Rattle.meaning_laws.proofs.StaffPlans.{keyed_name, direct_name}
 
 -- the requests
-abbrev direct_request : Request
-direct_request = record { rel = 1; positions = []; values = [] }
-
 abbrev no_values : List ℕ → List Value → Type 0
 no_values positions values = positions ≡ [] → values ≡ []
 
-direct_round : IsRound staff office [] ask_directory (direct_request ∷ [])
+direct_round : IsRound staff office [] ask_directory (directory_request ∷ [])
 direct_round = record {
-  ascending = λ i first second g g'. let past : i + 1 ≡ 0 = (got_only direct_request second (i + 1) g').0 in absurd (omega arith);
+  ascending = λ i first second g g'. let past : i + 1 ≡ 0 = (got_only directory_request second (i + 1) g').0 in absurd (omega arith);
   exactly = λ request. (
-    (λ c. subst (λ r. Wants staff office [] ask_directory r) (contains_one direct_request request c) (record { row = []; method = all_direct; leads = refl; named = ((1, omega arith, refl), refl); of_relation = refl; positions = refl; values = tt })),
+    (λ c. subst (λ r. Wants staff office [] ask_directory r) (contains_one directory_request request c) (record { row = []; method = all_direct; leads = refl; named = ((1, omega arith, refl), refl); of_relation = refl; positions = refl; values = tt })),
     (λ wants.
         let method : all_direct ≡ wants.method = direct_name wants.method wants.named in
         let rel : 1 ≡ request.rel = sym (wants.of_relation ∙ ap (λ (m : Method). m.rel) (sym method)) in
         let positions : [] ≡ request.positions = sym (wants.positions ∙ ap (λ (m : Method). m.inputs) (sym method)) in
         let values : [] ≡ request.values = sym (emptied wants.row request.positions request.values wants.values (sym positions)) in
-        subst (λ r. Contains (direct_request ∷ []) r) (λ i. record { rel = rel i; positions = positions i; values = values i }) (contains_here direct_request [])),
+        subst (λ r. Contains (directory_request ∷ []) r) (λ i. record { rel = rel i; positions = positions i; values = values i }) (contains_here directory_request [])),
   );
 }
   where
@@ -102,7 +99,7 @@ smiths_plan_asks_three = (
   smiths_requests,
   [],
   refl,
-  (direct_request ∷ [], profile_request one ∷ profile_request three ∷ [], refl, direct_round, (profile_request one ∷ profile_request three ∷ [], [], refl, profile_round, refl)),
+  (directory_request ∷ [], profile_request one ∷ profile_request three ∷ [], refl, direct_round, (profile_request one ∷ profile_request three ∷ [], [], refl, profile_round, refl)),
   refl,
 )
 

@@ -149,11 +149,28 @@ adding =
 abbrev pub profile_request : Value → Request
 profile_request eid = record { rel = 0; positions = 0 ∷ []; values = eid ∷ [] }
 
+-- The request for the whole directory.
+abbrev pub directory_request : Request
+directory_request = record { rel = 1; positions = []; values = [] }
+
 -- The requests of the plan on the instance.
 abbrev pub smiths_requests : List Request
-smiths_requests =
-    record { rel = 1; positions = []; values = [] }
-    ∷ profile_request (codes "1") ∷ profile_request (codes "3") ∷ []
+smiths_requests = directory_request ∷ profile_request (codes "1") ∷ profile_request (codes "3") ∷ []
+
+-- The requests of a crawl of the instance, round by round: the directory, the profiles of all that it gives, and those
+-- of what these give.
+abbrev pub office_rounds : List (List Request)
+office_rounds =
+    (directory_request ∷ [])
+    ∷ (profile_request (codes "1") ∷ profile_request (codes "2") ∷ profile_request (codes "3")
+    ∷ profile_request jones ∷ profile_request smith ∷ [])
+    ∷ (profile_request (codes "101") ∷ profile_request (codes "103") ∷ []) ∷ []
+
+-- The same in one list.
+abbrev pub office_requests : List Request
+office_requests =
+    directory_request ∷ profile_request (codes "1") ∷ profile_request (codes "2") ∷ profile_request (codes "3")
+    ∷ profile_request jones ∷ profile_request smith ∷ profile_request (codes "101") ∷ profile_request (codes "103") ∷ []
 
 -- The run that finds the plan: the rule fires, and the directory and then the profile are exposed.
 abbrev pub smith_profile : Ground

@@ -1,6 +1,6 @@
 // Laws of the definitions: each is the contract of a function that does nothing.
 
-ghost use Rattle.std.specs.Prelude.{◌≡◌, ◌++◌, ◌∷◌, ◌^◌, ◌<◌, ◌≤◌, List, [], ℕ, Bool, Contains, length, map, slice_index_or, take};
+ghost use Rattle.std.specs.Prelude.{◌≡◌, ◌↔◌, ◌++◌, ◌∷◌, ◌^◌, ◌<◌, ◌≤◌, List, [], ℕ, Bool, Contains, length, map, slice_index_or, take};
 ghost use Rattle.std.specs.List.{AllZip};
 ghost use Rattle.meaning.specs.declared.types.Rule.{Rule};
 ghost use Rattle.meaning.specs.declared.types.SchemaParts.{SchemaParts};
@@ -14,14 +14,16 @@ ghost use Rattle.meaning.specs.declared.types.Val.{Val};
 ghost use Rattle.meaning.specs.declared.types.Ground.{Ground};
 ghost use Rattle.meaning.specs.declared.types.Trigger.{Trigger};
 ghost use Rattle.meaning.specs.declared.types.Firing.{Firing};
+ghost use Rattle.meaning.specs.declared.types.Request.{Request};
 ghost use Rattle.meaning.specs.declared.types.Val.TheVariants.{Const, Label};
 ghost use Rattle.meaning.specs.Values.{Value, Row};
 ghost use Rattle.meaning.specs.Instances.{IsInstance, IsWithin};
 ghost use Rattle.meaning.specs.Matching.{IsQueryAnswer, MeetsAll, itself, FactsOf, GroundsOf, Meets, AnswersQuery};
-ghost use Rattle.meaning.specs.Answers.{AnswersSelect};
+ghost use Rattle.meaning.specs.Answers.{Answers, AnswersSelect};
 ghost use Rattle.meaning.specs.Access.{CanAccess, IsAccessPath, IsAccessible};
 ghost use Rattle.meaning.specs.Plans.{IsWellFormed, IsLawfulBranch, IsLawful};
 ghost use Rattle.meaning.specs.Rows.{IsBranchRow, IsRow};
+ghost use Rattle.meaning.specs.Crawls.{IsReceived, IsCrawl};
 ghost use Rattle.meaning.specs.Claims.{IsModel, IsEquivalent, Refutes};
 ghost use Rattle.meaning.specs.Costs.{IsCost, IsRival, IsLeast};
 ghost use Rattle.meaning.specs.Homomorphisms.{image, renamed, Carries};
@@ -66,6 +68,19 @@ pub fn accessible_closed()
         ((fact : Fact) → Contains facts fact → CanAccess schema constants closed fact → Contains closed fact) →
         (path : List Fact) → IsAccessPath schema constants facts path →
         (fact : Fact) → Contains path fact → Contains closed fact }
+{}
+
+/// What a crawl received is exactly the accessible part.
+pub fn crawls_reach()
+    ensures { (schema : SchemaParts) (constants : List Value) (facts : List Fact) (requests : List Request) →
+        IsCrawl schema constants facts requests → (fact : Fact) →
+        IsReceived facts requests fact ↔ IsAccessible schema constants facts fact }
+{}
+
+/// The answers of a statement grow with an instance.
+pub fn answers_grow()
+    ensures { (statement : Statement) (first second : List Fact) (row : Row) → IsWithin first second →
+        Answers statement first row → Answers statement second row }
 {}
 
 /// A map that carries a state into an instance that meets the rules extends along a firing.

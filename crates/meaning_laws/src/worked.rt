@@ -16,13 +16,14 @@ ghost use Rattle.meaning.specs.Access.{IsAccessible};
 ghost use Rattle.meaning.specs.Plans.{IsLawful};
 ghost use Rattle.meaning.specs.Rows.{IsRow};
 ghost use Rattle.meaning.specs.Requests.{IsRound, AreRequests};
+ghost use Rattle.meaning.specs.Crawls.{IsCrawlRound, AreCrawlRounds, IsCrawl};
 ghost use Rattle.meaning.specs.Claims.{IsModel, IsEquivalent, Refutes};
 ghost use Rattle.meaning.specs.Costs.{IsCost};
 ghost use Rattle.meaning.specs.Triggers.{State};
 ghost use Rattle.meaning.specs.Runs.{IsBaseRun, Proof, IsRun, IsOrderedRun, HasGoal, opening, frozen_head};
 ghost use Rattle.meaning.specs.Conjunctive.{IsConjunctive};
 ghost use Rattle.meaning_laws.specs.Small.{closed_schema, open_schema, r_statement, r_query, hasty_log, hasty_end, fed_first, both_active, s_trigger, t_trigger, fed};
-ghost use Rattle.meaning_laws.specs.Staff.{staff, ruleless, smith, smiths, smiths_statement, smiths_query, known, profile, office, unlisted, ask_directory, ask_profile, profile_request, smiths_branch, smiths_plan, guessing_plan, careless_plan, adding, smiths_requests, smiths_log, smiths_end, unreachable, unreachable_answer};
+ghost use Rattle.meaning_laws.specs.Staff.{staff, ruleless, smith, jones, smiths, smiths_statement, smiths_query, known, profile, office, unlisted, ask_directory, ask_profile, profile_request, directory_request, office_rounds, office_requests, smiths_branch, smiths_plan, guessing_plan, careless_plan, adding, smiths_requests, smiths_log, smiths_end, unreachable, unreachable_answer};
 
 /// The office is an instance of the staff schema and meets its rule.
 pub fn office_is_a_model()
@@ -154,4 +155,40 @@ pub fn wide_plan_is_not_lawful()
 /// A fact with fewer values than its relation has columns is in no instance.
 pub fn short_fact_is_in_no_instance()
     ensures { IsInstance staff (record { rel = 0; row = codes "1" ∷ [] } ∷ []) → ⊥ }
+{}
+
+/// A crawl of the office asks for the directory, then with the five values that it gives, and then with the two that are
+/// new.
+pub fn office_crawl()
+    ensures rounds { AreCrawlRounds staff [] office [] office_rounds }
+    ensures crawl { IsCrawl staff [] office office_requests }
+{}
+
+/// A crawl goes on as long as there is something to ask, and no further.
+pub fn crawl_ends()
+    ensures stopped { IsCrawl staff [] office (directory_request ∷ profile_request (codes "1")
+        ∷ profile_request (codes "2") ∷ profile_request (codes "3") ∷ profile_request jones ∷ profile_request smith ∷ [])
+        → ⊥ }
+    ensures nothing { AreCrawlRounds staff [] office office_requests ([] ∷ []) → ⊥ }
+{}
+
+/// A round of a crawl asks with each known value, whatever the name of its column, and asks nothing again.
+pub fn crawl_rounds_ask_all()
+    ensures numbers { IsCrawlRound staff [] office (directory_request ∷ [])
+        (profile_request (codes "1") ∷ profile_request (codes "2") ∷ profile_request (codes "3") ∷ []) → ⊥ }
+    ensures again { IsCrawlRound staff [] office (directory_request ∷ [])
+        (profile_request (codes "1") ∷ profile_request (codes "2") ∷ profile_request (codes "3")
+        ∷ profile_request jones ∷ profile_request smith ∷ directory_request ∷ []) → ⊥ }
+{}
+
+/// A constant is known from the first round on.
+pub fn constants_are_asked_first()
+    ensures { IsCrawlRound staff known office [] (profile_request smith ∷ directory_request ∷ []) }
+{}
+
+/// The requests of a round of a crawl ascend, by relation first, and stand there once.
+pub fn crawl_rounds_ascend()
+    ensures turned { IsCrawlRound staff known office [] (directory_request ∷ profile_request smith ∷ []) → ⊥ }
+    ensures twice { IsCrawlRound staff known office []
+        (profile_request smith ∷ profile_request smith ∷ directory_request ∷ []) → ⊥ }
 {}
