@@ -7,13 +7,25 @@ ghost use Rattle.data_verify.specs.Unmet.{lesser, AreLeastUnmet};
 
 use crate::broken::Facts;
 use crate::rows::{facts_with, rows_under};
-use homomorphism::{Store, body_matches, is_met};
+use homomorphism::{Store, body_matches, first_unmet, is_met};
 use lists::{NoMemory, Rows};
 use meaning::types::Rule;
 use std::alloc::Global;
 
 /// The facts of the unmet match whose rows are least, if there is an unmet match.
 pub fn least_unmet(alloc: Global, rule: &Rule, store: &Store) -> Result<Option<Facts>, NoMemory>
+    requires { IsNumbered rule.now }
+    ensures some { IfOk result (λ found. IfSome found (AreLeastUnmet store.now rule.now)) }
+    ensures none { IfOk result (λ found. IfNone found (MeetsRule Const (GroundsOf store.now) rule.now)) }
+{
+    match first_unmet(alloc, rule, store)? {
+        None => Ok(None),
+        Some(_found) => least_among(alloc, rule, store),
+    }
+}
+
+/// The same, with all matches of the body gone through.
+fn least_among(alloc: Global, rule: &Rule, store: &Store) -> Result<Option<Facts>, NoMemory>
     requires { IsNumbered rule.now }
     ensures some { IfOk result (λ found. IfSome found (AreLeastUnmet store.now rule.now)) }
     ensures none { IfOk result (λ found. IfNone found (MeetsRule Const (GroundsOf store.now) rule.now)) }

@@ -1,20 +1,14 @@
 -- Facts added one after another.
-use Rattle.std.proofs.Common.{◌≡◌, ℕ, zero, suc, ◌-◌, ◌<◌, ◌≤◌, List, [], ◌∷◌, ◌++◌, length, refl, sym, ap, ◌∙◌, subst, arith, Contains, take}
+use Rattle.std.proofs.Common.{◌≡◌, ◌⊎◌, inl, inr, ⊎_elim, ℕ, zero, suc, ◌-◌, ◌<◌, ◌≤◌, List, [], ◌∷◌, ◌++◌, length, refl, sym, ap, ◌∙◌, subst, arith, take}
+use Rattle.std.proofs.Math.Seq.{take-append_seam}
+use Rattle.std.proofs.lemmas.List.{length-append}
 use Rattle.std.proofs.lemmas.List.Sums.{fold-append}
 use Rattle.meaning.specs.declared.types.Ground.{Ground}
-use Rattle.meaning.specs.Search.{AreDistinct}
 use Rattle.meaning.specs.Added.{with_fact, with_facts}
-use Rattle.meaning_laws.proofs.Added.{added_front, with_new, with_old}
+use Rattle.meaning_laws.proofs.Added.{added_front}
 use Rattle.homomorphism.specs.declared.fact_index.FactIndex.{FactIndex}
-use Rattle.homomorphism.specs.Listed.{IsIndexOf}
-use Rattle.homomorphism.proofs.Members.{distinct_parts}
-
--- a push where the fact is not there, and none where it is
-pub pushed : (facts : List Ground) (fact : Ground) → (Contains facts fact → ⊥) → facts ++ fact ∷ [] ≡ with_fact facts fact
-pushed facts fact new = sym (with_new facts fact new)
-
-pub stays : (facts : List Ground) (fact : Ground) → Contains facts fact → facts ≡ with_fact facts fact
-stays facts fact there = sym (with_old facts fact there)
+use Rattle.homomorphism.specs.Listed.{IsIndexOf, MayHaveNoted}
+use Rattle.homomorphism.proofs.Indexing.{all_noted}
 
 -- one turn of the loop over the facts
 pub adding_more : (first done now next : List Ground) (fact : Ground) → now ≡ with_facts first done → next ≡ with_fact now fact → next ≡ with_facts first (done ++ fact ∷ [])
@@ -24,12 +18,25 @@ adding_more first done now next fact so e = e ∙ ap (λ facts. with_fact facts 
 pub front : (first news now : List Ground) → now ≡ with_facts first news → take (length first) now ≡ first
 front first news now e = ap (take (length first)) e ∙ added_front first news
 
--- the last fact taken out
-pub dropped : (facts rest : List Ground) (fact : Ground) (number : ℕ) (was now : FactIndex) → facts ≡ rest ++ fact ∷ [] → number ≡ length rest → AreDistinct facts × IsIndexOf facts was →
-    ((before : List Ground) → IsIndexOf (before ++ fact ∷ []) was → number ≡ length before → (Contains before fact → ⊥) → IsIndexOf before now) → AreDistinct rest × IsIndexOf rest now
-dropped facts rest fact number was now split is (once, r) remove =
-    let (front, new) = distinct_parts rest fact (subst AreDistinct split once) in
-    (front, remove rest (subst (λ fs. IsIndexOf fs was) split r) is new)
+-- the last of some facts, and those before it
+module _ (facts before : List Ground) (fact : Ground) (split : facts ≡ before ++ fact ∷ []) where
+  pub front_is : take (length facts - 1) facts ≡ before
+  front_is =
+      let long : length facts - 1 ≡ length before = omega (arith, ap length split, length-append before (fact ∷ [])) in
+      ap (λ n. take n facts) long ∙ ap (take (length before)) split ∙ take-append_seam before (fact ∷ [])
+
+last_of : {X : Type 0} (xs : List X) → (xs ≡ []) ⊎ ((before : List X) × (x : X) × (xs ≡ before ++ x ∷ []))
+last_of [] = inl refl
+last_of (x ∷ []) = inr ([], x, refl)
+last_of (x ∷ y ∷ ys) = ⊎_elim (λ e. absurd (cc)) (λ (before, z, e). inr (x ∷ before, z, ap (λ l. x ∷ l) e)) (last_of (y ∷ ys))
+
+-- the last fact is taken out, if there is one
+pub taken_last : (facts now : List Ground) (was index : FactIndex) → now ≡ take (length facts - 1) facts → (facts ≡ [] → index ≡ was) →
+    ((before : List Ground) (fact : Ground) → facts ≡ before ++ fact ∷ [] → MayHaveNoted before fact was → IsIndexOf before index) → IsIndexOf facts was → IsIndexOf now index
+taken_last facts now was index is none struck r = ⊎_elim
+    (λ e. subst (λ fs. IsIndexOf fs index) (sym (is ∙ ap (λ fs. take (length fs - 1) fs) e)) (subst (λ i. IsIndexOf [] i) (sym (none e)) (subst (λ fs. IsIndexOf fs was) e r)))
+    (λ (before, fact, e). subst (λ fs. IsIndexOf fs index) (sym (is ∙ front_is facts before fact e)) (struck before fact e (all_noted before fact was (subst (λ fs. IsIndexOf fs was) e r))))
+    (last_of facts)
 
 pub take_again : {X : Type 0} (xs : List X) (count : ℕ) → count < length xs → take count (take (length xs - 1) xs) ≡ take count xs
 take_again xs count l = by (length xs - 1) xs count (omega arith)
@@ -39,13 +46,3 @@ take_again xs count l = by (length xs - 1) xs count (omega arith)
     by zero xs (suc count) l = absurd (omega arith)
     by (suc n) [] (suc count) l = refl
     by (suc n) (x ∷ xs) (suc count) l = ap (λ z. x ∷ z) (by n xs count (omega arith))
-
--- a fact that was indexed, and then not pushed
-pub undone : (facts now : List Ground) (fact back : Ground) (number : ℕ) (was mid after : FactIndex) → now ≡ facts → back ≡ fact → number ≡ length facts → AreDistinct facts × IsIndexOf facts was →
-    (IsIndexOf facts was → (Contains facts fact → ⊥) × IsIndexOf (facts ++ fact ∷ []) mid) →
-    ((some : List Ground) → IsIndexOf (some ++ back ∷ []) mid → number ≡ length some → (Contains some back → ⊥) → IsIndexOf some after) → AreDistinct now × IsIndexOf now after
-undone facts now fact back number was mid after stay same is (once, r) add remove = (
-  subst AreDistinct (sym stay) once,
-  subst (λ fs. IsIndexOf fs after) (sym stay)
-      (remove facts (subst (λ f. IsIndexOf (facts ++ f ∷ []) mid) (sym same) (add r).1) is (λ c. (add r).0 (subst (Contains facts) same c))),
-)

@@ -8,13 +8,22 @@ use Rattle.std.specs.declared.cmp.Ordering.{Ordering}
 use Rattle.std.specs.declared.cmp.Ordering.TheVariants.{Less, Equal, Greater}
 use Rattle.std.proofs.lemmas.Bool.{cases_eq}
 use Rattle.std.proofs.lemmas.Cmp.{tied_itself}
+use Rattle.std.proofs.lemmas.Map.Lookups.{exact_unsigned}
 use Rattle.homomorphism.specs.Codes.{key_code}
 use Rattle.homomorphism.specs.Listed.{key_cmp, own_list, coded_list, found_at}
 use Rattle.homomorphism.specs.declared.key.Key.{Key}
 use Rattle.homomorphism.specs.declared.coded_lists.KeyList.{KeyList}
 use Rattle.homomorphism.specs.declared.coded_lists.CodedLists.{CodedLists}
 use Rattle.homomorphism.proofs.Exact.{key_exact, key_apart, key_total, key_cases}
-use Rattle.homomorphism.proofs.Present.{number_apart}
+
+-- two different numbers are apart in a tree
+pub number_apart : (a b : ℕ) → (a ≡ b → ⊥) → is_at (nat_cmp a) b ≡ false
+number_apart a b differ = by (nat_cmp a b) refl
+  where
+    by : (o : Ordering) → nat_cmp a b ≡ o → is_eq o ≡ false
+    by Less e = refl
+    by Equal e = absurd (differ (exact_unsigned a b e))
+    by Greater e = refl
 
 -- the list of a key, or of another
 pub own_none : (key : Key) → own_list key None ≡ []

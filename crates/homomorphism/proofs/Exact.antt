@@ -12,12 +12,11 @@ use Rattle.meaning.specs.declared.types.Val.{Val}
 use Rattle.meaning.specs.declared.types.Val.TheVariants.{Const, Label}
 use Rattle.meaning.specs.declared.types.Ground.{Ground}
 use Rattle.meaning.specs.contracts.types.ValOrd.TheImpl as val_ord
+use Rattle.meaning.specs.contracts.types.GroundOrd.TheImpl as ground_ord
 use Rattle.homomorphism.specs.declared.key.Key.{Key}
 use Rattle.homomorphism.specs.declared.key.Key.TheVariants.{Relation, Value}
-use Rattle.meaning.specs.contracts.types.GroundOrd.TheImpl.Laws.{total-law as ground_law}
 use Rattle.homomorphism.specs.contracts.key.KeyOrd.TheImpl.Laws.{total-law as key_law}
 use Rattle.homomorphism.specs.Listed.{key_cmp}
-use Rattle.homomorphism.specs.Present.{ground_cmp}
 
 both_equal : (a b : Ordering) → ordering_then a b ≡ Equal → (a ≡ Equal) × (b ≡ Equal)
 both_equal Less b e = absurd (cc)
@@ -46,7 +45,7 @@ val_exact (Label j) (Const d) e = absurd (unlike e)
     unlike e = cc
 val_exact (Label j) (Label k) e = ap Label (exact_unsigned j k e)
 
-pub ground_exact : (f g : Ground) → ground_cmp f g ≡ Equal → f ≡ g
+pub ground_exact : (f g : Ground) → (ground_ord.ghosts).cmp f g ≡ Equal → f ≡ g
 ground_exact f g e =
     let (r, v) = both_equal (nat_cmp f.rel g.rel) (slice_cmp (val_ord.ghosts).cmp f.vals g.vals) e in
     let rel : f.rel ≡ g.rel = exact_unsigned f.rel g.rel r in
@@ -73,9 +72,6 @@ key_exact (Value r p v) (Value s q w) e =
 
 pub key_total : IsTotalOrder key_cmp
 key_total = key_law
-
-pub ground_total : IsTotalOrder ground_cmp
-ground_total = ground_law
 
 pub key_apart : (x y : Key) → (y ≡ x → ⊥) → is_at (key_cmp x) y ≡ false
 key_apart x y differ = by (key_cmp x y) refl

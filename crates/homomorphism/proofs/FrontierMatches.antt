@@ -25,7 +25,7 @@ use Rattle.homomorphism.specs.Matches.{IsMatch, NoMatch, AreCovered}
 use Rattle.homomorphism.specs.Listed.{AreCandidates}
 use Rattle.homomorphism.specs.Rules.{IsMet, IsUnmet, IsUnmetMatch}
 use Rattle.homomorphism.specs.Widening.{AreRuns, taken}
-use Rattle.homomorphism.specs.Frontier.{HasLike, AreFrontier, AreFrontierMatches}
+use Rattle.homomorphism.specs.Frontier.{HasLike, AreFrontier, AreFrontierMatches, IsStart}
 use Rattle.homomorphism.proofs.AtomByAtom.{match_none}
 use Rattle.homomorphism.proofs.Binding.{apart}
 use Rattle.homomorphism.proofs.Choosing.{picked, picked_has, length_picked}
@@ -147,6 +147,25 @@ module _ (atoms : List Atom) (order : List ℕ) (r : AreRuns (length atoms) (ord
     each = λ m c. subst (AreFacts Const (GroundsOf facts) (at m.vals)) (sym same) (λ atom h. (f.each m c).facts_are atom (from_atom atom h));
     all = λ a are. subst (λ n. HasLike found rule.head n a) (body_fits rule fixed g) (f.all a (g.complete a (λ x l. absurd (omega arith))) (λ atom h. are atom (subst (λ z. Contains z atom) (sym same) (to_atom atom h))));
   }
+
+  -- matches that agree with the values to begin with stand for all others
+  pub frontier_started : (facts : List Ground) (head : List Atom) (given start : List (Option Val)) (found : List Assignment) → IsStart facts atoms head given start → AreFrontier facts (taken atoms order) head start found → AreFrontier facts (taken atoms order) head given found
+  unfolding to_atom from_atom
+  frontier_started facts head given start found s f = record {
+    each = λ m c. let r = f.each m c in record { width = r.width ∙ s.width; agrees = s.wider (at m.vals) r.agrees; facts_are = r.facts_are };
+    all = λ a ag are.
+        let (b, agb, areb, same) = s.like a ag (λ atom c. are atom (from_atom atom c)) in
+        let (m, among, like) = f.all b agb (λ atom c. areb atom (to_atom atom c)) in
+        (m, among, λ x o l. same x o l ∙ like x o (subst (λ n. x < n) (sym s.width) l));
+  }
+
+-- a body without a match
+pub frontier_absent : (facts : List Ground) (rule : Rule) (fixed : List (Option Val)) → Gives [] (bound rule.body) fixed → NoMatch facts rule.body fixed → AreFrontierMatches facts rule []
+frontier_absent facts rule fixed g none = record {
+  width = λ m c. absurd (contains_none m c);
+  each = λ m c. absurd (contains_none m c);
+  all = λ a are. absurd (none a (g.complete a (λ x l. absurd (omega arith))) are);
+}
 
 -- a rule that is met at values is met at each assignment that has them at the frontier
 pub met_along : (facts : List Ground) (rule : Rule) (values : List Val) (a : ℕ → Val) → IsNumbered rule → IsMet facts rule values → ((x : ℕ) → OccursIn rule.head x → x < bound rule.body → a x ≡ at values x) →

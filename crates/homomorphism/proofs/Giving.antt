@@ -79,8 +79,8 @@ fills_all values width fixed l f = record {
     inner v w e = some_injective v w e
 
 -- what the search says of the body and of the head
-pub body_covered : (rule : Rule) (fixed : List (Option Val)) → IsNumbered rule → Gives [] (bound rule.body) fixed → AreCovered rule.body fixed
-body_covered rule fixed numbered g x l = inr (numbered.body x (let e = g.width_is in omega arith))
+pub body_covered : (rule : Rule) (given : List (Option Val)) → IsNumbered rule → length given ≡ bound rule.body → AreCovered rule.body given
+body_covered rule given numbered width x l = inr (numbered.body x (subst (λ n. x < n) width l))
 
 pub body_fits : (rule : Rule) (fixed : List (Option Val)) → Gives [] (bound rule.body) fixed → length fixed ≡ bound rule.body
 body_fits rule fixed g = let e = g.width_is in omega arith

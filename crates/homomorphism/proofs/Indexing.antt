@@ -11,9 +11,7 @@ use Rattle.meaning.specs.Search.{AreDistinct}
 use Rattle.homomorphism.specs.declared.key.Key.{Key}
 use Rattle.homomorphism.specs.declared.key.Key.TheVariants.{Relation, Value}
 use Rattle.homomorphism.specs.declared.fact_index.FactIndex.{FactIndex}
-use Rattle.homomorphism.specs.declared.key_lists.KeyLists.{KeyLists}
-use Rattle.homomorphism.specs.Listed.{is_found_by, value_keys, keys_of, is_val, has_key, numbers_from, listed, MayEndIn, IsIndexOf}
-use Rattle.homomorphism.specs.Present.{IsPresence}
+use Rattle.homomorphism.specs.Listed.{is_found_by, value_keys, keys_of, is_val, has_key, numbers_from, listed, MayEndIn, IsIndexOf, MayHaveNoted}
 
 -- the keys of a row
 in_values : (rel i : ℕ) (vals : List Val) (key : Key) → Contains (value_keys rel i vals) key → (k : ℕ) × (v : Val) × (slice_get vals k ≡ Some v) × (Value rel (i + k) v ≡ key)
@@ -144,12 +142,10 @@ module _ (facts : List Ground) (fact : Ground) (number : ℕ) (is : number ≡ l
   sought : (key : Key) → is_found_by now.positions key ≡ true → is_found_by was.positions key ≡ true
   sought key found = ap (λ p. is_found_by p key) (sym same) ∙ found
 
-  -- the fact is added
+  -- the fact is noted
   pub index_added : (noted : (key : Key) → is_found_by was.positions key ≡ true → Contains (keys_of fact) key → listed now.lists key ≡ listed was.lists key ++ number ∷ []) →
-      (part : (key : Key) → MayEndIn (Contains (keys_of fact) key) number (listed was.lists key) (listed now.lists key)) →
-      IsPresence (facts ++ fact ∷ []) now.present → IsIndexOf facts was → IsIndexOf (facts ++ fact ∷ []) now
-  index_added noted part present r = record {
-    members = present;
+      (part : (key : Key) → MayEndIn (Contains (keys_of fact) key) number (listed was.lists key) (listed now.lists key)) → IsIndexOf facts was → IsIndexOf (facts ++ fact ∷ []) now
+  index_added noted part r = record {
     lists = λ key found. ⊎_elim (λ c. noted key (sought key found) c ∙ ap (λ l. l ++ number ∷ []) (r.lists key (sought key found)) ∙ sym (push_with key facts fact number is c))
         (λ no. ⊎_elim (λ e. e ∙ r.lists key (sought key found) ∙ sym (push_without key facts fact no)) (λ (c, e). absurd (clash (sym ((has_key_decides key fact).1 c) ∙ no))) (part key)) (has_or_not key fact);
   }
@@ -157,27 +153,23 @@ module _ (facts : List Ground) (fact : Ground) (number : ℕ) (is : number ≡ l
       clash : true ≡ false → ⊥
       clash e = cc
 
-  -- the fact is not added after all
-  pub index_refused : (mid : KeyLists) → ((key : Key) → MayEndIn (Contains (keys_of fact) key) number (listed was.lists key) (listed mid key)) →
-      ((key : Key) (before : List ℕ) → is_found_by was.positions key ≡ true → (Contains before number → ⊥) → MayEndIn (Contains (keys_of fact) key) number before (listed mid key) → listed now.lists key ≡ before) →
-      IsPresence facts now.present → IsIndexOf facts was → IsIndexOf facts now
-  index_refused mid part struck present r = record {
-    members = present;
-    lists = λ key found. struck key (numbers_from 0 key facts) (sought key found) (not_numbered key facts number is) (subst (λ l. MayEndIn (Contains (keys_of fact) key) number l (listed mid key)) (r.lists key (sought key found)) (part key));
+  -- the fact is noted by some of its keys
+  pub index_part : ((key : Key) → MayEndIn (Contains (keys_of fact) key) number (listed was.lists key) (listed now.lists key)) → IsIndexOf facts was → MayHaveNoted facts fact now
+  index_part part r = record {
+    lists = λ key found. subst (λ n. MayEndIn (Contains (keys_of fact) key) n (numbers_from 0 key facts) (listed now.lists key)) is
+        (subst (λ l. MayEndIn (Contains (keys_of fact) key) number l (listed now.lists key)) (r.lists key (sought key found)) (part key));
   }
 
-  -- only what tells which facts there are has changed
-  pub index_kept : now.lists ≡ was.lists → IsPresence facts now.present → IsIndexOf facts was → IsIndexOf facts now
-  index_kept lists present r = record {
-    members = present;
-    lists = λ key found. ap (λ l. listed l key) lists ∙ r.lists key (sought key found);
-  }
-
-  -- the last fact is taken out
-  pub index_removed : ((key : Key) (before : List ℕ) → is_found_by was.positions key ≡ true → (Contains before number → ⊥) → MayEndIn (Contains (keys_of fact) key) number before (listed was.lists key) → listed now.lists key ≡ before) →
-      IsPresence facts now.present → IsIndexOf (facts ++ fact ∷ []) was → IsIndexOf facts now
-  index_removed struck present r = record {
-    members = present;
+  -- the fact is taken out, as far as it is noted
+  pub index_struck : ((key : Key) (before : List ℕ) → is_found_by was.positions key ≡ true → (Contains before number → ⊥) → MayEndIn (Contains (keys_of fact) key) number before (listed was.lists key) → listed now.lists key ≡ before) →
+      MayHaveNoted facts fact was → IsIndexOf facts now
+  index_struck struck r = record {
     lists = λ key found. struck key (numbers_from 0 key facts) (sought key found) (not_numbered key facts number is)
-        (subst (λ l. MayEndIn (Contains (keys_of fact) key) number (numbers_from 0 key facts) l) (sym (r.lists key (sought key found))) (ends_as facts fact number key is));
+        (subst (λ n. MayEndIn (Contains (keys_of fact) key) n (numbers_from 0 key facts) (listed was.lists key)) (sym is) (r.lists key (sought key found)));
   }
+
+-- a fact that is noted by all its keys
+pub all_noted : (facts : List Ground) (fact : Ground) (index : FactIndex) → IsIndexOf (facts ++ fact ∷ []) index → MayHaveNoted facts fact index
+all_noted facts fact index r = record {
+  lists = λ key found. subst (MayEndIn (Contains (keys_of fact) key) (length facts) (numbers_from 0 key facts)) (sym (r.lists key found)) (ends_as facts fact (length facts) key refl);
+}

@@ -8,7 +8,7 @@ pub mod Pairs
 pub mod Covering
 pub mod Instances
 pub mod Exact
-pub mod Present
+pub mod Filing
 pub mod Refused
 pub mod Coded
 pub mod Relations
@@ -20,4 +20,5 @@ pub mod Touching
 pub mod Extending
 pub mod Runs
 pub mod FrontierMatches
+pub mod Starting
 pub mod Heads

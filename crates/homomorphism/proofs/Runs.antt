@@ -11,7 +11,7 @@ use Rattle.meaning.specs.declared.types.Val.{Val}
 use Rattle.meaning.specs.declared.types.Val.TheVariants.{Const}
 use Rattle.meaning.specs.declared.types.Atom.{Atom}
 use Rattle.meaning.specs.declared.types.Ground.{Ground}
-use Rattle.meaning.specs.Matching.{AreFacts, OccursIn, GroundsOf}
+use Rattle.meaning.specs.Matching.{AreFacts, GroundsOf}
 use Rattle.homomorphism.specs.Bindings.{Agrees}
 use Rattle.homomorphism.specs.Matches.{NoMatch}
 use Rattle.homomorphism.specs.Widening.{Widens, AreUntouched, AreRuns, taken}
@@ -19,7 +19,7 @@ use Rattle.homomorphism.proofs.Binding.{got_set_other, same_or_not}
 use Rattle.homomorphism.proofs.Extending.{wider}
 use Rattle.homomorphism.proofs.Touching.{default}
 
-below_or_last : (n count : ℕ) → n < count + 1 → (n < count) ⊎ (n ≡ count)
+pub below_or_last : (n count : ℕ) → n < count + 1 → (n < count) ⊎ (n ≡ count)
 below_or_last zero zero l = inr refl
 below_or_last zero (suc count) l = inl (omega arith)
 below_or_last (suc n) zero l = absurd (omega arith)
@@ -117,28 +117,35 @@ all_marked count runs i seen past r all = record {
     whole : take i runs ≡ runs
     whole = take_all i runs past
 
+-- the values that are given, and elsewhere those of an assignment
+abbrev pub chosen : Option (Option Val) → Val → Val
+chosen None w = w
+chosen (Some None) w = w
+chosen (Some (Some v)) w = v
+
+pub past : {X : Type 0} (xs ys : List X) (x : ℕ) → length ys ≡ length xs → slice_get xs x ≡ None → slice_get ys x ≡ None
+past [] [] x e n = refl
+past [] (y ∷ ys) x e n = absurd (omega arith)
+past (x ∷ xs) [] k e n = refl
+past (x ∷ xs) (y ∷ ys) zero e n = absurd (cc)
+past (x ∷ xs) (y ∷ ys) (suc k) e n = past xs ys k (omega arith) n
+
+-- a variable that has still no value keeps that of the assignment
+pub stays : (given now : List (Option Val)) → length now ≡ length given → ((x : ℕ) (v : Val) → slice_get given x ≡ Some (Some v) → slice_get now x ≡ Some (Some v)) → (a : ℕ → Val) → Agrees given a → (x : ℕ) →
+    (slice_get given x ≡ Some None → slice_get now x ≡ Some None) → a x ≡ chosen (slice_get now x) (a x)
+stays given now width kept a ag x free = by (slice_get given x) refl
+  where
+    by : (o : Option (Option Val)) → slice_get given x ≡ o → a x ≡ chosen (slice_get now x) (a x)
+    by None e = sym (ap (λ o. chosen o (a x)) (past given now x width e))
+    by (Some None) e = sym (ap (λ o. chosen o (a x)) (free e))
+    by (Some (Some v)) e = ag x v e ∙ sym (ap (λ o. chosen o (a x)) (kept x v e))
+
 -- atoms whose free variables have still no value have no facts under fewer values either
 pub none_before : (facts : List Ground) (atoms : List Atom) (given now : List (Option Val)) → length now ≡ length given →
     ((x : ℕ) (v : Val) → slice_get given x ≡ Some (Some v) → slice_get now x ≡ Some (Some v)) → AreUntouched atoms given now → NoMatch facts atoms now → NoMatch facts atoms given
 none_before facts atoms given now width kept free none a ag are =
-    none (λ x. chosen (slice_get now x) (a x)) (λ x v e. ap (λ o. chosen o (a x)) e) (same_facts facts a (λ x. chosen (slice_get now x) (a x)) atoms (λ x occurs. by x occurs (slice_get given x) refl) are)
-  where
-    chosen : Option (Option Val) → Val → Val
-    chosen None w = w
-    chosen (Some None) w = w
-    chosen (Some (Some v)) w = v
-
-    past : {X : Type 0} (xs ys : List X) (x : ℕ) → length ys ≡ length xs → slice_get xs x ≡ None → slice_get ys x ≡ None
-    past [] [] x e n = refl
-    past [] (y ∷ ys) x e n = absurd (omega arith)
-    past (x ∷ xs) [] k e n = refl
-    past (x ∷ xs) (y ∷ ys) zero e n = absurd (cc)
-    past (x ∷ xs) (y ∷ ys) (suc k) e n = past xs ys k (omega arith) n
-
-    by : (x : ℕ) → OccursIn atoms x → (o : Option (Option Val)) → slice_get given x ≡ o → a x ≡ chosen (slice_get now x) (a x)
-    by x occurs None e = sym (ap (λ o. chosen o (a x)) (past given now x width e))
-    by x occurs (Some None) e = sym (ap (λ o. chosen o (a x)) (free x occurs e))
-    by x occurs (Some (Some v)) e = ag x v e ∙ sym (ap (λ o. chosen o (a x)) (kept x v e))
+    none (λ x. chosen (slice_get now x) (a x)) (λ x v e. ap (λ o. chosen o (a x)) e)
+    (same_facts facts a (λ x. chosen (slice_get now x) (a x)) atoms (λ x occurs. stays given now width kept a ag x (free x occurs)) are)
 
 -- one atom more whose free variables have still no value
 pub untouched_more : (atoms : List Atom) (run : List ℕ) (i n : ℕ) (atom : Atom) (given now : List (Option Val)) → i < length run → n ≡ slice_index_or run i n → n < length atoms → atom ≡ slice_index_or atoms n atom →

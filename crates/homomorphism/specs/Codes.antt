@@ -1,10 +1,8 @@
--- Codes: numbers that tell nearly all keys, and nearly all facts, apart. No proof rests on that they do.
-use Rattle.std.specs.Prelude.{◌+◌, ◌*◌, ◌%◌, ◌^◌, ℕ, List}
-use Rattle.std.specs.List.{fold}
+-- Codes: numbers that tell nearly all keys apart. No proof rests on that they do.
+use Rattle.std.specs.Prelude.{◌+◌, ◌*◌, ◌%◌, ◌^◌, ℕ}
 use Rattle.lists.specs.Hash.{mix}
 use Rattle.meaning.specs.declared.types.Val.{Val}
 use Rattle.meaning.specs.declared.types.Val.TheVariants.{Const, Label}
-use Rattle.meaning.specs.declared.types.Ground.{Ground}
 use Rattle.homomorphism.specs.declared.key.Key.{Key}
 use Rattle.homomorphism.specs.declared.key.Key.TheVariants.{Relation, Value}
 
@@ -16,13 +14,6 @@ mixed code number = ((code * 11400714819323198485) % 2 ^ 64 + number) % 2 ^ 64
 abbrev pub val_code : Val → ℕ
 val_code (Const text) = mix 14695981039346656037 text
 val_code (Label label) = label
-
--- A code with those of values mixed in, one after another.
-abbrev pub vals_code : ℕ → List Val → ℕ
-vals_code code vals = fold (λ h val. mixed h (val_code val)) code vals
-
-unfoldable pub fact_code : Ground → ℕ
-fact_code fact = vals_code fact.rel fact.vals
 
 abbrev pub place_code : ℕ → ℕ → ℕ
 place_code rel position = mixed (mixed 1 rel) position

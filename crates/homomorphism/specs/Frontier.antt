@@ -1,5 +1,7 @@
 -- Matches of a rule's body by their values at the frontier, which is the variables that occur in the body and in the head.
-use Rattle.std.specs.Prelude.{◌≡◌, ◌++◌, ℕ, ◌<◌, List, Contains, length, Option}
+use Rattle.std.specs.Prelude.{◌≡◌, ◌⊎◌, ◌++◌, ℕ, ◌<◌, List, Contains, length, slice_get, Option, Some, None}
+use Rattle.meaning.specs.declared.types.Term.{Term}
+use Rattle.meaning.specs.declared.types.Term.TheVariants.{Var}
 use Rattle.meaning.specs.declared.types.Atom.{Atom}
 use Rattle.meaning.specs.declared.types.Rule.{Rule}
 use Rattle.meaning.specs.declared.types.Val.{Val}
@@ -33,3 +35,26 @@ pub record AreFrontierMatches (facts : List Ground) (rule : Rule) (matches : Lis
   pub each : (m : Assignment) → Contains matches m → AreFacts Const (GroundsOf facts) (at m.vals) rule.body
   pub all : (a : ℕ → Val) → AreFacts Const (GroundsOf facts) a rule.body →
       HasLike matches rule.head (bound rule.body) a
+
+-- ---- parts of a body that name no variable of the head
+
+-- More values are given, such that an assignment that makes the atoms facts has one like it that agrees with them.
+pub record IsStart (facts : List Ground) (atoms head : List Atom) (given start : List (Option Val)) : Type 0 where
+  pub width : length start ≡ length given
+  pub wider : (a : ℕ → Val) → Agrees start a → Agrees given a
+  pub like : (a : ℕ → Val) → Agrees given a → AreFacts Const (GroundsOf facts) a atoms →
+      (b : ℕ → Val) × Agrees start b × AreFacts Const (GroundsOf facts) b atoms × ((x : ℕ) → OccursIn head x → x < length given → a x ≡ b x)
+
+-- Each value is as it was given, or as it was found.
+abbrev pub IsBetween : List (Option Val) → List (Option Val) → List (Option Val) → Type 0
+IsBetween given found start =
+    (length start ≡ length given) × ((x : ℕ) → (slice_get start x ≡ slice_get given x) ⊎ (slice_get start x ≡ slice_get found x))
+
+-- All variables of the terms have a value, or those that had none still have none.
+abbrev pub IsApart : List Term → List (Option Val) → List (Option Val) → Type 0
+IsApart terms given start =
+    ((x : ℕ) → Contains terms (Var x) → slice_get start x ≡ Some None → ⊥)
+    ⊎ ((x : ℕ) → Contains terms (Var x) → slice_get given x ≡ Some None → slice_get start x ≡ Some None)
+
+abbrev pub AreApart : List Atom → List (Option Val) → List (Option Val) → Type 0
+AreApart atoms given start = (atom : Atom) → Contains atoms atom → IsApart atom.terms given start

@@ -8,7 +8,6 @@ pub mod Ways
 pub mod Covering
 pub mod Texts
 pub mod Codes
-pub mod Present
 pub mod Listed
 pub mod Widening
 pub mod Heads

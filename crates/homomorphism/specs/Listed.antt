@@ -1,5 +1,5 @@
 -- The numbers of the facts that have a key, which is a relation, or a relation with a value at a position.
-use Rattle.std.specs.Prelude.{◌≡◌, ◌⊎◌, ℕ, ◌+◌, ◌*◌, List, [], ◌∷◌, ◌++◌, Option, Some, None, Bool, true, false, ◌&&◌, ◌||◌, nat_eq, nat_lt, slice_get, slice_index_or, if◌then◌else◌, unwrap_or}
+use Rattle.std.specs.Prelude.{◌≡◌, ◌⊎◌, ℕ, ◌+◌, ◌*◌, List, [], ◌∷◌, ◌++◌, Option, Some, None, Bool, true, false, length, Contains, ◌&&◌, ◌||◌, nat_eq, nat_lt, slice_get, slice_index_or, if◌then◌else◌, unwrap_or}
 use Rattle.std.specs.declared.cmp.Ordering.{Ordering}
 use Rattle.std.specs.BTreeMap.{BTreeMap, get, is_at}
 use Rattle.std.specs.Ordering.{nat_cmp}
@@ -10,7 +10,6 @@ use Rattle.meaning.specs.Added.{is_same_val}
 use Rattle.meaning.specs.Triggers.{ground}
 use Rattle.homomorphism.specs.Bindings.{Agrees}
 use Rattle.homomorphism.specs.Codes.{key_code}
-use Rattle.homomorphism.specs.Present.{IsPresence}
 use Rattle.homomorphism.specs.declared.key.Key.{Key}
 use Rattle.homomorphism.specs.declared.key.Key.TheVariants.{Relation, Value}
 use Rattle.homomorphism.specs.declared.coded_lists.KeyList.{KeyList}
@@ -87,15 +86,18 @@ listed lists (Value rel position val) = found_at lists.values (Value rel positio
 abbrev pub IsValue : Key → Type 0
 IsValue key = (rel : ℕ) × (position : ℕ) × (val : Val) × (key ≡ Value rel position val)
 
--- An index of facts tells which facts there are, and has for each key that facts are found by exactly the numbers of the
--- facts that have it.
+-- An index of facts has for each key that facts are found by exactly the numbers of the facts that have it.
 pub record IsIndexOf (facts : List Ground) (index : FactIndex) : Type 0 where
-  pub members : IsPresence facts index.present
   pub lists : (key : Key) → is_found_by index.positions key ≡ true → listed index.lists key ≡ numbers_from 0 key facts
 
 -- A list is as before, or, where a condition holds, ends in the number in addition.
 abbrev pub MayEndIn : Type 0 → ℕ → List ℕ → List ℕ → Type 0
 MayEndIn Condition number before now = (now ≡ before) ⊎ (Condition × (now ≡ before ++ number ∷ []))
+
+-- An index of facts in which the fact behind them may be noted by some of its keys.
+pub record MayHaveNoted (facts : List Ground) (fact : Ground) (index : FactIndex) : Type 0 where
+  pub lists : (key : Key) → is_found_by index.positions key ≡ true →
+      MayEndIn (Contains (keys_of fact) key) (length facts) (numbers_from 0 key facts) (listed index.lists key)
 
 -- The numbers are those of the facts that have some key, and the atom has it under each assignment that agrees with
 -- what is given.

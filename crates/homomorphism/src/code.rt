@@ -1,10 +1,10 @@
-// Codes of keys and facts: numbers that tell nearly all of them apart.
+// Codes of keys: numbers that tell nearly all of them apart.
 ghost use Rattle.std.specs.Prelude.{◌≡◌};
-ghost use Rattle.homomorphism.specs.Codes.{mixed, val_code, fact_code, place_code, key_code};
+ghost use Rattle.homomorphism.specs.Codes.{mixed, val_code, place_code, key_code};
 
 use crate::key::Key;
 use lists::mix;
-use meaning::types::{Ground, Val};
+use meaning::types::Val;
 
 /// A code of the value: of a text a hash, and of a label its number. Takes no memory.
 fn val_code(val: &Val) -> u64
@@ -21,18 +21,6 @@ fn mixed(code: u64, number: u64) -> u64
     ensures { result ≡ mixed code number }
 {
     code.wrapping_mul(11400714819323198485).wrapping_add(number)
-}
-
-/// A code of the fact, made of its relation and the codes of its values. Takes no memory.
-#[tactic(auto, unfolding(crate::specs::Codes::fact_code))]
-pub fn fact_code(fact: &Ground) -> u64
-    ensures { result ≡ fact_code fact.now }
-{
-    let mut code = u64::from(fact.rel);
-    for val in fact.vals.as_slice() {
-        code = mixed(code, val_code(val));
-    }
-    code
 }
 
 /// A code of the position of the relation. Takes no memory.

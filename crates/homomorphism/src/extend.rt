@@ -13,11 +13,7 @@ use crate::bind::bind_all;
 use crate::store::Store;
 use lists::NoMemory;
 use meaning::types::{Atom, Ground, Term, Val};
-use smallvec::SmallVec;
 use std::alloc::Global;
-
-/// Variables of an atom: a few take no memory.
-type Variables = SmallVec<usize, 8>;
 
 /// The term's variable, where it has no value. Takes no memory.
 fn free_variable(term: &Term, given: &[Option<Val>]) -> Option<usize>
@@ -42,11 +38,11 @@ pub fn free_variables(
     alloc: Global,
     terms: &[Term],
     given: &[Option<Val>],
-) -> Result<Variables, NoMemory>
+) -> Result<Vec<usize>, NoMemory>
     requires { terms_bound terms.now ≤ length given.now }
     ensures { IfOk result (λ free. AreFree terms.now given.now free.items) }
 {
-    let mut free = SmallVec::new(alloc);
+    let mut free = Vec::new(alloc);
     for term in terms {
         if let Some(variable) = free_variable(term, given) {
             free.push(variable)?;

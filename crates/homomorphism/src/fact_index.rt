@@ -1,31 +1,26 @@
-// Which facts there are, and which of them have a key, found in the logarithm of the number of facts.
-ghost use Rattle.std.specs.Prelude.{◌≡◌, ◌↔◌, ◌≤◌, ℕ, IsTrue, true, [], ◌∷◌, ◌++◌, length, List, Contains, IfOk, IfNone, IfSome, OnErr};
+// Which facts have a key, found in the logarithm of the number of keys.
+ghost use Rattle.std.specs.Prelude.{◌≡◌, ◌≤◌, ℕ, true, [], ◌∷◌, ◌++◌, length, List, IfOk, IfSome, OnOk};
 ghost use Rattle.meaning.specs.declared.types.Ground.{Ground as TheGround};
 ghost use Rattle.meaning.specs.declared.types.Val.{Val as TheVal};
 ghost use Rattle.meaning.specs.declared.types.Val.TheVariants.{Const};
 ghost use Rattle.meaning.specs.Matching.{value_of};
 ghost use Rattle.meaning.specs.Triggers.{terms_bound};
-ghost use Rattle.meaning.specs.Search.{AreDistinct};
-ghost use Rattle.homomorphism.specs.declared.key.Key.{Key as TheKey};
 ghost use Rattle.homomorphism.specs.Bindings.{Agrees};
-ghost use Rattle.homomorphism.specs.Listed.{has_position, keys_of, listed, MayEndIn, IsIndexOf, AreCandidates};
+ghost use Rattle.homomorphism.specs.Listed.{has_position, IsIndexOf, MayHaveNoted, AreCandidates};
 
 use crate::key::Key;
 use crate::key_lists::KeyLists;
 use crate::positions::Positions;
-use crate::presence::Presence;
 use lists::{Copies, NoMemory};
 use meaning::types::{Atom, Ground, Term, Val};
 use std::alloc::Global;
 
-/// Which facts there are, and for each relation, and each value at one of the positions, the numbers of the facts that have
-/// it, ascending.
+/// For each relation, and each value at one of the positions, the numbers of the facts that have it, ascending.
 ///
 /// No choice of values makes a look-up slow.
 #[derive(Drop)]
 pub struct FactIndex {
     positions: Positions,
-    present: Presence,
     lists: KeyLists,
 }
 
@@ -36,50 +31,23 @@ impl FactIndex {
     {
         FactIndex {
             positions,
-            present: Presence::new(alloc),
             lists: KeyLists::new(alloc),
         }
     }
 
-    /// Whether the fact is one of these. Takes no memory.
-    pub fn contains(&self, facts: &[Ground], fact: &Ground) -> bool
-        ensures { IsIndexOf facts.now self.now → IsTrue result ↔ Contains facts.now fact.now }
+    /// Notes the fact behind these, which gets the number of them. Where memory is refused, it may be noted by some of its
+    /// keys.
+    pub fn note(&mut self, alloc: Global, fact: &Ground, number: usize) -> Result<(), NoMemory>
+        ensures noted { OnOk result ((facts : List TheGround) → number ≡ length facts → IsIndexOf facts self.old → IsIndexOf (facts ++ fact.now ∷ []) self.new) }
+        ensures part { (facts : List TheGround) → number ≡ length facts → IsIndexOf facts self.old → MayHaveNoted facts fact.now self.new }
     {
-        self.present.contains(facts, fact)
+        self.lists.note_all(alloc, &self.positions, fact, number)
     }
 
-    /// Adds a fact behind these, if it is not one of them, and hands it back. Where memory is refused, the index is still one
-    /// of the facts before.
-    pub fn add(
-        &mut self,
-        alloc: Global,
-        facts: &[Ground],
-        fact: Ground,
-    ) -> Result<Option<Ground>, NoMemory>
-        ensures none { IfOk result (λ back. IfNone back (IsIndexOf facts.now self.old → Contains facts.now fact × IsIndexOf facts.now self.new)) }
-        ensures some { IfOk result (λ back. IfSome back (λ same. (same ≡ fact) × (IsIndexOf facts.now self.old → (Contains facts.now fact → ⊥) × IsIndexOf (facts.now ++ fact ∷ []) self.new))) }
-        ensures refused { OnErr result (IsIndexOf facts.now self.old → IsIndexOf facts.now self.new) }
+    /// Takes out the fact behind these, which has the number of them, as far as it is noted. Takes no memory.
+    pub fn strike(&mut self, fact: Ground, number: usize)
+        ensures { (facts : List TheGround) → number ≡ length facts → MayHaveNoted facts fact self.old → IsIndexOf facts self.new }
     {
-        let number = facts.len();
-        let is_new = self.present.add(alloc, facts, &fact, number)?;
-        if !is_new {
-            return Ok(None);
-        }
-        match self.lists.note_all(alloc, &self.positions, &fact, number) {
-            Ok(()) => Ok(Some(fact)),
-            Err(fault) => {
-                self.present.remove(&fact);
-                self.lists.strike_all(&self.positions, fact, number);
-                Err(fault)
-            }
-        }
-    }
-
-    /// Takes out the last fact, which has this number. Takes no memory.
-    pub fn remove(&mut self, fact: Ground, number: usize)
-        ensures { (facts : List TheGround) → IsIndexOf (facts ++ fact ∷ []) self.old → number ≡ length facts → (Contains facts fact → ⊥) → IsIndexOf facts self.new }
-    {
-        self.present.remove(&fact);
         self.lists.strike_all(&self.positions, fact, number);
     }
 

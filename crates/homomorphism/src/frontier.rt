@@ -29,7 +29,7 @@ fn has_value(term: &Term, given: &[Option<Val>]) -> bool
 }
 
 /// Whether no term is a variable without a value. Takes no memory.
-fn have_values(terms: &[Term], given: &[Option<Val>]) -> bool
+pub fn have_values(terms: &[Term], given: &[Option<Val>]) -> bool
     ensures { result ≡ true → (x : ℕ) → Contains terms.now (Var x) → slice_get given.now x ≡ Some None → ⊥ }
 {
     for term in terms {

@@ -19,12 +19,13 @@ mod head;
 mod instance;
 mod key;
 mod key_lists;
+mod keyed;
 mod matching;
 mod number_list;
 mod positions;
-mod presence;
 mod rules;
 mod search;
+mod start;
 mod store;
 mod texts;
 

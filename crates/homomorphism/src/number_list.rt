@@ -2,14 +2,13 @@
 ghost use Rattle.std.specs.Prelude.{◌≡◌, ℕ, List, [], ◌∷◌, ◌++◌, Contains, OnErr, OnOk};
 
 use lists::NoMemory;
-use smallvec::SmallVec;
 use std::alloc::Global;
 use std::marker::Model;
 
-/// Numbers in order, of which up to two take no memory of their own: most keys are those of one fact or of two.
+/// Numbers in order.
 #[derive(Drop)]
 pub struct NumberList {
-    members: SmallVec<usize, 2>,
+    members: Vec<usize>,
 }
 
 impl Model for NumberList {
@@ -26,7 +25,7 @@ impl NumberList {
         ensures { result ≡ [] }
     {
         NumberList {
-            members: SmallVec::new(alloc),
+            members: Vec::new(alloc),
         }
     }
 

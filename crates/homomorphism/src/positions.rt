@@ -3,7 +3,7 @@ ghost use Rattle.std.specs.Prelude.{◌≡◌};
 ghost use Rattle.homomorphism.specs.Listed.{has_position, has_mark};
 
 use crate::conditions::occurs;
-use lists::NoMemory;
+use lists::{NoMemory, mix};
 use meaning::types::{Atom, Rule, Term};
 use std::alloc::Global;
 
@@ -19,6 +19,8 @@ pub struct Positions {
     all: bool,
     /// The marks of the first positions of each relation, one relation after another.
     marked: Vec<bool>,
+    /// Made of the constants that are looked for.
+    key: u64,
 }
 
 impl Positions {
@@ -27,6 +29,7 @@ impl Positions {
         Positions {
             all: true,
             marked: Vec::new(alloc),
+            key: 0,
         }
     }
 
@@ -35,6 +38,7 @@ impl Positions {
         Positions {
             all: false,
             marked: Vec::new(alloc),
+            key: 0,
         }
     }
 
@@ -42,12 +46,19 @@ impl Positions {
     /// head after the body.
     pub fn of_rules(alloc: Global, rules: &[Rule]) -> Result<Positions, NoMemory> {
         let mut marked = Vec::new(alloc);
+        let mut key = 0;
         for rule in rules {
             let body = rule.body.as_slice();
+            let head = rule.head.as_slice();
             mark_body(&mut marked, body)?;
-            mark_head(&mut marked, body, rule.head.as_slice())?;
+            mark_head(&mut marked, body, head)?;
+            key = mix_atoms(mix_atoms(key, body), head);
         }
-        Ok(Positions { all: false, marked })
+        Ok(Positions {
+            all: false,
+            marked,
+            key,
+        })
     }
 
     /// Marks every position of these atoms, as for a query whose matches are looked for.
@@ -58,7 +69,22 @@ impl Positions {
         for atom in atoms {
             mark_all(&mut self.marked, atom)?;
         }
+        self.key = mix_atoms(self.key, atoms);
         Ok(())
+    }
+
+    /// The same positions with this number. Takes no memory.
+    pub(crate) fn with_key(self, key: u64) -> Positions {
+        Positions {
+            all: self.all,
+            marked: self.marked,
+            key,
+        }
+    }
+
+    /// The number with which hashes of facts begin: no clause says which. Takes no memory.
+    pub(crate) fn key(&self) -> u64 {
+        self.key
     }
 
     /// Whether the position of the relation is one of these. Takes no memory.
@@ -139,4 +165,17 @@ fn is_known(atoms: &[Atom], term: &Term) -> bool {
         Term::Var(variable) => occurs(atoms, *variable as usize),
         Term::Const(_) => true,
     }
+}
+
+/// A number with the constants of the atoms mixed in. Takes no memory.
+fn mix_atoms(key: u64, atoms: &[Atom]) -> u64 {
+    let mut mixed = key;
+    for atom in atoms {
+        for term in atom.terms.as_slice() {
+            if let Term::Const(text) = term {
+                mixed = mix(mixed, text.as_bytes());
+            }
+        }
+    }
+    mixed
 }

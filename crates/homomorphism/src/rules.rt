@@ -13,6 +13,7 @@ use crate::find::all_matches;
 use crate::frontier::frontier;
 use crate::head::Head;
 use crate::search::search;
+use crate::start::start;
 use crate::store::Store;
 use lists::{Copies, NoMemory, Seq};
 use meaning::types::{Atom, Rule, Term, Val};
@@ -82,8 +83,11 @@ pub fn frontier_matches(alloc: Global, rule: &Rule, store: &Store) -> Result<Ass
     let body = rule.body.as_slice();
     let none = Vec::new(alloc);
     let fixed = given(alloc, none.as_slice(), variables_width(body))?;
+    let Some(first) = start(alloc, body, rule.head.as_slice(), store, fixed)? else {
+        return Ok(Seq::new(alloc));
+    };
     let order = numbers(alloc, body.len())?;
-    let mut values = fixed.into_vec();
+    let mut values = first.into_vec();
     let mut found = Vec::new(alloc);
     frontier(
         alloc,

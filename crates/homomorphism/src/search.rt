@@ -127,7 +127,7 @@ fn are_untouched(atoms: &[Atom], run: &[usize], given: &[Option<Val>], now: &[Op
 }
 
 /// Whether the variables of the terms that had no value still have none.
-fn is_untouched(terms: &[Term], given: &[Option<Val>], now: &[Option<Val>]) -> bool
+pub fn is_untouched(terms: &[Term], given: &[Option<Val>], now: &[Option<Val>]) -> bool
     ensures { result ≡ true → (x : ℕ) → Contains terms.now (Var x) → slice_get given.now x ≡ Some None → slice_get now.now x ≡ Some None }
 {
     for term in terms {

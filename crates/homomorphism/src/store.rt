@@ -1,14 +1,17 @@
 // Distinct facts, by number.
-ghost use Rattle.std.specs.Prelude.{◌≡◌, ◌↔◌, ◌≤◌, ◌-◌, IsTrue, [], ◌∷◌, ◌++◌, Contains, IfOk, OnErr, OnOk, slice_get, option_copied, true, false, if◌then◌else◌, take, length};
+ghost use Rattle.std.specs.Prelude.{◌≡◌, ◌↔◌, ◌≤◌, ◌-◌, IsTrue, [], ◌∷◌, ◌++◌, List, Contains, IfOk, OnErr, OnOk, slice_get, option_copied, true, false, if◌then◌else◌, take, length};
+ghost use Rattle.meaning.specs.declared.types.Ground.{Ground as TheGround};
 ghost use Rattle.meaning.specs.Search.{AreDistinct};
 ghost use Rattle.meaning.specs.Added.{with_fact, with_facts};
 ghost use Rattle.meaning.specs.Triggers.{terms_bound};
 ghost use Rattle.homomorphism.specs.Instances.{AreFactsOf};
-ghost use Rattle.homomorphism.specs.Listed.{AreCandidates};
+ghost use Rattle.homomorphism.specs.Listed.{IsIndexOf, MayHaveNoted, AreCandidates};
 
 use crate::fact_index::FactIndex;
 use crate::instance::distinct_grounds;
+use crate::keyed::{Keyed, digest};
 use crate::positions::Positions;
+use indexmap::IndexSet;
 use lists::{Copies, NoMemory};
 use meaning::types::{Atom, Ground, Instance, Rule, Val};
 use std::alloc::Global;
@@ -17,21 +20,20 @@ use std::marker::Model;
 /// Labelled facts, of which none stands twice. Contracts see the list of the facts, by number.
 #[derive(Drop)]
 pub struct Store {
-    facts: Vec<Ground>,
+    facts: IndexSet<Ground, Keyed>,
     index: FactIndex,
 }
 
 impl Model for Store {
     ghost use Rattle.std.specs.Prelude.{List};
     ghost use Rattle.meaning.specs.declared.types.Ground.{Ground};
-    ghost use Rattle.meaning.specs.Search.{AreDistinct};
     ghost use Rattle.homomorphism.specs.Listed.{IsIndexOf};
 
     ghost Value = { List Ground };
 
-    ghost view = { λ s. s.facts.items };
+    ghost view = { λ s. s.facts.keys };
 
-    ghost invariant = { λ s. AreDistinct s.facts.items × IsIndexOf s.facts.items s.index };
+    ghost invariant = { λ s. IsIndexOf s.facts.keys s.index };
 }
 
 impl Store {
@@ -47,7 +49,7 @@ impl Store {
         ensures { result ≡ [] }
     {
         Store {
-            facts: Vec::new(alloc),
+            facts: IndexSet::with_hasher(alloc, Keyed::new(positions.key())),
             index: FactIndex::new(alloc, positions),
         }
     }
@@ -75,7 +77,8 @@ impl Store {
         requires { AreDistinct facts.items }
         ensures { IfOk result (λ store. store ≡ facts.items) }
     {
-        let mut store = Store::found_by(alloc, positions);
+        let key = digest(facts.as_slice());
+        let mut store = Store::found_by(alloc, positions.with_key(key));
         for fact in facts {
             store.insert(alloc, fact)?;
         }
@@ -100,33 +103,36 @@ impl Store {
     pub fn get(&self, number: usize) -> Option<&Ground>
         ensures { option_copied result ≡ slice_get self.now number }
     {
-        self.facts.get(number)
+        self.facts.get_index(number)
     }
 
     /// Whether the fact is there. Takes no memory.
+    #[tactic(auto, using(crate::proofs::Filing::found_is_there))]
     pub fn contains(&self, fact: &Ground) -> bool
         ensures { IsTrue result ↔ Contains self.now fact.now }
     {
-        self.index.contains(self.facts.as_slice(), fact)
+        self.facts.contains(fact)
     }
 
     /// Adds the fact as the last one where it is not there yet, and says whether it did. Where memory is refused,
     /// nothing changes.
-    #[tactic(auto, using(crate::proofs::Adding::stays, crate::proofs::Adding::pushed, crate::proofs::Members::distinct_push))]
+    #[tactic(auto, using(crate::proofs::Filing::inserted_is_added, crate::proofs::Filing::added_is_new))]
     pub fn insert(&mut self, alloc: Global, fact: Ground) -> Result<bool, NoMemory>
         ensures there { IfOk result (λ added. (added ≡ false) ↔ Contains self.old fact) }
         ensures kept { OnOk result (self.new ≡ with_fact self.old fact) }
         ensures refused { OnErr result (self.new ≡ self.old) }
     {
-        let number = self.facts.len();
-        let Some(fact) = self.index.add(alloc, self.facts.as_slice(), fact)? else {
-            return Ok(false);
+        let Ok(added) = self.facts.insert(fact) else {
+            return Err(NoMemory);
         };
-        match self.facts.push(fact) {
+        if !added {
+            return Ok(false);
+        }
+        match note_last(alloc, self.facts.as_slice(), &mut self.index) {
             Ok(()) => Ok(true),
-            Err(refused) => {
-                self.index.remove(refused.value, number);
-                Err(NoMemory)
+            Err(fault) => {
+                take_last(&mut self.facts, &mut self.index);
+                Err(fault)
             }
         }
     }
@@ -160,10 +166,7 @@ impl Store {
     fn drop_last(&mut self)
         ensures { self.new ≡ take (length self.old - 1) self.old }
     {
-        if let Some(fact) = self.facts.pop() {
-            let number = self.facts.len();
-            self.index.remove(fact, number);
-        }
+        take_last(&mut self.facts, &mut self.index);
     }
 
     /// Numbers of facts, ascending, among which is each fact that the atom can be where the given values hold.
@@ -180,6 +183,7 @@ impl Store {
     }
 
     /// The facts, lent.
+    #[tactic(auto, using(crate::proofs::Filing::distinct_keys))]
     pub(crate) fn facts(&self) -> &[Ground]
         ensures facts { result.now ≡ self.now }
         ensures once { AreDistinct self.now }
@@ -196,5 +200,27 @@ impl Store {
             self.insert(alloc, fact)?;
         }
         Ok(())
+    }
+}
+
+/// Notes the last fact, if there is one. Where memory is refused, it may be noted by some of its keys.
+fn note_last(alloc: Global, facts: &[Ground], index: &mut FactIndex) -> Result<(), NoMemory>
+    ensures noted { OnOk result ((before : List TheGround) (fact : TheGround) → facts.now ≡ before ++ fact ∷ [] → IsIndexOf before index.old → IsIndexOf facts.now index.new) }
+    ensures part { (before : List TheGround) (fact : TheGround) → facts.now ≡ before ++ fact ∷ [] → IsIndexOf before index.old → MayHaveNoted before fact index.new }
+{
+    let [before @ .., last] = facts else {
+        return Ok(());
+    };
+    index.note(alloc, last, before.len())
+}
+
+/// Takes out the last fact, if there is one, as far as it is noted. Takes no memory.
+fn take_last(facts: &mut IndexSet<Ground, Keyed>, index: &mut FactIndex)
+    ensures facts { facts.new.keys ≡ take (length facts.old.keys - 1) facts.old.keys }
+    ensures none { facts.old.keys ≡ [] → index.new ≡ index.old }
+    ensures index { (before : List TheGround) (fact : TheGround) → facts.old.keys ≡ before ++ fact ∷ [] → MayHaveNoted before fact index.old → IsIndexOf before index.new }
+{
+    if let Some(last) = facts.pop() {
+        index.strike(last, facts.len());
     }
 }

@@ -80,7 +80,7 @@ pub release-requires : goal.release-requires
 release-requires t c =
     let free : AreFree c.index-atoms-place.result.terms c.args.given.now.items c.in_ok-free.free.items = rw c.as_slice.ensures at (rw c.as_slice-2.ensures.value at c.in_ok-free.ensures) in
     let touched : Touches c.index-atoms-place.result.terms c.args.given.now.items c.take_fact.new.given.items = subst (λ g. Touches c.index-atoms-place.result.terms g c.take_fact.new.given.items) c.loop-number.invariant.same (c.in_ok-take_fact.ensures.touched c.if-branch.true) in
-    λ x h. subst (λ g. x < length g) (sym (c.in_ok-extend.ensures.same c.if-branch-2.false)) (subst (λ n. x < n) (sym touched.0) (free_within c.index-atoms-place.result.terms c.args.given.now.items c.in_ok-free.free.items free x (subst (λ z. Contains z x) c.as_slice-then-branch.ensures h)))
+    λ x h. subst (λ g. x < length g) (sym (c.in_ok-extend.ensures.same c.if-branch-2.false)) (subst (λ n. x < n) (sym touched.0) (free_within c.index-atoms-place.result.terms c.args.given.now.items c.in_ok-free.free.items free x (subst (λ z. Contains z x) c.as_slice-then-branch.ensures.value h)))
 
 pub loop-number-preserved : goal.loop-number-preserved
 loop-number-preserved t c =
@@ -94,7 +94,7 @@ loop-number-preserved t c =
           let touched : Touches c.index-atoms-place.result.terms c.args.given.now.items c.take_fact.new.given.items = subst (λ g. Touches c.index-atoms-place.result.terms g c.take_fact.new.given.items) c.loop-number.invariant.same (c.in_ok-take_fact.ensures.touched w.if-branch.true) in
           let way : IsWay c.index-facts-number.result c.index-atoms-place.result c.args.given.now.items c.take_fact.new.given.items = subst (λ g. IsWay c.index-facts-number.result c.index-atoms-place.result g c.take_fact.new.given.items) c.loop-number.invariant.same (c.in_ok-take_fact.ensures.yes w.if-branch.true) in
           rw w.given-is (record {
-            same = w.release.ensures c.index-atoms-place.result.terms c.args.given.now.items (rw w.as_slice-then-branch.ensures free) (subst (Touches c.index-atoms-place.result.terms c.args.given.now.items) (sym (w.in_ok-extend.ensures.same w.if-branch-2.false)) touched);
+            same = w.release.ensures c.index-atoms-place.result.terms c.args.given.now.items (rw w.as_slice-then-branch.ensures.value free) (subst (Touches c.index-atoms-place.result.terms c.args.given.now.items) (sym (w.in_ok-extend.ensures.same w.if-branch-2.false)) touched);
             none = none_with facts c.loop-number.number-index c.index-facts-number.result within at c.args.store.now c.index-atoms-place.result rest c.args.given.now.items c.loop-number.invariant.none c.take_fact.new.given.items way (w.in_ok-extend.ensures.none w.if-branch-2.false);
           })
       | else-branch w ↦

@@ -103,7 +103,7 @@ pub release-requires : goal.release-requires
 release-requires t c =
     let free : AreFree c.index-atoms-place.result.terms c.args.given.now.items c.in_ok-free.free.items = rw c.as_slice-3.ensures at (rw c.as_slice-4.ensures.value at c.in_ok-free.ensures) in
     let touched : Touches c.index-atoms-place.result.terms c.args.given.now.items c.take_fact.new.given.items = subst (λ g. Touches c.index-atoms-place.result.terms g c.take_fact.new.given.items) c.loop-number.invariant.same (c.in_ok-take_fact.ensures.touched c.if-branch.true) in
-    λ x h. subst (λ g. x < length g) (sym c.in_ok-frontier.ensures.same) (subst (λ n. x < n) (sym touched.0) (free_within c.index-atoms-place.result.terms c.args.given.now.items c.in_ok-free.free.items free x (subst (λ z. Contains z x) c.as_slice-then-branch.ensures h)))
+    λ x h. subst (λ g. x < length g) (sym c.in_ok-frontier.ensures.same) (subst (λ n. x < n) (sym touched.0) (free_within c.index-atoms-place.result.terms c.args.given.now.items c.in_ok-free.free.items free x (subst (λ z. Contains z x) c.as_slice-then-branch.ensures.value h)))
 
 pub loop-number-preserved : goal.loop-number-preserved
 loop-number-preserved t c =
@@ -121,7 +121,7 @@ loop-number-preserved t c =
           let way : IsWay c.index-facts-number.result c.index-atoms-place.result c.args.given.now.items c.take_fact.new.given.items = subst (λ g. IsWay c.index-facts-number.result c.index-atoms-place.result g c.take_fact.new.given.items) c.loop-number.invariant.same (c.in_ok-take_fact.ensures.yes w.if-branch.true) in
           let (more, added, are) = w.in_ok-frontier.ensures.found in
           rw w.given-is (rw w.found-is (record {
-            same = w.release.ensures c.index-atoms-place.result.terms c.args.given.now.items (rw w.as_slice-then-branch.ensures free) (subst (Touches c.index-atoms-place.result.terms c.args.given.now.items) (sym w.in_ok-frontier.ensures.same) touched);
+            same = w.release.ensures c.index-atoms-place.result.terms c.args.given.now.items (rw w.as_slice-then-branch.ensures.value free) (subst (Touches c.index-atoms-place.result.terms c.args.given.now.items) (sym w.in_ok-frontier.ensures.same) touched);
             found = (
               matches ++ more,
               added ∙ ap (λ all. all ++ more) so ∙ append_assoc _ matches more,

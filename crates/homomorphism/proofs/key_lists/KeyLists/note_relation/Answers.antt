@@ -3,7 +3,7 @@ use Rattle.std.specs.Map.{lookup}
 use Rattle.std.specs.Ordering.{nat_cmp}
 use Rattle.std.specs.BTreeMap.{get, is_at}
 use Rattle.std.proofs.lemmas.Map.Steps.{set_value_same}
-use Rattle.homomorphism.proofs.Present.{number_apart}
+use Rattle.homomorphism.proofs.Coded.{number_apart}
 use Rattle.homomorphism.proofs.Refused.{on_err}
 use Rattle.homomorphism.proofs.Relations.{listed_relation, at_relation, found_relation, no_relation, relation_apart, relations_same}
 use Rattle.homomorphism.proofs.key_lists.KeyLists.note_relation.Goals as goal

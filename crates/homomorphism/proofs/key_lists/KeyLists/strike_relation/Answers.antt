@@ -1,6 +1,5 @@
 use Rattle.std.proofs.Common.{sym, subst, refl, rules, ◌∙◌, Contains}
-use Rattle.homomorphism.proofs.Coded.{empty_ends}
-use Rattle.homomorphism.proofs.Present.{number_apart}
+use Rattle.homomorphism.proofs.Coded.{empty_ends, number_apart}
 use Rattle.homomorphism.proofs.Relations.{listed_relation, found_relation, no_relation, at_relation, relation_apart}
 use Rattle.homomorphism.proofs.key_lists.KeyLists.strike_relation.Goals as goal
 

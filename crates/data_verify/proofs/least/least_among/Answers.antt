@@ -1,7 +1,7 @@
 use Rattle.homomorphism.specs.Rules.{IsMet, IsUnmet}
 use Rattle.data_verify.proofs.Choosing.{turn_met, turn_unmet, none_left, some_left}
-use Rattle.data_verify.proofs.least.least_unmet.Goals.{then-not-branch+in_ok-rows, else-not-branch}
-use Rattle.data_verify.proofs.least.least_unmet.Goals as goal
+use Rattle.data_verify.proofs.least.least_among.Goals.{then-not-branch+in_ok-rows, else-not-branch}
+use Rattle.data_verify.proofs.least.least_among.Goals as goal
 
 pub loop-one-preserved : goal.loop-one-preserved
 loop-one-preserved c = elim c.if-not-branch.branch [

@@ -1,0 +1,16 @@
+use Rattle.std.proofs.Common.{◌∙◌, sym, ap, subst, ⊎_elim, Contains, take}
+use Rattle.std.proofs.lemmas.List.{take_all}
+use Rattle.std.proofs.lemmas.List.Elements.{Contains-push_cases}
+use Rattle.lists.proofs.Places.{take_indexed}
+use Rattle.meaning.specs.declared.types.Atom.{Atom}
+use Rattle.meaning.specs.declared.types.Term.TheVariants.{Var}
+use Rattle.homomorphism.specs.Widening.{AreUntouched}
+use Rattle.homomorphism.proofs.start.are_left.Goals as goal
+
+pub loop-atom-preserved : goal.loop-atom-preserved
+loop-atom-preserved c = λ x (atom, h, o) none. ⊎_elim (λ before. c.loop-atom.invariant x (atom, before, o) none)
+    (λ same. c.is_untouched.ensures c.if-not-is_untouched.false x (subst (λ z. Contains z (Var x)) (sym (c.as_slice.ensures ∙ ap (λ (t : Atom). t.terms) same)) o) none)
+    (Contains-push_cases (take c.loop-atom.atom-index c.args.atoms.now) c.atom-item.result atom (subst (λ z. Contains z atom) (take_indexed c.args.atoms.now c.loop-atom.atom-index c.atom-item.result c.loop-atom-test.true c.atom-item.is) h))
+
+pub returns : goal.returns
+returns c = λ e. subst (λ z. AreUntouched z c.args.given.now c.args.start.now) (take_all c.loop-atom.atom-index c.args.atoms.now c.loop-atom-test.false) c.loop-atom.invariant
