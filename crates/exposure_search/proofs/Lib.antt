@@ -13,6 +13,9 @@ pub mod Serving
 pub mod Offering
 pub mod Settled
 pub mod MovesFrom
+pub mod CandidateLists
+pub mod Opened
 pub mod Early
 pub mod Visited
 pub mod Explored
+pub mod Growing

@@ -1,19 +1,21 @@
 -- What settling the copy of exposures shows.
-use Rattle.std.proofs.Common.{◌≡◌, ◌⊎◌, ℕ, ◌+◌, ◌<◌, ◌≤◌, List, [], ◌++◌, length, map, Bool, true, false, Option, Some, None, refl, sym, ap, ◌∙◌, subst, inl, inr, ⊎_elim, arith}
+use Rattle.std.proofs.Common.{◌≡◌, ◌⊎◌, ℕ, ◌+◌, ◌<◌, ◌≤◌, List, [], ◌∷◌, ◌++◌, length, map, Bool, true, false, Option, Some, None, refl, sym, ap, ◌∙◌, subst, inl, inr, ⊎_elim, arith}
 use Rattle.std.specs.Prelude.{Contains, is_some, option_map, IfSome, IfNone}
 use Rattle.std.specs.Bool.{then_some}
 use Rattle.std.specs.List.{AllZip}
-use Rattle.std.proofs.lemmas.List.{append-nil, length-map}
+use Rattle.std.proofs.lemmas.List.{append-nil, length-map, length_push}
 use Rattle.lists.proofs.Members.{contains_got}
 use Rattle.meaning_laws.proofs.SameSets.{run_alike}
 use Rattle.meaning_laws.proofs.Quieting.{quiet_is_reached}
 use Rattle.meaning_laws.proofs.Carrying.{run_fires}
 use Rattle.meaning.specs.declared.types.SchemaParts.{SchemaParts}
 use Rattle.meaning.specs.declared.types.Query.{Query}
+use Rattle.meaning.specs.declared.types.Rule.{Rule}
+use Rattle.meaning.specs.declared.types.Trigger.{Trigger}
 use Rattle.meaning.specs.declared.types.Val.{Val}
 use Rattle.meaning.specs.declared.types.Firing.TheVariants.{Base}
-use Rattle.meaning.specs.Triggers.{State, IsQuiet, IsFiringRun, ground}
-use Rattle.meaning.specs.Runs.{Proof, base_state, copy_state, HasGoal, IsBaseRun, IsRun}
+use Rattle.meaning.specs.Triggers.{State, IsQuiet, IsFiringRun, ground, fired}
+use Rattle.meaning.specs.Runs.{Proof, base_state, copy_state, HasGoal, IsBaseRun, IsFirstActive, IsRun}
 use Rattle.meaning.specs.Extract.{exposed_facts, HasGoalFrom}
 use Rattle.homomorphism.specs.Bindings.{at}
 use Rattle.rule_pass.specs.Levels.{AreShort}
@@ -80,6 +82,11 @@ kept_none false x P is = is refl
 pub some_always : {X : Type 0} {P : Type 0} (found : Option X) → P → IfSome found (λ x. P)
 some_always None p = tt
 some_always (Some x) p = p
+
+-- one more firing of the first active trigger
+base_push : (rules : List Rule) (log : List Trigger) (state end : State) (trigger : Trigger) (rule : Rule) → IsBaseRun rules state log end → IsFirstActive rules end trigger rule → IsBaseRun rules state (log ++ trigger ∷ []) (fired end trigger rule)
+base_push rules [] state end trigger rule run first = (rule, subst (λ s. IsFirstActive rules s trigger rule) run first, ap (λ s. fired s trigger rule) run)
+base_push rules (one ∷ log) state end trigger rule (its, active, run) first = (its, active, base_push rules log (fired state one its) end trigger rule run first)
 
 -- the same beginning gives the same space
 pub same_space : (schema : SchemaParts) (queries : List Query) (head : List Val) (budget : ℕ) (marks : Marks) (old new : Proving) → SameBase old new → exploring_of schema new queries head budget marks ≡ exploring_of schema old queries head budget marks
@@ -177,6 +184,23 @@ module _ (schema : SchemaParts) (queries : List Query) (head : List Val) (budget
     exposures_are = sym trail.many;
   }
 
+  -- where a copy trigger is active, one more firing can be tried
+  tried_on : SomeActive schema.rules (copy_state settled.end) → (firings : ℕ) × IsTry schema proof.constants (base_state proof.end) (length (bases_of (log_of proof))) firings (length path) × (length settles.more < firings)
+  tried_on (trigger, (rule, first)) =
+      let longer : length (settles.more ++ trigger ∷ []) ≡ length settles.more + 1 = length_push settles.more trigger in (
+        length (bases_of (log_of proof)) + length trail.made + length (settles.more ++ trigger ∷ []),
+        record {
+          made = trail.made;
+          copy = settles.more ++ trigger ∷ [];
+          end = fired (copy_state settled.end) trigger rule;
+          exposing = trail.exposing;
+          copies = base_push schema.rules settles.more (record { facts = exposed_facts trail.made; next = proof.end.next }) (copy_state settled.end) trigger rule copy_base_run first;
+          firings_are = refl;
+          exposures_are = sym trail.many;
+        },
+        omega arith,
+      )
+
   -- where the firings are spent, some run is longer
   pub runs_beyond : GoesBeyond schema budget settled → HasRunBeyond (exploring_of schema proof queries head budget marks)
   runs_beyond far = ⊎_elim
@@ -194,14 +218,15 @@ module _ (schema : SchemaParts) (queries : List Query) (head : List Val) (budget
       record { log = log; end = last; run = run; beyond = omega arith }) far
 
   pub visit_end : AreShort schema.rules → AreRelevant schema proof.constants proof.end.base proof.end.next queries head marks → (ended : End) (fired : ℕ) → (ended ≡ end.Goal → HasGoal queries settled.end head) → (ended ≡ end.NoGoal → IsStill schema.rules marks.makers.items (copy_state settled.end)) → (ended ≡ end.NoGoal → HasGoal queries settled.end head → ⊥) →
-      (ended ≡ end.FiringsSpent → GoesBeyond schema budget settled) → length proof.entries + fired ≡ length settled.entries →
+      (ended ≡ end.FiringsSpent → GoesBeyond schema budget settled) → (ended ≡ end.UnitsSpent → SomeActive schema.rules (copy_state settled.end)) → length proof.entries + fired ≡ length settled.entries →
       IsVisitEnd (exploring_of schema proof queries head budget marks) path set ended fired
-  visit_end short relevant ended fired goal still none long counted =
+  visit_end short relevant ended fired goal still none long due counted =
       let added = settled_long schema proof settled settles in
       record {
         goal = λ e. goal_matches (goal e);
         none = λ e. none_still short relevant (still e) (none e);
         long = λ e. runs_beyond (long e);
+        due = λ e. let (firings, tries, more) = tried_on (due e) in (firings, tries, omega arith);
         run = (length (bases_of (log_of proof)) + length trail.made + length settles.more, tried, omega arith);
       }
 

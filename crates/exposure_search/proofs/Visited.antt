@@ -1,5 +1,5 @@
 -- Visits, said of the proof before them.
-use Rattle.std.proofs.Common.{◌≡◌, ◌⊎◌, inl, inr, ⊎_elim, ℕ, ◌+◌, ◌<◌, ◌≤◌, List, length, take, true, false, ap, ◌∙◌, subst, sym, arith, Bool}
+use Rattle.std.proofs.Common.{◌≡◌, ◌⊎◌, inl, inr, ⊎_elim, ℕ, ◌+◌, ◌<◌, ◌≤◌, List, length, take, true, false, ap, ◌∙◌, subst, sym, Bool}
 use Rattle.std.specs.Prelude.{Contains, IfOk, Result, Ok, Err}
 use Rattle.meaning.specs.declared.types.SchemaParts.{SchemaParts}
 use Rattle.meaning.specs.declared.types.Ground.{Ground}
@@ -19,18 +19,14 @@ use Rattle.least_search.specs.declared.space.End.{End}
 use Rattle.least_search.specs.declared.space.End.TheVariants as end
 use Rattle.least_search.specs.Walks.{IsWalk, no_facts}
 use Rattle.least_search.specs.Ends.{GoesOn}
-use Rattle.access_schema.specs.Meaning.{meaning_of}
-use Rattle.exposure_search.specs.declared.aiming.Aim.{Aim}
 use Rattle.exposure_search.specs.declared.marks.Marks.{Marks}
 use Rattle.exposure_search.specs.Tries.{IsOpen, IsMarked, Adds}
 use Rattle.exposure_search.specs.Making.{OnlyExposes, SameBase, GoesBeyond, all_made, IsActiveMove, IsServed, IsStill, CannotMake}
 use Rattle.exposure_search.specs.Ahead.{facts_along}
-use Rattle.exposure_search.specs.Candidates.{AreCandidates}
-use Rattle.exposure_search.specs.Aims.{IsAimed}
 use Rattle.exposure_search.specs.Relevance.{AreRelevant}
-use Rattle.exposure_search.specs.Exploring.{Exploring, exploring_of, CanExpose, GainsAt, HasGoalAt, HasTry, HasRunBeyond}
+use Rattle.exposure_search.specs.Exploring.{exploring_of, HasGoalAt, HasRunBeyond}
 use Rattle.exposure_search.specs.Visiting.{IsVisitEnd, AreMovesAt, IsReached}
-use Rattle.exposure_search.proofs.Logs.{lies, goes_back, same_on, settled_long}
+use Rattle.exposure_search.proofs.Logs.{lies, goes_back, same_on}
 use Rattle.exposure_search.proofs.Steps.{walk_same}
 use Rattle.exposure_search.proofs.Settled.{unsettled, runs_beyond, same_space, made_same, moves_here, visit_end, reached_here, none_reached}
 
@@ -66,18 +62,18 @@ module _ (schema : SchemaParts) (queries : List Query) (head : List Val) (budget
 
     -- how it ended
     pub end_seen : AreShort schema.rules → AreRelevant schema old.constants old.end.base old.end.next queries head marks → (ended : End) (fired : ℕ) → (ended ≡ end.Goal → HasGoal queries settled.end head) → (ended ≡ end.NoGoal → IsStill schema.rules marks.makers.items (copy_state settled.end)) → (ended ≡ end.NoGoal → HasGoal queries settled.end head → ⊥) →
-        (ended ≡ end.FiringsSpent → GoesBeyond schema budget settled) → length gone.entries + fired ≡ length settled.entries →
+        (ended ≡ end.FiringsSpent → GoesBeyond schema budget settled) → (ended ≡ end.UnitsSpent → SomeActive schema.rules (copy_state settled.end)) → length gone.entries + fired ≡ length settled.entries →
         IsVisitEnd (exploring_of schema old queries head budget marks) path set ended fired
-    end_seen short relevant ended fired goal still none long counted =
+    end_seen short relevant ended fired goal still none long due counted =
         subst (λ s. IsVisitEnd s path set ended fired) (same_space schema queries head budget marks old gone same)
-        (visit_end schema queries head budget marks gone settled path set is its settles (made_same old gone path same made) (walk_same schema old gone path set same walk) short (relevant_same schema queries head marks old gone same relevant) ended fired goal still none long counted)
+        (visit_end schema queries head budget marks gone settled path set is its settles (made_same old gone path same made) (walk_same schema old gone path set same walk) short (relevant_same schema queries head marks old gone same relevant) ended fired goal still none long due counted)
 
     -- how it ended, if memory did not run out
     pub end_if : {E : Type 0} → AreShort schema.rules → AreRelevant schema old.constants old.end.base old.end.next queries head marks → (seen : Result (End × ℕ) E) → IfOk seen (λ s. s.0 ≡ end.Goal → HasGoal queries settled.end head) → IfOk seen (λ s. s.0 ≡ end.NoGoal → IsStill schema.rules marks.makers.items (copy_state settled.end)) → IfOk seen (λ s. s.0 ≡ end.NoGoal → HasGoal queries settled.end head → ⊥) →
-        IfOk seen (λ s. s.0 ≡ end.FiringsSpent → GoesBeyond schema budget settled) → IfOk seen (λ s. length gone.entries + s.1 ≡ length settled.entries) →
+        IfOk seen (λ s. s.0 ≡ end.FiringsSpent → GoesBeyond schema budget settled) → IfOk seen (λ s. s.0 ≡ end.UnitsSpent → SomeActive schema.rules (copy_state settled.end)) → IfOk seen (λ s. length gone.entries + s.1 ≡ length settled.entries) →
         IfOk seen (λ s. IsVisitEnd (exploring_of schema old queries head budget marks) path set s.0 s.1)
-    end_if short relevant (Ok seen) goal still none long counted = end_seen short relevant seen.0 seen.1 goal still none long counted
-    end_if short relevant (Err e) goal still none long counted = tt
+    end_if short relevant (Ok seen) goal still none long due counted = end_seen short relevant seen.0 seen.1 goal still none long due counted
+    end_if short relevant (Err e) goal still none long due counted = tt
 
     -- the proof that was reached
     pub proof_reached : length settled.entries ≤ budget → IsReached (exploring_of schema old queries head budget marks) path settled

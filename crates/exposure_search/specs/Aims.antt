@@ -8,7 +8,7 @@ use Rattle.exposure_search.specs.declared.aiming.Aim.{Aim}
 use Rattle.exposure_search.specs.Tries.{IsOpen}
 use Rattle.exposure_search.specs.Making.{IsReady}
 use Rattle.exposure_search.specs.Ahead.{AreTheMarked}
-use Rattle.exposure_search.specs.Candidates.{AreCandidates}
+use Rattle.exposure_search.specs.Candidates.{AreCandidates, IsCandidateIndex}
 use Rattle.exposure_search.specs.Exploring.{Exploring, exploring_of, space_size}
 
 -- The space of the proof.
@@ -16,12 +16,13 @@ abbrev pub space_of : Aim → Proving → Exploring
 space_of aim proof = exploring_of (meaning_of aim.schema.now) proof aim.queries.now aim.head.now aim.budget aim.marks
 
 -- The proof can be visited, and what is kept is right for it: the numbers are those of the marked rules, and the candidates expose the
--- relevant base facts.
+-- relevant base facts and are listed by fact.
 pub record IsAimed (aim : Aim) (proof : Proving) : Type 0 where
   pub ready : IsReady (meaning_of aim.schema.now) proof aim.facts.items aim.methods aim.bases aim.queries.now aim.head.now aim.budget
       aim.marks
   pub makers : AreTheMarked aim.marks.makers.items aim.makers.items
   pub candidates : AreCandidates aim.schema.now.methods proof.constants aim.facts.items aim.marks aim.candidates.items
+  pub index : IsCandidateIndex aim.candidates.items aim.index
 
 -- The path leads from the empty set to this one, by moves that are possible.
 abbrev pub LeadsTo : Exploring → List Move → List Bool → Type 0

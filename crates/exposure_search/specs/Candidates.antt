@@ -1,5 +1,5 @@
 -- Moves with what they ask for and what they bring, and which of them can be made where facts are exposed.
-use Rattle.std.specs.Prelude.{◌≡◌, ◌⊎◌, ◌↔◌, ◌<◌, ℕ, List, Contains, Bool, IsTrue, false, slice_get, Some}
+use Rattle.std.specs.Prelude.{◌≡◌, ◌⊎◌, ◌↔◌, ◌<◌, ℕ, List, [], Contains, Bool, IsTrue, false, slice_get, slice_index_or, Some}
 use Rattle.meaning.specs.declared.types.Method.{Method}
 use Rattle.meaning.specs.declared.types.Ground.{Ground}
 use Rattle.meaning.specs.declared.types.Val.{Val}
@@ -70,3 +70,25 @@ pub record AreMovesFrom (facts : List Ground) (set : List Bool) (below : ℕ) (c
       (candidate : Candidate) × Contains candidates candidate × (candidate.step ≡ move) × CanBeMade facts set below candidate
   pub served : (candidate : Candidate) → Contains candidates candidate → CanBeMade facts set below candidate →
       IsServed moves candidate.step
+
+-- The move is that of the candidate, and the facts hold all that it asks for.
+pub record IsMoveOf (facts : List Ground) (move : Move) (candidate : Candidate) : Type 0 where
+  pub step : candidate.step ≡ move
+  pub known : AreHeld facts candidate.asks.items
+
+-- The set lacks the move's fact, and the move is that of a candidate, where the facts hold all that it asks for.
+pub record IsOpenFrom (facts : List Ground) (set : List Bool) (candidates : List Candidate) (move : Move) : Type 0 where
+  pub lacks : slice_get set move.fact ≡ Some false
+  pub candidate : Candidate
+  pub among : Contains candidates candidate
+  pub its : IsMoveOf facts move candidate
+
+-- The numbers that are listed for a base fact.
+abbrev pub numbers_of : List (List ℕ) → ℕ → List ℕ
+numbers_of index fact = slice_index_or index fact []
+
+-- The list of each base fact has the numbers of the candidates that expose it.
+abbrev pub IsCandidateIndex : List Candidate → List (List ℕ) → Type 0
+IsCandidateIndex candidates index =
+    (number : ℕ) (candidate : Candidate) → slice_get candidates number ≡ Some candidate →
+    Contains (numbers_of index candidate.step.fact) number

@@ -17,11 +17,13 @@ use Rattle.least_search.specs.Ends.{GoesOn}
 use Rattle.exposure_search.specs.Making.{IsServed, IsExposedBy}
 use Rattle.exposure_search.specs.Exploring.{Exploring, CanExpose, GainsAt, HasGoalAt, HasMatchAt, HasTry, HasRunBeyond}
 
--- What the end of a visit says of the set, to which a path of that length leads, after so many copy firings.
+-- What the end of a visit says of the set, to which a path of that length leads, after so many copy firings. Where the units are spent, a
+-- run along the path has more.
 pub record IsVisitEnd (space : Exploring) (path : List Move) (set : List Bool) (ended : End) (fired : ℕ) : Type 0 where
   pub goal : ended ≡ end.Goal → HasMatchAt space set
   pub none : ended ≡ end.NoGoal → HasGoalAt space set → ⊥
   pub long : ended ≡ end.FiringsSpent → HasRunBeyond space
+  pub due : ended ≡ end.UnitsSpent → (firings : ℕ) × HasTry space firings (length path) × (fired < firings)
   pub run : (firings : ℕ) × HasTry space firings (length path) × (fired ≤ firings)
 
 -- The moves are possible at the set, and where the search goes on, one serves for each that is, gains something there, and costs less

@@ -8,6 +8,7 @@ ghost use Rattle.exposure_search.specs.Making.{IsBaseProof};
 ghost use Rattle.exposure_search.specs.Exploring.{exploring_of};
 ghost use Rattle.exposure_search.specs.Aims.{space_of, IsAimed};
 
+use crate::candidate_index::CandidateIndex;
 use crate::candidates::{Candidate, candidates_of};
 use crate::marks::{Marks, marked_numbers};
 use crate::relevance::relevant_facts;
@@ -19,7 +20,7 @@ use std::alloc::Global;
 
 /// What is looked for: a match of one of the queries with this head, in runs of at most `budget` firings over the schema. The base
 /// facts of these runs, how many base firings made them, the index of the schema's methods, marks of the base facts and rules on which
-/// a match can rest, the numbers of these rules, and the candidates that expose these facts.
+/// a match can rest, the numbers of these rules, the candidates that expose these facts, and which of them expose each fact.
 #[derive(Drop)]
 pub struct Aim<'a> {
     pub alloc: Global,
@@ -33,6 +34,7 @@ pub struct Aim<'a> {
     pub marks: Marks,
     pub makers: Vec<usize>,
     pub candidates: Vec<Candidate>,
+    pub index: CandidateIndex,
 }
 
 impl<'a> Aim<'a> {
@@ -67,6 +69,7 @@ impl<'a> Aim<'a> {
         )?;
         let makers = marked_numbers(alloc, marks.makers.as_slice())?;
         let candidates = candidates_of(alloc, proof, schema, &methods, facts.as_slice(), &marks)?;
+        let index = CandidateIndex::of(alloc, candidates.as_slice(), facts.len())?;
         Ok(Aim {
             alloc,
             schema,
@@ -79,6 +82,7 @@ impl<'a> Aim<'a> {
             marks,
             makers,
             candidates,
+            index,
         })
     }
 }

@@ -1,5 +1,5 @@
 // Candidate moves with what they ask for and what they bring, and those that can be made from the facts of a path.
-ghost use Rattle.std.specs.Prelude.{◌≡◌, ◌↔◌, ◌⊎◌, ◌≤◌, ℕ, List, [], Contains, IsTrue, IfOk, IfSome, IfNone, OnOk, Some, slice_get};
+ghost use Rattle.std.specs.Prelude.{◌≡◌, ◌↔◌, ◌⊎◌, ◌≤◌, ℕ, List, [], Contains, IsTrue, IfOk, IfSome, IfNone, OnOk, Some, map, slice_get};
 ghost use Rattle.meaning.specs.declared.types.Method.{Method as TheMethod};
 ghost use Rattle.meaning.specs.declared.types.Ground.{Ground as TheGround};
 ghost use Rattle.accessible_copy.specs.Known.{known_values};
@@ -9,8 +9,9 @@ ghost use Rattle.least_search.specs.declared.space.Move.{Move as TheMove};
 ghost use Rattle.exposure_search.specs.declared.candidates.Candidate.{Candidate as TheCandidate};
 ghost use Rattle.exposure_search.specs.Making.{IsServed, fact_at};
 ghost use Rattle.exposure_search.specs.Ahead.{facts_along};
-ghost use Rattle.exposure_search.specs.Candidates.{IsHeld, AreHeld, AreKnown, IsCandidateOf, AreCandidates, CanBeMade, AreMovesFrom};
+ghost use Rattle.exposure_search.specs.Candidates.{IsHeld, AreHeld, AreKnown, IsCandidateOf, AreCandidates, CanBeMade, AreMovesFrom, IsMoveOf, IsOpenFrom, IsCandidateIndex};
 
+use crate::candidate_index::CandidateIndex;
 use crate::marks::{Marks, is_clear, is_marked};
 use access_schema::Schema;
 use accessible_copy::{MethodIndex, Proof};
@@ -101,6 +102,54 @@ fn can_be_made(
         return false;
     }
     candidate.needed || !are_held(candidate.brings.as_slice(), facts, path)
+}
+
+/// The moves of all candidates.
+pub(crate) fn candidate_moves(
+    alloc: Global,
+    candidates: &[Candidate],
+) -> Result<Vec<Move>, NoMemory>
+    ensures { IfOk result (λ moves. moves.items ≡ map (λ (candidate : TheCandidate). candidate.step) candidates.now) }
+{
+    let mut moves = Vec::with_capacity(alloc, candidates.len())?;
+    for candidate in candidates {
+        moves.push(candidate.step)?;
+    }
+    Ok(moves)
+}
+
+/// Whether the set lacks the move's fact, and the facts of the path hold all that it asks for. Only the candidates of its fact are looked
+/// at.
+pub(crate) fn is_open(
+    candidates: &[Candidate],
+    index: &CandidateIndex,
+    facts: &[Ground],
+    path: &[Move],
+    set: &[bool],
+    step: &Move,
+) -> bool
+    requires { IsCandidateIndex candidates.now index.now }
+    ensures { IsTrue result ↔ IsOpenFrom (facts_along facts.now path.now) set.now candidates.now step.now }
+{
+    if !is_clear(set, step.fact) {
+        return false;
+    }
+    let numbers = index.numbers(step.fact);
+    for &number in numbers {
+        if let Some(candidate) = candidates.get(number) {
+            if is_move_of(candidate, facts, path, step) {
+                return true;
+            }
+        }
+    }
+    false
+}
+
+/// Whether the move is that of the candidate, and the facts of the path hold all that it asks for.
+fn is_move_of(candidate: &Candidate, facts: &[Ground], path: &[Move], step: &Move) -> bool
+    ensures { IsTrue result ↔ IsMoveOf (facts_along facts.now path.now) step.now candidate.now }
+{
+    candidate.step == *step && are_held(candidate.asks.as_slice(), facts, path)
 }
 
 /// Whether each of the values is held by a fact of the path.

@@ -11,6 +11,7 @@ ghost use Rattle.exposure_search.specs.Visiting.{IsReached};
 ghost use Rattle.exposure_search.specs.Spaces.{explored_is_space};
 
 use crate::aiming::Aim;
+use crate::candidates::{candidate_moves, is_open};
 use crate::visiting::{reach_set, visit_set};
 use access_schema::Schema;
 use accessible_copy::{Match, Proof};
@@ -123,6 +124,21 @@ impl<'a> Space for ExposureSpace<'a> {
 
     fn facts(&self) -> usize {
         self.aim.facts.len()
+    }
+
+    fn candidates(&self, alloc: Global) -> Result<Vec<Move>, NoMemory> {
+        candidate_moves(alloc, self.aim.candidates.as_slice())
+    }
+
+    fn is_open(&self, path: &[Move], set: &[bool], step: &Move) -> bool {
+        is_open(
+            self.aim.candidates.as_slice(),
+            &self.aim.index,
+            self.aim.facts.as_slice(),
+            path,
+            set,
+            step,
+        )
     }
 
     fn visit(

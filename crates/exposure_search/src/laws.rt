@@ -13,7 +13,7 @@ ghost use Rattle.meaning.specs.Fitting.{QueryHasConstants, Fit, RulesFit};
 ghost use Rattle.meaning.specs.Extract.{Exposure, exposed_facts, exposures_cost, IsExposing, HasGoalAfter};
 ghost use Rattle.rule_pass.specs.Levels.{AreShort};
 ghost use Rattle.least_search.specs.declared.node.Node.{Node};
-ghost use Rattle.least_search.specs.Walks.{CanGain, IsNode};
+ghost use Rattle.least_search.specs.Walks.{CanGain, IsNode, GoalsGrow};
 ghost use Rattle.least_search.specs.Costs.{IsLeastCost, AreRunsWithin};
 ghost use Rattle.exposure_search.specs.Tries.{exposures_in};
 ghost use Rattle.exposure_search.specs.Exploring.{Exploring, space_size, CanExpose, GainsAt, HasGoalAt, HasMatchAt, HasTry, IsFounded};
@@ -55,4 +55,14 @@ pub fn match_is_goal()
         AreNamed space.constants space.base.next space.base.facts → Fit space.schema space.base.facts →
         ((v : Val) → Contains space.head v → IsNamed space.constants space.base.next v) →
         HasMatchAt space set → HasGoalAt space set }
+{}
+
+/// A goal of a set is one of each larger set, where rules are not recursive, rules and queries have known constants, and the base facts
+/// are named and fit.
+pub fn goals_grow()
+    ensures { (space : Exploring) → AreShort space.schema.rules → RulesFit space.schema space.constants →
+        ((query : Query) → Contains space.queries query → QueryHasConstants space.constants query) →
+        AreNamed space.constants space.base.next space.base.facts → Fit space.schema space.base.facts →
+        ((v : Val) → Contains space.head v → IsNamed space.constants space.base.next v) →
+        GoalsGrow (HasGoalAt space) }
 {}

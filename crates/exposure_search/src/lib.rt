@@ -5,6 +5,7 @@
 #![tactic(auto)]
 
 mod aiming;
+mod candidate_index;
 mod candidates;
 mod exposure_space;
 mod founding;

@@ -4,6 +4,7 @@ ghost use Rattle.meaning.specs.declared.types.Query.{Query};
 ghost use Rattle.meaning.specs.Triggers.{IsQuiet};
 ghost use Rattle.meaning.specs.Runs.{HasGoal, copy_state};
 ghost use Rattle.access_schema.specs.Meaning.{meaning_of};
+ghost use Rattle.rule_pass.specs.States.{SomeActive};
 ghost use Rattle.rule_pass.specs.declared.pass.TheConstants.{MOST_FIRINGS};
 ghost use Rattle.accessible_copy.specs.declared.settling.Round.TheVariants.{Quiet, Done, Spent};
 ghost use Rattle.accessible_copy.specs.Proving.{IsProofOf};
@@ -48,6 +49,7 @@ pub(crate) fn look(
     ensures fired { IfOk result (λ seen. length proof.old.entries + seen.1 ≡ length proof.new.entries) }
     ensures room { IfOk result (λ seen. seen.1 ≤ room) }
     ensures spent { IfOk result (λ seen. seen.0 ≡ end.UnitsSpent → seen.1 ≡ room) }
+    ensures due { IfOk result (λ seen. seen.0 ≡ end.UnitsSpent → SomeActive schema.now.rules (copy_state proof.new.end)) }
 {
     let before = mark(proof).firings;
     if before > u64::from(budget) {

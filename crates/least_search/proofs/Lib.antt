@@ -4,6 +4,7 @@ pub mod Packing
 pub mod Queues
 pub mod Searched
 pub mod Counts
+pub mod Cutting
 pub mod Least
 pub mod Steps
 pub mod Keeping

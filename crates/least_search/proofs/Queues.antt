@@ -36,18 +36,18 @@ module _ (waiter : Reverse Waiter) (before after : List (Reverse Waiter)) (same 
   pub pop_only : (other : Waiter) → Contains (waiters_of after) other → Contains (waiters_of before) other
   pop_only other there = permuted (waiter ∷ after) before other (IsPermutation-sym before (waiter ∷ after) same) (contains_there waiter.0 (waiters_of after) other there)
 
--- what is not turned below another costs no more
-not_dearer : (waiter other : Waiter) → is_lt (ordering_then (nat_cmp other.cost waiter.cost) (nat_cmp other.number waiter.number)) ≡ false → waiter.cost ≤ other.cost
-not_dearer waiter other low = ge_from_not_lt other.cost waiter.cost (by (nat_cmp other.cost waiter.cost) low)
+-- what is not turned below another has no greater sum
+not_dearer : (waiter other : Waiter) → is_lt (turned_cmp (record { 0 = waiter }) (record { 0 = other })) ≡ false → waiter.sum ≤ other.sum
+not_dearer waiter other low = ge_from_not_lt other.sum waiter.sum (by (nat_cmp other.sum waiter.sum) low)
   where
-    by : (o : Ordering) → is_lt (ordering_then o (nat_cmp other.number waiter.number)) ≡ false → is_lt o ≡ false
+    by : (o : Ordering) → is_lt (ordering_then o (ordering_then (nat_cmp other.rest waiter.rest) (nat_cmp other.number waiter.number))) ≡ false → is_lt o ≡ false
     by Less e = e
     by Equal e = refl
     by Greater e = refl
 
--- no waiter of the heap costs less than one that is not below any
-pub pop_least : (waiter : Reverse Waiter) (after : List (Reverse Waiter)) → IsUpperBound turned_cmp waiter after → (other : Waiter) → Contains (waiters_of after) other → waiter.0.cost ≤ other.cost
+-- no waiter of the heap has a lesser sum than one that is not below any
+pub pop_least : (waiter : Reverse Waiter) (after : List (Reverse Waiter)) → IsUpperBound turned_cmp waiter after → (other : Waiter) → Contains (waiters_of after) other → waiter.0.sum ≤ other.sum
 pop_least waiter [] above other there = absurd (omega arith)
 pop_least waiter (first ∷ after) above other there =
-    ⊎_elim (λ e. subst (λ (x : Waiter). waiter.0.cost ≤ x.cost) e (not_dearer waiter.0 first.0 above.0))
+    ⊎_elim (λ e. subst (λ (x : Waiter). waiter.0.sum ≤ x.sum) e (not_dearer waiter.0 first.0 above.0))
     (λ later. pop_least waiter after above.1 other later) (contains_cases first.0 (waiters_of after) other there)

@@ -1,8 +1,12 @@
 -- What a search answers: the least cost of a walk to a goal, and how many units serve for it.
-use Rattle.std.specs.Prelude.{ℕ, ◌+◌, ◌*◌, ◌^◌, ◌≤◌, List, Bool, Option, Some, None}
+use Rattle.std.specs.Prelude.{◌≡◌, ℕ, ◌+◌, ◌*◌, ◌^◌, ◌<◌, ◌≤◌, List, [], ◌∷◌, Contains, length, map, Bool, Option, Some, None}
+use Rattle.meaning.specs.Search.{AreDistinct}
 use Rattle.least_search.specs.declared.space.Move.{Move}
 use Rattle.least_search.specs.declared.node.Node.{Node}
+use Rattle.least_search.specs.declared.cuts.Cut.{Cut}
 use Rattle.least_search.specs.Walks.{IsWalk, walk_cost, no_facts}
+use Rattle.least_search.specs.Ways.{Way, IsWay}
+use Rattle.least_search.specs.Cuts.{sum_of}
 
 -- No walk from the empty set to a set with a goal costs less.
 abbrev pub IsLeastCost : ℕ → (List Bool → Move → Type 0) → (List Bool → Type 0) → ℕ → Type 0
@@ -17,6 +21,22 @@ best_cost bound (Some node) = node.cost
 -- Every run has at most m firings, at most n of them exposures.
 abbrev pub AreRunsWithin : (ℕ → ℕ → Type 0) → ℕ → ℕ → Type 0
 AreRunsWithin HasRun m n = (firings exposures : ℕ) → HasRun firings exposures → (firings ≤ m) × (exposures ≤ n)
+
+-- So many units can be spent on the sets of these ways: one on each, and one on each firing of a run along its way.
+abbrev pub CanSpend : (ℕ → ℕ → Type 0) → List Way → ℕ → Type 0
+CanSpend HasRun [] units = units ≡ 0
+CanSpend HasRun (way ∷ ways) units = (firings others : ℕ) × HasRun firings (length way.path) ×
+    (units ≤ 1 + firings + others) × CanSpend HasRun ways others
+
+-- More units are wanted than there are: they can be spent on different sets, to each of which a walk leads whose cost, with what is
+-- still to be paid there, is below the bound.
+pub record IsSpent (n : ℕ) (CanMove : List Bool → Move → Type 0) (HasRun : ℕ → ℕ → Type 0) (cuts : List Cut)
+    (bound search : ℕ) : Type 0 where
+  pub ways : List Way
+  pub walks : (way : Way) → Contains ways way → IsWay n CanMove way
+  pub low : (way : Way) → Contains ways way → sum_of cuts way < bound
+  pub distinct : AreDistinct (map (λ (way : Way). way.set) ways)
+  pub wanted : CanSpend HasRun ways (search + 1)
 
 -- Every run has at most m firings, at most n of them exposures, and so many units serve for all sets of n exposures.
 pub record IsEnough (HasRun : ℕ → ℕ → Type 0) (search m n : ℕ) : Type 0 where

@@ -2,6 +2,8 @@ pub mod Walks
 pub mod Ways
 pub mod Ends
 pub mod Costs
+pub mod Cuts
+pub mod Sides
 pub mod Paths
 pub mod Packing
 pub mod Queues

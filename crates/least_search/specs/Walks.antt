@@ -39,6 +39,10 @@ IsSubset [] (large ∷ larges) = ⊥
 IsSubset (small ∷ smalls) [] = ⊥
 IsSubset (small ∷ smalls) (large ∷ larges) = (small ≡ true → large ≡ true) × IsSubset smalls larges
 
+-- A set that holds one with a goal has a goal.
+abbrev pub GoalsGrow : (List Bool → Type 0) → Type 0
+GoalsGrow HasGoal = (set larger : List Bool) → HasGoal set → IsSubset set larger → HasGoal larger
+
 -- A move adds a fact that is not in the set, and is possible at each larger set without that fact; and each walk from the
 -- empty set is a run with as many exposures as it has moves.
 pub record IsSpace (n : ℕ) (CanMove : List Bool → Move → Type 0) (HasRun : ℕ → ℕ → Type 0) : Type 0 where

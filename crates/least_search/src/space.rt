@@ -1,5 +1,5 @@
 // What a search goes over: sets of numbered facts, and moves that add a fact each.
-ghost use Rattle.std.specs.Prelude.{◌≡◌, ◌+◌, ◌<◌, ◌^◌, ◌≤◌, List, Bool, ℕ, Contains, length};
+ghost use Rattle.std.specs.Prelude.{◌≡◌, ◌+◌, ◌<◌, ◌^◌, ◌≤◌, ◌↔◌, List, Bool, ℕ, Contains, IsTrue, length};
 ghost use Rattle.std.specs.Result.{IfOk, OnOk};
 ghost use Rattle.least_search.specs.declared.space.Move.{Move};
 ghost use Rattle.least_search.specs.declared.space.End.TheVariants as end;
@@ -7,6 +7,7 @@ ghost use Rattle.least_search.specs.Walks.{IsWalk, IsSpace, no_facts};
 ghost use Rattle.least_search.specs.Ends.{GoesOn};
 
 use lists::NoMemory;
+use std::alloc::Global;
 
 /// One fact that is added, by a method, at a cost. Facts and methods count from 0.
 #[derive(Clone, Copy, Debug, PartialEq, Eq)]
@@ -64,6 +65,15 @@ pub trait Space {
     fn facts(&self) -> usize
         ensures { result ≡ size self.now };
 
+    /// Moves among which is each that is possible at some set.
+    fn candidates(&self, alloc: Global) -> Result<Vec<Move>, NoMemory>
+        ensures { IfOk result (λ moves. (set : List Bool) (move : Move) → CanMove self.now set move → Contains moves.items move) };
+
+    /// Whether the move is possible at the set, to which the path leads from the empty set.
+    fn is_open(&self, path: &[Move], set: &[bool], step: &Move) -> bool
+        requires { IsWalk (CanMove self.now) (no_facts (size self.now)) path.now set.now }
+        ensures { IsTrue result ↔ CanMove self.now set.now step.now };
+
     /// Goes along the path to the set, settles it with at most `room` firings, looks for a match, and lists the moves from
     /// the set that gain something and cost less than `below`; of the moves that add the same fact, one of least cost will do.
     /// The path leads from the empty set to `set`.
@@ -81,6 +91,7 @@ pub trait Space {
         ensures long { IfOk result (λ visit. visit.end ≡ end.FiringsSpent → HasLongRun self.old) }
         ensures room { IfOk result (λ visit. visit.fired ≤ room) }
         ensures spent { IfOk result (λ visit. visit.end ≡ end.UnitsSpent → visit.fired ≡ room) }
+        ensures due { IfOk result (λ visit. visit.end ≡ end.UnitsSpent → (firings : ℕ) × HasRun self.old firings (length path.now) × (room < firings)) }
         ensures run { IfOk result (λ visit. (firings : ℕ) × HasRun self.old firings (length path.now) × (visit.fired ≤ firings)) }
         ensures possible { IfOk result (λ visit. (move : Move) → Contains visit.moves.items move → CanMove self.old set.now move) }
         ensures complete { IfOk result (λ visit. GoesOn visit.end → (move : Move) → CanMove self.old set.now move →

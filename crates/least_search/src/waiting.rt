@@ -1,4 +1,4 @@
-// Paths that wait to be looked at, the cheapest first.
+// Paths that wait to be looked at, the least sum first.
 ghost use Rattle.std.specs.Prelude.{◌≡◌, ◌⊎◌, ◌+◌, ◌≤◌, [], Contains, length};
 ghost use Rattle.std.specs.Result.{OnOk};
 ghost use Rattle.std.specs.Option.{IfSome, IfNone, OnSome};
@@ -10,11 +10,13 @@ use std::cmp::Reverse;
 use std::collections::BinaryHeap;
 use std::marker::Model;
 
-/// The number of a path that waits, with its cost, by which it is compared. Of two that cost the same the first made comes first:
-/// paths that go on from one path follow one another.
+/// The number of a path that waits, with what is still to be paid at its set, and the sum of that and its cost. The least sum comes first,
+/// and of equal sums the greatest cost. Of two that cost the same the first made comes first: paths that go on from one path follow one
+/// another.
 #[derive(Clone, Copy, Debug, PartialEq, Eq, PartialOrd, Ord)]
 pub(crate) struct Waiter {
-    pub(crate) cost: u64,
+    pub(crate) sum: u64,
+    pub(crate) rest: u64,
     pub(crate) number: usize,
 }
 
@@ -55,10 +57,10 @@ impl Waiting {
         Ok(())
     }
 
-    /// Takes a waiter of the least cost.
+    /// Takes a waiter with the least sum.
     pub(crate) fn pop(&mut self) -> Option<Waiter>
         ensures among { IfSome result (λ waiter. Contains self.old waiter) }
-        ensures least { IfSome result (λ waiter. (other : TheWaiter) → Contains self.new other → waiter.cost ≤ other.cost) }
+        ensures least { IfSome result (λ waiter. (other : TheWaiter) → Contains self.new other → waiter.sum ≤ other.sum) }
         ensures stay { IfSome result (λ waiter. (other : TheWaiter) → Contains self.old other → (waiter ≡ other) ⊎ Contains self.new other) }
         ensures only { IfSome result (λ waiter. (other : TheWaiter) → Contains self.new other → Contains self.old other) }
         ensures shorter { OnSome result (length self.new + 1 ≡ length self.old) }

@@ -29,10 +29,11 @@ use Rattle.access_cost.specs.declared.least.Least.TheVariants as known_cost
 use Rattle.least_search.specs.declared.space.Move.{Move}
 use Rattle.least_search.specs.declared.search.Ended.{Ended}
 use Rattle.least_search.specs.declared.search.Ended.TheVariants as ended
-use Rattle.least_search.specs.Walks.{CanGain, IsNode, walk_cost}
+use Rattle.least_search.specs.Walks.{CanGain, GoalsGrow, IsNode, walk_cost}
 use Rattle.least_search.specs.Costs.{IsLeastCost, IsEnough as ServesRuns}
 use Rattle.exposure_search.specs.Exploring.{Exploring, exploring_of, IsFounded, space_size, CanExpose, GainsAt, HasGoalAt, HasMatchAt, HasTry, IsRunBeyond, HasRunBeyond}
 use Rattle.exposure_search.proofs.Explored.{least_found, tries_within, match_goal}
+use Rattle.exposure_search.proofs.Growing.{goals_grown}
 use Rattle.accessible_copy.specs.Proving.{Proving, IsProofOf}
 use Rattle.accessible_copy.specs.Goals.{IsGoal}
 use Rattle.exposure_search.specs.Visiting.{IsReached}
@@ -104,6 +105,12 @@ module _ (schema : SchemaParts) (queries : List Query) (query : Query) (firings 
         match_goal space set (subst (λ s. RulesFit s space.constants) (sym is.schema_is) rules) (λ q among. have q (subst (λ list. Contains list q) is.queries_are among)) base_is.named
         (subst (λ s. Fit s space.base.facts) (sym is.schema_is) base_is.fits) (λ v c. base_is.head_named v (subst (λ head. Contains head v) is.head c)) has
 
+    -- a goal of a set is one of each larger set
+    pub goals_at : AreShort schema.rules → GoalsGrow (HasGoalAt space)
+    goals_at short =
+        goals_grown space (subst (λ (s : SchemaParts). AreShort s.rules) (sym is.schema_is) short) (subst (λ s. RulesFit s space.constants) (sym is.schema_is) rules) (λ q among. have q (subst (λ list. Contains list q) is.queries_are among)) base_is.named
+        (subst (λ s. Fit s space.base.facts) (sym is.schema_is) base_is.fits) (λ v c. base_is.head_named v (subst (λ head. Contains head v) is.head c))
+
     -- where a set with a match is not reached, some run is too long
     pub not_reached : (set : List Bool) → HasMatchAt space set → HasRunBeyond space ⊎ (HasGoalAt space set → ⊥) → HasLongRun schema space.constants firings query
     not_reached set has none = ⊎_elim long_run (λ refuted. absurd (refuted (goal_at set has))) none
@@ -166,6 +173,11 @@ module _ (question : Question) (is : IsQuestion question) (space : Exploring) (i
     said = subst (λ known. IsSaidFor (meaning_of question.schema.now) known question.queries.now question.firings search question.query.now branch least) its.constants
         (said_here search branch best costs end least shown spent long is_least none beyond);
   }
+
+  pub goals_here : GoalsGrow (HasGoalAt space)
+  goals_here =
+      let can = searchable question.query.now is.among in
+      goals_at (meaning_of question.schema.now) question.queries.now question.query.now question.firings space its.of_query fits_rules (λ q there. (searchable q there).constants) can.fits can.constants (are_short question.schema.now.rules (orderly question.schema.now).non_recursive)
 
   -- a set with a match that is not reached
   pub not_reached_here : (set : List Bool) → HasMatchAt space set → HasRunBeyond space ⊎ (HasGoalAt space set → ⊥) → HasLongRun (meaning_of question.schema.now) question.known.now question.firings question.query.now

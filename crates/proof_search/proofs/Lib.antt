@@ -4,4 +4,5 @@ pub mod Searching
 pub mod Found
 pub mod Formed
 pub mod Cheaper
+pub mod ClosedQueries
 mod Parts

@@ -1,5 +1,6 @@
 -- The branch that is chosen for a query, and what is known of its cost.
-use Rattle.std.specs.Prelude.{◌≡◌, ℕ, ◌≤◌, List}
+use Rattle.std.specs.Prelude.{◌≡◌, ℕ, ◌<◌, ◌≤◌, List}
+use Rattle.std.specs.Option.{IfSome}
 use Rattle.meaning.specs.declared.types.SchemaParts.{SchemaParts}
 use Rattle.meaning.specs.declared.types.Query.{Query}
 use Rattle.meaning.specs.declared.types.Branch.{Branch}
@@ -7,7 +8,11 @@ use Rattle.meaning.specs.Values.{Value}
 use Rattle.meaning.specs.Costs.{IsCost}
 use Rattle.meaning.specs.Extract.{IsQueryRival}
 use Rattle.meaning.specs.Runs.{opening, frozen_head}
-use Rattle.exposure_search.specs.Exploring.{Exploring, IsFounded}
+use Rattle.least_search.specs.declared.search.Ended.TheVariants as ended
+use Rattle.least_search.specs.declared.search.Outcome.{Outcome}
+use Rattle.least_search.specs.Walks.{CanGain, IsNode}
+use Rattle.least_search.specs.Costs.{IsLeastCost, IsEnough, best_cost}
+use Rattle.exposure_search.specs.Exploring.{Exploring, IsFounded, space_size, CanExpose, GainsAt, HasGoalAt, HasMatchAt, HasTry, HasRunBeyond}
 use Rattle.access_cost.specs.declared.least.Least.{Least}
 use Rattle.access_cost.specs.declared.least.Least.TheVariants.{Shown, SearchSpent, FiringsSpent}
 use Rattle.proof_search.specs.declared.outcome.Choice.{Choice}
@@ -32,6 +37,15 @@ pub record IsSpaceOf (schema : SchemaParts) (queries : List Query) (query : Quer
   pub head : space.head ≡ frozen_head query
   pub budget : space.budget ≡ firings
   pub founded : IsFounded space
+
+-- What a search of the space has found costs less than the bound, and what its end says is so: no walk to a goal costs less than what
+-- was found, or than the bound; or no pair of numbers is enough for the units; or some run is longer than the budget.
+pub record IsFound (space : Exploring) (bound search : ℕ) (outcome : Outcome) : Type 0 where
+  pub better : IfSome outcome.better (λ node. IsNode (space_size space) (CanExpose space) node × HasMatchAt space node.set.items × (node.cost < bound))
+  pub shown : outcome.ended ≡ ended.Shown →
+      IsLeastCost (space_size space) (CanGain (CanExpose space) (GainsAt space)) (HasGoalAt space) (best_cost bound outcome.better)
+  pub spent : (units : ℕ) → outcome.ended ≡ ended.SearchSpent units → (m n : ℕ) → IsEnough (HasTry space) search m n → ⊥
+  pub firings : outcome.ended ≡ ended.FiringsSpent → HasRunBeyond space
 
 -- What is said of the cost of a query's branch is so: no rival costs less; or all units of the search were spent, and no pair was
 -- enough; or some run of the query is longer than the budget of firings.

@@ -9,6 +9,7 @@ ghost use Rattle.proof_search.specs.Outcomes.{IsQueryOutcome, IsWithoutGoal, IsO
 ghost use Rattle.proof_search.specs.Questions.{IsQuestion, IsSearchFor, IsOutcomeOn};
 
 use crate::attempting::attempted;
+use crate::bounding::bounded;
 use crate::choosing::choose;
 use crate::exposing::Turn;
 use crate::outcome::{Outcome, QueryOutcome};
@@ -98,7 +99,7 @@ fn outcome_for(
 {
     if let Some(first) = attempted(alloc, question, search)? {
         let choice = choose(alloc, question, first, search)?;
-        return Ok(QueryOutcome::Branch(choice));
+        return Ok(QueryOutcome::Branch(bounded(alloc, question, choice, search)?));
     }
     let (proof, quiet) = prove(alloc, question, Turn::All)?;
     let outcome = outcome_of(alloc, question, &proof, quiet, search);
@@ -125,7 +126,7 @@ fn outcome_of(
         Some(first) => {
             let branch = spare(alloc, question, first, proof.sizes().base, search)?;
             let choice = choose(alloc, question, branch, search)?;
-            Ok(QueryOutcome::Branch(choice))
+            Ok(QueryOutcome::Branch(bounded(alloc, question, choice, search)?))
         }
         None => without_goal(alloc, proof, quiet, question.known, question.head),
     }

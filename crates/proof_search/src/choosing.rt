@@ -1,15 +1,15 @@
 // The branch of a query that costs the least.
-ghost use Rattle.std.specs.Prelude.{◌≡◌, ℕ, IfOk};
+ghost use Rattle.std.specs.Prelude.{◌≡◌, ℕ, IfOk, OnOk};
 ghost use Rattle.std.specs.Option.{IfSome, IfNone};
 ghost use Rattle.meaning.specs.Runs.{opening};
 ghost use Rattle.access_schema.specs.Meaning.{meaning_of};
 ghost use Rattle.access_cost.specs.declared.least.Least.TheVariants as least;
 ghost use Rattle.least_search.specs.declared.search.Ended.TheVariants as ended;
-ghost use Rattle.least_search.specs.Walks.{IsNode};
+ghost use Rattle.least_search.specs.Walks.{GoalsGrow, IsNode};
 ghost use Rattle.exposure_search.specs.Making.{IsBaseProof};
-ghost use Rattle.exposure_search.specs.Exploring.{space_size, CanExpose, HasMatchAt};
+ghost use Rattle.exposure_search.specs.Exploring.{space_size, CanExpose, HasGoalAt, HasMatchAt};
 ghost use Rattle.proof_search.specs.Chosen.{HasLongRun};
-ghost use Rattle.proof_search.specs.Choices.{CostsAtMost};
+ghost use Rattle.proof_search.specs.Choices.{CostsAtMost, IsFound};
 ghost use Rattle.proof_search.specs.Questions.{IsQuestion, IsBranchOn, IsSpaceOn, IsChoiceOn};
 
 use crate::outcome::Choice;
@@ -17,7 +17,7 @@ use crate::question::Question;
 use access_cost::{Least, cost};
 use accessible_copy::Proof;
 use exposure_search::{ExposureSpace, base_proof};
-use least_search::{Ended, Node, Outcome, cheapest};
+use least_search::{Ended, Node, Outcome, cheapest, find_cuts};
 use lists::NoMemory;
 use meaning::types::Branch;
 use plan_extract::extract_arranged;
@@ -25,7 +25,7 @@ use std::alloc::Global;
 
 /// The first branch of a query, or one that costs less, and what is known of its cost.
 ///
-/// The sets of exposures after the base firings of the query's proof are searched, with `search` units.
+/// The sets of exposures after the base firings of the query's proof are searched, with `search` units, and with cuts.
 pub fn choose(
     alloc: Global,
     question: &Question<'_>,
@@ -79,7 +79,7 @@ fn choose_over(
         firings,
     )?;
     // a drop that is written out is proved as one call, and one at the end of a scope as a call for each list in the value
-    let Ok(Outcome { better, ended }) = cheapest(alloc, &mut space, bound, search as u64) else {
+    let Ok(Outcome { better, ended }) = search_below(alloc, &mut space, bound, search as u64) else {
         drop(space);
         return Err(NoMemory);
     };
@@ -98,6 +98,25 @@ fn choose_over(
             least: Least::FiringsSpent { firings },
         }),
     }
+}
+
+/// Searches the space for a match at less than the bound, with cuts that are found before. Finding them spends no unit, and makes at most
+/// `search` visits: with no unit to search with there are no cuts.
+pub(crate) fn search_below(
+    alloc: Global,
+    space: &mut ExposureSpace<'_>,
+    bound: u64,
+    search: u64,
+) -> Result<Outcome, NoMemory>
+    requires { GoalsGrow (HasGoalAt space.old) }
+    ensures back { OnOk result (space.new ≡ space.old) }
+    ensures found { IfOk result (IsFound space.old bound search) }
+{
+    let cuts = find_cuts(alloc, space, bound, search)?;
+    let found = cheapest(alloc, space, cuts.as_slice(), bound, search);
+    // written out for its proof, as in `choose_over`
+    drop(cuts);
+    Ok(found?)
 }
 
 /// What the end of a search says.

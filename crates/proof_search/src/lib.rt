@@ -5,6 +5,7 @@
 #![tactic(auto)]
 
 mod attempting;
+mod bounding;
 mod branches;
 mod choosing;
 mod deciding;

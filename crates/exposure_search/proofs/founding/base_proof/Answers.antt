@@ -1,6 +1,5 @@
 use Rattle.std.proofs.Common.{◌≡◌, Ok, ap, ◌∙◌, subst}
-use Rattle.meaning.specs.declared.types.Query.{Query}
-use Rattle.meaning.specs.Runs.{Proof, opening}
+use Rattle.meaning.specs.Runs.{opening}
 use Rattle.access_schema.specs.Meaning.{meaning_of}
 use Rattle.accessible_copy.specs.Proving.{Proving}
 use Rattle.exposure_search.specs.Making.{IsBaseProof}

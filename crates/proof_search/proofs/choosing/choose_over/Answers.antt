@@ -7,12 +7,17 @@ use Rattle.least_search.specs.Costs.{IsLeastCost, best_cost}
 use Rattle.exposure_search.specs.Exploring.{space_size, CanExpose, GainsAt, HasGoalAt}
 use Rattle.proof_search.specs.Choices.{CostsAtMost}
 use Rattle.proof_search.specs.Questions.{IsBranchOn, IsSpaceOn}
-use Rattle.proof_search.proofs.Cheaper.{space_on, chosen_on}
+use Rattle.proof_search.proofs.Cheaper.{space_on, goals_here, chosen_on}
 use Rattle.proof_search.proofs.choosing.choose_over.Goals as goal
 
 pub cost-bound-requires-clause-named : goal.cost-bound-requires-clause-named
 cost-bound-requires-clause-named c =
     let question = c.args.question.now in lawful_named (meaning_of question.schema.now) question.known.now 0 c.args.first.steps c.args.first.output c.requires.first.rival.lawful
+
+pub search_below-requires : goal.search_below-requires
+search_below-requires c =
+    let question = c.args.question.now in
+    goals_here question c.requires.question c.in_ok-space.space (space_on question c.requires.question c.args.base c.requires.start c.requires.constants c.in_ok-space.space c.in_ok-space.ensures.space c.in_ok-space.ensures.founded)
 
 pub returns-in_default-better : goal.returns-in_default-better
 returns-in_default-better c =
@@ -23,8 +28,8 @@ returns-in_default-better c =
     let costs : CostsAtMost (meaning_of question.schema.now) c.args.first c.cost-bound.result = (c.cost-bound.result, c.cost-bound.ensures, omega arith) in
     chosen_on question c.requires.question space its c.args.search c.args.first c.least_of-least.result c.requires.first c.cost-bound.result costs c.in-Ok.field-0.ended
     c.least_of-least.ensures.shown c.least_of-least.ensures.search c.least_of-least.ensures.firings
-    (λ end. subst (λ (b : Option Node). IsLeastCost (space_size space) (CanGain (CanExpose space) (GainsAt space)) (HasGoalAt space) (best_cost c.cost-bound.result b)) found (c.in-Ok.ensures.shown end))
-    c.in-Ok.ensures.search c.in-Ok.ensures.firings
+    (λ end. subst (λ (b : Option Node). IsLeastCost (space_size space) (CanGain (CanExpose space) (GainsAt space)) (HasGoalAt space) (best_cost c.cost-bound.result b)) found (c.in-Ok.ensures.found.shown end))
+    c.in-Ok.ensures.found.spent c.in-Ok.ensures.found.firings
 
 pub cheaper-requires-clause-space : goal.cheaper-requires-clause-space
 cheaper-requires-clause-space c =
@@ -41,5 +46,5 @@ returns-in-Some-2 c =
     let costs : CostsAtMost (meaning_of question.schema.now) c.in-Some-2.branch c.in-Some.node.cost = rw c.in-Some-2.is at c.in_ok-branch.ensures.cost in
     chosen_on question c.requires.question space its c.args.search c.in-Some-2.branch c.least_of-least.result one c.in-Some.node.cost costs c.in-Ok.field-0.ended
     c.least_of-least.ensures.shown c.least_of-least.ensures.search c.least_of-least.ensures.firings
-    (λ end. subst (λ (b : Option Node). IsLeastCost (space_size space) (CanGain (CanExpose space) (GainsAt space)) (HasGoalAt space) (best_cost c.cost-bound.result b)) found (c.in-Ok.ensures.shown end))
-    c.in-Ok.ensures.search c.in-Ok.ensures.firings
+    (λ end. subst (λ (b : Option Node). IsLeastCost (space_size space) (CanGain (CanExpose space) (GainsAt space)) (HasGoalAt space) (best_cost c.cost-bound.result b)) found (c.in-Ok.ensures.found.shown end))
+    c.in-Ok.ensures.found.spent c.in-Ok.ensures.found.firings

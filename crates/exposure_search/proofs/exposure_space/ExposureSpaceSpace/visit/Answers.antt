@@ -1,4 +1,4 @@
-use Rattle.std.proofs.Common.{sym, subst}
+use Rattle.std.proofs.Common.{sym, subst, arith}
 use Rattle.std.specs.Prelude.{IfOk}
 use Rattle.std.proofs.lemmas.Result.{IfOk-weaker}
 use Rattle.least_search.specs.Walks.{no_facts}
@@ -51,4 +51,11 @@ returns-clause-possible c =
 pub returns-clause-complete : goal.returns-clause-complete
 returns-clause-complete c =
     IfOk-weaker c.visit_set.result (IsVisit c.args.self.now c.args.path.now c.args.set.now c.args.room c.args.below) _ (λ visit is. is.moves.complete)
+    (subst (λ s. IfOk c.visit_set.result (IsVisit s c.args.path.now c.args.set.now c.args.room c.args.below)) c.self.view_is c.visit_set.ensures.visit)
+
+pub returns-clause-due : goal.returns-clause-due
+returns-clause-due c =
+    IfOk-weaker c.visit_set.result (IsVisit c.args.self.now c.args.path.now c.args.set.now c.args.room c.args.below) _ (λ visit is e.
+    let (firings, tried, more) = is.ended.due e in
+    let all = is.spent e in (firings, tried, omega arith))
     (subst (λ s. IfOk c.visit_set.result (IsVisit s c.args.path.now c.args.set.now c.args.room c.args.below)) c.self.view_is c.visit_set.ensures.visit)

@@ -1,0 +1,67 @@
+-- What a search over a query closed under the rules says of the query.
+use Rattle.std.proofs.Common.{◌≡◌, ℕ, List, map, sym, ap, ◌∙◌, subst}
+use Rattle.std.specs.Prelude.{Contains}
+use Rattle.meaning.specs.declared.types.Branch.{Branch}
+use Rattle.meaning.specs.declared.types.Query.{Query}
+use Rattle.meaning.specs.declared.types.Val.TheVariants.{Const, Label}
+use Rattle.meaning.specs.Values.{Value}
+use Rattle.meaning.specs.Matching.{value_of}
+use Rattle.meaning.specs.Runs.{opening}
+use Rattle.meaning.specs.Fitting.{RulesFit, QueryFits, QueryHasConstants}
+use Rattle.access_schema.specs.Meaning.{meaning_of}
+use Rattle.access_schema.proofs.Keeping.{well_formed, rules_fit}
+use Rattle.rule_pass.proofs.Bounds.{orderly}
+use Rattle.rule_pass.proofs.Chains.{are_short}
+use Rattle.least_search.specs.Walks.{CanGain, GoalsGrow}
+use Rattle.least_search.specs.Costs.{IsLeastCost}
+use Rattle.accessible_copy.specs.Proving.{Proving}
+use Rattle.exposure_search.specs.Exploring.{Exploring, exploring_of, IsFounded, space_size, CanExpose, GainsAt, HasGoalAt}
+use Rattle.small_base.specs.Closed.{IsClosed}
+use Rattle.small_base.proofs.Refuting.{rivals_of_more}
+use Rattle.proof_search.specs.Choices.{IsLeastFor, CostsAtMost, IsSpaceOf}
+use Rattle.proof_search.specs.declared.question.Question.{Question}
+use Rattle.proof_search.specs.Questions.{IsQuestion}
+use Rattle.proof_search.proofs.Cheaper.{goals_at, least_for}
+
+module _ (question : Question) (is : IsQuestion question) (more : Query) (closed : IsClosed (meaning_of question.schema.now) question.query.now more) where
+  pub fits_more : QueryFits (meaning_of question.schema.now) more
+  fits_more = closed.fits (is.queries question.query.now is.among).fits
+
+  known_rules : RulesFit (meaning_of question.schema.now) question.known.now
+  known_rules = rules_fit question.schema.now question.known.now is.known
+
+  known_more : QueryHasConstants question.known.now more
+  known_more = closed.constants question.known.now known_rules.have (is.queries question.query.now is.among).constants
+
+  module _ (base : Proving) (start : base.start ≡ opening more) (constants : base.constants ≡ question.known.now) (space : Exploring)
+      (e : space ≡ exploring_of (meaning_of question.schema.now) base question.queries.now question.head.now question.firings space.marks) (founded : IsFounded space) where
+    space_over : IsSpaceOf (meaning_of question.schema.now) question.queries.now more question.firings space
+    space_over = record {
+      schema_is = ap (λ (x : Exploring). x.schema) e;
+      start = ap (λ (x : Exploring). x.start) e ∙ start;
+      queries_are = ap (λ (x : Exploring). x.queries) e;
+      head = ap (λ (x : Exploring). x.head) e ∙ is.head ∙ ap (map (value_of Const Label)) (sym closed.more_atoms.head);
+      budget = ap (λ (x : Exploring). x.budget) e;
+      founded = founded;
+    }
+
+    known_is : question.known.now ≡ space.constants
+    known_is = sym (ap (λ (x : Exploring). x.constants) e ∙ constants)
+
+    -- a goal of a set is one of each larger set
+    pub goals_over : GoalsGrow (HasGoalAt space)
+    goals_over =
+        goals_at (meaning_of question.schema.now) question.queries.now more question.firings space space_over (subst (λ known. RulesFit (meaning_of question.schema.now) known) known_is known_rules)
+        (λ q among. subst (λ known. QueryHasConstants known q) known_is (is.queries q among).constants) fits_more (subst (λ known. QueryHasConstants known more) known_is known_more)
+        (are_short question.schema.now.rules (orderly question.schema.now).non_recursive)
+
+    -- over the closed query, and so over the query
+    pub least_over : (best : ℕ) → IsLeastCost (space_size space) (CanGain (CanExpose space) (GainsAt space)) (HasGoalAt space) best → (branch : Branch) → CostsAtMost (meaning_of question.schema.now) branch best →
+        IsLeastFor (meaning_of question.schema.now) question.known.now question.queries.now question.query.now branch
+    least_over best least branch costs rival cost other is_rival cost_is other_is =
+        let over : IsLeastFor (meaning_of question.schema.now) space.constants question.queries.now more branch =
+        least_for (meaning_of question.schema.now) question.queries.now more question.firings space space_over (subst (λ known. RulesFit (meaning_of question.schema.now) known) known_is known_rules)
+        (λ q among. subst (λ known. QueryHasConstants known q) known_is (is.queries q among).constants) fits_more (subst (λ known. QueryHasConstants known more) known_is known_more)
+        (well_formed question.schema.now) (are_short question.schema.now.rules (orderly question.schema.now).non_recursive) best least branch costs in
+        subst (λ known. IsLeastFor (meaning_of question.schema.now) known question.queries.now more branch) (sym known_is) over rival cost other
+        (rivals_of_more (meaning_of question.schema.now) question.known.now question.queries.now question.query.now more rival closed.more_atoms is_rival) cost_is other_is

@@ -1,0 +1,31 @@
+use Rattle.std.proofs.Common.{◌≡◌, Option, true, subst, arith}
+use Rattle.access_schema.specs.Meaning.{meaning_of}
+use Rattle.meaning.proofs.Steps.{lawful_named}
+use Rattle.least_search.specs.declared.node.Node.{Node}
+use Rattle.least_search.specs.Walks.{CanGain}
+use Rattle.least_search.specs.Costs.{IsLeastCost, best_cost}
+use Rattle.exposure_search.specs.Exploring.{space_size, CanExpose, GainsAt, HasGoalAt}
+use Rattle.proof_search.specs.Choices.{CostsAtMost}
+use Rattle.proof_search.proofs.ClosedQueries.{goals_over, least_over}
+use Rattle.proof_search.proofs.bounding.is_least_over.Goals as goal
+
+pub cost-bound-requires-clause-named : goal.cost-bound-requires-clause-named
+cost-bound-requires-clause-named c =
+    let question = c.args.question.now in lawful_named (meaning_of question.schema.now) question.known.now 0 c.args.branch.now.steps c.args.branch.now.output c.requires.branch.rival.lawful
+
+pub search_below-found-requires : goal.search_below-found-requires
+search_below-found-requires c =
+    goals_over c.args.question.now c.requires.question c.args.more.now c.requires.closed c.in-Some.base (rw c.in-Some.is at c.in_ok-made.ensures.start) (rw c.in-Some.is at c.in_ok-made.ensures.constants)
+    c.in_ok-space.space c.in_ok-space.ensures.space c.in_ok-space.ensures.founded
+
+pub returns : goal.returns
+returns c e =
+    let question = c.args.question.now in
+    let space = c.in_ok-space.space in
+    let on : c.is_shown.result ≡ true = cc in
+    let said = c.is_shown.ensures on in
+    let costs : CostsAtMost (meaning_of question.schema.now) c.args.branch.now c.cost-bound.result = (c.cost-bound.result, c.cost-bound.ensures, omega arith) in
+    let least : IsLeastCost (space_size space) (CanGain (CanExpose space) (GainsAt space)) (HasGoalAt space) c.cost-bound.result =
+    subst (λ (better : Option Node). IsLeastCost (space_size space) (CanGain (CanExpose space) (GainsAt space)) (HasGoalAt space) (best_cost c.cost-bound.result better)) said.1 (c.in_ok-outcome.ensures.found.shown said.0) in
+    least_over question c.requires.question c.args.more.now c.requires.closed c.in-Some.base (rw c.in-Some.is at c.in_ok-made.ensures.start) (rw c.in-Some.is at c.in_ok-made.ensures.constants) space c.in_ok-space.ensures.space c.in_ok-space.ensures.founded
+    c.cost-bound.result least c.args.branch.now costs

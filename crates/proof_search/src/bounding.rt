@@ -1,0 +1,121 @@
+// A lower bound for the cost of a query's branches, over a small base.
+ghost use Rattle.std.specs.Prelude.{◌≡◌, ◌≤◌, IfOk, Ok, None, true};
+ghost use Rattle.access_schema.specs.Meaning.{meaning_of};
+ghost use Rattle.rule_pass.specs.declared.pass.TheConstants.{HIGHEST_FIRST_LABEL};
+ghost use Rattle.least_search.specs.declared.search.Ended.TheVariants as ended;
+ghost use Rattle.small_base.specs.Closed.{IsClosed};
+ghost use Rattle.proof_search.specs.Choices.{IsLeastFor};
+ghost use Rattle.proof_search.specs.Questions.{IsQuestion, IsBranchOn, IsChoiceOn};
+
+use crate::choosing::search_below;
+use crate::outcome::Choice;
+use crate::question::Question;
+use access_cost::{Least, cost};
+use exposure_search::{ExposureSpace, base_proof};
+use least_search::{Ended, Outcome};
+use lists::NoMemory;
+use meaning::types::{Branch, Query};
+use small_base::closed_query;
+use std::alloc::Global;
+
+/// The most facts of a small base.
+const MOST_CLOSED: u32 = 1024;
+
+/// The choice; and where it is not said of its branch that no rival costs less, a search over a small base may show that.
+///
+/// That search has `search` units of its own. What it says of units and firings that are spent is not of the query, and is dropped. Where
+/// no units are given, nothing is looked for.
+pub fn bounded(
+    alloc: Global,
+    question: &Question<'_>,
+    choice: Choice,
+    search: u32,
+) -> Result<Choice, NoMemory>
+    requires question { IsQuestion question.now }
+    requires choice { IsChoiceOn question.now search choice }
+    ensures { IfOk result (IsChoiceOn question.now search) }
+{
+    let Choice { branch, least } = choice;
+    if search == 0 || least == Least::Shown {
+        return Ok(Choice { branch, least });
+    }
+    if is_least(alloc, question, &branch, search)? {
+        return Ok(Choice {
+            branch,
+            least: Least::Shown,
+        });
+    }
+    Ok(Choice { branch, least })
+}
+
+/// Whether a search over a small base shows that no rival for the query costs less than the branch: over the query closed under the rules,
+/// which has more atoms. A rival for the query is one for that.
+fn is_least(
+    alloc: Global,
+    question: &Question<'_>,
+    branch: &Branch,
+    search: u32,
+) -> Result<bool, NoMemory>
+    requires question { IsQuestion question.now }
+    requires branch { IsBranchOn question.now branch.now }
+    ensures { result ≡ Ok true →
+        IsLeastFor (meaning_of question.now.schema.now) question.now.known.now question.now.queries.now question.now.query.now branch.now }
+{
+    let Some(more) = closed_query(alloc, question.schema, question.query, MOST_CLOSED)? else {
+        return Ok(false);
+    };
+    let shown = is_least_over(alloc, question, &more, branch, search);
+    // written out, since it is proved as one call, and at the end of the scope as a call for each list in the query
+    drop(more);
+    shown
+}
+
+/// The same over this query, for which no base firing is due.
+fn is_least_over(
+    alloc: Global,
+    question: &Question<'_>,
+    more: &Query,
+    branch: &Branch,
+    search: u32,
+) -> Result<bool, NoMemory>
+    requires question { IsQuestion question.now }
+    requires branch { IsBranchOn question.now branch.now }
+    requires closed { IsClosed (meaning_of question.now.schema.now) question.now.query.now more.now }
+    requires few { more.now.variables ≤ HIGHEST_FIRST_LABEL }
+    ensures { result ≡ Ok true →
+        IsLeastFor (meaning_of question.now.schema.now) question.now.known.now question.now.queries.now question.now.query.now branch.now }
+{
+    let firings = question.firings;
+    let made = base_proof(
+        alloc,
+        question.schema,
+        more,
+        question.queries,
+        question.known,
+        firings,
+    )?;
+    let Some(base) = made else {
+        return Ok(false);
+    };
+    let bound = cost(branch, question.schema);
+    let mut space = ExposureSpace::new(
+        alloc,
+        question.schema,
+        base,
+        question.queries,
+        question.head,
+        firings,
+    )?;
+    let found = search_below(alloc, &mut space, bound, search as u64);
+    // written out for their proofs, as in `is_least`
+    drop(space);
+    let outcome = found?;
+    Ok(is_shown(&outcome))
+}
+
+/// Whether nothing was found below the bound, and it was shown that nothing can be. Takes no memory.
+fn is_shown(outcome: &Outcome) -> bool
+    ensures { result ≡ true → (outcome.now.ended ≡ ended.Shown) × (outcome.now.better ≡ None) }
+{
+    outcome.better.is_none() && outcome.ended == Ended::Shown
+}
