@@ -1,6 +1,8 @@
 -- Calls that are to fail, by their numbers.
-use Rattle.std.specs.Prelude.{◌≡◌, ℕ, ◌+◌, ◌-◌, ◌^◌, ◌≤◌, min, [], ◌⊎◌, Contains}
+use Rattle.std.specs.Prelude.{◌≡◌, ℕ, ◌+◌, ◌-◌, ◌^◌, ◌≤◌, min, [], ◌⊎◌, Contains, Result, Ok, Err}
 use Rattle.source_trait.specs.declared.failing.FailingCalls.{FailingCalls}
+use Rattle.source_trait.specs.declared.source.AttachFault.{AttachFault}
+use Rattle.source_trait.specs.declared.source.AttachFault.TheVariants.{Failed, NoMemory}
 
 -- the count after one more; it stays at the greatest value of its counter
 abbrev pub next : ℕ → ℕ
@@ -28,3 +30,10 @@ pub record FailsAsListed (old new : FailingCalls) (faults_before faults_after : 
   pub never : old.numbers ≡ [] → faults_after ≡ faults_before
   -- the count of faults does not fall
   pub later : faults_before ≤ faults_after
+
+-- a count of the refusals of an attach that are faults of its data: neither failures nor want of memory
+abbrev pub CountsRefusal : {T : Type 0} → Result T AttachFault → ℕ → ℕ → Type 0
+CountsRefusal (Ok done) old new = new ≡ old
+CountsRefusal (Err Failed) old new = new ≡ old
+CountsRefusal (Err NoMemory) old new = new ≡ old
+CountsRefusal (Err fault) old new = new ≡ next old

@@ -20,6 +20,7 @@ mod request_log;
 mod sink;
 mod source;
 mod table;
+mod untold;
 mod work;
 
 pub use failing::FailingCalls;
@@ -34,4 +35,5 @@ pub use request_log::RequestLog;
 pub use sink::{Sink, SinkFault};
 pub use source::{AttachFault, CallFault, Source};
 pub use table::{Table, Tables};
+pub use untold::Untold;
 pub use work::{Ask, Asked};
