@@ -2,17 +2,17 @@
 use Rattle.std.proofs.Common.{◌≡◌, ◌<◌, ◌≤◌, ◌+◌, ℕ, List, [], ◌∷◌, ◌++◌, length, map, take, get_or, Option, None, Some, refl, sym, ◌∙◌, ap, subst, append_assoc, arith}
 use Rattle.std.specs.Prelude.{Ok, Err, Result, IfSome, option_map}
 use Rattle.std.proofs.lemmas.List.{take_more, map-append, append-nil, length-take-le, take_all}
+use Rattle.std.proofs.lemmas.Option.{slice_get_read}
 use Rattle.meaning.specs.declared.types.Fact.{Fact}
 use Rattle.meaning.specs.declared.types.Request.{Request}
 use Rattle.source_trait.specs.Asking.{RowList, Seen, CallGives, CanAsk, Attached, pick}
-use Rattle.source_trait.specs.Causes.{Rose}
 use Rattle.source_trait.specs.Lanes.{AtKind, StepsOn}
 use Rattle.source_trait.specs.declared.lanes.Kind.{Kind}
 use Rattle.source_trait.proofs.Faults.{FaultsGoOn-refl, FaultsGoOn-trans}
 use Rattle.source_trait.proofs.LaneSteps.{StepsOn-after}
 use Rattle.source_trait.specs.declared.source.CallFault.{CallFault}
 use Rattle.source_trait.specs.declared.source.CallFault.TheVariants as call
-use Rattle.middleware.specs.Rounds.{requests_of, AnswersAll}
+use Rattle.middleware.specs.Rounds.{requests_of, AnswersAll, CallBreaks}
 use Rattle.middleware.proofs.LaneRuns.{StepsOn-refl, StepsOn-trans}
 
 pub twice : (a b : List Request) (old : Option (List Request)) → option_map (λ list. list ++ b) (option_map (λ list. list ++ a) old) ≡ option_map (λ list. list ++ (a ++ b)) old
@@ -22,10 +22,6 @@ twice a b (Some x) = ap (λ (l : List Request). Some l) (append_assoc x a b)
 pub asked_nothing : (asked : Option (List Request)) → asked ≡ option_map (λ list. list ++ []) asked
 asked_nothing None = refl
 asked_nothing (Some list) = ap (λ (l : List Request). Some l) (sym (append-nil list))
-
--- a count that rose from a later moment on rose from an earlier one on
-pub rose_from : (a b c : ℕ) → a ≤ b → Rose b c → Rose a c
-rose_from a b c less rose = omega arith
 
 module _ (rel : ℕ) (positions : List ℕ) (requests : RowList) where
   abbrev request : List (List ℕ) → Request
@@ -54,8 +50,6 @@ module _ (rel : ℕ) (positions : List ℕ) (requests : RowList) where
     asked = asked_nothing s.asked;
     whole = refl;
     answers = none s.held;
-    some = λ e. absurd (cc);
-    failed = λ e. absurd (cc);
     held = refl;
     attached = refl;
     offers = refl;
@@ -91,8 +85,6 @@ module _ (rel : ℕ) (positions : List ℕ) (requests : RowList) where
           ∙ ap (λ (l : RowList). option_map (λ (list : List Request). list ++ requests_of rel positions l) s.asked) (sym (all (take (i + 1) requests)));
       whole = refl;
       answers = picked s.held so_far.answers (subst (λ (h : Option (List Fact)). IfSome h (λ facts. answer ≡ pick facts rel positions v)) so_far.held gives.picks);
-      some = λ e. absurd (cc);
-      failed = λ e. absurd (cc);
       held = gives.held ∙ so_far.held;
       attached = gives.attached ∙ so_far.attached;
       offers = gives.offers ∙ so_far.offers;
@@ -120,8 +112,6 @@ module _ (rel : ℕ) (positions : List ℕ) (requests : RowList) where
       asked = asked_more i v s.asked t.asked u.asked less at before gives.asks;
       whole = tt;
       answers = tt;
-      some = λ e. omega arith;
-      failed = λ e. rose_from s.faults t.faults u.faults so_far.faults.later (gives.failed refl);
       held = gives.held ∙ so_far.held;
       attached = gives.attached ∙ so_far.attached;
       offers = gives.offers ∙ so_far.offers;
@@ -134,8 +124,6 @@ module _ (rel : ℕ) (positions : List ℕ) (requests : RowList) where
       asked = gives.asks ∙ before;
       whole = tt;
       answers = tt;
-      some = λ e. absurd (cc);
-      failed = λ e. absurd (cc);
       held = gives.held ∙ so_far.held;
       attached = gives.attached ∙ so_far.attached;
       offers = gives.offers ∙ so_far.offers;
@@ -151,8 +139,6 @@ module _ (rel : ℕ) (positions : List ℕ) (requests : RowList) where
       asked = asked_more i v s.asked t.asked u.asked less at before gives.asks;
       whole = tt;
       answers = tt;
-      some = λ e. absurd (cc);
-      failed = λ e. absurd (cc);
       held = gives.held ∙ so_far.held;
       attached = gives.attached ∙ so_far.attached;
       offers = gives.offers ∙ so_far.offers;
@@ -197,6 +183,18 @@ module _ {S : Type 0} (seen : S → Seen) (rel : ℕ) (positions : List ℕ) (re
       lane_stop fault calls =
           StepsOn-trans old mid new kind (Gives (take i requests) (Ok answers)) (Calls v (Err fault)) (Gives requests (Err fault))
           (λ s t u first second. answers_stop rel positions requests i v less at answers (seen s) (seen t) (seen u) first fault second) so_far calls
+
+      pub lane_breaks : (fault : CallFault) → StepsOn mid new kind (Calls v (Err fault)) → fault ≡ call.Failed
+          → CallBreaks seen rel positions requests kind old new
+      lane_breaks fault calls is = record {
+        n = i;
+        values = v;
+        at = slice_get_read requests (length requests) i v refl less at;
+        answers = answers;
+        middle = mid;
+        answered = so_far;
+        failed = subst (λ (f : CallFault). StepsOn mid new kind (Calls v (Err f))) is calls;
+      }
 
       pub lane_full : (answer : RowList) → StepsOn mid new kind (Calls v (Ok answer)) → StepsOn old new kind (Gives requests (Err call.NoMemory))
       lane_full answer calls =

@@ -19,13 +19,14 @@ use Rattle.source_trait.specs.Lanes.{place_from, source_of, KindsStay}
 use Rattle.source_trait.specs.declared.source.AttachFault.{AttachFault}
 use Rattle.source_trait.specs.declared.source.AttachFault.TheVariants as attach
 use Rattle.source_trait.specs.declared.lanes.Kind.{Kind}
-use Rattle.source_trait.proofs.LaneSteps.{StepsOn-stays, StepsOn-source, StepsAt-source, KindsStay-refl, KindsStay-trans, KindsStay-names}
+use Rattle.source_trait.proofs.LaneSteps.{AtKind-map, StepsOn-stays, StepsOn-source, StepsAt-source, KindsStay-refl, KindsStay-trans, KindsStay-names}
 use Rattle.middleware.specs.PlanSources.{line_for}
 use Rattle.middleware.specs.Attaching.{IsAttached, AttachesOne, AttachesInOrder, TellsSame}
 use Rattle.middleware.specs.Asked.{AsksLane}
 use Rattle.middleware.specs.Branches.{IsAskable}
 use Rattle.middleware.specs.Rounds.{CanAskAll}
 use Rattle.middleware.specs.Sources.{IsPlaced, AttachBreaks}
+use Rattle.middleware.specs.LaneRunning.{IsAttachedTo}
 use Rattle.middleware.proofs.LaneRuns.{placed, later_source, earlier_source}
 
 -- ---- what is picked after the data of a relation were replaced
@@ -295,20 +296,35 @@ module _ {S : Type 0} (seen : S → Seen) where
 
     -- ---- an attached relation may be asked
 
-    pub attached_askable : (method : Method) → Contains schema.methods method → (relation : Relation) (line : SourceLine) → slice_get schema.relations method.rel ≡ Some relation → line_for method.rel schema.sources ≡ Some line
-        → (old new : List (Kind S)) → IsAttachedSo method.rel relation line old new → IsAskable seen schema new method
-    attached_askable method among relation line relation_is line_is old new a = record {
-      line = line;
-      line_is = line_is;
-      ready = subst (λ (o : Option S). IsSomeAnd o (λ s. CanAskAll ((seen s).attached method.rel) method)) (sym a.now) here;
+    pub attached_askable : (method : Method) → Contains schema.methods method → (kinds : List (Kind S)) → IsAttachedTo seen schema method.rel kinds
+        → IsAskable seen schema kinds method
+    attached_askable method among kinds a = record {
+      line = a.line;
+      line_is = a.line_is;
+      ready = AtKind-map a.line.kind kinds (λ s. (seen s).attached method.rel ≡ Some (a.relation.columns, a.line.locator))
+          (λ s. CanAskAll ((seen s).attached method.rel) method) may_ask a.attached;
     }
       where
-        here : CanAskAll ((seen a.after).attached method.rel) method
-        here = λ values long. subst (λ (o : Option Attached). CanAsk o method.inputs values) (sym a.attached) (
+        may_ask : (s : S) → (seen s).attached method.rel ≡ Some (a.relation.columns, a.line.locator) → CanAskAll ((seen s).attached method.rel) method
+        may_ask s is = λ values long. subst (λ (o : Option Attached). CanAsk o method.inputs values) (sym is) (
           rises_from method.inputs (λ i p q e f. schema.valid.methods_are.rising method i p q among e f),
-          all_below method.inputs (length relation.columns) (λ p c. schema.valid.methods_are.inputs method relation p among relation_is c),
+          all_below method.inputs (length a.relation.columns) (λ p c. schema.valid.methods_are.inputs method a.relation p among a.relation_is c),
           long,
         )
+
+    -- after attaches in order each of the relations is attached
+    pub order_attached_to : (rels : List ℕ) → Rises rels → (rel : ℕ) → Contains rels rel → (relation : Relation) (line : SourceLine)
+        → slice_get schema.relations rel ≡ Some relation → line_for rel schema.sources ≡ Some line
+        → (old new : List (Kind S)) → AttachesInOrder seen schema rels old new → IsAttachedTo seen schema rel new
+    order_attached_to rels rises rel c relation line relation_is line_is old new order =
+        let a = order_attached rels rises rel c relation line relation_is line_is old new order in
+        record {
+          relation = relation;
+          line = line;
+          relation_is = relation_is;
+          line_is = line_is;
+          attached = subst (λ (o : Option S). IsSomeAnd o (λ s. (seen s).attached rel ≡ Some (relation.columns, line.locator))) (sym a.now) a.attached;
+        }
 
     -- one relation more
     pub order_take : (rels : List ℕ) (i : ℕ) → i < length rels → (old mid new : List (Kind S)) → AttachesInOrder seen schema (take i rels) old mid → AttachesOne seen schema (get_or rels i 0) (Ok tt) mid new → AttachesInOrder seen schema (take (i + 1) rels) old new

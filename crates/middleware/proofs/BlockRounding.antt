@@ -15,6 +15,8 @@ use Rattle.meaning.specs.declared.types.Out.TheVariants.{Const as Fixed, Col as 
 use Rattle.meaning.specs.declared.types.Step.{Step}
 use Rattle.meaning.specs.declared.types.Request.{Request}
 use Rattle.meaning.specs.Plans.{made, IsWellFormed, IsMethod}
+use Rattle.meaning_laws.proofs.Conjoining.{range_at}
+use Rattle.meaning_laws.proofs.Frozen.{made_grows}
 use Rattle.access_schema.specs.declared.schema.Schema.{Schema}
 use Rattle.access_schema.specs.Meaning.{meaning_of}
 use Rattle.source_trait.specs.Asking.{RowList, Seen, pick}
@@ -32,7 +34,7 @@ use Rattle.middleware.specs.declared.blocks.Block.{Block}
 use Rattle.middleware.specs.declared.block_round.Asking.{Asking}
 use Rattle.middleware.specs.declared.round.RoundFault.{RoundFault}
 use Rattle.middleware.specs.declared.round.RoundFault.TheVariants as round
-use Rattle.middleware.proofs.Blocking.{OfNames, range_got, made_more, names_below, local_from}
+use Rattle.middleware.proofs.Blocking.{OfNames, names_below, local_from}
 use Rattle.middleware.proofs.BlockSteps.{first_columns, has_asked, asks_same, tables_next, live_next, blocks_next, same_images}
 use Rattle.middleware.proofs.Branching.{inputs_for}
 use Rattle.middleware.proofs.LaneShares.{each_some}
@@ -181,13 +183,13 @@ module _ {S : Type 0} (seen : S → Seen) (schema : Schema) (well : IsWellFormed
     -- what is asked is over the columns that there are behind the step
     pub asking_below : (k : ℕ) → Contains asking.columns k → k < asking.count
     asking_below k c = subst (λ n. k < n) (sym a.count_is) (⊎_elim
-        (λ h. let l = a.gathers.below k h in let more = made_more n step.places in omega (arith, l, more))
+        (λ h. let l = a.gathers.below k h in let more = made_grows n step.places in omega (arith, l, more))
         (λ l. l)
         (local_from (λ k. k < made n step.places) a.table.columns n step.places asking.step.places asking.columns (names_below n step.places ready.names) a.local k c))
 
     pub rest_below : AreTables asking.count asking.rest.items
     rest_below = subst (λ n. AreTables n asking.rest.items) (sym a.count_is) (record {
-      below = λ b c k h. let l = a.gathers.rest_tables.below b c k h in let more = made_more n step.places in omega (arith, l, more);
+      below = λ b c k h. let l = a.gathers.rest_tables.below b c k h in let more = made_grows n step.places in omega (arith, l, more);
       apart = a.gathers.rest_tables.apart;
     })
 
@@ -287,7 +289,7 @@ module _ (outs : List Out) (n : ℕ) (blocks : List Block) (have : HaveLive (is_
       where
         go : (out : Out) → IsReadyOut n out → out_value (map texts (first_columns n)) out ≡ out_of texts out
         go (Fixed t) h = refl
-        go (Made k) h = ap text_or (map_got texts (first_columns n) k k (range_got n k h))
+        go (Made k) h = ap text_or (map_got texts (first_columns n) k k (range_at n k h))
 
     same_outs : (texts others : Texts) → ((k : ℕ) → k < n → is_shown outs k ≡ true → HasColumn table k → others k ≡ texts k) → map (out_of others) outs ≡ map (out_of texts) outs
     same_outs texts others same = map_same (out_of others) (out_of texts) outs (λ out c. go out (ready out c) c)

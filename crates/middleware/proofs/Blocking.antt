@@ -10,6 +10,8 @@ use Rattle.meaning.specs.declared.types.Place.{Place}
 use Rattle.meaning.specs.declared.types.Place.TheVariants.{Const, Col, New}
 use Rattle.meaning.specs.Plans.{made}
 use Rattle.meaning.specs.Rows.{Joins}
+use Rattle.meaning_laws.proofs.Conjoining.{range_at, in_range as within_range}
+use Rattle.meaning_laws.proofs.Frozen.{made_grows}
 use Rattle.source_trait.specs.Asking.{RowList}
 use Rattle.middleware.specs.Joining.{grown, text_or, input_row_of}
 use Rattle.middleware.specs.Naming.{Texts, Fits, AreOfTexts, AreNamed, AreAsked, IsLocal, Matches, text_of, inputs_of}
@@ -31,17 +33,11 @@ names_along P Q along n (Const c ∷ places) o = names_along P Q along n places 
 names_along P Q along n (Col k ∷ places) o = (along k o.0, names_along P Q along n places o.1)
 names_along P Q along n (New ∷ places) o = (along n o.0, names_along P Q along (n + 1) places o.1)
 
-pub made_more : (n : ℕ) (places : List Place) → n ≤ made n places
-made_more n [] = omega arith
-made_more n (Const c ∷ places) = made_more n places
-made_more n (Col k ∷ places) = made_more n places
-made_more n (New ∷ places) = let l = made_more (n + 1) places in omega (arith, l)
-
 pub names_below : (n : ℕ) (places : List Place) → AreNamed n places → OfNames (λ k. k < made n places) n places
 names_below n [] a = tt
 names_below n (Const c ∷ places) a = names_below n places a
-names_below n (Col k ∷ places) a = let l = made_more n places in let b = a.0 in (omega (arith, l, b), names_below n places a.1)
-names_below n (New ∷ places) a = let l = made_more (n + 1) places in (omega (arith, l), names_below (n + 1) places a)
+names_below n (Col k ∷ places) a = let l = made_grows n places in let b = a.0 in (omega (arith, l, b), names_below n places a.1)
+names_below n (New ∷ places) a = let l = made_grows (n + 1) places in (omega (arith, l), names_below (n + 1) places a)
 
 pub names_after : (columns : List ℕ) (n : ℕ) (places locals : List Place) (after : List ℕ) → IsLocal columns n places locals after → OfNames (Contains after) n places
 names_after columns n [] locals after i = tt
@@ -159,19 +155,11 @@ module _ (columns : List ℕ) (n : ℕ) (places locals : List Place) (after inpu
 
 -- ---- whole partial rows are a table
 
-pub range_got : (n k : ℕ) → k < n → slice_get (range_with_len 0 n) k ≡ Some k
-range_got n k l =
-    let long = length-range_with_len 0 n in
-    let is : get_or (range_with_len 0 n) k 0 ≡ k = let e = get_or-range_with_len 0 n k 0 l in omega (arith, e) in
-    slice_get-get_or (range_with_len 0 n) k 0 (omega (arith, long, l)) ∙ ap (λ (m : ℕ). Some m) is
-
 pub in_range : (n k : ℕ) → k < n → Contains (range_with_len 0 n) k
-in_range n k l = contains_got (range_with_len 0 n) k k (range_got n k l)
+in_range n k l = contains_got (range_with_len 0 n) k k (range_at n k l)
 
 pub range_below : (n : ℕ) → Below (range_with_len 0 n) n
-range_below n k (i, l, e) =
-    let long = length-range_with_len 0 n in
-    let is = get_or-range_with_len 0 n i k (omega (arith, long, l)) in omega (arith, long, l, e, is)
+range_below n k among = within_range n k among
 
 range_push : (a n j : ℕ) → a + n ≡ j → range_with_len a n ++ j ∷ [] ≡ range_with_len a (suc n)
 range_push a zero j e = let is : j ≡ a = omega (arith, e) in ap (λ m. m ∷ []) is
@@ -183,7 +171,7 @@ range_more n = let next : n + 1 ≡ suc n = omega arith in range_push 0 n n (ome
 pub range_local : (n : ℕ) (places : List Place) → AreNamed n places → IsLocal (range_with_len 0 n) n places places (range_with_len 0 (made n places))
 range_local n [] a = refl
 range_local n (Const c ∷ places) a = (refl, range_local n places a)
-range_local n (Col k ∷ places) a = (range_got n k a.0, range_local n places a.1)
+range_local n (Col k ∷ places) a = (range_at n k a.0, range_local n places a.1)
 range_local n (New ∷ places) a = subst (λ (l : List ℕ). IsLocal l (n + 1) places places (range_with_len 0 (made (n + 1) places))) (sym (range_more n)) (range_local (n + 1) places a)
 
 -- the texts of a row

@@ -1,4 +1,4 @@
--- The first relation of a list without a source line, and the first without a source of its kind.
+-- The first relation of a list without a source line, and places of kinds.
 use Rattle.std.proofs.Common.{◌≡◌, inl, inr, ℕ, ◌+◌, ◌<◌, List, [], ◌∷◌, Option, None, Some, Bool, true, false, cond, refl, sym, subst, arith}
 use Rattle.std.specs.Prelude.{Contains, IsSome, IsSomeAnd, slice_index}
 use Rattle.std.specs.Option.{is_some}
@@ -12,7 +12,7 @@ use Rattle.source_trait.specs.Lanes.{names_of, place_from, source_of}
 use Rattle.source_trait.specs.declared.lanes.Kind.{Kind}
 use Rattle.source_trait.proofs.LaneSteps.{some_source, source_of-none}
 use Rattle.middleware.specs.PlanSources.{line_for}
-use Rattle.middleware.specs.Sources.{first_lineless, first_kindless, has_place}
+use Rattle.middleware.specs.Sources.{first_lineless, has_place}
 use Rattle.middleware.proofs.Attached.{rises_from}
 
 -- rising numbers, as std and as sources say it
@@ -72,50 +72,6 @@ lineless_some lines (r ∷ rels) up rel e = go (is_some (line_for r lines)) refl
         record {
           among = subst (λ n. Contains (r ∷ rels) n) here (contains_here r rels);
           none = none_of (line_for rel lines) (subst (λ n. is_some (line_for n lines) ≡ false) here test);
-          below = λ other c less. elim (contains_cases r rels other c) [
-            | inl same ↦ absurd (omega (arith, same, here, less))
-            | inr more ↦ let up = above r rels other up.0 more in absurd (omega (arith, up, here, less))
-          ];
-        }
-
--- the same of kinds
-pub kindless_none : (names : List (List ℕ)) (lines : List SourceLine) (rels : List ℕ) → None ≡ first_kindless names lines rels → (rel : ℕ) → Contains rels rel → has_place names (line_for rel lines) ≡ true
-kindless_none names lines [] e rel c = absurd (contains_none rel c)
-kindless_none names lines (r ∷ rels) e rel c = go (has_place names (line_for r lines)) refl (λ f d. kindless_none names lines rels f rel d) e
-  where
-    go : (b : Bool) → has_place names (line_for r lines) ≡ b → (None ≡ first_kindless names lines rels → Contains rels rel → has_place names (line_for rel lines) ≡ true) → None ≡ cond b (first_kindless names lines rels) (Some r)
-        → has_place names (line_for rel lines) ≡ true
-    go true test later e = elim (contains_cases r rels rel c) [
-      | inl same ↦ subst (λ n. has_place names (line_for n lines) ≡ true) same test
-      | inr more ↦ later e more
-    ]
-    go false test later e = absurd (cc)
-
-pub record Kindless (names : List (List ℕ)) (lines : List SourceLine) (rels : List ℕ) (rel : ℕ) : Type 0 where
-  pub among : Contains rels rel
-  pub none : has_place names (line_for rel lines) ≡ false
-  pub below : (other : ℕ) → Contains rels other → other < rel → has_place names (line_for other lines) ≡ true
-
-pub kindless_some : (names : List (List ℕ)) (lines : List SourceLine) (rels : List ℕ) → Rises rels → (rel : ℕ) → Some rel ≡ first_kindless names lines rels → Kindless names lines rels rel
-kindless_some names lines [] up rel e = absurd (cc)
-kindless_some names lines (r ∷ rels) up rel e = go (has_place names (line_for r lines)) refl (λ f. kindless_some names lines rels up.1 rel f) e
-  where
-    go : (b : Bool) → has_place names (line_for r lines) ≡ b → (Some rel ≡ first_kindless names lines rels → Kindless names lines rels rel) → Some rel ≡ cond b (first_kindless names lines rels) (Some r) → Kindless names lines (r ∷ rels) rel
-    go true test rest e =
-        let later = rest e in
-        record {
-          among = contains_there r rels rel later.among;
-          none = later.none;
-          below = λ other c less. elim (contains_cases r rels other c) [
-            | inl same ↦ subst (λ n. has_place names (line_for n lines) ≡ true) same test
-            | inr more ↦ later.below other more less
-          ];
-        }
-    go false test rest e =
-        let here : r ≡ rel = sym (some_injective rel r e) in
-        record {
-          among = subst (λ n. Contains (r ∷ rels) n) here (contains_here r rels);
-          none = subst (λ n. has_place names (line_for n lines) ≡ false) here test;
           below = λ other c less. elim (contains_cases r rels other c) [
             | inl same ↦ absurd (omega (arith, same, here, less))
             | inr more ↦ let up = above r rels other up.0 more in absurd (omega (arith, up, here, less))

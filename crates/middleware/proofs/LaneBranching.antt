@@ -189,23 +189,20 @@ module _ {S : Type 0} (seen : S → Seen) (schema : Schema) where
             round_means parts well instance outs (take n steps) step rest stops.method stops.named (ready n step got) blocks stops.list r.list m
             (stops.wanted m.partial (subst (λ k. AreBlocks (is_live (step ∷ rest) outs) k m.partial blocks) (sym width) m.blocks_are))
 
-        long : length now ≡ length stops.list
-        long = len_requests stops.method.rel stops.method.inputs stops.list
-
         after : (instance : List Fact) → LanesHoldSteps seen schema steps old instance → IsRoundAfter parts instance steps n step r.list now
         after instance holds = record { earlier_are = (means instance holds).are; now_is = round_at instance holds }
 
-        cause_of : (why : RoundFault) → HaltCause seen schema why (most - count) (length stops.list) stops.method.rel mid new
+        cause_of : (why : RoundFault) → HaltCause seen schema why (most - count) stops.method.rel now mid new
             → StepsCause seen schema steps start most r.list now old mid new (stop_of n count why)
-        cause_of round.NoMemory c = tt
+        cause_of round.NoMemory c = record { n = n; means = λ instance holds. inl (step, got, after instance holds) }
         cause_of round.Failed c = record {
           step = step;
           at = got;
           method = stops.method;
           named = stops.named;
-          some = let s = c.0 in omega (arith, s, long);
+          some = c.0;
           of_step = stops.of_step;
-          fits = let a = c.1 in let b = r.count in omega (arith, a, b, fits, long);
+          fits = let a = c.1 in let b = r.count in omega (arith, a, b, fits);
           fails = c.2;
           means = after;
         }
@@ -216,7 +213,7 @@ module _ {S : Type 0} (seen : S → Seen) (schema : Schema) where
           total_is = r.count;
           within = fits;
           over = let a = c.0 in let b = c.1 in omega (arith, a, b, fits);
-          wanted_is = c.0 ∙ sym long;
+          wanted_is = c.0;
           unasked = c.2;
           going = subst (λ (l : List (Lane S)). NoneStopped l) (sym c.2) going;
           means = after;
@@ -251,7 +248,13 @@ module _ {S : Type 0} (seen : S → Seen) (schema : Schema) where
           part = λ instance holds.
               let m = r.means instance (λ lane among s method line c. holds lane among s method line (contains_take i steps s c)) in
               steps_go_on parts well instance steps ready i step got m.partial m.partial_are r.list m.are;
-          cause = tt;
+          cause = record {
+            n = i;
+            means = λ instance holds. inr (
+              refl,
+              (r.means instance (λ lane among s method line c. holds lane among s method line (contains_take i steps s c))).are,
+            );
+          };
         }
 
     -- ---- the whole branch
@@ -273,7 +276,14 @@ module _ {S : Type 0} (seen : S → Seen) (schema : Schema) where
             subst (λ (l : List Request). AreStepsRequests parts instance [] steps l) (sym (append-nil (r.list ++ []) ∙ append-nil r.list))
                 (r.means instance holds).are,
           );
-          cause = tt;
+          cause = record {
+            n = length steps;
+            means = λ instance holds. inr (
+              refl,
+              subst (λ (s : List Step). AreStepsRequests parts instance [] s r.list) (sym (take_all (length steps) steps (omega arith)))
+                  (r.means instance holds).are,
+            );
+          };
         }
 
     pub branch_adds : (its : Branch) → IsReadyBranch parts its → (steps : List Step) → steps ≡ its.steps → (outs : List Out) → outs ≡ its.output

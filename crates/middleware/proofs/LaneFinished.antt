@@ -1,20 +1,16 @@
 -- From attaches and rounds on several lanes to what an execution promises of them.
-use Rattle.std.proofs.Common.{◌≡◌, ◌≢◌, ◌↔◌, inl, inr, ℕ, zero, suc, ◌+◌, ◌-◌, ◌^◌, ◌<◌, ◌≤◌, min, true, false, List, [], ◌∷◌, ◌++◌, length, length-append, map, get_or, Option, Some, refl, sym, ◌∙◌, ap, subst, arith}
-use Rattle.std.specs.Prelude.{Contains, IfOk, IfErr, OnOk, IsSome, slice_get, Ok, Err, Result}
-use Rattle.std.specs.List.Sorted.{IsStrictlyIncreasing, IsStrictlySortedBy}
-use Rattle.std.proofs.lemmas.Option.{slice_get-get_or}
-use Rattle.lists.proofs.Members.{some_injective, contains_here, contains_got}
+use Rattle.std.proofs.Common.{◌≡◌, inl, inr, ℕ, ◌+◌, ◌-◌, ◌^◌, ◌≤◌, min, List, [], ◌∷◌, ◌++◌, length, length-append, map, refl, sym, ◌∙◌, ap, subst, arith}
+use Rattle.std.specs.Prelude.{Contains, IfOk, IfErr, OnOk, Ok, Err, Result}
+use Rattle.std.specs.List.Sorted.{IsStrictlySortedBy}
+use Rattle.lists.proofs.Members.{contains_here, contains_got}
 use Rattle.meaning.specs.declared.types.Fact.{Fact}
-use Rattle.meaning.specs.declared.types.Relation.{Relation}
 use Rattle.meaning.specs.declared.types.SchemaParts.{SchemaParts}
-use Rattle.meaning.specs.declared.types.Branch.{Branch}
 use Rattle.meaning.specs.declared.types.Plan.{Plan}
 use Rattle.meaning.specs.declared.types.Request.{Request}
 use Rattle.access_schema.specs.declared.schema.Schema.{Schema}
-use Rattle.access_schema.specs.declared.schema.SourceLine.{SourceLine}
 use Rattle.access_schema.specs.Meaning.{meaning_of}
-use Rattle.source_trait.specs.Asking.{Seen, Rises}
-use Rattle.source_trait.specs.Lanes.{names_of, source_of, LanesStay}
+use Rattle.source_trait.specs.Asking.{Seen}
+use Rattle.source_trait.specs.Lanes.{LanesStay}
 use Rattle.source_trait.specs.declared.source.AttachFault.{AttachFault}
 use Rattle.source_trait.specs.declared.source.AttachFault.TheVariants as attach
 use Rattle.source_trait.specs.declared.lanes.Lane.{Lane}
@@ -23,95 +19,55 @@ use Rattle.source_trait.proofs.LaneSteps.{LanesStay-refl, LanesStay-trans}
 use Rattle.middleware.specs.declared.fault.Run.{Run}
 use Rattle.middleware.specs.declared.fault.RunFault.{RunFault}
 use Rattle.middleware.specs.declared.fault.RunFault.TheVariants as fault
-use Rattle.middleware.specs.PlanSources.{line_for, IsAccessed, IsPlanSource, AllHaveLines}
-use Rattle.middleware.specs.Branches.{AreAskable, BranchesMean, AreOfBranches}
-use Rattle.middleware.specs.Sources.{first_lineless, has_place, IsPlaced}
-use Rattle.middleware.specs.LaneAttaching.{LanesAttach, LanesBreak}
+use Rattle.middleware.specs.PlanSources.{IsAccessed}
+use Rattle.middleware.specs.Branches.{BranchesMean, AreOfBranches}
+use Rattle.middleware.specs.Needs.{AttachBreaksAt, AttachesNeeded}
+use Rattle.middleware.specs.Needs.AttachesNeeded.{done, no_source, unknown_kind, refused, no_memory}
 use Rattle.middleware.specs.LaneRounds.{started, NoneStopped}
-use Rattle.middleware.specs.LaneBranches.{OnEach, LanesHoldPlan, LanesDone, PlanCause, PlanHalts}
-use Rattle.middleware.specs.LaneRunning.{LanesHaveKind, LanesFind, LanesHavePlace, LacksPlace, LanesAttachEach, LanesAttachStops, ExecutesOnLanes, LanesGoOn, refused_as}
-use Rattle.middleware.specs.Executing.{Executes}
-use Rattle.middleware.proofs.Lacking.{above, place_none, place_source, rises_strictly, lineless_some}
-use Rattle.middleware.proofs.Starting.{source_at, all_askable}
+use Rattle.middleware.specs.LaneBranches.{LanesHoldPlan, LanesDone, PlanCause, PlanHalts}
+use Rattle.middleware.specs.LaneRunning.{needed_by, AsksRounds, LanesGoOn}
+use Rattle.middleware.specs.LaneRunning.AttachesAndAsks.{not_attached, attached}
+use Rattle.middleware.specs.Executing.{Executes, ExecutesAttached}
 use Rattle.middleware.proofs.LaneShares.{only_asked}
 use Rattle.middleware.proofs.LaneBranching.{no_request, each_asked}
 use Rattle.middleware.proofs.Planning.{accessed_by}
 use Rattle.middleware.proofs.LanePlanning.{plan_held_earlier}
-use Rattle.middleware.proofs.LaneStays.{started_each, started_stay, asked_stay, unstarted, attach_stay, attached_each, break_stay}
-
--- where the numbers rise, a lower one stands before
-pub stands_before : (xs : List ℕ) → Rises xs → (n k x y : ℕ) → slice_get xs n ≡ Some x → slice_get xs k ≡ Some y → y < x → k < n
-stands_before [] up n k x y at other less = absurd (cc)
-stands_before (z ∷ xs) up zero zero x y at other less =
-    let a : z ≡ x = some_injective z x at in
-    let b : z ≡ y = some_injective z y other in
-    absurd (omega (arith, a, b, less))
-stands_before (z ∷ xs) up zero (suc k) x y at other less =
-    let a : z ≡ x = some_injective z x at in
-    let b : z < y = above z xs y up.0 (contains_got xs k y other) in
-    absurd (omega (arith, a, b, less))
-stands_before (z ∷ xs) up (suc n) zero x y at other less = omega arith
-stands_before (z ∷ xs) up (suc n) (suc k) x y at other less =
-    let r : k < n = stands_before xs up.1 n k x y at other less in omega (arith, r)
+use Rattle.middleware.proofs.LaneStays.{started_stay, asked_stay, unstarted, attach_none}
 
 module _ {S : Type 0} (seen : S → Seen) where
   module _ (schema : Schema) (plan : Plan) where
     abbrev parts : SchemaParts
     parts = meaning_of schema
 
-    -- what an execution did, of lanes that were or were not used
-    pub record ExecutedOn (cap : ℕ) (old new : List (Lane S)) (result : Result Run RunFault) : Type 0 where
-      pub executes : ExecutesOnLanes seen schema plan cap old new result
-      pub found : LanesFind old schema plan result
-      pub stay : LanesStay seen old new
-
-    -- all that an execution promises
-    pub promised : (cap : ℕ) (old new : List (Lane S)) (result : Result Run RunFault) → ExecutedOn cap old new result
-        → IfOk result (λ run. IsStrictlySortedBy row_cmp run.rows) → IfOk result (λ run. run.made ≤ cap)
+    -- all that an execution on lanes that have attached the relations promises
+    pub promised : (cap : ℕ) (old new : List (Lane S)) (result : Result Run RunFault) → AsksRounds seen schema plan cap old new result
+        → LanesStay seen old new → IfOk result (λ run. IsStrictlySortedBy row_cmp run.rows) → IfOk result (λ run. run.made ≤ cap)
         → (((rel : ℕ) → IsAccessed schema plan rel → ⊥) → new ≡ old) → ((rel : ℕ) → IsAccessed schema plan rel → LanesGoOn result new)
-        → Executes seen schema plan cap old new result
-    promised cap old new (Ok run) e ascends within idle going = record {
+        → ExecutesAttached seen schema plan cap old new result
+    promised cap old new (Ok run) does stay ascends within idle going = record {
       rows = λ instance holds. (mean instance holds).exactly;
       ascends = ascends;
-      made = λ instance holds. (e.executes.rounds.list, (mean instance holds).are, e.executes.rounds.count);
+      made = λ instance holds. (does.list, (mean instance holds).are, does.count);
       within = within;
-      found = e.found;
-      does = e.executes;
-      stay = e.stay;
+      does = does;
+      stay = stay;
       idle = idle;
       going = going;
     }
       where
-        mean : (instance : List Fact) → LanesHoldPlan seen schema plan new instance
-            → BranchesMean parts instance plan.branches run.rows e.executes.rounds.list
-        mean instance holds =
-            let r = e.executes in
-            r.rounds.means instance (plan_held_earlier seen schema plan (map started r.attached) new
-            (each_asked seen schema r.rounds.list (map started r.attached) new r.rounds.asks) instance holds)
-    promised cap old new (Err why) e ascends within idle going = record {
+        mean : (instance : List Fact) → LanesHoldPlan seen schema plan new instance → BranchesMean parts instance plan.branches run.rows does.list
+        mean instance holds = does.means instance (plan_held_earlier seen schema plan (map started old) new
+            (each_asked seen schema does.list (map started old) new does.asks) instance holds)
+    promised cap old new (Err why) does stay ascends within idle going = record {
       rows = tt;
       ascends = tt;
       made = tt;
       within = tt;
-      found = e.found;
-      does = e.executes;
-      stay = e.stay;
+      does = does;
+      stay = stay;
       idle = idle;
       going = going;
     }
-
-    -- a refusal that left the lanes as they were
-    pub refused : (cap : ℕ) (lanes : List (Lane S)) (why : RunFault) → ExecutedOn cap lanes lanes (Err why)
-        → Executes seen schema plan cap lanes lanes (Err why)
-    refused cap lanes why e = promised cap lanes lanes (Err why) e tt tt (λ none. refl) (λ rel a. tt)
-
-    -- nothing was done
-    pub not_begun : (cap : ℕ) (lanes : List (Lane S)) (why : RunFault) → LanesFind lanes schema plan (Err why)
-        → ExecutesOnLanes seen schema plan cap lanes lanes (Err why) → ExecutedOn cap lanes lanes (Err why)
-    not_begun cap lanes why found executes = record { executes = executes; found = found; stay = LanesStay-refl seen lanes }
-
-    pub no_memory : (cap : ℕ) (lanes : List (Lane S)) → ExecutedOn cap lanes lanes (Err fault.NoMemory)
-    no_memory cap lanes = not_begun cap lanes fault.NoMemory tt (inl refl)
 
     -- no lane was used
     module _ (alone : (rel : ℕ) → IsAccessed schema plan rel → ⊥) where
@@ -131,7 +87,7 @@ module _ {S : Type 0} (seen : S → Seen) where
             count = d.count ∙ ap (λ (l : List Request). length l) empty;
             of_branches = λ request c. absurd (no_request request c);
             means = λ instance holds. subst (λ (l : List Request). BranchesMean parts instance plan.branches run.rows l) empty
-                (d.means instance (λ lane among rel relation line source. absurd (alone rel source.accessed)));
+                (d.means instance (λ lane among rel line accessed is. absurd (alone rel accessed)));
           }
 
       -- nothing but memory can stop it
@@ -157,211 +113,86 @@ module _ {S : Type 0} (seen : S → Seen) where
 
       pub ran_alone : (cap : ℕ) (old new : List (Lane S)) (result : Result Run RunFault)
           → IfOk result (λ run. LanesDone seen schema plan plan.branches run.rows run.made old new)
-          → IfErr result (λ why. PlanHalts seen schema plan cap why old new) → (lanes : List (Lane S)) → ExecutedOn cap lanes lanes result
-      ran_alone cap old new (Ok run) done halts lanes = record {
-        executes = record {
-          attached = lanes;
-          attaches = record {
-            rels = [];
-            ascends = λ k less. absurd (omega arith);
-            exactly = λ rel. ((λ c. absurd (none rel c)), (λ a. absurd (alone rel a)));
-            order = unchanged lanes;
-          };
-          rounds = done_alone run old new done lanes;
-        };
-        found = ((λ rel a. absurd (alone rel a)), (λ rel relation line source. absurd (alone rel source.accessed)));
-        stay = LanesStay-refl seen lanes;
-      }
+          → IfErr result (λ why. PlanHalts seen schema plan cap why old new) → (lanes : List (Lane S)) → AsksRounds seen schema plan cap lanes lanes result
+      ran_alone cap old new (Ok run) did halts lanes = done_alone run old new did lanes
+      ran_alone cap old new (Err why) did halts lanes =
+          subst (λ (f : RunFault). AsksRounds seen schema plan cap lanes lanes (Err f)) (sym (halted_alone cap why old new halts)) (inl refl)
+
+    -- the rounds were asked of the lanes, which were started
+    module _ (cap : ℕ) (lanes new begun : List (Lane S)) (is : begun ≡ map started lanes) where
+      pub ran : (result : Result Run RunFault) → IfOk result (λ run. LanesDone seen schema plan plan.branches run.rows run.made begun new)
+          → IfErr result (λ why. PlanHalts seen schema plan cap why begun new) → AsksRounds seen schema plan cap lanes new result
+      ran (Ok run) did halts = subst (λ (l : List (Lane S)). LanesDone seen schema plan plan.branches run.rows run.made l new) is did
+      ran (Err why) did halts = go why (subst (λ (l : List (Lane S)). PlanHalts seen schema plan cap why l new) is halts)
         where
-          none : (rel : ℕ) → Contains [] rel → ⊥
-          none rel c = omega arith
+          go : (e : RunFault) → PlanHalts seen schema plan cap e (map started lanes) new → AsksRounds seen schema plan cap lanes new (Err e)
+          go fault.NoMemory h = inr h
+          go (fault.NoSource rel) h = h
+          go (fault.UnknownKind rel) h = h
+          go (fault.Attach rel why) h = h
+          go (fault.CallFailed branch step) h = h
+          go (fault.OverCalls made wanted its) h = h
 
-          unchanged : (ws : List (Lane S)) → LanesAttach seen schema [] ws ws
-          unchanged [] = tt
-          unchanged (w ∷ ws) = ((refl, refl), unchanged ws)
-      ran_alone cap old new (Err why) done halts lanes =
-          subst (λ (f : RunFault). ExecutedOn cap lanes lanes (Err f)) (sym (halted_alone cap why old new halts)) (no_memory cap lanes)
+      from_start : (later : List (Lane S)) → LanesStay seen begun later → LanesStay seen lanes later
+      from_start later h = LanesStay-trans seen lanes (map started lanes) later (started_stay seen lanes)
+          (subst (λ (l : List (Lane S)). LanesStay seen l later) is h)
 
-    module _ (rels : List ℕ) (up : IsStrictlyIncreasing rels)
-        (exactly : (rel : ℕ) → Contains rels rel ↔ IsAccessed schema plan rel) where
-      -- a relation has no line
-      pub no_source : (cap : ℕ) (lanes : List (Lane S)) (rel : ℕ) → Some rel ≡ first_lineless schema.sources rels
-          → ExecutedOn cap lanes lanes (Err (fault.NoSource rel))
-      no_source cap lanes rel some =
-          let l = lineless_some schema.sources rels (rises_strictly rels up) rel some in
-          not_begun cap lanes (fault.NoSource rel) ((exactly rel).0 l.among, l.none, λ other a less. l.below other ((exactly other).1 a) less) refl
+      pub ran_stay : (result : Result Run RunFault) → IfOk result (λ run. LanesDone seen schema plan plan.branches run.rows run.made begun new)
+          → IfErr result (λ why. PlanHalts seen schema plan cap why begun new) → LanesStay seen lanes new
+      ran_stay (Ok run) did halts = from_start new (asked_stay seen schema begun new (each_asked seen schema did.list begun new did.asks))
+      ran_stay (Err why) did halts = from_start new (LanesStay-trans seen begun halts.middle new
+          (asked_stay seen schema begun halts.middle (each_asked seen schema halts.earlier begun halts.middle halts.asks_earlier))
+          (asked_stay seen schema halts.middle new (only_asked seen schema halts.now halts.asks_now.lists halts.middle new halts.asks_now.lanes)))
 
-      module _ (lines : AllHaveLines schema plan) where
-        -- there is no lane
-        pub no_lane : (cap : ℕ) (lanes : List (Lane S)) → lanes ≡ [] → (rel : ℕ) → slice_get rels 0 ≡ Some rel
-            → ExecutedOn cap lanes lanes (Err (fault.UnknownKind rel))
-        no_lane cap lanes e rel at =
-            let a = (exactly rel).0 (contains_got rels 0 rel at) in
-            let (relation, line, source) = source_at schema plan lines rel a in
-            not_begun cap lanes (fault.UnknownKind rel) (
-              lines,
-              record {
-                relation = relation;
-                line = line;
-                is_source = source;
-                lacks = inl e;
-                below = λ other its l s less.
-                    let (k, under, is) = (exactly other).1 s.accessed in
-                    absurd (first (stands_before rels (rises_strictly rels up) 0 k rel other at (got rels k other under is) less));
-              },
-            ) refl
-          where
-            first : {k : ℕ} → k < 0 → ⊥
-            first h = omega arith
+    -- a relation that was refused is accessed
+    broken : (rel : ℕ) (why : AttachFault) (old new : List (Lane S)) → AttachBreaksAt seen schema (needed_by schema plan) rel why old new
+        → IsAccessed schema plan rel
+    broken rel why old new b =
+        let r = b.breaks.refused in
+        ((b.are b.breaks.place).exactly rel).0 (contains_got (b.rels b.breaks.place) r.n rel r.at)
 
-            got : (xs : List ℕ) (k x : ℕ) → k < length xs → get_or xs k x ≡ x → slice_get xs k ≡ Some x
-            got xs k x under is = slice_get-get_or xs k x under ∙ ap Some is
+    -- where nothing is accessed, attaches leave the lanes as they were
+    attaches_idle : (old new : List (Lane S)) (result : Result (Unit {0}) RunFault) → AttachesNeeded seen schema (needed_by schema plan) old new result
+        → ((rel : ℕ) → IsAccessed schema plan rel → ⊥) → new ≡ old
+    attaches_idle old new result (done each have) none =
+        attach_none seen schema each.rels (λ place rel c. none rel (((each.are place).exactly rel).0 c)) old new each.order
+    attaches_idle old new result (no_source rel first same) none = same
+    attaches_idle old new result (unknown_kind rel first same) none = same
+    attaches_idle old new result (refused rel why breaks have apart) none = absurd (none rel (broken rel why old new breaks))
+    attaches_idle old new result (no_memory (inl same)) none = same
+    attaches_idle old new result (no_memory (inr (rel, breaks))) none = absurd (none rel (broken rel attach.NoMemory old new breaks))
 
-        module _ (lanes : List (Lane S)) where
-          has_kind : (rel : ℕ) (line : SourceLine) → line_for rel schema.sources ≡ Some line → LanesHavePlace lanes schema.sources rel
-              → OnEach lanes (λ kinds. IsSome (source_of kinds line.kind))
-          has_kind rel line is places lane among =
-              place_source lane.kinds.items line
-              (subst (λ (o : Option SourceLine). has_place (names_of lane.kinds.items) o ≡ true) is (places lane among))
+    -- an execution that stopped at its attaches
+    pub not_begun : (cap : ℕ) (old new : List (Lane S)) (why : RunFault) → AttachesNeeded seen schema (needed_by schema plan) old new (Err why)
+        → LanesStay seen old new → Executes seen schema plan cap old new (Err why)
+    not_begun cap old new why attaches stay = record {
+      rows = tt;
+      ascends = tt;
+      made = tt;
+      within = tt;
+      does = not_attached why attaches;
+      stay = stay;
+      idle = attaches_idle old new (Err why) attaches;
+      going = λ rel a. tt;
+    }
 
-          -- some lane lacks a kind
-          pub lacks_kind : (cap : ℕ) → 0 < length lanes → (rel : ℕ) → LacksPlace lanes schema.sources rels rel
-              → ExecutedOn cap lanes lanes (Err (fault.UnknownKind rel))
-          lacks_kind cap some rel l =
-              let (relation, line, source) = source_at schema plan lines rel ((exactly rel).0 (contains_got rels l.n rel l.at)) in
-              not_begun cap lanes (fault.UnknownKind rel) (
-                lines,
-                record {
-                  relation = relation;
-                  line = line;
-                  is_source = source;
-                  lacks = inr (
-                    l.lane,
-                    l.among,
-                    place_none l.lane.kinds.items line
-                        (subst (λ (o : Option SourceLine). has_place (names_of l.lane.kinds.items) o ≡ false) source.line_is l.lacks),
-                  );
-                  below = λ other its at s less.
-                      let (k, under, is) = (exactly other).1 s.accessed in
-                      let there = slice_get-get_or rels k other under ∙ ap Some is in
-                      let before = stands_before rels (rises_strictly rels up) l.n k rel other l.at there less in
-                      (some, has_kind other at s.line_is (l.before k other before there));
-                },
-              ) refl
+    pub no_room : (cap : ℕ) (lanes : List (Lane S)) → Executes seen schema plan cap lanes lanes (Err fault.NoMemory)
+    no_room cap lanes = not_begun cap lanes lanes fault.NoMemory (no_memory (inl refl)) (LanesStay-refl seen lanes)
 
-          module _ (places : (rel : ℕ) → Contains rels rel → LanesHavePlace lanes schema.sources rel) where
-            -- each relation has its place on each lane
-            pub all_placed : (lane : Lane S) → Contains lanes lane → (rel : ℕ) → Contains rels rel → IsPlaced schema lane.kinds.items rel
-            all_placed lane among rel c =
-                let (relation, line, source) = source_at schema plan lines rel ((exactly rel).0 c) in
-                record {
-                  relation = relation;
-                  line = line;
-                  relation_is = source.relation_is;
-                  line_is = source.line_is;
-                  place = subst (λ (o : Option SourceLine). has_place (names_of lane.kinds.items) o ≡ true) source.line_is (places rel c lane among);
-                }
-
-            all_kinds : 0 < length lanes → (rel : ℕ) (relation : Relation) (line : SourceLine) → IsPlanSource schema plan rel relation line
-                → LanesHaveKind lanes line.kind
-            all_kinds some rel relation line source = (some, has_kind rel line source.line_is (places rel ((exactly rel).1 source.accessed)))
-
-            -- an attach was refused
-            pub run_refused : (cap : ℕ) → 0 < length lanes → (rel : ℕ) (why : AttachFault) (new : List (Lane S)) → length new ≡ length lanes
-                → LanesBreak seen schema rels rel why lanes new → ExecutedOn cap lanes new (Err (refused_as rel why))
-            run_refused cap some rel why new long breaks = go why breaks
-              where
-                stops : (e : AttachFault) → LanesBreak seen schema rels rel e lanes new → LanesAttachStops seen schema plan rel e lanes new
-                stops e b = record { rels = rels; ascends = up; exactly = exactly; breaks = b }
-
-                told : (e : AttachFault) → (e ≢ attach.NoMemory) → LanesBreak seen schema rels rel e lanes new
-                    → ExecutedOn cap lanes new (Err (fault.Attach rel e))
-                told e other b = record {
-                  executes = (stops e b, other);
-                  found = (lines, all_kinds some);
-                  stay = break_stay seen schema rels rel e lanes new long b;
-                }
-
-                go : (e : AttachFault) → LanesBreak seen schema rels rel e lanes new → ExecutedOn cap lanes new (Err (refused_as rel e))
-                go attach.Missing b = told attach.Missing (λ h. cc) b
-                go attach.Failed b = told attach.Failed (λ h. cc) b
-                go (attach.BadHeader column) b = told (attach.BadHeader column) (λ h. cc) b
-                go (attach.BadRow number) b = told (attach.BadRow number) (λ h. cc) b
-                go (attach.NotUtf8 number) b = told (attach.NotUtf8 number) (λ h. cc) b
-                go attach.TooLarge b = told attach.TooLarge (λ h. cc) b
-                go attach.NoMemory b = record {
-                  executes = inr (inl (rel, stops attach.NoMemory b));
-                  found = tt;
-                  stay = break_stay seen schema rels rel attach.NoMemory lanes new long b;
-                }
-
-            module _ (attached : List (Lane S)) (order : LanesAttach seen schema rels lanes attached) where
-              attaches : LanesAttachEach seen schema plan lanes attached
-              attaches = record { rels = rels; ascends = up; exactly = exactly; order = order }
-
-              -- the methods of the plan may be asked on each lane
-              pub lanes_askable : (begun : List (Lane S)) → begun ≡ map started attached → (its : Branch) → Contains plan.branches its
-                  → OnEach begun (λ kinds. AreAskable seen schema kinds its.steps)
-              lanes_askable begun is its c =
-                  subst (λ (l : List (Lane S)). OnEach l (λ kinds. AreAskable seen schema kinds its.steps)) (sym is)
-                  (started_each attached (λ kinds. AreAskable seen schema kinds its.steps)
-                  (attached_each seen schema rels (λ kinds. AreAskable seen schema kinds its.steps)
-                  (λ a b o. all_askable schema plan seen rels up exactly lines a b o its c) lanes attached order))
-
-              stay_by : (new : List (Lane S)) → LanesStay seen (map started attached) new → LanesStay seen lanes new
-              stay_by new later =
-                  LanesStay-trans seen lanes attached new (attach_stay seen schema rels lanes attached order)
-                  (LanesStay-trans seen attached (map started attached) new (started_stay seen attached) later)
-
-              -- the rounds were asked
-              pub ran_whole : (cap : ℕ) → 0 < length lanes → (run : Run) (new begun : List (Lane S)) → begun ≡ map started attached
-                  → LanesDone seen schema plan plan.branches run.rows run.made begun new → ExecutedOn cap lanes new (Ok run)
-              ran_whole cap some run new begun is done = record {
-                executes = record { attached = attached; attaches = attaches; rounds = d };
-                found = (lines, all_kinds some);
-                stay = stay_by new (asked_stay seen schema (map started attached) new (each_asked seen schema d.list (map started attached) new d.asks));
-              }
-                where
-                  d : LanesDone seen schema plan plan.branches run.rows run.made (map started attached) new
-                  d = subst (λ (l : List (Lane S)). LanesDone seen schema plan plan.branches run.rows run.made l new) is done
-
-              -- the rounds stopped
-              pub ran_part : (cap : ℕ) → 0 < length lanes → (why : RunFault) (new begun : List (Lane S)) → begun ≡ map started attached
-                  → PlanHalts seen schema plan cap why begun new → ExecutedOn cap lanes new (Err why)
-              ran_part cap some why new begun is halts =
-                  go why (subst (λ (l : List (Lane S)). PlanHalts seen schema plan cap why l new) is halts)
-                where
-                  stays : (e : RunFault) → PlanHalts seen schema plan cap e (map started attached) new → LanesStay seen lanes new
-                  stays e h = stay_by new (LanesStay-trans seen (map started attached) h.middle new
-                      (asked_stay seen schema (map started attached) h.middle (each_asked seen schema h.earlier (map started attached) h.middle h.asks_earlier))
-                      (asked_stay seen schema h.middle new (only_asked seen schema h.now h.asks_now.lists h.middle new h.asks_now.lanes)))
-
-                  go : (e : RunFault) → PlanHalts seen schema plan cap e (map started attached) new → ExecutedOn cap lanes new (Err e)
-                  go fault.NoMemory h = record {
-                    executes = inr (inr (record { attached = attached; attaches = attaches; halts = h }));
-                    found = tt;
-                    stay = stays fault.NoMemory h;
-                  }
-                  go (fault.NoSource rel) h = absurd h.cause
-                  go (fault.UnknownKind rel) h = absurd h.cause
-                  go (fault.Attach rel why) h = absurd h.cause
-                  go (fault.CallFailed branch step) h = record {
-                    executes = record { attached = attached; attaches = attaches; halts = h };
-                    found = (lines, all_kinds some);
-                    stay = stays (fault.CallFailed branch step) h;
-                  }
-                  go (fault.OverCalls made wanted its) h = record {
-                    executes = record { attached = attached; attaches = attaches; halts = h };
-                    found = (lines, all_kinds some);
-                    stay = stays (fault.OverCalls made wanted its) h;
-                  }
-
-              -- whatever the rounds gave
-              pub ran : (cap : ℕ) → 0 < length lanes → (result : Result Run RunFault) (new begun : List (Lane S)) → begun ≡ map started attached
-                  → IfOk result (λ run. LanesDone seen schema plan plan.branches run.rows run.made begun new)
-                  → IfErr result (λ why. PlanHalts seen schema plan cap why begun new) → ExecutedOn cap lanes new result
-              ran cap some (Ok run) new begun is done halts = ran_whole cap some run new begun is done
-              ran cap some (Err why) new begun is done halts = ran_part cap some why new begun is halts
+    -- and one that went on
+    pub went_on : (cap : ℕ) (old middle new : List (Lane S)) (result : Result Run RunFault)
+        → AttachesNeeded seen schema (needed_by schema plan) old middle (Ok tt) → LanesStay seen old middle
+        → ExecutesAttached seen schema plan cap middle new result → Executes seen schema plan cap old new result
+    went_on cap old middle new result attaches stay e = record {
+      rows = e.rows;
+      ascends = e.ascends;
+      made = e.made;
+      within = e.within;
+      does = attached middle result attaches e.does;
+      stay = LanesStay-trans seen old middle new stay e.stay;
+      idle = λ none. e.idle none ∙ attaches_idle old middle (Ok tt) attaches none;
+      going = e.going;
+    }
 
 -- a refusal says nothing of lanes that go on
 pub on_going : {S : Type 0} (result : Result Run RunFault) (lanes : List (Lane S)) → OnOk result (NoneStopped lanes) → LanesGoOn result lanes

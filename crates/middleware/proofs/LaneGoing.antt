@@ -22,6 +22,7 @@ use Rattle.middleware.proofs.Distinct.{wanted_same, joined_same}
 use Rattle.middleware.proofs.Existing.{wanted_exists}
 use Rattle.middleware.proofs.LaneShares.{AsksSome-none}
 use Rattle.middleware.proofs.LaneValues.{answer_at, answers_at, answered_rows}
+use Rattle.middleware.proofs.Steps.{len_requests}
 
 module _ {S : Type 0} (seen : S → Seen) (schema : Schema) (places : List Place) (method : Method) (rows : RowList) where
   -- no memory for the requests
@@ -43,12 +44,12 @@ module _ {S : Type 0} (seen : S → Seen) (schema : Schema) (places : List Place
       list = list;
       wanted = wanted;
       asks = AsksSome-none seen schema (requests_of method.rel method.inputs list) lanes;
-      cause = (e, subst (λ n. room < n) e over, refl);
+      cause = let is = e ∙ sym (len_requests method.rel method.inputs list) in (is, subst (λ n. room < n) is over, refl);
     }
 
     module _ (asked : RowList) (e : asked ≡ list) (old new : List (Lane S)) where
       pub was_refused : (room : ℕ) (why : RoundFault) → AsksSome seen schema (requests_of method.rel method.inputs asked) old new
-          → HaltCause seen schema why room (length list) method.rel old new → RoundUnshared seen schema places method rows room why old new
+          → HaltCause seen schema why room method.rel (requests_of method.rel method.inputs list) old new → RoundUnshared seen schema places method rows room why old new
       was_refused room why some cause = record {
         list = list;
         wanted = wanted;

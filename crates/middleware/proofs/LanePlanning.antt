@@ -10,14 +10,14 @@ use Rattle.meaning.specs.declared.types.Step.{Step}
 use Rattle.meaning.specs.declared.types.Branch.{Branch}
 use Rattle.meaning.specs.declared.types.Plan.{Plan}
 use Rattle.meaning.specs.declared.types.Request.{Request}
-use Rattle.meaning.specs.Requests.{AreBranchesRequests}
+use Rattle.meaning.specs.Requests.{AreStepsRequests, AreBranchesRequests}
 use Rattle.access_schema.specs.declared.schema.Schema.{Schema}
 use Rattle.access_schema.specs.Meaning.{meaning_of}
 use Rattle.access_schema.proofs.Keeping.{well_formed}
 use Rattle.source_trait.specs.Asking.{RowList, Seen}
 use Rattle.source_trait.specs.declared.lanes.Lane.{Lane}
 use Rattle.middleware.specs.Held.{HoldPlan}
-use Rattle.middleware.specs.Asked.{IsRoundAt}
+use Rattle.middleware.specs.Asked.{steps_of, IsRoundAt}
 use Rattle.middleware.specs.Branches.{IsReadyBranch, fault_of, StepFits}
 use Rattle.middleware.specs.LaneBranches.{LanesHoldSteps, LanesHoldPlan, IsRoundAfter, StepsCause, StepsHalt, LanesAdd, LanesDone, PlanCause, PlanHalts}
 use Rattle.middleware.specs.declared.branch.BranchFault.{BranchFault}
@@ -121,7 +121,21 @@ module _ {S : Type 0} (seen : S → Seen) (schema : Schema) (plan : Plan) where
       subst (λ (l : List Request). AreBranchesRequests parts instance plan.branches l) (sym (append-nil (d.list ++ []) ∙ append-nil d.list))
           (d.means instance holds).are,
     );
-    cause = tt;
+    cause = record {
+      branch = length plan.branches;
+      step = 0;
+      rounds = λ instance holds. inr (
+        refl,
+        record {
+          of_branches = d.list;
+          of_steps = [];
+          branches_are = subst (λ (b : List Branch). AreBranchesRequests parts instance b d.list)
+              (sym (take_all (length plan.branches) plan.branches (omega arith))) (d.means instance holds).are;
+          steps_are = refl;
+          earlier_is = sym (append-nil d.list);
+        },
+      );
+    };
   }
 
   -- the number of the step at which a branch stopped
@@ -189,7 +203,24 @@ module _ {S : Type 0} (seen : S → Seen) (schema : Schema) (plan : Plan) where
 
       cause_of : (why : BranchFault) → StepsCause seen schema its.steps count cap s.earlier s.now mid s.middle new why
           → PlanCause seen schema plan cap (d.list ++ s.earlier) s.now old s.middle new (fault_of i cap why)
-      cause_of branch.NoMemory c = tt
+      cause_of branch.NoMemory c = record {
+        branch = i;
+        step = c.n;
+        rounds = λ instance holds. elim (c.means instance (at_branch instance holds)) [
+          | inl begun ↦ let (step, at_step, after) = begun in inl (round_at instance holds c.n step at_step after)
+          | inr before ↦ inr (
+            before.0,
+            record {
+              of_branches = d.list;
+              of_steps = s.earlier;
+              branches_are = (d.means instance holds).are;
+              steps_are = subst (λ (steps : List Step). AreStepsRequests parts instance [] (take c.n steps) s.earlier)
+                  (ap steps_of (sym got)) before.1;
+              earlier_is = refl;
+            },
+          )
+        ];
+      }
       cause_of (branch.Failed step) c = record {
         its_branch = its;
         its_step = c.step;

@@ -1,8 +1,8 @@
 -- The requests of a method, asked of lanes: what each lane may be asked, was asked and answered.
 use Rattle.std.proofs.Common.{◌≡◌, ◌↔◌, ◌≤◌, ◌<◌, ℕ, suc, List, [], ◌∷◌, length, map, get_or, Option, None, Some, refl, sym, ◌∙◌, ap, subst, arith, ◌++◌, set, take, true}
-use Rattle.std.specs.Prelude.{Contains, slice_get, IfSome, IsSomeAnd, option_map, Result, Ok, Err}
+use Rattle.std.specs.Prelude.{Contains, slice_get, IfSome, IsSomeAnd, option_map, Result, Ok, Err, IfErr}
 use Rattle.std.proofs.lemmas.Option.{slice_get-get_or, slice_get_within}
-use Rattle.lists.proofs.Members.{contains_here, contains_mapped, contains_got, got_mapped, map_got, some_injective}
+use Rattle.lists.proofs.Members.{contains_here, contains_map, contains_mapped, contains_got, got_mapped, map_got, some_injective}
 use Rattle.meaning.specs.declared.types.Fact.{Fact}
 use Rattle.meaning.specs.declared.types.Method.{Method}
 use Rattle.meaning.specs.declared.types.Request.{Request}
@@ -17,9 +17,9 @@ use Rattle.source_trait.specs.declared.work.Ask.{Ask}
 use Rattle.source_trait.proofs.LaneSteps.{AtKind-map, StepsOn-source}
 use Rattle.middleware.specs.PlanSources.{line_for}
 use Rattle.middleware.specs.Held.{SameFacts}
-use Rattle.middleware.specs.Rounds.{requests_of, CanAskAll, AnswersAll}
+use Rattle.middleware.specs.Rounds.{requests_of, CanAskAll, AnswersAll, CallBreaks}
 use Rattle.middleware.specs.Branches.{IsAskable, RoseAt}
-use Rattle.middleware.specs.LaneRounds.{requests_in, HaveTheirKinds, AsksEach, AsksSome, AreAnswers, IsAnswer, Gives, CallFailsAt, AskCause, NoneStopped}
+use Rattle.middleware.specs.LaneRounds.{requests_in, HaveTheirKinds, AsksEach, AsksSome, AreAnswers, IsAnswer, Gives, FailsLast, CallFailsAt, AskCause, NoneStopped}
 use Rattle.middleware.specs.LaneBranches.{OnEach, FailsOnLane}
 use Rattle.middleware.specs.LaneAsking.{ask_of, LanesHoldRelation, AnswersFrom, AsksWanted}
 use Rattle.middleware.specs.declared.lane_round.AskFault.TheVariants as asking
@@ -27,13 +27,13 @@ use Rattle.middleware.proofs.Finding.{ready_line}
 use Rattle.middleware.proofs.LaneShares.{first_each, first_some}
 use Rattle.middleware.proofs.Steps.{len_requests}
 use Rattle.std.specs.Result.{is_err}
-use Rattle.std.proofs.lemmas.List.{take-map, length-map}
-use Rattle.source_trait.specs.Causes.{Rose}
+use Rattle.std.proofs.lemmas.List.{take-map, take_all, length-map}
 use Rattle.source_trait.specs.declared.source.CallFault.{CallFault}
 use Rattle.source_trait.specs.declared.source.CallFault.TheVariants as call
 use Rattle.middleware.specs.Asked.{AsksLane}
 use Rattle.middleware.proofs.LaneRuns.{placed, steps_here}
 use Rattle.middleware.proofs.Laning.{lane_asked}
+use Rattle.middleware.proofs.LaneWorks.{last_rose}
 use Rattle.middleware.proofs.LaneValues.{picked_through}
 
 module _ {S : Type 0} (seen : S → Seen) (schema : Schema) (method : Method) (line : SourceLine) (line_is : line_for method.rel schema.sources ≡ Some line)
@@ -104,7 +104,10 @@ module _ {S : Type 0} (seen : S → Seen) (schema : Schema) (method : Method) (l
           go None gives same = absurd gives
           go (Some s) gives same = by_held ((seen s).held) gives.picks same
 
-  pub fails_on : (k : ℕ) (old new : List (Lane S)) → CallFailsAt seen schema asks k old new → FailsOnLane seen schema method.rel old new
+  abbrev own_requests : List Request
+  own_requests = requests_of method.rel method.inputs requests
+
+  pub fails_on : (k : ℕ) (old new : List (Lane S)) → CallFailsAt seen schema asks k old new → FailsOnLane seen schema method.rel own_requests old new
   fails_on k old new f =
       let (values, got, is) = got_mapped (ask_of line.kind method) requests k f.ask f.at in
       record {
@@ -113,6 +116,10 @@ module _ {S : Type 0} (seen : S → Seen) (schema : Schema) (method : Method) (l
         after = f.after;
         was = f.was;
         now = f.now;
+        request = f.ask.request;
+        among = subst (λ (l : List Request). Contains l f.ask.request) asked_are
+            (contains_map (λ (a : Ask). a.request) asks f.ask (contains_got asks k f.ask f.at));
+        last = f.last;
         rose = subst (λ (a : Ask). RoseAt seen schema a.request.rel f.before.kinds.items f.after.kinds.items) (sym is) f.rose;
         stopped = f.stopped;
       }
@@ -153,7 +160,7 @@ module _ {S : Type 0} (seen : S → Seen) (schema : Schema) (method : Method) (l
     failed_lent k old new h = subst (λ (l : List Ask). CallFailsAt seen schema l k old new) is (h schema kinds_lent).1
 
     pub fails_lent : (k : ℕ) (old new : List (Lane S)) → ((its : Schema) → HaveTheirKinds its lent → AskCause seen its lent (asking.CallFailed k) old new)
-        → FailsOnLane seen schema method.rel old new
+        → FailsOnLane seen schema method.rel own_requests old new
     fails_lent k old new h = fails_on k old new (failed_lent k old new h)
 
     pub one_lent : (k : ℕ) (old new : List (Lane S)) → ((its : Schema) → HaveTheirKinds its lent → AskCause seen its lent (asking.CallFailed k) old new)
@@ -236,24 +243,58 @@ module _ {S : Type 0} (seen : S → Seen) (schema : Schema) (method : Method) (l
               (picked_through facts instance method.rel method.inputs values same row);
         }
 
-    rose : Rose (seen moved.before).faults (seen moved.after).faults → after.stopped ≡ true → FailsOnLane seen schema method.rel (lane ∷ rest) (after ∷ rest)
-    rose up stopped = record {
+    -- the request that failed is the last that the first lane was asked
+    fails_first : CallBreaks seen method.rel method.inputs requests line.kind lane.kinds.items after.kinds.items → after.stopped ≡ true
+        → FailsOnLane seen schema method.rel own_requests (lane ∷ rest) (after ∷ rest)
+    fails_first breaks stopped = record {
       place = 0;
       before = lane;
       after = after;
       was = refl;
       now = refl;
-      rose = record { line = line; line_is = line_is; rose = record { before = moved.before; after = moved.after; was = moved.was; now = moved.now; steps = up } };
+      request = request breaks.values;
+      among = contains_map request requests breaks.values (contains_got requests breaks.n breaks.values breaks.at);
+      last = last;
+      rose = last_rose seen schema (request breaks.values) lane.kinds.items after.kinds.items last;
       stopped = stopped;
     }
+      where
+        request : List (List ℕ) → Request
+        request values = record { rel = method.rel; positions = method.inputs; values = values }
 
-    pub first_wanted : NoneStopped (lane ∷ rest) → after.stopped ≡ is_err result
+        last : FailsLast seen schema (request breaks.values) lane.kinds.items after.kinds.items
+        last = record {
+          earlier = requests_of method.rel method.inputs (take breaks.n requests);
+          middle = breaks.middle;
+          asks = lane_asked seen schema method.rel method.inputs (take breaks.n requests) line line_is lane.kinds.items breaks.middle
+              (λ s t. AnswersAll method.rel method.inputs (take breaks.n requests) (Ok breaks.answers) (seen s) (seen t))
+              (λ s t a. record {
+                asked = subst (λ (l : RowList). (seen t).asked ≡ option_map (λ told. told ++ requests_of method.rel method.inputs l) ((seen s).asked))
+                    (take_all a.count (take breaks.n requests)
+                    (let w : a.count ≡ length (take breaks.n requests) = a.whole in omega (arith, w))) a.asked;
+                held = a.held;
+                attached = a.attached;
+                offers = a.offers;
+                passes = a.passes;
+                faults = a.faults;
+              }) breaks.answered;
+          line = line;
+          line_is = line_is;
+          fails = breaks.failed;
+        }
+
+    -- where the call of a request failed, it was the last
+    abbrev Breaks : Result (List RowList) CallFault → Type 0
+    Breaks r = IfErr r (λ why. why ≡ call.Failed
+        → CallBreaks seen method.rel method.inputs requests line.kind lane.kinds.items after.kinds.items)
+
+    pub first_wanted : NoneStopped (lane ∷ rest) → after.stopped ≡ is_err result → Breaks result
         → AsksWanted seen schema method requests result (lane ∷ rest) (after ∷ rest)
-    first_wanted going stopped = go result moved.steps.0 moved.steps.1 stopped
+    first_wanted going stopped breaks = go result moved.steps.0 moved.steps.1 stopped breaks
       where
         go : (r : Result (List RowList) CallFault) (a : AnswersAll method.rel method.inputs requests r (seen moved.before) (seen moved.after))
-            → a.count ≡ known.0 → after.stopped ≡ is_err r → AsksWanted seen schema method requests r (lane ∷ rest) (after ∷ rest)
-        go (Ok answers) a tied stopped = record {
+            → a.count ≡ known.0 → after.stopped ≡ is_err r → Breaks r → AsksWanted seen schema method requests r (lane ∷ rest) (after ∷ rest)
+        go (Ok answers) a tied stopped breaks = record {
           asks = let e : a.count ≡ length requests = a.whole in whole (sym tied ∙ e);
           answers = own_answers answers a.answers;
           going = (stopped, going.1);
@@ -261,15 +302,15 @@ module _ {S : Type 0} (seen : S → Seen) (schema : Schema) (method : Method) (l
           some = λ e. absurd (cc);
           failed = λ e. absurd (cc);
         }
-        go (Err call.Failed) a tied stopped = record {
+        go (Err call.Failed) a tied stopped breaks = record {
           asks = tt;
           answers = tt;
           going = tt;
           refused = part;
-          some = λ e. let s = a.some refl in let w = a.within in omega (arith, s, w);
-          failed = λ e. rose (a.failed refl) stopped;
+          some = λ e. let b = breaks refl in let within = slice_get_within requests b.n b.values b.at in omega (arith, within);
+          failed = λ e. fails_first (breaks refl) stopped;
         }
-        go (Err call.NoMemory) a tied stopped = record {
+        go (Err call.NoMemory) a tied stopped breaks = record {
           asks = tt;
           answers = tt;
           going = tt;
@@ -304,6 +345,9 @@ module _ {S : Type 0} (seen : S → Seen) (schema : Schema) (method : Method) (l
   pub first_of : (result : Result (List RowList) CallFault) (lanes : List (Lane S)) (d after : Lane S) → 0 < length lanes → NoneStopped lanes
       → StepsOn (get_or lanes 0 d).kinds.items after.kinds.items line.kind
       (λ s t. AnswersAll method.rel method.inputs requests result (seen s) (seen t))
-      → after.stopped ≡ is_err result → AsksWanted seen schema method requests result lanes (set lanes 0 after)
-  first_of result [] d after long going steps stopped = absurd (omega arith)
-  first_of result (x ∷ rest) d after long going steps stopped = first_wanted result x after rest steps going stopped
+      → after.stopped ≡ is_err result
+      → IfErr result (λ why. why ≡ call.Failed
+      → CallBreaks seen method.rel method.inputs requests line.kind (get_or lanes 0 d).kinds.items after.kinds.items)
+      → AsksWanted seen schema method requests result lanes (set lanes 0 after)
+  first_of result [] d after long going steps stopped breaks = absurd (omega arith)
+  first_of result (x ∷ rest) d after long going steps stopped breaks = first_wanted result x after rest steps going stopped breaks

@@ -9,19 +9,18 @@ use Rattle.access_schema.specs.declared.schema.Schema.{Schema}
 use Rattle.lane_pool.specs.Numbers.{total, times, EachOnce}
 use Rattle.lane_pool.specs.Work.{AllWorked, FansOut}
 use Rattle.source_trait.specs.Asking.{RowList, Seen, pick}
-use Rattle.source_trait.specs.Causes.{Rose}
-use Rattle.source_trait.specs.Lanes.{source_of, AtKind, SourceSteps}
+use Rattle.source_trait.specs.Lanes.{source_of, AtKind}
 use Rattle.source_trait.specs.Works.{Works}
 use Rattle.source_trait.specs.declared.lanes.Lane.{Lane}
 use Rattle.source_trait.specs.declared.work.Ask.{Ask}
 use Rattle.source_trait.specs.declared.work.Asked.{Asked}
 use Rattle.source_trait.specs.declared.work.Asked.TheVariants as asked
-use Rattle.middleware.specs.LaneRounds.{started, requests_in, HaveTheirKinds, LanesAsked, AsksEach, AsksSome, Gives, IsAnswer, AreAnswers, LanesHold, picked, NoneStopped, FirstRefused, CallFailsAt, AskCause}
+use Rattle.middleware.specs.LaneRounds.{started, requests_in, HaveTheirKinds, LanesAsked, AsksEach, AsksSome, FailsLast, Gives, IsAnswer, AreAnswers, LanesHold, picked, NoneStopped, FirstRefused, CallFailsAt, AskCause}
 use Rattle.middleware.specs.declared.lane_round.AskFault.{AskFault}
 use Rattle.middleware.specs.declared.lane_round.AskFault.TheVariants as fault
 use Rattle.middleware.proofs.Laning.{AsksLane-refl}
 use Rattle.middleware.proofs.LaneAnswers.{asked_among, asked_at_most_once, whole_lists, worked_at}
-use Rattle.middleware.proofs.LaneWorks.{run_asks, run_gives, run_fails, run_goes}
+use Rattle.middleware.proofs.LaneWorks.{run_asks, run_gives, last_rose, run_fails, run_goes}
 
 module _ {S : Type 0} (seen : S → Seen) where
   -- ---- what was asked
@@ -159,10 +158,8 @@ module _ {S : Type 0} (seen : S → Seen) where
       let at = worked_at (Works seen) asks answers k fanned.lists (map started ws) us fanned.worked
       (drawn k (length asks) fanned.lists fanned.once (slice_get_within asks k ask ask_at)) in
       let (lane, was, same) = got_mapped started ws at.place at.before at.was in
-      let failed = run_fails seen asks answers at.list at.before at.after at.worked k at.among ask ask_at failed_at in
-      let its = kinds k ask ask_at in
-      let rose = subst (λ (kind : List ℕ). SourceSteps at.before.kinds.items at.after.kinds.items kind
-      (λ s t. Rose (seen s).faults (seen t).faults)) its.kind failed.0 in
+      let failed = run_fails seen asks answers schema kinds at.list at.before at.after at.worked k at.among ask ask_at failed_at in
+      let last = subst (λ (l : Lane S). FailsLast seen schema ask.request l.kinds.items at.after.kinds.items) (sym same) failed.0 in
       record {
         ask = ask;
         at = ask_at;
@@ -171,12 +168,8 @@ module _ {S : Type 0} (seen : S → Seen) where
         after = at.after;
         was = was;
         now = at.now;
-        rose = record {
-          line = its.line;
-          line_is = its.line_is;
-          rose = subst (λ (l : Lane S). SourceSteps l.kinds.items at.after.kinds.items its.line.kind
-              (λ s t. Rose (seen s).faults (seen t).faults)) (sym same) rose;
-        };
+        last = last;
+        rose = last_rose seen schema ask.request lane.kinds.items at.after.kinds.items last;
         stopped = failed.1;
       }
 

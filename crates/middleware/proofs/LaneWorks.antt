@@ -12,22 +12,23 @@ use Rattle.lane_pool.specs.Numbers.{times}
 use Rattle.lane_pool.specs.Work.{WorkedBy}
 use Rattle.lane_pool.proofs.Totals.{hit-other}
 use Rattle.source_trait.specs.Asking.{RowList, Seen, Attached, CallGives, agrees, pick}
-use Rattle.source_trait.specs.Causes.{Rose}
-use Rattle.source_trait.specs.Lanes.{source_of, AtKind, StepsOn, SourceSteps, KindsStay}
+use Rattle.source_trait.specs.Lanes.{source_of, AtKind, StepsOn, KindsStay}
 use Rattle.source_trait.specs.Works.{Calls, Works}
+use Rattle.source_trait.specs.declared.lanes.Kind.{Kind}
 use Rattle.source_trait.specs.declared.lanes.Lane.{Lane}
 use Rattle.source_trait.specs.declared.source.CallFault.{CallFault}
 use Rattle.source_trait.specs.declared.source.CallFault.TheVariants as fault
 use Rattle.source_trait.specs.declared.work.Ask.{Ask}
 use Rattle.source_trait.specs.declared.work.Asked.{Asked}
 use Rattle.source_trait.specs.declared.work.Asked.TheVariants as asked
-use Rattle.source_trait.proofs.LaneSteps.{StepsOn-source, KindsStay-refl, KindsStay-trans}
+use Rattle.source_trait.proofs.LaneSteps.{StepsOn-source, KindsStay-refl}
 use Rattle.middleware.specs.Attaching.{TellsSame}
 use Rattle.middleware.specs.Asked.{AsksLane}
 use Rattle.middleware.specs.Rounds.{requests_of}
-use Rattle.middleware.specs.LaneRounds.{requests_in, HasItsKind, HaveTheirKinds, with_request, at_numbers, Gives}
+use Rattle.middleware.specs.Branches.{RoseAt}
+use Rattle.middleware.specs.LaneRounds.{requests_in, HasItsKind, HaveTheirKinds, with_request, at_numbers, FailsLast, Gives}
 use Rattle.middleware.proofs.Answering.{asked_nothing}
-use Rattle.middleware.proofs.LaneRuns.{later_source, earlier_source}
+use Rattle.middleware.proofs.LaneRuns.{earlier_source}
 use Rattle.middleware.proofs.Laning.{tells_refl, stepped_tells, AsksLane-refl, AsksLane-trans, lane_asked}
 use Rattle.middleware.proofs.LaneAnswers.{was_asked, asked_among}
 
@@ -61,12 +62,31 @@ module _ {S : Type 0} (seen : S → Seen) where
   works_stay ask asked.Skipped old new did = subst (λ (lane : Lane S). KindsStay seen old.kinds.items lane.kinds.items) (sym did.1)
       (KindsStay-refl seen old.kinds.items)
 
-  -- a stopped lane stays stopped
-  works_stopped : (ask : Ask) (answer : Asked) (old new : Lane S) → Works seen old ask answer new → old.stopped ≡ true → new.stopped ≡ true
-  works_stopped ask (asked.Rows rows) old new did is = let going : old.stopped ≡ false = did.0.going in absurd (cc)
-  works_stopped ask asked.Failed old new did is = did.1
-  works_stopped ask asked.NoMemory old new did is = did.1
-  works_stopped ask asked.Skipped old new did is = ap (λ (lane : Lane S). lane.stopped) did.1 ∙ is
+  -- a stopped lane stays as it is
+  works_halted : (ask : Ask) (answer : Asked) (old new : Lane S) → Works seen old ask answer new → old.stopped ≡ true → new ≡ old
+  works_halted ask (asked.Rows rows) old new did is = let going : old.stopped ≡ false = did.0.going in absurd (cc)
+  works_halted ask asked.Failed old new did is = let going : old.stopped ≡ false = did.0.going in absurd (cc)
+  works_halted ask asked.NoMemory old new did is = let going : old.stopped ≡ false = did.0.going in absurd (cc)
+  works_halted ask asked.Skipped old new did is = did.1
+
+  -- where the last request that was asked failed, the count of its source rose
+  pub last_rose : (schema : Schema) (request : Request) (old new : List (Kind S)) → FailsLast seen schema request old new
+      → RoseAt seen schema request.rel old new
+  last_rose schema request old new last =
+      let moved = StepsOn-source last.middle new
+      (λ s t. CallGives (seen s) (seen t) request.rel request.positions request.values (Err fault.Failed)) last.line.kind last.fails in
+      let (first, was, goes) = earlier_source seen old last.middle last.line.kind moved.before last.asks.stay moved.was in
+      record {
+        line = last.line;
+        line_is = last.line_is;
+        rose = record {
+          before = first;
+          after = moved.after;
+          was = was;
+          now = moved.now;
+          steps = (let rose = moved.steps.failed refl in omega (arith, rose, goes.later));
+        };
+      }
 
   module _ (schema : Schema) (ask : Ask) (its : HasItsKind schema ask) (result : Result RowList CallFault) (old new : Lane S)
       (calls : Calls seen old ask result new) where
@@ -110,16 +130,11 @@ module _ {S : Type 0} (seen : S → Seen) where
     abbrev Ran : List ℕ → Lane S → Lane S → Type 0
     Ran ks w u = WorkedBy (Works seen) asks answers ks w u
 
-    run_stays : (ks : List ℕ) (w u : Lane S) → Ran ks w u → KindsStay seen w.kinds.items u.kinds.items
-    run_stays [] w u same = subst (λ (lane : Lane S). KindsStay seen w.kinds.items lane.kinds.items) same
-        (KindsStay-refl seen w.kinds.items)
-    run_stays (k ∷ ks) w u (ask, answer, next, ask_at, answer_at, did, rest) =
-        KindsStay-trans seen w.kinds.items next.kinds.items u.kinds.items (works_stay ask answer w next did) (run_stays ks next u rest)
-
-    run_stopped : (ks : List ℕ) (w u : Lane S) → Ran ks w u → w.stopped ≡ true → u.stopped ≡ true
-    run_stopped [] w u same is = ap (λ (lane : Lane S). lane.stopped) (sym same) ∙ is
-    run_stopped (k ∷ ks) w u (ask, answer, next, ask_at, answer_at, did, rest) is = run_stopped ks next u rest
-        (works_stopped ask answer w next did is)
+    run_halted : (ks : List ℕ) (w u : Lane S) → Ran ks w u → w.stopped ≡ true → u ≡ w
+    run_halted [] w u same is = sym same
+    run_halted (k ∷ ks) w u (ask, answer, next, ask_at, answer_at, did, rest) is =
+        let here : next ≡ w = works_halted ask answer w next did is in
+        run_halted ks next u rest (ap (λ (lane : Lane S). lane.stopped) here ∙ is) ∙ here
 
     -- the lane was asked the requests whose answers tell so, in their order
     pub run_asks : (schema : Schema) → HaveTheirKinds schema asks → (ks : List ℕ) (w u : Lane S) → Ran ks w u
@@ -176,47 +191,46 @@ module _ {S : Type 0} (seen : S → Seen) where
               (λ facts. rows ≡ pick facts ask.request.rel ask.request.positions ask.request.values)) tells.0 gives.picks;
         }
 
-    -- a failed call raised the count of its source, and left the lane stopped
-    pub run_fails : (ks : List ℕ) (w u : Lane S) → Ran ks w u → (k : ℕ) → 0 < times k ks → (ask : Ask) → slice_get asks k ≡ Some ask
-        → slice_get answers k ≡ Some asked.Failed
-        → SourceSteps w.kinds.items u.kinds.items ask.kind (λ s t. Rose (seen s).faults (seen t).faults) × (u.stopped ≡ true)
-    run_fails [] w u same k among ask ask_at failed_at = absurd (omega arith)
-    run_fails (j ∷ ks) w u (its, answer, next, its_at, answer_at, did, rest) k among ask ask_at failed_at = dite (ℕ_discrete j k)
+    -- a request whose call failed is the last that its lane was asked, which was left stopped
+    pub run_fails : (schema : Schema) → HaveTheirKinds schema asks → (ks : List ℕ) (w u : Lane S) → Ran ks w u → (k : ℕ) → 0 < times k ks
+        → (ask : Ask) → slice_get asks k ≡ Some ask → slice_get answers k ≡ Some asked.Failed
+        → FailsLast seen schema ask.request w.kinds.items u.kinds.items × (u.stopped ≡ true)
+    run_fails schema kinds [] w u same k among ask ask_at failed_at = absurd (omega arith)
+    run_fails schema kinds (j ∷ ks) w u (its, answer, next, its_at, answer_at, did, rest) k among ask ask_at failed_at = dite (ℕ_discrete j k)
         (λ (same : j ≡ k).
         let is_ask : its ≡ ask = some_injective its ask (sym its_at ∙ ap (slice_get asks) same ∙ ask_at) in
         let is_failed : answer ≡ asked.Failed = some_injective answer asked.Failed
         (sym answer_at ∙ ap (slice_get answers) same ∙ failed_at) in
         here (subst (λ (a : Asked). Works seen w ask a next) is_failed (subst (λ (a : Ask). Works seen w a answer next) is_ask did)))
         (λ (apart : j ≢ k).
-        let later = run_fails ks next u rest k (let z = hit-other k j apart in omega arith) ask ask_at failed_at in
-        let (first, was, goes) = earlier_source seen w.kinds.items next.kinds.items ask.kind later.0.before
-        (works_stay its answer w next did) later.0.was in (
+        let (last, stopped) = run_fails schema kinds ks next u rest k (let z = hit-other k j apart in omega arith) ask ask_at failed_at in (
           record {
-            before = first;
-            after = later.0.after;
-            was = was;
-            now = later.0.now;
-            steps =
-                (let rose = later.0.steps in omega (arith, rose, goes.later));
+            earlier = asked_by its (Some answer) ++ last.earlier;
+            middle = last.middle;
+            asks = AsksLane-trans seen schema (asked_by its (Some answer)) last.earlier w.kinds.items next.kinds.items last.middle
+                (works_asks schema its (kinds j its its_at) answer w next did) last.asks;
+            line = last.line;
+            line_is = last.line_is;
+            fails = last.fails;
           },
-          later.1,
+          stopped,
         ))
       where
-        here : Works seen w ask asked.Failed next → SourceSteps w.kinds.items u.kinds.items ask.kind
-            (λ s t. Rose (seen s).faults (seen t).faults) × (u.stopped ≡ true)
+        here : Works seen w ask asked.Failed next → FailsLast seen schema ask.request w.kinds.items u.kinds.items × (u.stopped ≡ true)
         here works =
-            let moved = StepsOn-source w.kinds.items next.kinds.items (Called ask (Err fault.Failed)) ask.kind works.0.steps in
-            let (last, now, goes) = later_source seen next.kinds.items u.kinds.items ask.kind moved.after (run_stays ks next u rest)
-            moved.now in (
+            let own = kinds k ask ask_at in
+            subst (λ (lane : Lane S). FailsLast seen schema ask.request w.kinds.items lane.kinds.items × (lane.stopped ≡ true))
+            (sym (run_halted ks next u rest works.1)) (
               record {
-                before = moved.before;
-                after = last;
-                was = moved.was;
-                now = now;
-                steps =
-                    (let rose = moved.steps.failed refl in omega (arith, rose, goes.later));
+                earlier = [];
+                middle = w.kinds.items;
+                asks = AsksLane-refl seen schema w.kinds.items;
+                line = own.line;
+                line_is = own.line_is;
+                fails = subst (λ (kind : List ℕ). StepsOn w.kinds.items next.kinds.items kind (Called ask (Err fault.Failed)))
+                    own.kind works.0.steps;
               },
-              run_stopped ks next u rest works.1,
+              works.1,
             )
 
   -- where each answer is rows, the lane goes on

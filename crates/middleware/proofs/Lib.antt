@@ -32,8 +32,9 @@ pub mod Planning
 pub mod LanePlanning
 pub mod Accessing
 pub mod Lacking
-pub mod Starting
 pub mod LaneStays
+pub mod Needing
+pub mod Starting
 pub mod LaneFinished
 pub mod Whole
 pub mod Lone

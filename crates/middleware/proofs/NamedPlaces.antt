@@ -78,17 +78,6 @@ module _ (first : List ℕ) (n : ℕ) (places : List Place) (i : ℕ) (old : Nam
 
 -- ---- columns that are asked for
 
-pub adds_one : (place : Option Place) (k : ℕ) → place ≡ Some (Col k) → (old new : List ℕ) → new ≡ old ++ k ∷ [] → AddsAsked place old new
-adds_one place k is old new e = record {
-  keeps = λ j c. subst (λ (l : List ℕ). Contains l j) (sym e) (append_first old (k ∷ []) j c);
-  has = λ j named.
-      let same : k ≡ j = cc in
-      subst (λ (l : List ℕ). Contains l j) (sym e) (append_second old (k ∷ []) j (subst (Contains (k ∷ [])) same (contains_here k [])));
-}
-
-pub adds_none : (place : Option Place) (columns : List ℕ) → ((k : ℕ) → place ≡ Some (Col k) → ⊥) → AddsAsked place columns columns
-adds_none place columns not = record { keeps = λ k c. c; has = λ k named. absurd (not k named) }
-
 pub asked_more : (places : List Place) (inputs old new : List ℕ) (i d : ℕ) → i < length inputs → AddsAsked (slice_get places (get_or inputs i d)) old new → AreAsked old places (take i inputs) → AreAsked new places (take (i + 1) inputs)
 asked_more places inputs old new i d less adds asked p k among named = ⊎_elim
     (λ h. adds.keeps k (asked p k h named))

@@ -79,8 +79,8 @@ module _ {S : Type 0} (seen : S → Seen) (schema : Schema) (plan : Plan) where
 
   pub hold_steps : (kinds : List (Kind S)) (instance : List Fact) → HoldPlan seen schema plan kinds instance → (its : Branch) → Contains plan.branches its → HoldSteps seen schema its.steps kinds instance
   hold_steps kinds instance holds its of_plan step method line among named line_is =
-      let (relation, there) = relation_there schema method named.0 in
-      holds method.rel relation line (record { accessed = accessed_by schema plan its step method of_plan among named; relation_is = there; line_is = line_is })
+      holds method.rel line (accessed_by schema plan its step method of_plan among named) line_is
 
   pub plan_earlier : (requests : List Request) (old new : List (Kind S)) → AsksLane seen schema requests old new → (instance : List Fact) → HoldPlan seen schema plan new instance → HoldPlan seen schema plan old instance
-  plan_earlier requests old new asks instance holds rel relation line source = relation_earlier seen schema requests old new asks line.kind rel instance (holds rel relation line source)
+  plan_earlier requests old new asks instance holds rel line accessed line_is =
+      relation_earlier seen schema requests old new asks line.kind rel instance (holds rel line accessed line_is)

@@ -62,6 +62,20 @@ pub record IsStepAt (plan : Plan) (branch step : ℕ) (its_branch : Branch) (its
   pub of_plan : slice_get plan.branches branch ≡ Some its_branch
   pub of_branch : slice_get its_branch.steps step ≡ Some its_step
 
+-- the steps of the branch of a number
+abbrev pub steps_of : Option Branch → List Step
+steps_of None = []
+steps_of (Some branch) = branch.steps
+
+-- the requests of all rounds before that of a step: those of the branches before, and those of the branch's steps before
+pub record AreRoundsBefore (schema : SchemaParts) (plan : Plan) (instance : List Fact) (branch step : ℕ) (earlier : List Request)
+    : Type 0 where
+  pub of_branches : List Request
+  pub of_steps : List Request
+  pub branches_are : AreBranchesRequests schema instance (take branch plan.branches) of_branches
+  pub steps_are : AreStepsRequests schema instance [] (take step (steps_of (slice_get plan.branches branch))) of_steps
+  pub earlier_is : earlier ≡ of_branches ++ of_steps
+
 -- the requests of all rounds before that of a step, and those of its own round
 pub record IsRoundAt (schema : SchemaParts) (plan : Plan) (instance : List Fact) (branch step : ℕ) (earlier now : List Request) : Type 0 where
   pub its_branch : Branch

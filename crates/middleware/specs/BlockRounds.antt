@@ -80,7 +80,7 @@ module _ {S : Type 0} (seen : S → Seen) (schema : Schema) (step : Step) (steps
     pub wanted : WantsOf method list
     pub of_step : AreOfStep method list
     pub asks : AsksSome seen schema (requests_of method.rel method.inputs list) old new
-    pub cause : HaltCause seen schema why room (length list) method.rel old new
+    pub cause : HaltCause seen schema why room method.rel (requests_of method.rel method.inputs list) old new
 
   -- there was no memory before anything was asked, or the round stopped
   abbrev pub BlocksHalt : ℕ → RoundFault → List (Lane S) → List (Lane S) → Type 0

@@ -41,7 +41,7 @@ module _ {S : Type 0} (seen : S → Seen) (schema : Schema) where
     pub going : OnOk result (NoneStopped new)
     pub refused : IfErr result (λ fault. AsksSome seen schema (requests_of method.rel method.inputs requests) old new)
     pub some : IsErrOf result call.Failed → 1 ≤ length requests
-    pub failed : IsErrOf result call.Failed → FailsOnLane seen schema method.rel old new
+    pub failed : IsErrOf result call.Failed → FailsOnLane seen schema method.rel (requests_of method.rel method.inputs requests) old new
 
   -- Each request of a round was asked once by one of the lanes, and the partial rows after it are those that the answers give.
   pub record RoundShared (places : List Place) (method : Method) (rows requests next : RowList) (old new : List (Lane S)) : Type 0 where
@@ -56,4 +56,4 @@ module _ {S : Type 0} (seen : S → Seen) (schema : Schema) where
     pub list : RowList
     pub wanted : IsWanted places method.inputs rows list
     pub asks : AsksSome seen schema (requests_of method.rel method.inputs list) old new
-    pub cause : HaltCause seen schema why room (length list) method.rel old new
+    pub cause : HaltCause seen schema why room method.rel (requests_of method.rel method.inputs list) old new

@@ -1,5 +1,5 @@
 -- How far rounds that lanes share have come, of a branch and of a plan.
-use Rattle.std.specs.Prelude.{◌≡◌, ◌↔◌, ℕ, ◌-◌, ◌+◌, ◌^◌, ◌<◌, ◌≤◌, min, true, List, [], ◌∷◌, ◌++◌, length, take, Contains, slice_get, Some, Bool}
+use Rattle.std.specs.Prelude.{◌≡◌, ◌↔◌, ◌⊎◌, ℕ, ◌-◌, ◌+◌, ◌^◌, ◌<◌, ◌≤◌, min, true, List, [], ◌∷◌, ◌++◌, length, take, Contains, slice_get, Some, Bool}
 use Rattle.meaning.specs.declared.types.Fact.{Fact}
 use Rattle.meaning.specs.declared.types.Method.{Method}
 use Rattle.meaning.specs.declared.types.SchemaParts.{SchemaParts}
@@ -15,12 +15,12 @@ use Rattle.source_trait.specs.Asking.{RowList, Seen}
 use Rattle.source_trait.specs.declared.lanes.Kind.{Kind}
 use Rattle.source_trait.specs.declared.lanes.Lane.{Lane}
 use Rattle.middleware.specs.Held.{HoldPlan}
-use Rattle.middleware.specs.Asked.{IsStepRequest, IsStepAt, IsRoundAt}
+use Rattle.middleware.specs.Asked.{IsStepRequest, IsStepAt, IsRoundAt, AreRoundsBefore}
 use Rattle.middleware.specs.Rounds.{requests_of, IsWanted, next_rows}
 use Rattle.middleware.specs.Blocks.{AreTables, HaveLive}
 use Rattle.middleware.specs.declared.blocks.Block.{Block}
 use Rattle.middleware.specs.Branches.{columns_after, HoldSteps, RoseAt, AreOfSteps, Means, AddsBranch, AreOfBranches, BranchesMean}
-use Rattle.middleware.specs.LaneRounds.{AsksEach, AsksSome, NoneStopped}
+use Rattle.middleware.specs.LaneRounds.{AsksEach, AsksSome, FailsLast, NoneStopped}
 use Rattle.middleware.specs.declared.round.RoundFault.{RoundFault}
 use Rattle.middleware.specs.declared.round.RoundFault.TheVariants as round
 use Rattle.middleware.specs.declared.branch.BranchFault.{BranchFault}
@@ -38,6 +38,12 @@ pub record IsRoundAfter (schema : SchemaParts) (facts : List Fact) (steps : List
     pub earlier_are : AreStepsRequests schema facts [] (take n steps) earlier
     pub now_is : IsRound schema facts (take n steps) step now
 
+-- on an instance: the requests of the rounds before that of the nth step, and those of its own, or none
+abbrev pub AreRoundsAfter : SchemaParts → List Fact → List Step → ℕ → List Request → List Request → Type 0
+AreRoundsAfter schema facts steps n earlier now =
+    ((step : Step) × (slice_get steps n ≡ Some step) × IsRoundAfter schema facts steps n step earlier now)
+    ⊎ ((now ≡ []) × AreStepsRequests schema facts [] (take n steps) earlier)
+
 module _ {S : Type 0} (seen : S → Seen) (schema : Schema) where
   -- ---- one round
 
@@ -49,13 +55,17 @@ module _ {S : Type 0} (seen : S → Seen) (schema : Schema) where
   abbrev pub LanesHoldPlan : Plan → List (Lane S) → List Fact → Type 0
   LanesHoldPlan plan lanes instance = OnEach lanes (λ kinds. HoldPlan seen schema plan kinds instance)
 
-  -- A call of one of the lanes failed: the count of faults of its source of the relation rose, and the lane is stopped.
-  pub record FailsOnLane (rel : ℕ) (old new : List (Lane S)) : Type 0 where
+  -- A call of one of the lanes failed, for one of these requests of the relation, which is the last that the lane was asked: the count
+  -- of faults of its source of the relation rose, and the lane is stopped.
+  pub record FailsOnLane (rel : ℕ) (requests : List Request) (old new : List (Lane S)) : Type 0 where
     pub place : ℕ
     pub before : Lane S
     pub after : Lane S
     pub was : slice_get old place ≡ Some before
     pub now : slice_get new place ≡ Some after
+    pub request : Request
+    pub among : Contains requests request
+    pub last : FailsLast seen schema request before.kinds.items after.kinds.items
     pub rose : RoseAt seen schema rel before.kinds.items after.kinds.items
     pub stopped : after.stopped ≡ true
 
@@ -70,11 +80,11 @@ module _ {S : Type 0} (seen : S → Seen) (schema : Schema) where
     pub rows_are : (instance : List Fact) → LanesHoldSteps (step ∷ []) old instance →
         (row : List (List ℕ)) → Contains next row ↔ Contains (next_rows step.places method instance rows) row
 
-  -- why a round of so many requests stopped
-  abbrev pub HaltCause : RoundFault → ℕ → ℕ → ℕ → List (Lane S) → List (Lane S) → Type 0
-  HaltCause round.NoMemory room wanted rel old new = Unit {0}
-  HaltCause round.Failed room wanted rel old new = (1 ≤ wanted) × (wanted ≤ room) × FailsOnLane rel old new
-  HaltCause (round.OverCalls its) room wanted rel old new = (its ≡ wanted) × (room < wanted) × (new ≡ old)
+  -- why a round of these requests of the relation stopped, where there was room for so many
+  abbrev pub HaltCause : RoundFault → ℕ → ℕ → List Request → List (Lane S) → List (Lane S) → Type 0
+  HaltCause round.NoMemory room rel requests old new = Unit {0}
+  HaltCause round.Failed room rel requests old new = (1 ≤ length requests) × (length requests ≤ room) × FailsOnLane rel requests old new
+  HaltCause (round.OverCalls its) room rel requests old new = (its ≡ length requests) × (room < length requests) × (new ≡ old)
 
   -- A round stopped: each of its requests was asked at most once.
   pub record LanesHalt (step : Step) (rows : RowList) (room : ℕ) (why : RoundFault) (old new : List (Lane S)) : Type 0 where
@@ -83,7 +93,7 @@ module _ {S : Type 0} (seen : S → Seen) (schema : Schema) where
     pub list : RowList
     pub wanted : IsWanted step.places method.inputs rows list
     pub asks : AsksSome seen schema (requests_of method.rel method.inputs list) old new
-    pub cause : HaltCause why room (length list) method.rel old new
+    pub cause : HaltCause why room method.rel (requests_of method.rel method.inputs list) old new
 
   -- ---- the rounds of a branch
 
@@ -107,7 +117,7 @@ module _ {S : Type 0} (seen : S → Seen) (schema : Schema) where
     pub some : 1 ≤ length now
     pub of_step : (request : Request) → Contains now request → IsStepRequest (meaning_of schema) step request
     pub fits : before + length earlier + length now ≤ most
-    pub fails : FailsOnLane method.rel middle new
+    pub fails : FailsOnLane method.rel now middle new
     pub means : (instance : List Fact) → LanesHoldSteps steps old instance → IsRoundAfter (meaning_of schema) instance steps n step earlier now
 
   -- The next round would pass the cap, and was not asked.
@@ -124,9 +134,14 @@ module _ {S : Type 0} (seen : S → Seen) (schema : Schema) where
       pub going : NoneStopped new
       pub means : (instance : List Fact) → LanesHoldSteps steps old instance → IsRoundAfter (meaning_of schema) instance steps n step earlier now
 
+  -- There was no memory in a round, or where none was under way; so each round before it was asked whole.
+  pub record RunsOutIn (steps : List Step) (earlier now : List Request) (old : List (Lane S)) : Type 0 where
+    pub n : ℕ
+    pub means : (instance : List Fact) → LanesHoldSteps steps old instance → AreRoundsAfter (meaning_of schema) instance steps n earlier now
+
   -- why the rounds of a branch stopped
   abbrev pub StepsCause : List Step → ℕ → ℕ → List Request → List Request → List (Lane S) → List (Lane S) → List (Lane S) → BranchFault → Type 0
-  StepsCause steps before most earlier now old middle new branch.NoMemory = Unit {0}
+  StepsCause steps before most earlier now old middle new branch.NoMemory = RunsOutIn steps earlier now old
   StepsCause steps before most earlier now old middle new (branch.Failed n) = FailsIn steps n before most earlier now old middle new
   StepsCause steps before most earlier now old middle new (branch.OverCalls total wanted) =
       FillsIn steps before most total wanted earlier now old middle new
@@ -171,7 +186,7 @@ module _ {S : Type 0} (seen : S → Seen) (schema : Schema) where
     pub some : 1 ≤ length now
     pub of_step : (request : Request) → Contains now request → IsStepRequest (meaning_of schema) its_step request
     pub fits : length earlier + length now ≤ cap
-    pub fails : FailsOnLane method.rel middle new
+    pub fails : FailsOnLane method.rel now middle new
     pub rounds : (instance : List Fact) → LanesHoldPlan plan old instance → IsRoundAt (meaning_of schema) plan instance branch step earlier now
 
   -- A round would pass the cap, and was not asked; each round before it was asked whole.
@@ -186,9 +201,17 @@ module _ {S : Type 0} (seen : S → Seen) (schema : Schema) where
     pub going : NoneStopped new
     pub rounds : (instance : List Fact) → LanesHoldPlan plan old instance → IsRoundAt (meaning_of schema) plan instance branch step earlier now
 
+  -- There was no memory in a round, or where none was under way; so each round before it was asked whole.
+  pub record MemoryRunsOut (plan : Plan) (earlier now : List Request) (old : List (Lane S)) : Type 0 where
+    pub branch : ℕ
+    pub step : ℕ
+    pub rounds : (instance : List Fact) → LanesHoldPlan plan old instance
+        → IsRoundAt (meaning_of schema) plan instance branch step earlier now
+        ⊎ ((now ≡ []) × AreRoundsBefore (meaning_of schema) plan instance branch step earlier)
+
   -- why the rounds of a plan stopped
   abbrev pub PlanCause : Plan → ℕ → List Request → List Request → List (Lane S) → List (Lane S) → List (Lane S) → RunFault → Type 0
-  PlanCause plan cap earlier now old middle new fault.NoMemory = Unit {0}
+  PlanCause plan cap earlier now old middle new fault.NoMemory = MemoryRunsOut plan earlier now old
   PlanCause plan cap earlier now old middle new (fault.CallFailed branch step) = CallFails plan cap branch step earlier now old middle new
   PlanCause plan cap earlier now old middle new (fault.OverCalls total wanted its) =
       (its ≡ cap) × CapFills plan cap total wanted earlier now old middle new

@@ -1,5 +1,5 @@
 -- One round of requests that several lanes share, each request asked by one of them.
-use Rattle.std.specs.Prelude.{◌≡◌, ◌≤◌, ◌<◌, ℕ, true, false, List, [], ◌∷◌, length, map, Contains, Option, None, Some, IfSome, slice_get}
+use Rattle.std.specs.Prelude.{◌≡◌, ◌≤◌, ◌<◌, ℕ, true, false, List, [], ◌∷◌, length, map, Contains, Option, None, Some, IfSome, slice_get, Err}
 use Rattle.std.specs.List.{AllByRecursion}
 use Rattle.meaning.specs.declared.types.Fact.{Fact}
 use Rattle.meaning.specs.declared.types.Request.{Request}
@@ -7,9 +7,11 @@ use Rattle.access_schema.specs.declared.schema.Schema.{Schema}
 use Rattle.access_schema.specs.declared.schema.SourceLine.{SourceLine}
 use Rattle.lane_pool.specs.Numbers.{total, times, EachOnce, AllAscend}
 use Rattle.lane_pool.specs.Work.{FansOut}
-use Rattle.source_trait.specs.Asking.{RowList, Seen, agrees, pick}
-use Rattle.source_trait.specs.Lanes.{source_of, AtKind}
+use Rattle.source_trait.specs.Asking.{RowList, Seen, CallGives, agrees, pick}
+use Rattle.source_trait.specs.Lanes.{source_of, AtKind, StepsOn}
 use Rattle.source_trait.specs.Works.{Works}
+use Rattle.source_trait.specs.declared.source.CallFault.TheVariants as call
+use Rattle.source_trait.specs.declared.lanes.Kind.{Kind}
 use Rattle.source_trait.specs.declared.lanes.Lane.{Lane}
 use Rattle.source_trait.specs.declared.work.Ask.{Ask}
 use Rattle.source_trait.specs.declared.work.Asked.{Asked}
@@ -67,6 +69,16 @@ module _ {S : Type 0} (seen : S → Seen) where
     pub once : (k : ℕ) → total (times k) lists ≤ 1
     pub lanes : LanesAsked schema requests lists old new
 
+  -- A lane's sources were asked some requests, and last this one, whose call failed. Nothing was asked behind it.
+  pub record FailsLast (schema : Schema) (request : Request) (old new : List (Kind S)) : Type 0 where
+    pub earlier : List Request
+    pub middle : List (Kind S)
+    pub asks : AsksLane seen schema earlier old middle
+    pub line : SourceLine
+    pub line_is : line_for request.rel schema.sources ≡ Some line
+    pub fails : StepsOn middle new line.kind
+        (λ s t. CallGives (seen s) (seen t) request.rel request.positions request.values (Err call.Failed))
+
   -- Each row has the relation's arity and the values at the positions; and where the source tells what it holds, the rows are just those that agree.
   pub record Gives (request : Request) (rows : RowList) (s : S) : Type 0 where
     pub fits : IfSome ((seen s).attached request.rel) (λ a. AllByRecursion
@@ -117,7 +129,7 @@ pub record RoundBreaks {S : Type 0} (seen : S → Seen) (asks : List Ask) (why :
   pub fans_out : FansOut (Works seen) asks answers (map started old) new
   pub first : FirstRefused why answers
 
--- the failed request, and the lane that was asked: the count of faults of its source rose, and it is stopped
+-- The failed request, and the lane that was asked it last: the count of faults of its source rose, and it is stopped.
 pub record CallFailsAt {S : Type 0} (seen : S → Seen) (schema : Schema) (asks : List Ask) (k : ℕ) (old new : List (Lane S)) : Type 0 where
   pub ask : Ask
   pub at : slice_get asks k ≡ Some ask
@@ -126,6 +138,7 @@ pub record CallFailsAt {S : Type 0} (seen : S → Seen) (schema : Schema) (asks 
   pub after : Lane S
   pub was : slice_get old place ≡ Some before
   pub now : slice_get new place ≡ Some after
+  pub last : FailsLast seen schema ask.request before.kinds.items after.kinds.items
   pub rose : RoseAt seen schema ask.request.rel before.kinds.items after.kinds.items
   pub stopped : after.stopped ≡ true
 

@@ -12,11 +12,11 @@ pub mod Live
 pub mod Parts
 pub mod Cutting
 pub mod Branches
-pub mod LaneAttaching
 pub mod LaneRounds
 pub mod LaneBranches
 pub mod BlockRounds
 pub mod LaneAsking
 pub mod Sources
+pub mod Needs
 pub mod LaneRunning
 pub mod Executing

@@ -1,5 +1,5 @@
 -- The relations that a plan accesses, and where the schema says that their rows lie.
-use Rattle.std.specs.Prelude.{◌≡◌, ◌<◌, ℕ, List, [], ◌∷◌, Contains, Option, None, Some, IsSome, slice_get, nat_eq, if◌then◌else◌}
+use Rattle.std.specs.Prelude.{◌≡◌, ℕ, List, [], ◌∷◌, Contains, Option, None, Some, slice_get, nat_eq, if◌then◌else◌}
 use Rattle.meaning.specs.declared.types.Method.{Method}
 use Rattle.meaning.specs.declared.types.Relation.{Relation}
 use Rattle.meaning.specs.declared.types.Step.{Step}
@@ -30,11 +30,3 @@ pub record IsPlanSource (schema : Schema) (plan : Plan) (rel : ℕ) (relation : 
   pub accessed : IsAccessed schema plan rel
   pub relation_is : slice_get schema.relations rel ≡ Some relation
   pub line_is : line_for rel schema.sources ≡ Some line
-
--- each relation of the plan has a source line
-abbrev pub AllHaveLines : Schema → Plan → Type 0
-AllHaveLines schema plan = (rel : ℕ) → IsAccessed schema plan rel → IsSome (line_for rel schema.sources)
-
--- each relation of the plan below this one has a source line
-abbrev pub LinesBelow : Schema → Plan → ℕ → Type 0
-LinesBelow schema plan rel = (other : ℕ) → IsAccessed schema plan other → other < rel → IsSome (line_for other schema.sources)

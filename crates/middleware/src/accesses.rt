@@ -3,7 +3,7 @@ ghost use Rattle.std.specs.Prelude.{◌≡◌, ◌↔◌, ◌⊎◌, ℕ, Contai
 ghost use Rattle.std.specs.List.Sorted.{IsStrictlyIncreasing};
 ghost use Rattle.source_trait.specs.Lanes.{names_of};
 ghost use Rattle.middleware.specs.PlanSources.{IsAccessed, line_for};
-ghost use Rattle.middleware.specs.Sources.{StepAccesses, StepsAccess, first_lineless, first_kindless, has_place};
+ghost use Rattle.middleware.specs.Sources.{StepAccesses, StepsAccess, first_lineless, has_place};
 
 use crate::lookup::{find_line, find_method};
 use access_schema::{Schema, SourceLine};
@@ -53,20 +53,6 @@ pub fn first_lineless(lines: &[SourceLine], rels: &[u32]) -> Option<u32>
     let mut left = rels;
     while let [rel, rest @ ..] = left {
         if find_line(lines, *rel).is_none() {
-            return Some(*rel);
-        }
-        left = rest;
-    }
-    None
-}
-
-/// The first of the relations whose source line has a kind that the lane lacks.
-pub fn first_kindless<S>(lane: &Lane<S>, lines: &[SourceLine], rels: &[u32]) -> Option<u32>
-    ensures { result ≡ first_kindless (names_of lane.now.kinds.items) lines.now rels.now }
-{
-    let mut left = rels;
-    while let [rel, rest @ ..] = left {
-        if !has_source(lane, lines, *rel) {
             return Some(*rel);
         }
         left = rest;

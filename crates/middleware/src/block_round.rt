@@ -63,10 +63,11 @@ pub fn next_blocks<R: Threads + Sync, S: Source + Send + Drop>(
     requires going { NoneStopped lanes.old }
     requires made { before.made ≤ cap }
     requires cap { cap ≤ 1_000_000 }
-    ensures goes { IfOk result (λ after. BlocksGo S.seen schema.now step.now steps.now outs.now before.count before.blocks.items after.count after.blocks.items before.made after.made
-        lanes.old lanes.new) }
+    ensures goes { IfOk result (λ after. BlocksGo S.seen schema.now step.now steps.now outs.now before.count before.blocks.items
+        after.count after.blocks.items before.made after.made lanes.old lanes.new) }
     ensures within { IfOk result (λ after. after.made ≤ cap) }
-    ensures stops { IfErr result (λ fault. BlocksHalt S.seen schema.now step.now steps.now outs.now before.count before.blocks.items (cap - before.made) fault lanes.old lanes.new) }
+    ensures stops { IfErr result (λ fault. BlocksHalt S.seen schema.now step.now steps.now outs.now before.count before.blocks.items
+        (cap - before.made) fault lanes.old lanes.new) }
     ensures going { OnOk result (NoneStopped lanes.new) }
 {
     let method = method_of(schema, &step.method);

@@ -2,7 +2,7 @@
 //!
 //! Crates above call `execute` with a lawful plan, and print its rows with `csv_text`. Begin at `specs/Executing.antt`, which says what
 //! `execute` of `src/run_plan.rt` does; the words that it uses are in `specs/`, in the order of `specs/Lib.antt`. A crate that asks
-//! relations without a plan attaches them by `attach_all`.
+//! relations without a plan attaches them by `attach_needed`.
 #![tactic(auto)]
 
 mod accesses;
@@ -22,6 +22,7 @@ mod live;
 mod lone_answer;
 mod lookup;
 mod naming;
+mod needs;
 mod partial_rows;
 mod parts;
 mod round;
@@ -29,11 +30,10 @@ mod rounds;
 mod run_plan;
 mod whole_answer;
 
-pub use accesses::{first_kindless, first_lineless};
 pub use answers::Answers;
-pub use attach::{Refused, attach_all, attach_lanes};
 pub use fault::{Run, RunFault};
 pub use lane_round::{AskFault, ask_round};
 pub use lookup::line_of;
+pub use needs::attach_needed;
 pub use row_text::csv_text;
-pub use run_plan::execute;
+pub use run_plan::{execute, execute_attached};

@@ -1,24 +1,22 @@
 // A plan executed on lanes.
-ghost use Rattle.std.specs.Prelude.{◌≡◌, ◌↔◌, ◌<◌, ◌≤◌, ◌^◌, List, ℕ, false, Contains, IsTrue, MatchOption, length};
-ghost use Rattle.std.specs.List.Sorted.{IsStrictlyIncreasing};
+ghost use Rattle.std.specs.Prelude.{◌≡◌, ◌<◌, ◌≤◌, ◌^◌, List, ℕ, false, Contains, IsTrue, length};
 ghost use Rattle.meaning.specs.declared.types.Branch.{Branch};
 ghost use Rattle.meaning.specs.Plans.{IsLawful};
 ghost use Rattle.access_schema.specs.Meaning.{meaning_of};
-ghost use Rattle.source_trait.specs.Lanes.{names_of};
 ghost use Rattle.source_trait.specs.declared.lanes.Lane.{Lane};
-ghost use Rattle.middleware.specs.PlanSources.{line_for, IsAccessed, AllHaveLines};
-ghost use Rattle.middleware.specs.Sources.{has_place};
-ghost use Rattle.middleware.specs.LaneRunning.{LanesHavePlace, LacksPlace, refused_as};
-ghost use Rattle.middleware.specs.Executing.{Executes};
+ghost use Rattle.middleware.specs.PlanSources.{IsAccessed};
+ghost use Rattle.middleware.specs.LaneBranches.{OnEach};
+ghost use Rattle.middleware.specs.LaneRunning.{IsAttachedTo};
+ghost use Rattle.middleware.specs.Executing.{Executes, ExecutesAttached};
 
-use crate::accesses::{accessed, first_lineless, has_source};
-use crate::attach::{Refused, attach_lanes};
+use crate::accesses::accessed;
 use crate::fault::{Run, RunFault};
 use crate::lane_round::start;
+use crate::needs::attach_needed;
 use crate::rounds::run_rounds;
-use access_schema::{Schema, SourceLine};
+use access_schema::Schema;
 use meaning::types::Plan;
-use source_trait::{AttachFault, Lane, Source};
+use source_trait::{Lane, Source};
 use std::alloc::Global;
 use std::thread::Threads;
 
@@ -46,16 +44,50 @@ pub fn execute<R: Threads + Sync, S: Source + Send + Drop>(
         Ok(rels) => rels,
         Err(_) => return Err(RunFault::NoMemory),
     };
-    if rels.is_empty() {
+    let needed = rels.as_slice();
+    match attach_needed(alloc, schema, lanes, needed, needed) {
+        Ok(()) => execute_attached(rt, alloc, plan, schema, lanes, cap),
+        Err(fault) => Err(fault),
+    }
+}
+
+/// Executes a lawful plan whose relations are attached on each of the lanes, with at most `cap` requests: `execute` from its first round
+/// on. A lane that was stopped before asks again.
+pub fn execute_attached<R: Threads + Sync, S: Source + Send + Drop>(
+    rt: &R,
+    alloc: Global,
+    plan: &Plan,
+    schema: &Schema,
+    lanes: &mut [Lane<S>],
+    cap: u32,
+) -> Result<Run, RunFault>
+    requires lawful { (constants : List (List ℕ)) × IsLawful plan.now (meaning_of schema.now) constants }
+    requires lanes { length lanes.old ≤ 8 }
+    requires cap { cap ≤ 1_000_000 }
+    requires few { length plan.now.branches < 2 ^ 32 }
+    requires short { (branch : Branch) → Contains plan.now.branches branch → length branch.steps < 2 ^ 32 }
+    requires some { (rel : ℕ) → IsAccessed schema.now plan.now rel → 0 < length lanes.old }
+    requires attached { (rel : ℕ) → IsAccessed schema.now plan.now rel → OnEach lanes.old (IsAttachedTo S.seen schema.now rel) }
+    ensures executes { ExecutesAttached S.seen schema.now plan.now cap lanes.old lanes.new result }
+{
+    if !has_step(plan) {
         return execute_alone::<R, S>(rt, alloc, plan, schema, cap);
     }
-    if let Some(rel) = first_lineless(schema.sources.as_slice(), rels.as_slice()) {
-        return Err(RunFault::NoSource { rel });
+    start(lanes);
+    run_rounds(rt, alloc, schema, lanes, plan, cap)
+}
+
+// Whether some branch of the plan has a step.
+fn has_step(plan: &Plan) -> bool
+    ensures some { IsTrue result → (branch : Branch) × Contains plan.now.branches branch × (0 < length branch.steps) }
+    ensures none { result ≡ false → (branch : Branch) → Contains plan.now.branches branch → length branch.steps ≡ 0 }
+{
+    for branch in plan.branches.as_slice() {
+        if !branch.steps.as_slice().is_empty() {
+            return true;
+        }
     }
-    if lanes.is_empty() {
-        return Err(RunFault::UnknownKind { rel: rels[0] });
-    }
-    execute_on(rt, alloc, plan, schema, lanes, rels.as_slice(), cap)
+    false
 }
 
 // Executes a plan without access steps, on a lane without sources. So it does on any lanes, which stay as they are.
@@ -71,80 +103,8 @@ fn execute_alone<R: Threads + Sync, S: Source + Send + Drop>(
     requires cap { cap ≤ 1_000_000 }
     requires few { length plan.now.branches < 2 ^ 32 }
     requires short { (branch : Branch) → Contains plan.now.branches branch → length branch.steps < 2 ^ 32 }
-    ensures executes { (lanes : List (Lane S)) → Executes S.seen schema.now plan.now cap lanes lanes result }
+    ensures executes { (lanes : List (Lane S)) → ExecutesAttached S.seen schema.now plan.now cap lanes lanes result }
 {
     let mut none: [Lane<S>; 1] = [Lane::new(Vec::new(alloc))];
     run_rounds(rt, alloc, schema, &mut none, plan, cap)
-}
-
-// Executes a plan whose relations have source lines, on one lane or more.
-fn execute_on<R: Threads + Sync, S: Source + Send + Drop>(
-    rt: &R,
-    alloc: Global,
-    plan: &Plan,
-    schema: &Schema,
-    lanes: &mut [Lane<S>],
-    rels: &[u32],
-    cap: u32,
-) -> Result<Run, RunFault>
-    requires lawful { (constants : List (List ℕ)) × IsLawful plan.now (meaning_of schema.now) constants }
-    requires lanes { (0 < length lanes.old) × (length lanes.old ≤ 8) }
-    requires some { 0 < length rels.now }
-    requires ascends { IsStrictlyIncreasing rels.now }
-    requires exactly { (rel : ℕ) → Contains rels.now rel ↔ IsAccessed schema.now plan.now rel }
-    requires lines { AllHaveLines schema.now plan.now }
-    requires cap { cap ≤ 1_000_000 }
-    requires few { length plan.now.branches < 2 ^ 32 }
-    requires short { (branch : Branch) → Contains plan.now.branches branch → length branch.steps < 2 ^ 32 }
-    ensures executes { Executes S.seen schema.now plan.now cap lanes.old lanes.new result }
-{
-    if let Some(rel) = first_without_place(lanes, schema.sources.as_slice(), rels) {
-        return Err(RunFault::UnknownKind { rel });
-    }
-    match attach_lanes(alloc, schema, lanes, rels) {
-        Ok(()) => {
-            start(lanes);
-            run_rounds(rt, alloc, schema, lanes, plan, cap)
-        }
-        Err(refused) => Err(attach_fault(refused)),
-    }
-}
-
-// A refusal of an attach as that of the execution.
-fn attach_fault(refused: Refused) -> RunFault
-    ensures { result ≡ refused_as refused.rel refused.fault }
-{
-    match refused.fault {
-        AttachFault::NoMemory => RunFault::NoMemory,
-        fault => RunFault::Attach {
-            rel: refused.rel,
-            fault,
-        },
-    }
-}
-
-// The first of the relations whose source line has a kind that some lane lacks.
-fn first_without_place<S>(lanes: &[Lane<S>], lines: &[SourceLine], rels: &[u32]) -> Option<u32>
-    ensures { MatchOption result ((rel : ℕ) → Contains rels.now rel → LanesHavePlace lanes.now lines.now rel)
-        (λ rel. LacksPlace lanes.now lines.now rels.now rel) }
-{
-    for rel in rels {
-        if !all_have_place(lanes, lines, *rel) {
-            return Some(*rel);
-        }
-    }
-    None
-}
-
-// Whether each lane has a source of the kind of the relation's line.
-fn all_have_place<S>(lanes: &[Lane<S>], lines: &[SourceLine], rel: u32) -> bool
-    ensures all { IsTrue result → LanesHavePlace lanes.now lines.now rel }
-    ensures some { result ≡ false → (lane : Lane S) × Contains lanes.now lane × (has_place (names_of lane.kinds.items) (line_for rel lines.now) ≡ false) }
-{
-    for lane in lanes {
-        if !has_source(lane, lines, rel) {
-            return false;
-        }
-    }
-    true
 }

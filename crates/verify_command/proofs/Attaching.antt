@@ -1,18 +1,15 @@
 -- What attaching relations one after another does to a lane.
-use Rattle.std.proofs.Common.{inl, inr, ℕ, List, [], ◌∷◌, take, Option, sym, ap, subst, arith}
-use Rattle.std.specs.Prelude.{Contains, IsSome, IsSomeAnd, Ok, Err}
+use Rattle.std.proofs.Common.{inl, inr, ℕ, List, [], ◌∷◌, Option, sym, ap, subst, arith}
+use Rattle.std.specs.Prelude.{Contains, IsSome, IsSomeAnd, Ok}
 use Rattle.std.specs.Option.{is_some}
 use Rattle.std.proofs.lemmas.Bool.{cases_eq}
 use Rattle.lists.proofs.Members.{contains_cases}
 use Rattle.access_schema.specs.declared.schema.Schema.{Schema}
 use Rattle.source_trait.specs.Asking.{Seen, Attached, AttachGives}
-use Rattle.source_trait.specs.Lanes.{AtKind, KindsStay}
-use Rattle.source_trait.specs.declared.source.AttachFault.{AttachFault}
+use Rattle.source_trait.specs.Lanes.{AtKind}
 use Rattle.source_trait.specs.declared.lanes.Kind.{Kind}
-use Rattle.source_trait.proofs.LaneSteps.{StepsOn-source, StepsOn-keeps, KindsStay-trans}
+use Rattle.source_trait.proofs.LaneSteps.{StepsOn-source, StepsOn-keeps}
 use Rattle.middleware.specs.Attaching.{AttachesOne, AttachesInOrder}
-use Rattle.middleware.specs.Sources.{AttachBreaks}
-use Rattle.middleware.proofs.Attached.{one_stays, order_stays}
 use Rattle.verify_command.specs.Asking.{IsReady}
 
 module _ {S : Type 0} (seen : S → Seen) (schema : Schema) where
@@ -54,6 +51,3 @@ module _ {S : Type 0} (seen : S → Seen) (schema : Schema) where
     })
     | inr more ↦ order_ready rels mid new rest rel more
   ]
-
-  pub break_stays : (rels : List ℕ) (rel : ℕ) (why : AttachFault) (old new : List (Kind S)) → AttachBreaks seen schema rels rel why old new → KindsStay seen old new
-  break_stays rels rel why old new b = KindsStay-trans seen old b.middle new (order_stays seen schema (take b.n rels) old b.middle b.attached) (one_stays seen schema rel (Err why) b.middle new b.refused)

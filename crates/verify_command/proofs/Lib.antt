@@ -1,6 +1,6 @@
 pub mod Naming
-pub mod Missing
 pub mod Attaching
+pub mod Missing
 pub mod Asking
 pub mod Picked
 pub mod Holding

@@ -1,5 +1,4 @@
 pub mod RuleRelations
-pub mod Held
 pub mod Asking
 pub mod Verifying
 pub mod Ends

@@ -1,23 +1,21 @@
 -- What verifying the rules of a schema does on the used lane, and what it finds.
-use Rattle.std.specs.Prelude.{◌≡◌, ◌≢◌, ◌↔◌, ℕ, List, [], ◌∷◌, Option, IfSome, IsNone, Result, Ok, Err}
+use Rattle.std.specs.Prelude.{◌≡◌, ◌↔◌, ℕ, List, [], ◌∷◌, Option, IfSome, IsNone, Result, Ok, Err}
 use Rattle.meaning.specs.declared.types.Fact.{Fact}
 use Rattle.meaning.specs.Matching.{Meets}
 use Rattle.access_schema.specs.declared.schema.Schema.{Schema}
 use Rattle.access_schema.specs.Meaning.{meaning_of}
 use Rattle.source_trait.specs.Asking.{Seen}
-use Rattle.source_trait.specs.declared.source.AttachFault.{AttachFault}
-use Rattle.source_trait.specs.declared.source.AttachFault.TheVariants as attach
 use Rattle.source_trait.specs.declared.lanes.Kind.{Kind}
 use Rattle.source_trait.specs.declared.lanes.Lane.{Lane}
-use Rattle.middleware.specs.Attaching.{AttachesInOrder}
-use Rattle.middleware.specs.Sources.{AttachBreaks}
-use Rattle.middleware.specs.declared.fault.RunFault.TheVariants as run
+use Rattle.middleware.specs.Held.{HoldNeeded}
+use Rattle.middleware.specs.Needs.{AttachesNeeded}
+use Rattle.middleware.specs.declared.fault.RunFault.{RunFault}
 use Rattle.data_verify.specs.declared.broken.Broken.{Broken}
 use Rattle.data_verify.specs.Breaking.{IsFirstBroken}
 use Rattle.command_io.specs.declared.stop.Stop.{Stop}
 use Rattle.command_io.specs.declared.stop.Stop.TheVariants as stop
-use Rattle.verify_command.specs.RuleRelations.{AreRuleRelations, IsFirstLineless, IsFirstKindless}
-use Rattle.verify_command.specs.Held.{HoldRules}
+use Rattle.command_io.specs.Executing.{stop_of_run}
+use Rattle.verify_command.specs.RuleRelations.{RulesName, AreRuleRelations, needed_first}
 use Rattle.verify_command.specs.Asking.{AsksInOrder, AsksPart, AskBreaks}
 
 -- The kinds of the used lane, which is the first; there are none without a lane.
@@ -35,31 +33,29 @@ pub record IsVerified (schema : Schema) (instance : List Fact) (found : Option B
   pub met : IsNone found ↔ Meets instance (meaning_of schema)
   pub broken : IfSome found (IsFirstBroken instance schema.rules)
 
--- The relations that some rule names were attached in ascending order and then asked for whole in that order, and nothing else
--- changed. What is found holds of the facts that came, and of whatever instance the sources hold.
+-- The relations that some rule names were asked for whole, in ascending order, and nothing else changed. What is found holds of the facts
+-- that came, and of whatever instance the sources hold.
 pub record Finds {S : Type 0} (seen : S → Seen) (schema : Schema) (old new : List (Kind S)) (found : Option Broken) : Type 0 where
   pub rels : List ℕ
   pub are : AreRuleRelations schema rels
-  pub middle : List (Kind S)
   pub facts : List Fact
-  pub attached : AttachesInOrder seen schema rels old middle
-  pub asked : AsksInOrder seen schema rels facts middle new
+  pub asked : AsksInOrder seen schema rels facts old new
   pub of_facts : IsVerified schema facts found
-  pub of_held : (instance : List Fact) → HoldRules seen schema new instance → IsVerified schema instance found
+  pub of_held : (instance : List Fact) → HoldNeeded seen schema (RulesName schema) new instance → IsVerified schema instance found
 
--- What verifying gave, by what it came to: a relation without a source line, or one without a source of its kind, where nothing
--- changed; one that was refused; one whose request failed; or all rows. Where memory was wanted, nothing had been done, or some
--- first relations of the rules had been attached, or all of them attached and some first of them asked for whole.
-pub data Verifies {S : Type 0} (seen : S → Seen) (schema : Schema) (old new : List (Kind S)) : Result (Option Broken) Stop → Type 0 where
-  no_memory : new ≡ old → Verifies seen schema old new (Err stop.Memory)
-  no_memory_attaching : (rels : List ℕ) (rel : ℕ) → AreRuleRelations schema rels → AttachBreaks seen schema rels rel attach.NoMemory old new →
-      Verifies seen schema old new (Err stop.Memory)
-  no_memory_asking : (rels : List ℕ) (middle : List (Kind S)) → AreRuleRelations schema rels → AttachesInOrder seen schema rels old middle →
-      AsksPart seen schema rels middle new → Verifies seen schema old new (Err stop.Memory)
-  no_source : (rel : ℕ) → IsFirstLineless schema rel → new ≡ old → Verifies seen schema old new (Err (stop.Run (run.NoSource rel)))
-  unknown_kind : (rel : ℕ) → IsFirstKindless old schema rel → new ≡ old → Verifies seen schema old new (Err (stop.Run (run.UnknownKind rel)))
-  not_attached : (rels : List ℕ) (rel : ℕ) (why : AttachFault) → AreRuleRelations schema rels → AttachBreaks seen schema rels rel why old new → why ≢ attach.NoMemory →
-      Verifies seen schema old new (Err (stop.Run (run.Attach rel why)))
-  not_asked : (rels : List ℕ) (rel : ℕ) (middle : List (Kind S)) → AreRuleRelations schema rels → AttachesInOrder seen schema rels old middle →
-      AskBreaks seen schema rels rel middle new → Verifies seen schema old new (Err (stop.WholeFailed rel))
-  done : (found : Option Broken) → Finds seen schema old new found → Verifies seen schema old new (Ok found)
+-- What testing the rules on the used lane gave: some first relations of the rules were asked for whole, and memory was wanted; or the
+-- request for one failed; or all were.
+pub data Tests {S : Type 0} (seen : S → Seen) (schema : Schema) (old new : List (Kind S)) : Result (Option Broken) Stop → Type 0 where
+  no_memory : (rels : List ℕ) → AreRuleRelations schema rels → AsksPart seen schema rels old new →
+      Tests seen schema old new (Err stop.Memory)
+  not_asked : (rels : List ℕ) (rel : ℕ) → AreRuleRelations schema rels → AskBreaks seen schema rels rel old new →
+      Tests seen schema old new (Err (stop.WholeFailed rel))
+  done : (found : Option Broken) → Finds seen schema old new found → Tests seen schema old new (Ok found)
+
+-- What verifying gave: it stopped at the attaches of the relations that some rule names, on the first lane; or these were attached, and the
+-- rules were tested there.
+pub data Verifies {S : Type 0} (seen : S → Seen) (schema : Schema) (old new : List (Lane S)) : Result (Option Broken) Stop → Type 0 where
+  not_attached : (why : RunFault) → AttachesNeeded seen schema (needed_first schema) old new (Err why) →
+      Verifies seen schema old new (Err (stop_of_run why))
+  attached : (middle : List (Lane S)) (result : Result (Option Broken) Stop) →
+      AttachesNeeded seen schema (needed_first schema) old middle (Ok tt) → Tests seen schema (used middle) (used new) result → Verifies seen schema old new result

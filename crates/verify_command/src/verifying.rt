@@ -1,17 +1,17 @@
 // The rows of the rules' relations, attached, asked and verified.
-ghost use Rattle.std.specs.Prelude.{◌≡◌, []};
+ghost use Rattle.std.specs.Prelude.{◌≡◌, [], ℕ, Contains};
 ghost use Rattle.source_trait.specs.Lanes.{KindsStay, LanesStay};
-ghost use Rattle.verify_command.specs.RuleRelations.{AreRuleRelations, AllRulesHaveLines};
-ghost use Rattle.verify_command.specs.Listing.{stop_of_refusal};
-ghost use Rattle.verify_command.specs.Verifying.{Verifies, used, others};
+ghost use Rattle.verify_command.specs.RuleRelations.{AreRuleRelations};
+ghost use Rattle.verify_command.specs.Asking.{IsReady};
+ghost use Rattle.verify_command.specs.Verifying.{Tests, Verifies, others};
 
 use crate::ask::ask_all;
 use crate::relations::rule_relations;
 use access_schema::Schema;
-use command_io::Stop;
+use command_io::{Stop, stop_of_run};
 use data_verify::{Broken, verify_taken};
-use middleware::{Refused, RunFault, attach_all, first_kindless, first_lineless};
-use source_trait::{AttachFault, Lane, Source};
+use middleware::attach_needed;
+use source_trait::{Lane, Source};
 use std::alloc::Global;
 
 /// The first rule that the rows on the first lane do not meet.
@@ -20,7 +20,7 @@ pub fn first_broken<S: Source + Send + Drop>(
     schema: &Schema,
     lanes: &mut Vec<Lane<S>>,
 ) -> Result<Option<Broken>, Stop>
-    ensures verifies { Verifies S.seen schema.now (used lanes.old.items) (used lanes.new.items) result }
+    ensures verifies { Verifies S.seen schema.now lanes.old.items lanes.new.items result }
     ensures others { others lanes.new.items ≡ others lanes.old.items }
     ensures lanes { LanesStay S.seen lanes.old.items lanes.new.items }
 {
@@ -28,8 +28,9 @@ pub fn first_broken<S: Source + Send + Drop>(
         Ok(rels) => rels,
         Err(_) => return Err(Stop::Memory),
     };
-    if let Some(rel) = first_lineless(schema.sources.as_slice(), rels.as_slice()) {
-        return Err(Stop::Run(RunFault::NoSource { rel }));
+    match attach_needed(alloc, schema, lanes.as_mut_slice(), rels.as_slice(), &[]) {
+        Ok(()) => {}
+        Err(fault) => return Err(stop_of_run(fault)),
     }
     if lanes.is_empty() {
         return broken_alone::<S>(alloc, schema, rels.as_slice());
@@ -38,21 +39,21 @@ pub fn first_broken<S: Source + Send + Drop>(
     broken_on(alloc, schema, lane, rels.as_slice())
 }
 
-// The same without a lane.
+// The same without a lane, where no rule names a relation.
 fn broken_alone<S: Source + Send + Drop>(
     alloc: Global,
     schema: &Schema,
     rels: &[u32],
 ) -> Result<Option<Broken>, Stop>
     requires relations { AreRuleRelations schema.now rels.now }
-    requires lines { AllRulesHaveLines schema.now }
-    ensures { Verifies S.seen schema.now [] [] result }
+    requires none { (rel : ℕ) → Contains rels.now rel → ⊥ }
+    ensures { Tests S.seen schema.now [] [] result }
 {
     let mut none: Lane<S> = Lane::new(Vec::new(alloc));
     broken_on(alloc, schema, &mut none, rels)
 }
 
-// The same on a lane, where each of the relations has a source line.
+// Asks for the relations, which the lane has attached, and tests the rules on their facts.
 fn broken_on<S: Source + Send + Drop>(
     alloc: Global,
     schema: &Schema,
@@ -60,17 +61,10 @@ fn broken_on<S: Source + Send + Drop>(
     rels: &[u32],
 ) -> Result<Option<Broken>, Stop>
     requires relations { AreRuleRelations schema.now rels.now }
-    requires lines { AllRulesHaveLines schema.now }
-    ensures verifies { Verifies S.seen schema.now lane.old.kinds.items lane.new.kinds.items result }
+    requires ready { (rel : ℕ) → Contains rels.now rel → IsReady S.seen schema.now lane.old.kinds.items rel }
+    ensures tests { Tests S.seen schema.now lane.old.kinds.items lane.new.kinds.items result }
     ensures stays { KindsStay S.seen lane.old.kinds.items lane.new.kinds.items }
 {
-    if let Some(rel) = first_kindless(lane, schema.sources.as_slice(), rels) {
-        return Err(Stop::Run(RunFault::UnknownKind { rel }));
-    }
-    match attach_all(alloc, schema, lane, rels) {
-        Ok(()) => {}
-        Err(refused) => return Err(stop_of(refused)),
-    }
     let facts = match ask_all(alloc, schema, lane, rels) {
         Ok(facts) => facts,
         Err(stop) => return Err(stop),
@@ -78,17 +72,5 @@ fn broken_on<S: Source + Send + Drop>(
     match verify_taken(alloc, schema, facts) {
         Ok(found) => Ok(found),
         Err(_) => Err(Stop::Memory),
-    }
-}
-
-fn stop_of(refused: Refused) -> Stop
-    ensures { result ≡ stop_of_refusal refused.rel refused.fault }
-{
-    match refused.fault {
-        AttachFault::NoMemory => Stop::Memory,
-        fault => Stop::Run(RunFault::Attach {
-            rel: refused.rel,
-            fault,
-        }),
     }
 }

@@ -1,7 +1,7 @@
 use Rattle.std.proofs.Common.{◌≡◌, ◌<◌, ℕ, List, [], length, get_or, refl, ◌∙◌, sym, arith}
 use Rattle.std.proofs.lemmas.List.{get_or_default}
 use Rattle.source_trait.specs.Asking.{RowList}
-use Rattle.middleware.proofs.Answering.{lane_none, lane_ready, lane_done, lane_more, lane_stop, lane_full}
+use Rattle.middleware.proofs.Answering.{lane_none, lane_ready, lane_done, lane_more, lane_stop, lane_breaks, lane_full}
 use Rattle.middleware.proofs.ask.ask_all.Goals as goal
 
 -- the row at a place, whatever is taken where there is none
@@ -24,6 +24,12 @@ pub returns-in-Err-clause-steps : goal.returns-in-Err-clause-steps
 returns-in-Err-clause-steps g c =
     let at = at_place c.args.requests.now c.loop-number.number c.at.result (omega arith) c.at.ensures in
     lane_stop g.S.Source.seen c.args.rel c.args.positions.now c.args.requests.now c.args.kind.now c.args.lane.now.kinds.items c.loop-number.lane.kinds.items c.loop-number.number c.loop-number.answers
+    c.loop-number.invariant.steps c.ask_row.new.lane.kinds.items c.at.result (omega arith) at c.in-Err.fault c.in-Err.ensures.steps
+
+pub returns-in-Err-clause-breaks : goal.returns-in-Err-clause-breaks
+returns-in-Err-clause-breaks g c =
+    let at = at_place c.args.requests.now c.loop-number.number c.at.result (omega arith) c.at.ensures in
+    lane_breaks g.S.Source.seen c.args.rel c.args.positions.now c.args.requests.now c.args.kind.now c.args.lane.now.kinds.items c.loop-number.lane.kinds.items c.loop-number.number c.loop-number.answers
     c.loop-number.invariant.steps c.ask_row.new.lane.kinds.items c.at.result (omega arith) at c.in-Err.fault c.in-Err.ensures.steps
 
 pub returns-in-Err-with-clause-steps : goal.returns-in-Err-with-clause-steps

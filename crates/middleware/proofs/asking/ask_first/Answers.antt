@@ -21,4 +21,4 @@ pub returns : goal.returns
 returns g c =
     first_of g.S.Source.seen c.args.schema.now c.args.method.now c.line_of-line.result.now
     c.line_of-line.ensures
-    c.args.requests.now c.ask_all-result.result c.args.lanes.now c.index-lanes-0.result _ c.requires.lanes c.requires.going c.ask_all-result.ensures.steps c.is_err-lane.ensures.value
+    c.args.requests.now c.ask_all-result.result c.args.lanes.now c.index-lanes-0.result _ c.requires.lanes c.requires.going c.ask_all-result.ensures.steps c.is_err-lane.ensures.value c.ask_all-result.ensures.breaks

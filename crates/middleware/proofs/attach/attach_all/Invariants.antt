@@ -1,4 +1,4 @@
-use Rattle.std.proofs.Common.{◌≡◌, take}
+use Rattle.std.proofs.Common.{◌≡◌, [], take}
 use Rattle.middleware.specs.Attaching.{AttachesInOrder}
 use Rattle.middleware.proofs.attach.attach_all.Given as goal
 
@@ -6,4 +6,5 @@ abbrev pub invariant-loop-rel : goal.invariant-loop-rel
 invariant-loop-rel g l = record {
   attached : AttachesInOrder g.S.Source.seen l.schema (take l.rel-index l.rels) l.fn.lane.kinds.items l.lane.kinds.items;
   stopped : l.lane.stopped ≡ l.fn.lane.stopped;
+  idle : l.rels ≡ [] → l.lane ≡ l.fn.lane;
 }

@@ -4,6 +4,7 @@ use Rattle.middleware.specs.declared.round.RoundFault.TheVariants as round
 use Rattle.middleware.proofs.Laning.{wanted_length}
 use Rattle.middleware.proofs.Lone.{answers_moved}
 use Rattle.middleware.proofs.LaneShares.{each_some}
+use Rattle.middleware.proofs.Steps.{len_requests}
 use Rattle.middleware.proofs.LaneGoing.{too_many, was_refused, was_shared}
 use Rattle.middleware.proofs.round.join_wanted.Goals as goal
 
@@ -45,7 +46,8 @@ returns-in-Err-Failed-clause-refused g c =
     was_refused g.S.Source.seen c.args.schema.now c.args.places.now c.args.method.now c.args.wanted.now.rows c.args.wanted.now.requests c.requires.wanted
     c.args.wanted.now.requests refl c.args.lanes.now c.ask_wanted.new.lanes c.args.room round.Failed
     c.in-Err-Failed.ensures.refused
-    (some refl, omega arith, failed refl)
+    (let long = len_requests c.args.method.now.rel c.args.method.now.inputs c.args.wanted.now.requests in
+    (let s = some refl in omega (arith, s, long), omega (arith, long), failed refl))
 
 pub returns-in-Err-NoMemory-clause-refused : goal.returns-in-Err-NoMemory-clause-refused
 returns-in-Err-NoMemory-clause-refused g c =

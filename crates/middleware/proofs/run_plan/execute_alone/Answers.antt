@@ -1,4 +1,5 @@
 use Rattle.std.proofs.Common.{refl}
+use Rattle.source_trait.proofs.LaneSteps.{LanesStay-refl}
 use Rattle.middleware.proofs.Planning.{accessed_by}
 use Rattle.middleware.proofs.Starting.{all_ready}
 use Rattle.middleware.proofs.LaneFinished.{promised, ran_alone}
@@ -16,5 +17,6 @@ returns g c = record {
   executes = λ lanes. promised g.S.Source.seen c.args.schema.now c.args.plan.now c.args.cap lanes lanes c.run_rounds.result
       (ran_alone g.S.Source.seen c.args.schema.now c.args.plan.now c.requires.alone c.args.cap _ _ c.run_rounds.result
       c.run_rounds.ensures.done c.run_rounds.ensures.stops lanes)
+      (LanesStay-refl g.S.Source.seen lanes)
       c.run_rounds.ensures.ascends c.run_rounds.ensures.within (λ none. refl) (λ rel a. absurd (c.requires.alone rel a));
 }
