@@ -18,7 +18,7 @@ use source_trait::{Lane, Sink, Source};
 use std::alloc::Global;
 use std::thread::Threads;
 
-/// How many requests a command makes at most.
+/// How many requests a command makes at most where its words do not say.
 pub const CALLS: u32 = 100000;
 
 /// What is written of the execution of a plan.
@@ -30,24 +30,27 @@ pub enum Report<'a> {
     Summary(u32),
 }
 
-/// Executes a lawful plan on all of the lanes, of which there are at most 8, and writes the report of that.
+/// Executes a lawful plan on all of the lanes, of which there are at most 8, with at most `cap` requests, and writes the report of that.
 pub fn deliver<R: Threads + Sync, S: Source + Send + Drop, O: Sink>(
     rt: &R,
     alloc: Global,
     schema: &Schema,
     plan: &Plan,
     report: Report<'_>,
+    cap: u32,
     lanes: &mut [Lane<S>],
     out: &mut O,
 ) -> Result<(), Stop>
     requires lawful { (constants : List (List ℕ)) × IsLawful plan.now (meaning_of schema.now) constants }
     requires short { IsShort plan.now }
+    requires cap { cap ≤ 1_000_000 }
     requires lanes { length lanes.old ≤ 8 }
-    ensures delivers { Delivers S.seen schema.now plan.now CALLS (IsReport report.entry) lanes.old lanes.new (O.taken out.old) (O.taken out.new) (Rose (O.faults out.old) (O.faults out.new)) result }
+    ensures delivers { Delivers S.seen schema.now plan.now cap (IsReport report.entry) lanes.old lanes.new
+        (O.taken out.old) (O.taken out.new) (Rose (O.faults out.old) (O.faults out.new)) result }
     ensures lanes { LanesStay S.seen lanes.old lanes.new }
     ensures later { O.faults out.old ≤ O.faults out.new }
 {
-    let executed = match execute(rt, alloc, plan, schema, lanes, CALLS) {
+    let executed = match execute(rt, alloc, plan, schema, lanes, cap) {
         Ok(executed) => executed,
         Err(fault) => return Err(stop_of_run(fault)),
     };
@@ -67,7 +70,8 @@ fn report_text(alloc: Global, report: Report<'_>, run: &Run) -> Result<Bytes, No
     }
 }
 
-fn stop_of_run(fault: RunFault) -> Stop
+/// How a fault of an execution, or of the attaches before it, stops a command.
+pub fn stop_of_run(fault: RunFault) -> Stop
     ensures { result ≡ stop_for fault }
 {
     match fault {

@@ -19,7 +19,7 @@ mod summary;
 mod telling;
 mod write;
 
-pub use delivery::{CALLS, Report, deliver};
+pub use delivery::{CALLS, Report, deliver, stop_of_run};
 pub use exit_status::Status;
 pub use inputs::{
     PLAN_LIMIT, QUERY_LIMIT, SCHEMA_LIMIT, plan_of_file, read_texts, schema_of, statement_of,

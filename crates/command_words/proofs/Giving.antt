@@ -9,7 +9,7 @@ use Rattle.command_words.specs.Arguments.{words_of, given_number, IsGiven, Give,
 use Rattle.command_words.specs.declared.item.Item.{Item as Lent}
 use Rattle.command_words.specs.declared.table.CommandName.{CommandName}
 use Rattle.command_words.specs.declared.table.OptionName.{OptionName}
-use Rattle.command_words.specs.declared.table.OptionName.TheVariants.{Firings, Search, Workers}
+use Rattle.command_words.specs.declared.table.OptionName.TheVariants.{Firings, Search, Workers, Calls}
 use Rattle.command_words.specs.declared.given.Arguments.{Arguments}
 use Rattle.command_words.proofs.Splitting.{Parts, ended, more, parts, none_begins, first_once, same_options, same_itself}
 
@@ -43,8 +43,8 @@ moved : (option : OptionName) (items others : List Item) (number : Option ℕ) �
 moved option items others None e is = e ∙ is
 moved option items others (Some n) e is = (e ∙ is.0, is.1)
 
-pub give_positional : (items : List Item) (word : List ℕ) (arguments after : Arguments) → words_of after.positionals ≡ words_of arguments.positionals ++ word ∷ [] → after.firings ≡ arguments.firings → after.search ≡ arguments.search → after.workers ≡ arguments.workers → Give items arguments → Give (items ++ Positional word ∷ []) after
-give_positional items word arguments after words same alike equal give = record {
+pub give_positional : (items : List Item) (word : List ℕ) (arguments after : Arguments) → words_of after.positionals ≡ words_of arguments.positionals ++ word ∷ [] → after.firings ≡ arguments.firings → after.search ≡ arguments.search → after.workers ≡ arguments.workers → after.calls ≡ arguments.calls → Give items arguments → Give (items ++ Positional word ∷ []) after
+give_positional items word arguments after words same alike equal capped give = record {
   in_order = positionals_append items (Positional word ∷ []) ∙ ap (λ (ws : List (List ℕ)). ws ++ word ∷ []) give.in_order ∙ sym words;
   are_given = λ option.
       let texts = texts_append option items (Positional word ∷ []) ∙ append_none (texts_of option items) in
@@ -55,6 +55,7 @@ give_positional items word arguments after words same alike equal give = record 
     kept Firings = sym same
     kept Search = sym alike
     kept Workers = sym equal
+    kept Calls = sym capped
 
 long : (xs ys : List (List ℕ)) (word : List ℕ) → length xs ≡ 3 → length (xs ++ word ∷ ys) ≤ 3 → ⊥
 long [] ys word e le = absurd (omega arith)

@@ -8,13 +8,13 @@ use Rattle.std.proofs.lemmas.Bool.{and_parts, le-leb, leb-true}
 use Rattle.std.proofs.lemmas.Fmt.{decimal_injective, decimal_is_IsNumeral}
 use Rattle.command_words.specs.Table.{command_word, takes, least, limit, InRange, default_number}
 use Rattle.command_words.specs.Splits.{Item, Splits, positionals_of, IsSet, Once, Absent}
-use Rattle.command_words.specs.Words.{Command, Help, Schema, Explain, Run, Exec, Check, Verify, World, Setting, Asks, firings, firings_and_search, workers, IsCommand, seen_as}
+use Rattle.command_words.specs.Words.{Command, Help, Schema, Explain, Run, Exec, Check, Verify, World, Setting, Asks, firings, firings_and_search, workers, workers_and_calls, IsCommand, seen_as}
 use Rattle.command_words.specs.Arguments.{words_of, given_number, number_of, size_of, IsGiven, AreArguments, MayBe, made}
 use Rattle.command_words.specs.declared.command.Command.{Command as Coded}
 use Rattle.command_words.specs.declared.table.CommandName.{CommandName}
 use Rattle.command_words.specs.declared.table.CommandName.TheVariants as name
 use Rattle.command_words.specs.declared.table.OptionName.{OptionName}
-use Rattle.command_words.specs.declared.table.OptionName.TheVariants.{Firings, Search, Workers}
+use Rattle.command_words.specs.declared.table.OptionName.TheVariants.{Firings, Search, Workers, Calls}
 use Rattle.command_words.specs.declared.given.Arguments.{Arguments}
 use Rattle.command_words.proofs.Splitting.{splits_once, not_taken, front_and_rest}
 
@@ -94,27 +94,32 @@ record Makes (words : List (List ℕ)) (command : Command) : Type 0 where
   pub number : ℕ
   pub units : ℕ
   pub lanes : ℕ
+  pub calls : ℕ
   pub first : words ≡ command_word name ∷ behind
   pub splits : Splits name behind items
   pub set : IsSet Firings items number
   pub set_search : IsSet Search items units
   pub set_workers : IsSet Workers items lanes
-  pub is_made : made name (positionals_of items) number units lanes ≡ Some command
+  pub set_calls : IsSet Calls items calls
+  pub is_made : made name (positionals_of items) number units lanes calls ≡ Some command
 
-made_of : (words : List (List ℕ)) (which : CommandName) (positionals : List (List ℕ)) (settings : List Setting) (n units lanes : ℕ) (command : Command) (asks : Asks words which positionals settings) → IsSet Firings asks.items n → IsSet Search asks.items units → IsSet Workers asks.items lanes → made which positionals n units lanes ≡ Some command → Makes words command
-made_of words which positionals settings n units lanes command asks set searched worked is = record {
+made_of : (words : List (List ℕ)) (which : CommandName) (positionals : List (List ℕ)) (settings : List Setting) (n units lanes calls : ℕ) (command : Command) (asks : Asks words which positionals settings) →
+    IsSet Firings asks.items n → IsSet Search asks.items units → IsSet Workers asks.items lanes → IsSet Calls asks.items calls → made which positionals n units lanes calls ≡ Some command → Makes words command
+made_of words which positionals settings n units lanes calls command asks set searched worked capped is = record {
   name = which;
   behind = asks.behind;
   items = asks.items;
   number = n;
   units = units;
   lanes = lanes;
+  calls = calls;
   first = asks.first;
   splits = asks.splits;
   set = set;
   set_search = searched;
   set_workers = worked;
-  is_made = ap (λ (ps : List (List ℕ)). made which ps n units lanes) asks.in_order ∙ is;
+  set_calls = capped;
+  is_made = ap (λ (ps : List (List ℕ)). made which ps n units lanes calls) asks.in_order ∙ is;
 }
 
 -- an option that a command does not take
@@ -122,39 +127,52 @@ untaken : (words : List (List ℕ)) (which : CommandName) (positionals : List (L
 untaken words which positionals settings option asks off = Absent (not_taken which option asks.behind asks.items off asks.splits) refl
 
 -- a command without options
-unset : (words : List (List ℕ)) (which : CommandName) (positionals : List (List ℕ)) (command : Command) → takes which Firings ≡ false → takes which Search ≡ false → takes which Workers ≡ false → made which positionals 10000 10000 1 ≡ Some command → Asks words which positionals [] → Makes words command
-unset words which positionals command off without alone is asks =
-    made_of words which positionals [] 10000 10000 1 command asks (untaken words which positionals [] Firings asks off) (untaken words which positionals [] Search asks without) (untaken words which positionals [] Workers asks alone) is
-
--- a command with no option but that of workers
-working : (words : List (List ℕ)) (which : CommandName) (positionals : List (List ℕ)) (lanes : ℕ) (command : Command) → takes which Firings ≡ false → takes which Search ≡ false → made which positionals 10000 10000 lanes ≡ Some command → Asks words which positionals (workers lanes) → Makes words command
-working words which positionals lanes command off without is asks =
-    made_of words which positionals (workers lanes) 10000 10000 lanes command asks (untaken words which positionals (workers lanes) Firings asks off) (untaken words which positionals (workers lanes) Search asks without) asks.are_set.0 is
+unset : (words : List (List ℕ)) (which : CommandName) (positionals : List (List ℕ)) (command : Command) →
+    takes which Firings ≡ false → takes which Search ≡ false → takes which Workers ≡ false → takes which Calls ≡ false →
+    made which positionals 10000 10000 1 100000 ≡ Some command → Asks words which positionals [] → Makes words command
+unset words which positionals command off without alone uncapped is asks =
+    made_of words which positionals [] 10000 10000 1 100000 command asks (untaken words which positionals [] Firings asks off) (untaken words which positionals [] Search asks without)
+    (untaken words which positionals [] Workers asks alone) (untaken words which positionals [] Calls asks uncapped) is
 
 makes : (words : List (List ℕ)) (command : Command) → IsCommand words command → Makes words command
-makes words Help asks = unset words name.Help [] Help refl refl refl refl asks
-makes words (Schema schema) asks = unset words name.Schema (schema ∷ []) (Schema schema) refl refl refl refl asks
+makes words Help asks = unset words name.Help [] Help refl refl refl refl refl asks
+makes words (Schema schema) asks = unset words name.Schema (schema ∷ []) (Schema schema) refl refl refl refl refl asks
 makes words (Explain schema query n units) asks =
     let these = schema ∷ query ∷ [] in
-    made_of words name.Explain these (firings_and_search n units) n units 1 (Explain schema query n units) asks asks.are_set.0 asks.are_set.1.0 (untaken words name.Explain these (firings_and_search n units) Workers asks refl) refl
-makes words (Run schema query n units lanes) asks =
-    made_of words name.Run (schema ∷ query ∷ []) (firings_and_search n units ++ workers lanes) n units lanes (Run schema query n units lanes) asks asks.are_set.0 asks.are_set.1.0 asks.are_set.1.1.0 refl
-makes words (Exec schema plan lanes) asks = working words name.Exec (schema ∷ plan ∷ []) lanes (Exec schema plan lanes) refl refl refl asks
+    let settings = firings_and_search n units in
+    made_of words name.Explain these settings n units 1 100000 (Explain schema query n units) asks asks.are_set.0 asks.are_set.1.0
+    (untaken words name.Explain these settings Workers asks refl) (untaken words name.Explain these settings Calls asks refl) refl
+makes words (Run schema query n units lanes calls) asks =
+    made_of words name.Run (schema ∷ query ∷ []) (firings_and_search n units ++ workers_and_calls lanes calls) n units lanes calls (Run schema query n units lanes calls) asks
+    asks.are_set.0 asks.are_set.1.0 asks.are_set.1.1.0 asks.are_set.1.1.1.0 refl
+makes words (Exec schema plan lanes calls) asks =
+    let these = schema ∷ plan ∷ [] in
+    let settings = workers_and_calls lanes calls in
+    made_of words name.Exec these settings 10000 10000 lanes calls (Exec schema plan lanes calls) asks
+    (untaken words name.Exec these settings Firings asks refl) (untaken words name.Exec these settings Search asks refl) asks.are_set.0 asks.are_set.1.0 refl
 makes words (Check schema query plan n) asks =
     let these = schema ∷ query ∷ plan ∷ [] in
-    made_of words name.Check these (firings n) n 10000 1 (Check schema query plan n) asks asks.are_set.0 (untaken words name.Check these (firings n) Search asks refl) (untaken words name.Check these (firings n) Workers asks refl) refl
-makes words (Verify schema) asks = unset words name.Verify (schema ∷ []) (Verify schema) refl refl refl refl asks
-makes words (World size lanes) asks = working words name.World (decimal size ∷ []) lanes (World size lanes) refl refl (ap (option_map (λ n. World n lanes)) (size_is (decimal size) size refl asks.1 asks.2)) asks.0
+    let settings = firings n in
+    made_of words name.Check these settings n 10000 1 100000 (Check schema query plan n) asks asks.are_set.0
+    (untaken words name.Check these settings Search asks refl) (untaken words name.Check these settings Workers asks refl) (untaken words name.Check these settings Calls asks refl) refl
+makes words (Verify schema) asks = unset words name.Verify (schema ∷ []) (Verify schema) refl refl refl refl refl asks
+makes words (World size lanes) (asks, low, high) =
+    let these = decimal size ∷ [] in
+    let settings = workers lanes in
+    made_of words name.World these settings 10000 10000 lanes 100000 (World size lanes) asks
+    (untaken words name.World these settings Firings asks refl) (untaken words name.World these settings Search asks refl) asks.are_set.0 (untaken words name.World these settings Calls asks refl)
+    (ap (option_map (λ n. World n lanes)) (size_is (decimal size) size refl low high))
 
 -- ---- the other way round
 
-asked : (words behind : List (List ℕ)) (which : CommandName) (items : List Item) (n units lanes : ℕ) (positionals : List (List ℕ)) (command : Command) → words ≡ command_word which ∷ behind → Splits which behind items → IsSet Firings items n → IsSet Search items units → IsSet Workers items lanes → positionals_of items ≡ positionals → made which positionals n units lanes ≡ Some command → IsCommand words command
-asked words behind which items n units lanes positionals command first splits set searched worked order is = go which positionals first splits order is
+asked : (words behind : List (List ℕ)) (which : CommandName) (items : List Item) (n units lanes calls : ℕ) (positionals : List (List ℕ)) (command : Command) → words ≡ command_word which ∷ behind → Splits which behind items →
+    IsSet Firings items n → IsSet Search items units → IsSet Workers items lanes → IsSet Calls items calls → positionals_of items ≡ positionals → made which positionals n units lanes calls ≡ Some command → IsCommand words command
+asked words behind which items n units lanes calls positionals command first splits set searched worked capped order is = go which positionals first splits order is
   where
     named : (c : Command) → c ≡ command → IsCommand words c → IsCommand words command
     named c e here = subst (IsCommand words) e here
 
-    go : (which : CommandName) (positionals : List (List ℕ)) → words ≡ command_word which ∷ behind → Splits which behind items → positionals_of items ≡ positionals → made which positionals n units lanes ≡ Some command → IsCommand words command
+    go : (which : CommandName) (positionals : List (List ℕ)) → words ≡ command_word which ∷ behind → Splits which behind items → positionals_of items ≡ positionals → made which positionals n units lanes calls ≡ Some command → IsCommand words command
     go name.Help [] first splits order is = named Help (cc) (record { behind = behind; items = items; first = first; splits = splits; in_order = order; are_set = tt })
     go name.Help (a ∷ ps) first splits order is = absurd cc
     go name.Schema [] first splits order is = absurd cc
@@ -166,11 +184,11 @@ asked words behind which items n units lanes positionals command first splits se
     go name.Explain (a ∷ b ∷ c ∷ ps) first splits order is = absurd cc
     go name.Run [] first splits order is = absurd cc
     go name.Run (a ∷ []) first splits order is = absurd cc
-    go name.Run (a ∷ b ∷ []) first splits order is = named (Run a b n units lanes) (cc) (record { behind = behind; items = items; first = first; splits = splits; in_order = order; are_set = (set, (searched, (worked, tt))) })
+    go name.Run (a ∷ b ∷ []) first splits order is = named (Run a b n units lanes calls) (cc) (record { behind = behind; items = items; first = first; splits = splits; in_order = order; are_set = (set, (searched, (worked, (capped, tt)))) })
     go name.Run (a ∷ b ∷ c ∷ ps) first splits order is = absurd cc
     go name.Exec [] first splits order is = absurd cc
     go name.Exec (a ∷ []) first splits order is = absurd cc
-    go name.Exec (a ∷ b ∷ []) first splits order is = named (Exec a b lanes) (cc) (record { behind = behind; items = items; first = first; splits = splits; in_order = order; are_set = (worked, tt) })
+    go name.Exec (a ∷ b ∷ []) first splits order is = named (Exec a b lanes calls) (cc) (record { behind = behind; items = items; first = first; splits = splits; in_order = order; are_set = (worked, (capped, tt)) })
     go name.Exec (a ∷ b ∷ c ∷ ps) first splits order is = absurd cc
     go name.Check [] first splits order is = absurd cc
     go name.Check (a ∷ []) first splits order is = absurd cc
@@ -192,6 +210,7 @@ small : (option : OptionName) (n : ℕ) → n ≤ limit option → n < 2 ^ 64
 small Firings n le = omega arith
 small Search n le = omega arith
 small Workers n le = omega arith
+small Calls n le = omega arith
 
 set_once : (option : OptionName) (items : List Item) (n m : ℕ) → IsSet option items n → IsSet option items m → n ≡ m
 set_once option items n m (Once is le) (Once is' le') = let e : decimal n ≡ decimal m = cc in decimal_injective n m (small option n le.1) (small option m le'.1) e
@@ -218,7 +237,8 @@ makes_once words command other a b =
     let number = set_once Firings a.items a.number b.number a.set (subst (λ (is : List Item). IsSet Firings is b.number) (sym items) b.set) in
     let units = set_once Search a.items a.units b.units a.set_search (subst (λ (is : List Item). IsSet Search is b.units) (sym items) b.set_search) in
     let lanes = set_once Workers a.items a.lanes b.lanes a.set_workers (subst (λ (is : List Item). IsSet Workers is b.lanes) (sym items) b.set_workers) in
-    let e : made a.name (positionals_of a.items) a.number a.units a.lanes ≡ made b.name (positionals_of b.items) b.number b.units b.lanes = cc in
+    let calls = set_once Calls a.items a.calls b.calls a.set_calls (subst (λ (is : List Item). IsSet Calls is b.calls) (sym items) b.set_calls) in
+    let e : made a.name (positionals_of a.items) a.number a.units a.lanes a.calls ≡ made b.name (positionals_of b.items) b.number b.units b.lanes b.calls = cc in
     cc
 
 pub one_command : (words : List (List ℕ)) (command other : Command) → IsCommand words command → IsCommand words other → command ≡ other
@@ -237,27 +257,28 @@ set_number : (option : OptionName) (items : List Item) (number : Option ℕ) →
 set_number option items None given = Absent given refl
 set_number option items (Some n) given = Once given.0 given.1
 
-pub is_command : (words behind : List (List ℕ)) (word : List ℕ) (which : CommandName) (arguments : Arguments) (r : Option Coded) → words ≡ word ∷ behind → word ≡ command_word which → AreArguments which behind arguments → option_map seen_as r ≡ made which (words_of arguments.positionals) (number_of Firings arguments) (number_of Search arguments) (number_of Workers arguments) → IfSome r (λ command. IsCommand words (seen_as command))
+pub is_command : (words behind : List (List ℕ)) (word : List ℕ) (which : CommandName) (arguments : Arguments) (r : Option Coded) → words ≡ word ∷ behind → word ≡ command_word which → AreArguments which behind arguments → option_map seen_as r ≡ made which (words_of arguments.positionals) (number_of Firings arguments) (number_of Search arguments) (number_of Workers arguments) (number_of Calls arguments) → IfSome r (λ command. IsCommand words (seen_as command))
 is_command words behind word which arguments None all is are e = tt
 is_command words behind word which arguments (Some command) all is are e =
-    asked words behind which are.items (number_of Firings arguments) (number_of Search arguments) (number_of Workers arguments) (words_of arguments.positionals) (seen_as command) (all ∙ ap (λ (w : List ℕ). w ∷ behind) is) are.splits
+    asked words behind which are.items (number_of Firings arguments) (number_of Search arguments) (number_of Workers arguments) (number_of Calls arguments) (words_of arguments.positionals) (seen_as command) (all ∙ ap (λ (w : List ℕ). w ∷ behind) is) are.splits
     (set_number Firings are.items (given_number Firings arguments) (are.give.are_given Firings))
     (set_number Search are.items (given_number Search arguments) (are.give.are_given Search))
-    (set_number Workers are.items (given_number Workers arguments) (are.give.are_given Workers)) are.give.in_order (sym e)
+    (set_number Workers are.items (given_number Workers arguments) (are.give.are_given Workers))
+    (set_number Calls are.items (given_number Calls arguments) (are.give.are_given Calls)) are.give.in_order (sym e)
 
-few_positionals : (which : CommandName) (positionals : List (List ℕ)) (n units lanes : ℕ) (command : Command) → made which positionals n units lanes ≡ Some command → length positionals ≤ 3
-few_positionals which [] n units lanes command is = omega arith
-few_positionals which (a ∷ []) n units lanes command is = omega arith
-few_positionals which (a ∷ b ∷ []) n units lanes command is = omega arith
-few_positionals which (a ∷ b ∷ c ∷ []) n units lanes command is = omega arith
-few_positionals name.Help (a ∷ b ∷ c ∷ d ∷ ps) n units lanes command is = absurd cc
-few_positionals name.Schema (a ∷ b ∷ c ∷ d ∷ ps) n units lanes command is = absurd cc
-few_positionals name.Explain (a ∷ b ∷ c ∷ d ∷ ps) n units lanes command is = absurd cc
-few_positionals name.Run (a ∷ b ∷ c ∷ d ∷ ps) n units lanes command is = absurd cc
-few_positionals name.Exec (a ∷ b ∷ c ∷ d ∷ ps) n units lanes command is = absurd cc
-few_positionals name.Check (a ∷ b ∷ c ∷ d ∷ ps) n units lanes command is = absurd cc
-few_positionals name.Verify (a ∷ b ∷ c ∷ d ∷ ps) n units lanes command is = absurd cc
-few_positionals name.World (a ∷ b ∷ c ∷ d ∷ ps) n units lanes command is = absurd cc
+few_positionals : (which : CommandName) (positionals : List (List ℕ)) (n units lanes calls : ℕ) (command : Command) → made which positionals n units lanes calls ≡ Some command → length positionals ≤ 3
+few_positionals which [] n units lanes calls command is = omega arith
+few_positionals which (a ∷ []) n units lanes calls command is = omega arith
+few_positionals which (a ∷ b ∷ []) n units lanes calls command is = omega arith
+few_positionals which (a ∷ b ∷ c ∷ []) n units lanes calls command is = omega arith
+few_positionals name.Help (a ∷ b ∷ c ∷ d ∷ ps) n units lanes calls command is = absurd cc
+few_positionals name.Schema (a ∷ b ∷ c ∷ d ∷ ps) n units lanes calls command is = absurd cc
+few_positionals name.Explain (a ∷ b ∷ c ∷ d ∷ ps) n units lanes calls command is = absurd cc
+few_positionals name.Run (a ∷ b ∷ c ∷ d ∷ ps) n units lanes calls command is = absurd cc
+few_positionals name.Exec (a ∷ b ∷ c ∷ d ∷ ps) n units lanes calls command is = absurd cc
+few_positionals name.Check (a ∷ b ∷ c ∷ d ∷ ps) n units lanes calls command is = absurd cc
+few_positionals name.Verify (a ∷ b ∷ c ∷ d ∷ ps) n units lanes calls command is = absurd cc
+few_positionals name.World (a ∷ b ∷ c ∷ d ∷ ps) n units lanes calls command is = absurd cc
 
 -- the command's word says which command it is
 module _ (words behind : List (List ℕ)) (word : List ℕ) (which : CommandName) (all : words ≡ word ∷ behind) (is : word ≡ command_word which) where
@@ -273,14 +294,15 @@ module _ (words behind : List (List ℕ)) (word : List ℕ) (which : CommandName
   no_arguments command none asks =
       let m = makes words command asks in
       let here = items_of command m in
-      none m.items here.1 (record { few = few_positionals m.name (positionals_of m.items) m.number m.units m.lanes command m.is_made; settable = set m })
+      none m.items here.1 (record { few = few_positionals m.name (positionals_of m.items) m.number m.units m.lanes m.calls command m.is_made; settable = set m })
     where
       set : (m : Makes words command) (option : OptionName) → (n : ℕ) × IsSet option m.items n
       set m Firings = (m.number, m.set)
       set m Search = (m.units, m.set_search)
       set m Workers = (m.lanes, m.set_workers)
+      set m Calls = (m.calls, m.set_calls)
 
-  pub not_made : (arguments : Arguments) (r : Option Coded) → AreArguments which behind arguments → option_map seen_as r ≡ made which (words_of arguments.positionals) (number_of Firings arguments) (number_of Search arguments) (number_of Workers arguments) → IfNone r ((command : Command) → IsCommand words command → ⊥)
+  pub not_made : (arguments : Arguments) (r : Option Coded) → AreArguments which behind arguments → option_map seen_as r ≡ made which (words_of arguments.positionals) (number_of Firings arguments) (number_of Search arguments) (number_of Workers arguments) (number_of Calls arguments) → IfNone r ((command : Command) → IsCommand words command → ⊥)
   not_made arguments (Some coded) are e = tt
   not_made arguments None are e = λ command asks.
       let m = makes words command asks in
@@ -289,8 +311,9 @@ module _ (words behind : List (List ℕ)) (word : List ℕ) (which : CommandName
       let number = set_once Firings are.items m.number (number_of Firings arguments) (subst (λ (is : List Item). IsSet Firings is m.number) items m.set) (set_number Firings are.items (given_number Firings arguments) (are.give.are_given Firings)) in
       let units = set_once Search are.items m.units (number_of Search arguments) (subst (λ (is : List Item). IsSet Search is m.units) items m.set_search) (set_number Search are.items (given_number Search arguments) (are.give.are_given Search)) in
       let lanes = set_once Workers are.items m.lanes (number_of Workers arguments) (subst (λ (is : List Item). IsSet Workers is m.lanes) items m.set_workers) (set_number Workers are.items (given_number Workers arguments) (are.give.are_given Workers)) in
-      let same : made m.name (positionals_of m.items) m.number m.units m.lanes ≡ made which (positionals_of are.items) (number_of Firings arguments) (number_of Search arguments) (number_of Workers arguments) = let n = here.0 in cc in
-      let order = ap (λ (ps : List (List ℕ)). made which ps (number_of Firings arguments) (number_of Search arguments) (number_of Workers arguments)) are.give.in_order in
+      let calls = set_once Calls are.items m.calls (number_of Calls arguments) (subst (λ (is : List Item). IsSet Calls is m.calls) items m.set_calls) (set_number Calls are.items (given_number Calls arguments) (are.give.are_given Calls)) in
+      let same : made m.name (positionals_of m.items) m.number m.units m.lanes m.calls ≡ made which (positionals_of are.items) (number_of Firings arguments) (number_of Search arguments) (number_of Workers arguments) (number_of Calls arguments) = let n = here.0 in cc in
+      let order = ap (λ (ps : List (List ℕ)). made which ps (number_of Firings arguments) (number_of Search arguments) (number_of Workers arguments) (number_of Calls arguments)) are.give.in_order in
       let made' = m.is_made in
       absurd cc
 

@@ -7,7 +7,7 @@ use Rattle.command_words.specs.Splits.{Item, Positional, Given, IsPositional, Be
 use Rattle.command_words.specs.Cuts.{before_equals, behind_equals}
 use Rattle.command_words.specs.declared.table.CommandName.{CommandName}
 use Rattle.command_words.specs.declared.table.OptionName.{OptionName}
-use Rattle.command_words.specs.declared.table.OptionName.TheVariants.{Firings, Search, Workers}
+use Rattle.command_words.specs.declared.table.OptionName.TheVariants.{Firings, Search, Workers, Calls}
 use Rattle.command_words.proofs.Cutting.{cut, uncut}
 
 -- ---- options by their words
@@ -16,21 +16,25 @@ before_word : (option : OptionName) → before_equals (option_word option) ≡ o
 before_word Firings = refl
 before_word Search = refl
 before_word Workers = refl
+before_word Calls = refl
 
 behind_word : (option : OptionName) → behind_equals (option_word option) ≡ None
 behind_word Firings = refl
 behind_word Search = refl
 behind_word Workers = refl
+behind_word Calls = refl
 
 before_setting : (option : OptionName) (value : List ℕ) → before_equals (option_word option ++ 61 ∷ value) ≡ option_word option
 before_setting Firings value = refl
 before_setting Search value = refl
 before_setting Workers value = refl
+before_setting Calls value = refl
 
 behind_setting : (option : OptionName) (value : List ℕ) → behind_equals (option_word option ++ 61 ∷ value) ≡ Some value
 behind_setting Firings value = refl
 behind_setting Search value = refl
 behind_setting Workers value = refl
+behind_setting Calls value = refl
 
 -- an option's word is its own
 pub same_word : (option other : OptionName) → option_word option ≡ option_word other → option ≡ other
@@ -43,6 +47,13 @@ same_word Workers Firings e = let first : 119 ≡ 102 = ap (λ (word : List ℕ)
 same_word Workers Search e = absurd cc
 same_word Firings Workers e = let first : 102 ≡ 119 = ap (λ (word : List ℕ). get_or word 0 0) e in absurd (omega (arith, first))
 same_word Search Workers e = absurd cc
+same_word Calls Calls e = refl
+same_word Calls Firings e = absurd cc
+same_word Calls Search e = absurd cc
+same_word Calls Workers e = absurd cc
+same_word Firings Calls e = absurd cc
+same_word Search Calls e = absurd cc
+same_word Workers Calls e = absurd cc
 
 pub same_options : (option other : OptionName) → same_option option other ≡ true → option ≡ other
 same_options Firings Firings e = refl
@@ -54,16 +65,25 @@ same_options Workers Firings e = absurd cc
 same_options Workers Search e = absurd cc
 same_options Firings Workers e = absurd cc
 same_options Search Workers e = absurd cc
+same_options Calls Calls e = refl
+same_options Calls Firings e = absurd cc
+same_options Calls Search e = absurd cc
+same_options Calls Workers e = absurd cc
+same_options Firings Calls e = absurd cc
+same_options Search Calls e = absurd cc
+same_options Workers Calls e = absurd cc
 
 pub same_itself : (option : OptionName) → same_option option option ≡ true
 same_itself Firings = refl
 same_itself Search = refl
 same_itself Workers = refl
+same_itself Calls = refl
 
 dashed_setting : (option : OptionName) (value : List ℕ) → codes "--" ++ option_word option ++ codes "=" ++ value ≡ 45 ∷ 45 ∷ (option_word option ++ 61 ∷ value)
 dashed_setting Firings value = refl
 dashed_setting Search value = refl
 dashed_setting Workers value = refl
+dashed_setting Calls value = refl
 
 -- ---- how words begin, by equations
 

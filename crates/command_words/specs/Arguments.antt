@@ -9,7 +9,7 @@ use Rattle.command_words.specs.Words.{Command, Help, Schema, Explain, Run, Exec,
 use Rattle.command_words.specs.declared.table.CommandName.{CommandName}
 use Rattle.command_words.specs.declared.table.CommandName.TheVariants as name
 use Rattle.command_words.specs.declared.table.OptionName.{OptionName}
-use Rattle.command_words.specs.declared.table.OptionName.TheVariants.{Firings, Search, Workers}
+use Rattle.command_words.specs.declared.table.OptionName.TheVariants.{Firings, Search, Workers, Calls}
 use Rattle.command_words.specs.declared.given.Arguments.{Arguments}
 use Rattle.command_words.specs.declared.given.Positionals.{Positionals}
 use Rattle.command_words.specs.declared.given.Positionals.TheVariants as some
@@ -24,6 +24,7 @@ abbrev pub given_number : OptionName → Arguments → Option ℕ
 given_number Firings arguments = arguments.firings
 given_number Search arguments = arguments.search
 given_number Workers arguments = arguments.workers
+given_number Calls arguments = arguments.calls
 
 -- the number that is given, or the default
 abbrev pub number_of : OptionName → Arguments → ℕ
@@ -55,14 +56,14 @@ abbrev pub size_of : List ℕ → Option ℕ
 size_of text =
     if pointwise nat_eq text (decimal (digits_value 10 text)) && (nat_le 1 (digits_value 10 text) && nat_le (digits_value 10 text) 10000) then Some (digits_value 10 text) else None
 
--- The command with these positionals, and these numbers of firings, search units and workers where it takes them.
-abbrev pub made : CommandName → List (List ℕ) → ℕ → ℕ → ℕ → Option Command
-made name.Help [] n units lanes = Some Help
-made name.Schema (schema ∷ []) n units lanes = Some (Schema schema)
-made name.Explain (schema ∷ query ∷ []) n units lanes = Some (Explain schema query n units)
-made name.Run (schema ∷ query ∷ []) n units lanes = Some (Run schema query n units lanes)
-made name.Exec (schema ∷ plan ∷ []) n units lanes = Some (Exec schema plan lanes)
-made name.Check (schema ∷ query ∷ plan ∷ []) n units lanes = Some (Check schema query plan n)
-made name.Verify (schema ∷ []) n units lanes = Some (Verify schema)
-made name.World (text ∷ []) n units lanes = option_map (λ size. World size lanes) (size_of text)
-made _ _ _ _ _ = None
+-- The command with these positionals, and these numbers of firings, search units, workers and calls where it takes them.
+abbrev pub made : CommandName → List (List ℕ) → ℕ → ℕ → ℕ → ℕ → Option Command
+made name.Help [] n units lanes calls = Some Help
+made name.Schema (schema ∷ []) n units lanes calls = Some (Schema schema)
+made name.Explain (schema ∷ query ∷ []) n units lanes calls = Some (Explain schema query n units)
+made name.Run (schema ∷ query ∷ []) n units lanes calls = Some (Run schema query n units lanes calls)
+made name.Exec (schema ∷ plan ∷ []) n units lanes calls = Some (Exec schema plan lanes calls)
+made name.Check (schema ∷ query ∷ plan ∷ []) n units lanes calls = Some (Check schema query plan n)
+made name.Verify (schema ∷ []) n units lanes calls = Some (Verify schema)
+made name.World (text ∷ []) n units lanes calls = option_map (λ size. World size lanes) (size_of text)
+made _ _ _ _ _ _ = None

@@ -3,7 +3,7 @@ use Rattle.std.specs.Prelude.{◌≤◌, ℕ, Bool, true, false, List, [], ◌�
 use Rattle.command_words.specs.declared.table.CommandName.{CommandName}
 use Rattle.command_words.specs.declared.table.CommandName.TheVariants.{Help, Schema, Explain, Run, Exec, Check, Verify, World}
 use Rattle.command_words.specs.declared.table.OptionName.{OptionName}
-use Rattle.command_words.specs.declared.table.OptionName.TheVariants.{Firings, Search, Workers}
+use Rattle.command_words.specs.declared.table.OptionName.TheVariants.{Firings, Search, Workers, Calls}
 
 -- the word that a command's list begins with
 abbrev pub command_word : CommandName → List ℕ
@@ -32,18 +32,20 @@ abbrev pub commands : List CommandName
 commands = Help ∷ Schema ∷ Explain ∷ Run ∷ Exec ∷ Check ∷ Verify ∷ World ∷ []
 
 abbrev pub options : List OptionName
-options = Firings ∷ Search ∷ Workers ∷ []
+options = Firings ∷ Search ∷ Workers ∷ Calls ∷ []
 
 -- the word that names an option, behind two dashes
 abbrev pub option_word : OptionName → List ℕ
 option_word Firings = codes "firings"
 option_word Search = codes "search"
 option_word Workers = codes "workers"
+option_word Calls = codes "calls"
 
 abbrev pub same_option : OptionName → OptionName → Bool
 same_option Firings Firings = true
 same_option Search Search = true
 same_option Workers Workers = true
+same_option Calls Calls = true
 same_option _ _ = false
 
 -- the options that a command takes
@@ -56,6 +58,8 @@ takes Run Search = true
 takes Run Workers = true
 takes Exec Workers = true
 takes World Workers = true
+takes Run Calls = true
+takes Exec Calls = true
 takes _ _ = false
 
 -- the least number that an option takes
@@ -63,12 +67,14 @@ abbrev pub least : OptionName → ℕ
 least Firings = 0
 least Search = 0
 least Workers = 1
+least Calls = 0
 
 -- the greatest number that an option takes
 abbrev pub limit : OptionName → ℕ
 limit Firings = 100000
 limit Search = 1000000
 limit Workers = 8
+limit Calls = 1000000
 
 -- an option takes the number
 abbrev pub InRange : OptionName → ℕ → Type 0
@@ -79,3 +85,4 @@ abbrev pub default_number : OptionName → ℕ
 default_number Firings = 10000
 default_number Search = 10000
 default_number Workers = 1
+default_number Calls = 100000

@@ -6,7 +6,7 @@ use Rattle.command_words.specs.Splits.{Item, Splits, positionals_of, IsSet}
 use Rattle.command_words.specs.declared.table.CommandName.{CommandName}
 use Rattle.command_words.specs.declared.table.CommandName.TheVariants as name
 use Rattle.command_words.specs.declared.table.OptionName.{OptionName}
-use Rattle.command_words.specs.declared.table.OptionName.TheVariants.{Firings, Search, Workers}
+use Rattle.command_words.specs.declared.table.OptionName.TheVariants.{Firings, Search, Workers, Calls}
 use Rattle.command_words.specs.declared.command.Command.TheVariants as code
 use Rattle.command_words.specs.declared.command.Command.{Command as Coded}
 
@@ -15,8 +15,8 @@ pub data Command : Type 0 where
   Help : Command
   Schema : List ℕ → Command
   Explain : List ℕ → List ℕ → ℕ → ℕ → Command
-  Run : List ℕ → List ℕ → ℕ → ℕ → ℕ → Command
-  Exec : List ℕ → List ℕ → ℕ → Command
+  Run : List ℕ → List ℕ → ℕ → ℕ → ℕ → ℕ → Command
+  Exec : List ℕ → List ℕ → ℕ → ℕ → Command
   Check : List ℕ → List ℕ → List ℕ → ℕ → Command
   Verify : List ℕ → Command
   World : ℕ → ℕ → Command
@@ -50,13 +50,17 @@ firings_and_search n units = record { option = Firings; number = n } ∷ record 
 abbrev pub workers : ℕ → List Setting
 workers n = record { option = Workers; number = n } ∷ []
 
+abbrev pub workers_and_calls : ℕ → ℕ → List Setting
+workers_and_calls n calls = record { option = Workers; number = n } ∷ record { option = Calls; number = calls } ∷ []
+
 -- The words are this command.
 abbrev pub IsCommand : List (List ℕ) → Command → Type 0
 IsCommand words Help = Asks words name.Help [] []
 IsCommand words (Schema schema) = Asks words name.Schema (schema ∷ []) []
 IsCommand words (Explain schema query n units) = Asks words name.Explain (schema ∷ query ∷ []) (firings_and_search n units)
-IsCommand words (Run schema query n units lanes) = Asks words name.Run (schema ∷ query ∷ []) (firings_and_search n units ++ workers lanes)
-IsCommand words (Exec schema plan lanes) = Asks words name.Exec (schema ∷ plan ∷ []) (workers lanes)
+IsCommand words (Run schema query n units lanes calls) =
+    Asks words name.Run (schema ∷ query ∷ []) (firings_and_search n units ++ workers_and_calls lanes calls)
+IsCommand words (Exec schema plan lanes calls) = Asks words name.Exec (schema ∷ plan ∷ []) (workers_and_calls lanes calls)
 IsCommand words (Check schema query plan n) = Asks words name.Check (schema ∷ query ∷ plan ∷ []) (firings n)
 IsCommand words (Verify schema) = Asks words name.Verify (schema ∷ []) []
 IsCommand words (World size lanes) = Asks words name.World (decimal size ∷ []) (workers lanes) × (1 ≤ size) × (size ≤ 10000)
@@ -65,8 +69,8 @@ abbrev pub seen_as : Coded → Command
 seen_as code.Help = Help
 seen_as (code.Schema schema) = Schema schema.now
 seen_as (code.Explain schema query n units) = Explain schema.now query.now n units
-seen_as (code.Run schema query n units lanes) = Run schema.now query.now n units lanes
-seen_as (code.Exec schema plan lanes) = Exec schema.now plan.now lanes
+seen_as (code.Run schema query n units lanes calls) = Run schema.now query.now n units lanes calls
+seen_as (code.Exec schema plan lanes calls) = Exec schema.now plan.now lanes calls
 seen_as (code.Check schema query plan n) = Check schema.now query.now plan.now n
 seen_as (code.Verify schema) = Verify schema.now
 seen_as (code.World size lanes) = World size lanes

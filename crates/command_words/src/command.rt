@@ -2,7 +2,8 @@
 ghost use Rattle.std.specs.Prelude.{◌≡◌, IfSome, IfNone, option_map};
 ghost use Rattle.command_words.specs.Words.{Command as Plain, IsCommand, seen_as};
 ghost use Rattle.command_words.specs.Arguments.{made, words_of, number_of, size_of};
-ghost use Rattle.command_words.specs.declared.table.OptionName.TheVariants.{Firings as TheFirings, Search as TheSearch, Workers as TheWorkers};
+ghost use Rattle.command_words.specs.declared.table.OptionName.TheVariants.{Firings as TheFirings, Search as TheSearch};
+ghost use Rattle.command_words.specs.declared.table.OptionName.TheVariants.{Workers as TheWorkers, Calls as TheCalls};
 
 use crate::given::{Arguments, Positionals, read_arguments};
 use crate::number::number_up_to;
@@ -28,11 +29,13 @@ pub enum Command<'a> {
         firings: u32,
         search: u32,
         workers: u32,
+        calls: u32,
     },
     Exec {
         schema: &'a Text,
         plan: &'a Text,
         workers: u32,
+        calls: u32,
     },
     Check {
         schema: &'a Text,
@@ -65,11 +68,13 @@ pub fn read_words(words: &[Text]) -> Option<Command<'_>>
 // The command with these arguments; none where it has another number of positionals.
 fn command_with<'a>(name: CommandName, arguments: Arguments<'a>) -> Option<Command<'a>>
     ensures { option_map seen_as result ≡ made name (words_of arguments.entry.positionals)
-        (number_of TheFirings arguments.entry) (number_of TheSearch arguments.entry) (number_of TheWorkers arguments.entry) }
+        (number_of TheFirings arguments.entry) (number_of TheSearch arguments.entry)
+        (number_of TheWorkers arguments.entry) (number_of TheCalls arguments.entry) }
 {
     let firings = arguments.number_of(OptionName::Firings);
     let search = arguments.number_of(OptionName::Search);
     let workers = arguments.number_of(OptionName::Workers);
+    let calls = arguments.number_of(OptionName::Calls);
     match (name, arguments.positionals) {
         (CommandName::Help, Positionals::Zero) => Some(Command::Help),
         (CommandName::Schema, Positionals::One(schema)) => Some(Command::Schema { schema }),
@@ -85,11 +90,13 @@ fn command_with<'a>(name: CommandName, arguments: Arguments<'a>) -> Option<Comma
             firings,
             search,
             workers,
+            calls,
         }),
         (CommandName::Exec, Positionals::Two(schema, plan)) => Some(Command::Exec {
             schema,
             plan,
             workers,
+            calls,
         }),
         (CommandName::Check, Positionals::Three(schema, query, plan)) => Some(Command::Check {
             schema,

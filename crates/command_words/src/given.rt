@@ -27,6 +27,7 @@ pub struct Arguments<'a> {
     pub firings: Option<u32>,
     pub search: Option<u32>,
     pub workers: Option<u32>,
+    pub calls: Option<u32>,
 }
 
 /// The arguments that the words behind a command's name give; none where they can be no command's.
@@ -39,6 +40,7 @@ pub fn read_arguments<'a>(name: CommandName, words: &'a [Text]) -> Option<Argume
         firings: None,
         search: None,
         workers: None,
+        calls: None,
     };
     let mut left = words;
     while !left.is_empty() {
@@ -79,6 +81,7 @@ impl<'a> Arguments<'a> {
             OptionName::Firings => self.firings,
             OptionName::Search => self.search,
             OptionName::Workers => self.workers,
+            OptionName::Calls => self.calls,
         }
     }
 
@@ -114,6 +117,10 @@ impl<'a> Arguments<'a> {
             }),
             (OptionName::Workers, None) => Some(Arguments {
                 workers: Some(number),
+                ..self
+            }),
+            (OptionName::Calls, None) => Some(Arguments {
+                calls: Some(number),
                 ..self
             }),
             _ => None,

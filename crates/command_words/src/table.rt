@@ -23,6 +23,7 @@ pub enum OptionName {
     Firings,
     Search,
     Workers,
+    Calls,
 }
 
 /// The command with this word.
@@ -50,6 +51,7 @@ pub fn option_named(word: &[u8]) -> Option<OptionName>
         b"firings" => Some(OptionName::Firings),
         b"search" => Some(OptionName::Search),
         b"workers" => Some(OptionName::Workers),
+        b"calls" => Some(OptionName::Calls),
         _ => None,
     }
 }
@@ -65,6 +67,7 @@ impl CommandName {
             (CommandName::Explain | CommandName::Run, OptionName::Search) => true,
             (CommandName::Run | CommandName::Exec | CommandName::World, OptionName::Workers) =>
                 true,
+            (CommandName::Run | CommandName::Exec, OptionName::Calls) => true,
             _ => false,
         }
     }
@@ -76,7 +79,7 @@ impl OptionName {
         ensures { result ≡ least self }
     {
         match self {
-            OptionName::Firings | OptionName::Search => 0,
+            OptionName::Firings | OptionName::Search | OptionName::Calls => 0,
             OptionName::Workers => 1,
         }
     }
@@ -87,7 +90,7 @@ impl OptionName {
     {
         match self {
             OptionName::Firings => 100_000,
-            OptionName::Search => 1_000_000,
+            OptionName::Search | OptionName::Calls => 1_000_000,
             OptionName::Workers => 8,
         }
     }
@@ -99,6 +102,7 @@ impl OptionName {
         match self {
             OptionName::Firings | OptionName::Search => 10_000,
             OptionName::Workers => 1,
+            OptionName::Calls => 100_000,
         }
     }
 }

@@ -12,15 +12,14 @@ use Rattle.row_text.proofs.Texts.{IsRowText-alike}
 use Rattle.middleware.specs.declared.fault.Run.{Run}
 use Rattle.middleware.specs.Executing.{Executes}
 use Rattle.command_io.specs.declared.stop.Stop.{Stop}
-use Rattle.command_io.specs.declared.delivery.TheConstants.{CALLS}
 use Rattle.command_io.specs.Executing.{Delivers}
 use Rattle.command_io.proofs.Delivering.{delivers_as}
 use Rattle.exec_command.specs.Known.{column_names}
 use Rattle.exec_command.specs.Ends.{IsResult}
 
-module _ {S : Type 0} (seen : S → Seen) (schema : Schema) (plan : Plan) (old new : List (Lane S)) where
+module _ {S : Type 0} (seen : S → Seen) (schema : Schema) (plan : Plan) (calls : ℕ) (old new : List (Lane S)) where
   -- the text of the rows is the result
-  result_of : (run : Run) (text : List ℕ) → Executes seen schema plan CALLS old new (Ok run) →
+  result_of : (run : Run) (text : List ℕ) → Executes seen schema plan calls old new (Ok run) →
       IsRowText (column_names plan.width) (Contains run.rows) text → IsResult seen schema plan new run text
   result_of run text executes of_rows = record {
     given = of_rows;
@@ -29,7 +28,7 @@ module _ {S : Type 0} (seen : S → Seen) (schema : Schema) (plan : Plan) (old n
 
   -- so the rows are delivered as the result
   pub delivered : (out_old out_new : Option (List ℕ)) (rose : Type 0) (result : Result (Unit {0}) Stop) →
-      Delivers seen schema plan CALLS (λ run. IsRowText (column_names plan.width) (Contains run.rows)) old new out_old out_new rose result →
-      Delivers seen schema plan CALLS (IsResult seen schema plan new) old new out_old out_new rose result
+      Delivers seen schema plan calls (λ run. IsRowText (column_names plan.width) (Contains run.rows)) old new out_old out_new rose result →
+      Delivers seen schema plan calls (IsResult seen schema plan new) old new out_old out_new rose result
   delivered out_old out_new rose =
-      delivers_as seen schema plan CALLS (λ run. IsRowText (column_names plan.width) (Contains run.rows)) (IsResult seen schema plan new) old new out_old out_new rose result_of
+      delivers_as seen schema plan calls (λ run. IsRowText (column_names plan.width) (Contains run.rows)) (IsResult seen schema plan new) old new out_old out_new rose result_of

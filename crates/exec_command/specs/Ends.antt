@@ -18,7 +18,6 @@ use Rattle.command_io.specs.declared.stop.Stop.{Stop}
 use Rattle.command_io.specs.declared.outcome.Outcome.{Outcome}
 use Rattle.command_io.specs.declared.outcome.Outcome.TheVariants as outcome
 use Rattle.command_io.specs.declared.stop.Stop.TheVariants as stop
-use Rattle.command_io.specs.declared.delivery.TheConstants.{CALLS}
 use Rattle.command_io.specs.Inputs.{SchemaIsRead, PlanIsRead, SchemaStop, PlanStop}
 use Rattle.command_io.specs.Moments.{Moment, Outputs, outputs_of}
 use Rattle.command_io.specs.FaultLines.{Names}
@@ -46,36 +45,39 @@ pub record IsResult {S : Type 0} (seen : S → Seen) (schema : Schema) (plan : P
   pub rows : (instance : List Fact) → LanesHoldPlan seen schema plan lanes instance →
       IsRowText (column_names plan.width) (IsRow (meaning_of schema) plan instance) text
 
--- What became of a plan: it was not executed; or it is lawful and was, and standard output took the text of its rows,
--- whole or not.
-pub data PlanEnds {S : Type 0} (seen : S → Seen) (schema : Schema) (plan : Plan) (names : Names) (before after : Outputs) (old new : List (Lane S)) :
+-- What became of a plan: it was not executed; or it is lawful and was, with at most so many calls, and standard output took the text of
+-- its rows, whole or not.
+pub data PlanEnds {S : Type 0} (seen : S → Seen) (schema : Schema) (plan : Plan) (calls : ℕ) (names : Names)
+    (before after : Outputs) (old new : List (Lane S)) :
     Result Outcome Stop → Type 0 where
   -- it was not executed, and nothing but the line was written
   idle : (end : Stop) →
       StopsFor (IdleStop schema plan) names before.err after.err (Rose before.err_faults after.err_faults) end →
-      after.out ≡ before.out → new ≡ old → PlanEnds seen schema plan names before after old new (Err end)
+      after.out ≡ before.out → new ≡ old → PlanEnds seen schema plan calls names before after old new (Err end)
   -- its execution stopped, or the text of its rows was not written whole
   stopped : (why end : Stop) → MayRun schema plan →
-      Delivers seen schema plan CALLS (IsResult seen schema plan new) old new before.out after.out (Rose before.out_faults after.out_faults) (Err why) →
+      Delivers seen schema plan calls (IsResult seen schema plan new) old new before.out after.out (Rose before.out_faults after.out_faults) (Err why) →
       StopsFor (λ given. given ≡ why) names before.err after.err (Rose before.err_faults after.err_faults) end →
-      PlanEnds seen schema plan names before after old new (Err end)
+      PlanEnds seen schema plan calls names before after old new (Err end)
   -- it was executed, the text was written whole, and nothing was written on standard error
   done : MayRun schema plan →
-      Delivers seen schema plan CALLS (IsResult seen schema plan new) old new before.out after.out (Rose before.out_faults after.out_faults) (Ok tt) →
-      after.err ≡ before.err → PlanEnds seen schema plan names before after old new (Ok outcome.Done)
+      Delivers seen schema plan calls (IsResult seen schema plan new) old new before.out after.out (Rose before.out_faults after.out_faults) (Ok tt) →
+      after.err ≡ before.err → PlanEnds seen schema plan calls names before after old new (Ok outcome.Done)
 
 -- How `exec` ends: a text was refused, and nothing but the line was written; or both were read.
-pub data ExecEnds {S : Type 0} (seen : S → Seen) (schema_name plan_name : List ℕ) (before after : Moment) (old new : List (Lane S)) :
+pub data ExecEnds {S : Type 0} (seen : S → Seen) (schema_name plan_name : List ℕ) (calls : ℕ)
+    (before after : Moment) (old new : List (Lane S)) :
     Result Outcome Stop → Type 0 where
   no_schema : (end : Stop) →
       StopsFor (SchemaStop before.files schema_name (Rose before.file_faults after.file_faults))
       (record { schema = schema_name; query = []; plan = plan_name; relations = [] }) before.err after.err (Rose before.err_faults after.err_faults) end →
-      after.out ≡ before.out → new ≡ old → ExecEnds seen schema_name plan_name before after old new (Err end)
+      after.out ≡ before.out → new ≡ old → ExecEnds seen schema_name plan_name calls before after old new (Err end)
   no_plan : (schema : Schema) (end : Stop) → SchemaIsRead before.files schema_name schema →
       StopsFor (PlanStop before.files plan_name (Rose before.file_faults after.file_faults))
       (record { schema = schema_name; query = []; plan = plan_name; relations = [] }) before.err after.err (Rose before.err_faults after.err_faults) end →
-      after.out ≡ before.out → new ≡ old → ExecEnds seen schema_name plan_name before after old new (Err end)
+      after.out ≡ before.out → new ≡ old → ExecEnds seen schema_name plan_name calls before after old new (Err end)
   read : (schema : Schema) (plan : Plan) (result : Result Outcome Stop) →
       SchemaIsRead before.files schema_name schema → PlanIsRead before.files plan_name plan →
-      PlanEnds seen schema plan (record { schema = schema_name; query = []; plan = plan_name; relations = schema.relations }) (outputs_of before) (outputs_of after) old new result →
-      ExecEnds seen schema_name plan_name before after old new result
+      PlanEnds seen schema plan calls (record { schema = schema_name; query = []; plan = plan_name; relations = schema.relations })
+      (outputs_of before) (outputs_of after) old new result →
+      ExecEnds seen schema_name plan_name calls before after old new result

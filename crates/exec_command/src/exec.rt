@@ -20,18 +20,19 @@ use std::thread::Threads;
 /// Executes the plan of the second file over the schema of the first, and says why it stopped.
 ///
 /// The plan is lawful over the constants of the schema and its own, or no source is attached. It is executed on all of the lanes, of
-/// which there are at most 8, and its rows are written to
-/// `out`, under the names column1, column2 and so on.
+/// which there are at most 8, with at most `calls` requests, and its rows are written to `out`, under the names column1, column2 and so on.
 pub fn exec_plan<R: Threads + Sync, F: Files, S: Source + Send + Drop, O: Sink, E: Sink>(
     rt: &R,
     alloc: Global,
     schema_name: &Text,
     plan_name: &Text,
+    calls: u32,
     outside: &mut Outside<F, O, E>,
     lanes: &mut [Lane<S>],
 ) -> Result<Outcome, Stop>
-    requires { length lanes.old ≤ 8 }
-    ensures ends { ExecEnds S.seen schema_name.now plan_name.now outside.old outside.new lanes.old lanes.new result }
+    requires calls { calls ≤ 1_000_000 }
+    requires lanes { length lanes.old ≤ 8 }
+    ensures ends { ExecEnds S.seen schema_name.now plan_name.now calls outside.old outside.new lanes.old lanes.new result }
     ensures stays { Stays outside.old outside.new }
     ensures lanes { LanesStay S.seen lanes.old lanes.new }
 {
@@ -54,6 +55,7 @@ pub fn exec_plan<R: Threads + Sync, F: Files, S: Source + Send + Drop, O: Sink, 
         names,
         &schema,
         &plan,
+        calls,
         &mut outside.outputs,
         lanes,
     )
@@ -66,12 +68,16 @@ fn carry_out<R: Threads + Sync, S: Source + Send + Drop, O: Sink, E: Sink>(
     names: FileNames<'_>,
     schema: &Schema,
     plan: &Plan,
+    calls: u32,
     outputs: &mut Outputs<O, E>,
     lanes: &mut [Lane<S>],
 ) -> Result<Outcome, Stop>
     requires fits { PlanFits plan.now }
+    requires calls { calls ≤ 1_000_000 }
     requires lanes { length lanes.old ≤ 8 }
-    ensures ends { PlanEnds S.seen schema.now plan.now (record { schema = names.entry.schema.now; query = names.entry.query.now; plan = names.entry.plan.now; relations = schema.now.relations }) outputs.old outputs.new lanes.old lanes.new result }
+    ensures ends { PlanEnds S.seen schema.now plan.now calls
+        (record { schema = names.entry.schema.now; query = names.entry.query.now; plan = names.entry.plan.now; relations = schema.now.relations })
+        outputs.old outputs.new lanes.old lanes.new result }
     ensures lanes { LanesStay S.seen lanes.old lanes.new }
     ensures later_out { outputs.old.out_faults ≤ outputs.new.out_faults }
     ensures later_err { outputs.old.err_faults ≤ outputs.new.err_faults }
@@ -91,6 +97,7 @@ fn carry_out<R: Threads + Sync, S: Source + Send + Drop, O: Sink, E: Sink>(
         schema,
         plan,
         Report::Rows(&columns),
+        calls,
         lanes,
         &mut outputs.out,
     ) {

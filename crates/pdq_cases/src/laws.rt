@@ -6,7 +6,6 @@ ghost use Rattle.access_schema.specs.declared.schema.Schema.{Schema};
 ghost use Rattle.source_trait.specs.declared.lanes.Lane.{Lane};
 ghost use Rattle.middleware.specs.PlanSources.{IsAccessed};
 ghost use Rattle.middleware.specs.LaneBranches.{OnEach};
-ghost use Rattle.command_io.specs.declared.delivery.TheConstants.{CALLS};
 ghost use Rattle.verify_command.specs.RuleRelations.{RulesName};
 ghost use Rattle.verify_command.specs.Verifying.{used};
 ghost use Rattle.pdq_core.specs.Complete.{OnLanes, NoSourceRose, KeepsCap, Serve, CanExecute};
@@ -19,9 +18,10 @@ use source_trait::Source;
 /// folder of the same data files, which tell what they hold, these give each relation that is needed the rows of an instance, and do not
 /// fail, they serve; and a plan can be executed if no round of it on the instance passes the cap.
 pub fn told_files_serve<S: Source>()
-    ensures plan { (schema : Schema) (plan : Plan) (old new : List (Lane S)) (instance : List Fact) (kind : List ℕ) (files : List (List ℕ × List ℕ)) →
+    ensures plan { (schema : Schema) (plan : Plan) (calls : ℕ) (old new : List (Lane S)) (instance : List Fact) (kind : List ℕ) (files : List (List ℕ × List ℕ)) →
         ((rel : ℕ) → IsAccessed schema plan rel → 0 < length old) → OnEach old (HasFolder S.seen kind (Some files)) → FilesGive schema (IsAccessed schema plan) kind files instance →
-        OnLanes (NoSourceRose S.seen schema (IsAccessed schema plan)) old new → KeepsCap schema plan instance CALLS → CanExecute S.seen schema plan old new }
+        OnLanes (NoSourceRose S.seen schema (IsAccessed schema plan)) old new → KeepsCap schema plan instance calls →
+        CanExecute S.seen schema plan calls old new }
     ensures rules { (schema : Schema) (old new : List (Lane S)) (instance : List Fact) (kind : List ℕ) (files : List (List ℕ × List ℕ)) →
         HasFolder S.seen kind (Some files) (used old) → FilesGive schema (RulesName schema) kind files instance →
         NoSourceRose S.seen schema (RulesName schema) (used old) (used new) → Serve S.seen schema (RulesName schema) (used old) (used new) }

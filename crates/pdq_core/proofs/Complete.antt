@@ -32,12 +32,12 @@ module _ {S : Type 0} (seen : S → Seen) (words : List (List ℕ)) (command : C
   answered status calm (explain name query firings search result also ends same) =
       let given = its (Explain name query firings search) also in
       explain_answered name query firings search before after result calm given.schema given.statement given.schema_given given.query_given ends
-  answered status calm (run name query firings search workers result also ends behind) =
-      let given = its (Run name query firings search workers) also in
-      run_answered seen name query firings search before after (take workers old) (take workers new) result calm given.texts.schema given.texts.statement given.texts.schema_given given.texts.query_given given.execution ends
-  answered status calm (exec name plan workers result also ends behind) =
-      let given = its (Exec name plan workers) also in
-      exec_answered seen name plan before after (take workers old) (take workers new) result calm given.schema given.plan given.schema_given given.plan_given given.lawful given.execution ends
+  answered status calm (run name query firings search workers calls result also ends behind) =
+      let given = its (Run name query firings search workers calls) also in
+      run_answered seen name query firings search calls before after (take workers old) (take workers new) result calm given.texts.schema given.texts.statement given.texts.schema_given given.texts.query_given given.execution ends
+  answered status calm (exec name plan workers calls result also ends behind) =
+      let given = its (Exec name plan workers calls) also in
+      exec_answered seen name plan calls before after (take workers old) (take workers new) result calm given.schema given.plan given.schema_given given.plan_given given.lawful given.execution ends
   answered status calm (check name query plan firings result also ends same) =
       let given = its (Check name query plan firings) also in
       check_answered name query plan firings before after result calm given.texts.schema given.texts.statement given.plan given.texts.schema_given given.texts.query_given given.plan_given ends

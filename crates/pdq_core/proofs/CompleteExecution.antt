@@ -1,5 +1,5 @@
 -- An execution, or a delivery, is stopped by nothing but want of memory, where the sources of each lane serve and the cap is kept.
-use Rattle.std.proofs.Common.{◌≡◌, ◌<◌, ℕ, zero, suc, List, [], ◌∷◌, map, length, Option, None, Some, Err, refl, sym, ap, subst, inl, inr, arith}
+use Rattle.std.proofs.Common.{◌≡◌, ◌≢◌, ◌<◌, ℕ, zero, suc, List, [], ◌∷◌, map, length, Option, None, Some, Err, refl, sym, ap, subst, inl, inr, arith}
 use Rattle.std.specs.Prelude.{◌↔◌, Contains, IsSome, slice_get}
 use Rattle.std.specs.List.Sorted.{IsStrictlyIncreasing}
 use Rattle.lists.proofs.Members.{some_injective, contains_cases, contains_got}
@@ -8,6 +8,7 @@ use Rattle.access_schema.specs.declared.schema.Schema.{Schema}
 use Rattle.source_trait.specs.Asking.{Seen}
 use Rattle.source_trait.specs.Lanes.{KindsStay, LanesStay, source_of}
 use Rattle.source_trait.specs.declared.source.AttachFault.{AttachFault}
+use Rattle.source_trait.specs.declared.source.AttachFault.TheVariants as attach
 use Rattle.source_trait.specs.declared.lanes.Kind.{Kind}
 use Rattle.source_trait.specs.declared.lanes.Lane.{Lane}
 use Rattle.source_trait.proofs.LaneSteps.{LanesStay-trans}
@@ -16,10 +17,12 @@ use Rattle.middleware.specs.declared.fault.RunFault.{RunFault}
 use Rattle.middleware.specs.declared.fault.RunFault.TheVariants as fault
 use Rattle.middleware.specs.PlanSources.{line_for, IsAccessed}
 use Rattle.middleware.specs.Attaching.{AllAttached}
-use Rattle.middleware.specs.LaneAttaching.{LanesAttach}
+use Rattle.middleware.specs.Needs.{LanesAttach, EachAttached, IsFirstKindless, AttachBreaksAt, AttachesNeeded}
+use Rattle.middleware.specs.Needs.AttachesNeeded.{done, no_source, unknown_kind, refused, no_memory}
 use Rattle.middleware.specs.LaneRounds.{started}
 use Rattle.middleware.specs.LaneBranches.{CallFails, CapFills, PlanHalts}
-use Rattle.middleware.specs.LaneRunning.{LanesLackFirst, LanesFind, LanesAttachStops, LanesStop, ExecutesOnLanes}
+use Rattle.middleware.specs.LaneRunning.{needed_by, AsksRounds, AttachesAndAsks}
+use Rattle.middleware.specs.LaneRunning.AttachesAndAsks.{not_attached, attached}
 use Rattle.middleware.specs.Executing.{Executes}
 use Rattle.middleware.proofs.Attached.{order_attached, attached_after}
 use Rattle.middleware.proofs.Lacking.{rises_strictly}
@@ -27,7 +30,6 @@ use Rattle.middleware.proofs.LaneShares.{OnlyAsked}
 use Rattle.middleware.proofs.LaneBranching.{each_asked}
 use Rattle.middleware.proofs.LanePlanning.{plan_held_earlier}
 use Rattle.middleware.proofs.LaneStays.{started_stay, asked_stay, attach_stay}
-use Rattle.command_io.specs.declared.delivery.TheConstants.{CALLS}
 use Rattle.command_io.specs.declared.stop.Stop.{Stop}
 use Rattle.command_io.specs.declared.stop.Stop.TheVariants as stop
 use Rattle.command_io.specs.Executing.{stop_of_run, Delivers}
@@ -86,57 +88,72 @@ module _ {S : Type 0} (seen : S → Seen) (schema : Schema) (plan : Plan) where
   some_line (w ∷ ws) (u ∷ us) some all rel accessed = all.0.lines rel accessed
 
   -- on lanes that attached the relations of the plan, and then were only asked, all of them are attached
-  pub all_attached : (rels : List ℕ) → IsStrictlyIncreasing rels → ((rel : ℕ) → Contains rels rel ↔ IsAccessed schema plan rel) → (old attached new : List (Lane S)) →
-      LanesAttach seen schema rels old attached → OnlyAsked seen schema (map started attached) new → OnLanes (AllAttached seen schema plan) old new
-  all_attached rels up exactly [] [] [] order asked = tt
-  all_attached rels up exactly [] [] (u ∷ us) order asked = absurd asked
-  all_attached rels up exactly [] (v ∷ vs) new order asked = absurd order
-  all_attached rels up exactly (w ∷ ws) [] new order asked = absurd order
-  all_attached rels up exactly (w ∷ ws) (v ∷ vs) [] order asked = absurd asked
-  all_attached rels up exactly (w ∷ ws) (v ∷ vs) (u ∷ us) order asked = (
-    record {
-      middle = v.kinds.items;
-      attaches = record { rels = rels; ascends = up; exactly = exactly; order = order.0.0 };
-      asks = record { stay = asked.0.1.stay; tells = asked.0.1.tells };
-      each = λ rel relation line source. attached_after seen schema rel relation line asked.0.0 w.kinds.items v.kinds.items u.kinds.items asked.0.1
-          (order_attached seen schema rels (rises_strictly rels up) rel ((exactly rel).1 source.accessed) relation line source.relation_is source.line_is w.kinds.items v.kinds.items order.0.0);
-    },
-    all_attached rels up exactly ws vs us order.1 asked.1,
-  )
+  pub all_attached : (old ready new : List (Lane S)) → EachAttached seen schema (needed_by schema plan) old ready →
+      OnlyAsked seen schema (map started ready) new → OnLanes (AllAttached seen schema plan) old new
+  all_attached old ready new each asked = go each.rels (λ place. ((each.are place).ascends, (each.are place).exactly)) old ready new each.order asked
+    where
+      go : (rels : ℕ → List ℕ) → ((place : ℕ) → IsStrictlyIncreasing (rels place) × ((rel : ℕ) → Contains (rels place) rel ↔ IsAccessed schema plan rel)) →
+          (old ready new : List (Lane S)) → LanesAttach seen schema rels old ready → OnlyAsked seen schema (map started ready) new →
+          OnLanes (AllAttached seen schema plan) old new
+      go rels are [] [] [] order asked = tt
+      go rels are [] [] (u ∷ us) order asked = absurd asked
+      go rels are [] (v ∷ vs) new order asked = absurd order
+      go rels are (w ∷ ws) [] new order asked = absurd order
+      go rels are (w ∷ ws) (v ∷ vs) [] order asked = absurd asked
+      go rels are (w ∷ ws) (v ∷ vs) (u ∷ us) order asked = (
+        record {
+          middle = v.kinds.items;
+          attaches = record { rels = rels zero; ascends = (are zero).0; exactly = (are zero).1; order = order.0.order };
+          asks = record { stay = asked.0.1.stay; tells = asked.0.1.tells };
+          each = λ rel relation line source. attached_after seen schema rel relation line asked.0.0 w.kinds.items v.kinds.items u.kinds.items asked.0.1
+              (order_attached seen schema (rels zero) (rises_strictly (rels zero) (are zero).0) rel (((are zero).1 rel).1 source.accessed) relation line
+              source.relation_is source.line_is w.kinds.items v.kinds.items order.0.order);
+        },
+        go (λ place. rels (suc place)) (λ place. are (suc place)) ws vs us order.1 asked.1,
+      )
 
-  module _ (old new : List (Lane S)) (can : CanExecute seen schema plan old new) where
-    no_source : (rel : ℕ) → IsAccessed schema plan rel → line_for rel schema.sources ≡ None → ⊥
-    no_source rel accessed none = none_some _ none (some_line old new (can.some rel accessed) can.serve rel accessed)
+  module _ (calls : ℕ) (old new : List (Lane S)) (can : CanExecute seen schema plan calls old new) where
+    has_line : (rel : ℕ) → IsAccessed schema plan rel → line_for rel schema.sources ≡ None → ⊥
+    has_line rel accessed none = none_some _ none (some_line old new (can.some rel accessed) can.serve rel accessed)
 
-    no_kind : (rel : ℕ) → LanesLackFirst old schema plan rel → ⊥
-    no_kind rel first = elim first.lacks [
-      | inl empty ↦ let some = can.some rel first.is_source.accessed in let none = ap length empty in omega (arith, some, none)
-      | inr lane ↦
-          let (after, serve) = from_among Serves old new can.serve lane.0 lane.1 in
-          none_some _ lane.2 (serve.kinds rel first.line first.is_source.accessed first.is_source.line_is)
+    has_kind : (rel : ℕ) → IsFirstKindless schema (needed_by schema plan) old rel → ⊥
+    has_kind rel first = elim first.lacks [
+      | inl empty ↦ let some = can.some rel first.wanted.1 in let none = ap length empty in omega (arith, some, none)
+      | inr lack ↦
+          let (place, lane, at, accessed, none) = lack in
+          let (after, serve) = from_among Serves old new can.serve lane (contains_got old place lane at) in
+          none_some _ none (serve.kinds rel first.line accessed first.line_is)
     ]
 
-    attach_stop : (rel : ℕ) (why : AttachFault) → ExecutesOnLanes seen schema plan CALLS old new (Err (fault.Attach rel why)) → ⊥
-    attach_stop rel why (stops, apart) =
+    attach_stop : (rel : ℕ) (why : AttachFault) → AttachBreaksAt seen schema (needed_by schema plan) rel why old new → why ≢ attach.NoMemory → ⊥
+    attach_stop rel why stops apart =
         let b = stops.breaks in
         let r = b.refused in
+        let rels = stops.rels b.place in
+        let are = stops.are b.place in
         none_refused seen schema (IsAccessed schema plan) b.before.kinds.items b.after.kinds.items (at_place Serves old new can.serve b.place b.before b.after b.was b.now)
-        _ r.middle rel why (rises_take stops.rels r.n rel (rises_strictly stops.rels stops.ascends) r.at)
-        (λ other among. (stops.exactly other).0 (in_first r.n stops.rels other among)) ((stops.exactly rel).0 (contains_got stops.rels r.n rel r.at)) apart r.attached r.refused
+        _ r.middle rel why (rises_take rels r.n rel (rises_strictly rels are.ascends) r.at)
+        (λ other among. (are.exactly other).0 (in_first r.n rels other among)) ((are.exactly rel).0 (contains_got rels r.n rel r.at)) apart r.attached r.refused
+
+    attaches_stop : (why : RunFault) → AttachesNeeded seen schema (needed_by schema plan) old new (Err why) → stop_of_run why ≡ stop.Memory
+    attaches_stop why (no_source rel first same) = absurd (has_line rel first.wanted.1 first.lacks)
+    attaches_stop why (unknown_kind rel first same) = absurd (has_kind rel first)
+    attaches_stop why (refused rel its breaks have apart) = absurd (attach_stop rel its breaks apart)
+    attaches_stop why (no_memory how) = refl
 
     -- until a failed call no count fell
-    module _ (why : RunFault) (stops : LanesStop seen schema plan CALLS why old new) where
-      before_last : LanesStay seen old stops.halts.middle
+    module _ (why : RunFault) (middle : List (Lane S)) (each : EachAttached seen schema (needed_by schema plan) old middle)
+        (halts : PlanHalts seen schema plan calls why (map started middle) new) where
+      before_last : LanesStay seen old halts.middle
       before_last =
-          let attached = stops.attached in
-          LanesStay-trans seen old attached stops.halts.middle (attach_stay seen schema stops.attaches.rels old attached stops.attaches.order)
-          (LanesStay-trans seen attached (map started attached) stops.halts.middle (started_stay seen attached)
-          (asked_stay seen schema (map started attached) stops.halts.middle (each_asked seen schema stops.halts.earlier (map started attached) stops.halts.middle stops.halts.asks_earlier)))
+          LanesStay-trans seen old middle halts.middle (attach_stay seen schema each.rels old middle each.order)
+          (LanesStay-trans seen middle (map started middle) halts.middle (started_stay seen middle)
+          (asked_stay seen schema (map started middle) halts.middle (each_asked seen schema halts.earlier (map started middle) halts.middle halts.asks_earlier)))
 
-      call_stop : (branch step : ℕ) → CallFails seen schema plan CALLS branch step stops.halts.earlier stops.halts.now (map started stops.attached) stops.halts.middle new → ⊥
+      call_stop : (branch step : ℕ) → CallFails seen schema plan calls branch step halts.earlier halts.now (map started middle) halts.middle new → ⊥
       call_stop branch step fails =
           let f = fails.fails in
-          let (first, was, stay) = from_place (KindsStay seen) old stops.halts.middle before_last f.place f.before f.was in
+          let (first, was, stay) = from_place (KindsStay seen) old halts.middle before_last f.place f.before f.was in
           let moved = f.rose.rose in
           let accessed : IsAccessed schema plan fails.method.rel = record {
             branch = fails.its_branch;
@@ -150,35 +167,41 @@ module _ {S : Type 0} (seen : S → Seen) (schema : Schema) (plan : Plan) where
           none_rose seen schema (IsAccessed schema plan) first.kinds.items f.after.kinds.items (at_place Serves old new can.serve f.place first f.after was f.now)
           f.before.kinds.items fails.method.rel f.rose.line moved.before moved.after accessed f.rose.line_is stay moved.was moved.now moved.steps
 
-      cap_stop : (made wanted : ℕ) → CapFills seen schema plan CALLS made wanted stops.halts.earlier stops.halts.now (map started stops.attached) stops.halts.middle new → ⊥
+      cap_stop : (made wanted : ℕ) → CapFills seen schema plan calls made wanted halts.earlier halts.now (map started middle) halts.middle new → ⊥
       cap_stop made wanted fills =
-          let attached = stops.attached in
-          let asked : OnlyAsked seen schema (map started attached) new =
-          subst (λ (lanes : List (Lane S)). OnlyAsked seen schema (map started attached) lanes) (sym fills.unasked)
-          (each_asked seen schema stops.halts.earlier (map started attached) stops.halts.middle stops.halts.asks_earlier) in
-          let holds = can.within (all_attached stops.attaches.rels stops.attaches.ascends stops.attaches.exactly old attached new stops.attaches.order asked) in
-          let round = fills.rounds holds.instance (plan_held_earlier seen schema plan (map started attached) new asked holds.instance holds.held) in
-          let fits = holds.within fills.branch fills.step stops.halts.earlier stops.halts.now round in
+          let asked : OnlyAsked seen schema (map started middle) new =
+          subst (λ (lanes : List (Lane S)). OnlyAsked seen schema (map started middle) lanes) (sym fills.unasked)
+          (each_asked seen schema halts.earlier (map started middle) halts.middle halts.asks_earlier) in
+          let holds = can.within (all_attached old middle new each asked) in
+          let round = fills.rounds holds.instance (plan_held_earlier seen schema plan (map started middle) new asked holds.instance holds.held) in
+          let fits = holds.within fills.branch fills.step halts.earlier halts.now round in
           let over = fills.over in
           let is = fills.total_is in
           let most = fills.wanted_is in
           omega (arith, fits, over, is, most)
 
-    -- Nothing but want of memory stops the execution.
-    stop_for : (why : RunFault) → LanesFind old schema plan (Err why) → ExecutesOnLanes seen schema plan CALLS old new (Err why) → stop_of_run why ≡ stop.Memory
-    stop_for fault.NoMemory found does = refl
-    stop_for (fault.NoSource rel) found does = absurd (no_source rel found.0 found.1)
-    stop_for (fault.UnknownKind rel) found does = absurd (no_kind rel found.1)
-    stop_for (fault.Attach rel why) found does = absurd (attach_stop rel why does)
-    stop_for (fault.CallFailed branch step) found does = absurd (call_stop (fault.CallFailed branch step) does branch step does.halts.cause)
-    stop_for (fault.OverCalls made wanted its) found does = absurd (cap_stop (fault.OverCalls made wanted its) does made wanted does.halts.cause.1)
+    rounds_stop : (why : RunFault) (middle : List (Lane S)) → EachAttached seen schema (needed_by schema plan) old middle →
+        AsksRounds seen schema plan calls middle new (Err why) → stop_of_run why ≡ stop.Memory
+    rounds_stop fault.NoMemory middle each rounds = refl
+    rounds_stop (fault.NoSource rel) middle each rounds = absurd rounds.cause
+    rounds_stop (fault.UnknownKind rel) middle each rounds = absurd rounds.cause
+    rounds_stop (fault.Attach rel why) middle each rounds = absurd rounds.cause
+    rounds_stop (fault.CallFailed branch step) middle each rounds =
+        absurd (call_stop (fault.CallFailed branch step) middle each rounds branch step rounds.cause)
+    rounds_stop (fault.OverCalls made wanted its) middle each rounds =
+        absurd (cap_stop (fault.OverCalls made wanted its) middle each rounds made wanted rounds.cause.1)
 
-    pub execution_stop : (why : RunFault) → Executes seen schema plan CALLS old new (Err why) → stop_of_run why ≡ stop.Memory
-    execution_stop why executes = stop_for why executes.found executes.does
+    -- Nothing but want of memory stops the execution.
+    stop_for : (why : RunFault) → AttachesAndAsks seen schema plan calls old new (Err why) → stop_of_run why ≡ stop.Memory
+    stop_for why (not_attached its attaches) = attaches_stop why attaches
+    stop_for why (attached middle result (done each have) rounds) = rounds_stop why middle each rounds
+
+    pub execution_stop : (why : RunFault) → Executes seen schema plan calls old new (Err why) → stop_of_run why ≡ stop.Memory
+    execution_stop why executes = stop_for why executes.does
 
     -- And so with a delivery, where the output does not fail.
     pub delivery_stop : (IsText : Run → List ℕ → Type 0) (out_old out_new : Option (List ℕ)) (rose : Type 0) → (rose → ⊥) → (why : Stop) →
-        Delivers seen schema plan CALLS IsText old new out_old out_new rose (Err why) → why ≡ stop.Memory
+        Delivers seen schema plan calls IsText old new out_old out_new rose (Err why) → why ≡ stop.Memory
     delivery_stop IsText out_old out_new rose calm why (no_rows fault executes same) = execution_stop fault executes
     delivery_stop IsText out_old out_new rose calm why (no_text run executes same) = refl
     delivery_stop IsText out_old out_new rose calm why (cut run text end executes is part cause) = result_stop rose calm why cause

@@ -16,11 +16,11 @@ use Rattle.source_trait.specs.declared.source.AttachFault.TheVariants.{TooLarge}
 use Rattle.source_trait.specs.declared.lanes.Kind.{Kind}
 use Rattle.source_trait.specs.declared.lanes.Lane.{Lane}
 use Rattle.source_trait.proofs.LaneSteps.{StepsOn-keeps, StepsOn-others, StepsOn-source, AtKind-map}
-use Rattle.middleware.specs.PlanSources.{line_for, IsAccessed}
+use Rattle.middleware.specs.PlanSources.{line_for, IsAccessed, IsPlanSource}
 use Rattle.middleware.specs.Attaching.{AttachesInOrder, AttachesOne, AllAttached, TellsSame}
 use Rattle.middleware.specs.Held.{SameFacts, HoldPlan}
 use Rattle.middleware.specs.LaneBranches.{OnEach, LanesHoldPlan}
-use Rattle.command_io.specs.declared.delivery.TheConstants.{CALLS}
+use Rattle.middleware.proofs.Starting.{relation_of}
 use Rattle.verify_command.proofs.Picked.{fact_of, picked_held, held_picked, of_rows}
 use Rattle.pdq_core.specs.Complete.{OnLanes, NoSourceRose, Serve, KeepsCap, CanExecute, OffersFacts, OfferInstance, OfferUntold, placed, located}
 
@@ -183,7 +183,9 @@ module _ {S : Type 0} (seen : S → Seen) (schema : Schema) where
   -- what was offered is held
   pub offered_held : (plan : Plan) (old new : List (Kind S)) (instance : List Fact) → OfferInstance seen schema (IsAccessed schema plan) old instance → AllAttached seen schema plan old new →
       HoldPlan seen schema plan new instance
-  offered_held plan old new instance offer attached rel relation line is_source =
+  offered_held plan old new instance offer attached rel line accessed line_is =
+      let (relation, relation_is) = relation_of schema plan rel accessed in
+      let is_source : IsPlanSource schema plan rel relation line = record { accessed = accessed; relation_is = relation_is; line_is = line_is } in
       let facts = offer.facts rel relation line is_source.accessed is_source.relation_is is_source.line_is in
       let each = attached.each rel relation line is_source in
       let first : OffersFacts (seen each.before) rel relation.columns line.locator instance =
@@ -225,10 +227,10 @@ module _ {S : Type 0} (seen : S → Seen) (schema : Schema) where
   ]
 
   -- so the plan can be executed
-  pub offers_execute : (plan : Plan) (old new : List (Lane S)) (instance : List Fact) → ((rel : ℕ) → IsAccessed schema plan rel → 0 < length old) →
+  pub offers_execute : (plan : Plan) (calls : ℕ) (old new : List (Lane S)) (instance : List Fact) → ((rel : ℕ) → IsAccessed schema plan rel → 0 < length old) →
       OnEach old (λ kinds. OfferInstance seen schema (IsAccessed schema plan) kinds instance) → OnLanes (NoSourceRose seen schema (IsAccessed schema plan)) old new →
-      KeepsCap schema plan instance CALLS → CanExecute seen schema plan old new
-  offers_execute plan old new instance some offer calm within = record {
+      KeepsCap schema plan instance calls → CanExecute seen schema plan calls old new
+  offers_execute plan calls old new instance some offer calm within = record {
     some = some;
     serve = lanes_serve (IsAccessed schema plan) (λ kinds. OfferInstance seen schema (IsAccessed schema plan) kinds instance)
         (λ a b its quiet. offers_serve (IsAccessed schema plan) a b instance its quiet) old new offer calm;

@@ -34,10 +34,10 @@ printed : (plan : Plan) (entries : List Chosen) (before after : Moment) (middle 
 printed plan entries before after middle rose line calm first (inl whole) = (line, goes_on before.err middle after.err (planned_text entries plan) line (planned_text entries plan ++ line) refl first whole)
 printed plan entries before after middle rose line calm first (inr (h, part)) = absurd (calm h)
 
-module _ {S : Type 0} (seen : S → Seen) (schema : Schema) (statement : Statement) (names : Names) (before after : Moment) (old new : List (Lane S)) (calm : NoneRose before after) (firings search : ℕ)
-    (IsText : Plan → Run → List ℕ → Type 0) (can : (plan : Plan) (entries : List Chosen) → IsPlanned schema statement firings search plan entries → IsPrinted entries plan before after → CanExecute seen schema plan old new) where
+module _ {S : Type 0} (seen : S → Seen) (schema : Schema) (statement : Statement) (names : Names) (before after : Moment) (old new : List (Lane S)) (calm : NoneRose before after) (firings search calls : ℕ)
+    (IsText : Plan → Run → List ℕ → Type 0) (can : (plan : Plan) (entries : List Chosen) → IsPlanned schema statement firings search plan entries → IsPrinted entries plan before after → CanExecute seen schema plan calls old new) where
   stopped_answered : (plan : Plan) (entries : List Chosen) (middle : Option (List ℕ)) (rose : Type 0) (given end : Stop) → (rose → ⊥) → TookAll before.err middle (planned_text entries plan) →
-      (CanExecute seen schema plan old new → given ≡ stop.Memory) → IsPlanned schema statement firings search plan entries →
+      (CanExecute seen schema plan calls old new → given ≡ stop.Memory) → IsPlanned schema statement firings search plan entries →
       StopsFor (λ its. its ≡ given) names middle after.err rose end → IsAnswered (status_of end)
   stopped_answered plan entries middle rose given end none took memory planned told =
       let is : end ≡ stop.Memory = elim told.tells [
@@ -46,7 +46,7 @@ module _ {S : Type 0} (seen : S → Seen) (schema : Schema) (statement : Stateme
       ] in
       subst (λ (s : Stop). IsAnswered (status_of s)) (sym is) no_memory
 
-  pub statement_answered : (result : Result Outcome Stop) → StatementEnds seen schema statement firings search IsText names (outputs_of before) (outputs_of after) old new result → IsAnswered (ended result)
+  pub statement_answered : (result : Result Outcome Stop) → StatementEnds seen schema statement firings search calls IsText names (outputs_of before) (outputs_of after) old new result → IsAnswered (ended result)
   statement_answered result (no_decision end why quiet same) = stop_answered end (λ given e. e) why
   statement_answered result (untold decision middle count end is took why quiet same) =
       stop_answered end (decision_stop _ (λ h. calm.err (rose_between before.err_faults before.err_faults count.faults after.err_faults (omega arith) count.ended h))) why
@@ -54,21 +54,21 @@ module _ {S : Type 0} (seen : S → Seen) (schema : Schema) (statement : Stateme
   statement_answered result (spent select log is took quiet same) = undecided
   statement_answered result (stopped plan entries middle count why end planned took delivery told) =
       stopped_answered plan entries middle _ why end (λ h. calm.err (rose_between before.err_faults count.faults after.err_faults after.err_faults count.begun (omega arith) h)) took
-      (λ able. delivery_stop seen schema plan old new able _ _ _ _ calm.out why delivery) planned told
+      (λ able. delivery_stop seen schema plan calls old new able _ _ _ _ calm.out why delivery) planned told
   statement_answered result (executed plan entries planned took delivery) = done
 
-pub run_answered : {S : Type 0} (seen : S → Seen) (name query : List ℕ) (firings search : ℕ) (before after : Moment) (old new : List (Lane S)) (result : Result Outcome Stop) → NoneRose before after →
+pub run_answered : {S : Type 0} (seen : S → Seen) (name query : List ℕ) (firings search calls : ℕ) (before after : Moment) (old new : List (Lane S)) (result : Result Outcome Stop) → NoneRose before after →
     (schema : Schema) (statement : Statement) → SchemaIsGiven before.files name schema → QueryIsGiven before.files query schema statement →
-    ((plan : Plan) (entries : List Chosen) → IsPlanned schema statement firings search plan entries → IsPrinted entries plan before after → CanExecute seen schema plan old new) →
-    RunEnds seen name query firings search before after old new result → IsAnswered (ended result)
-run_answered seen name query firings search before after old new result calm schema statement given query_given can (refused end why quiet same) =
+    ((plan : Plan) (entries : List Chosen) → IsPlanned schema statement firings search plan entries → IsPrinted entries plan before after → CanExecute seen schema plan calls old new) →
+    RunEnds seen name query firings search calls before after old new result → IsAnswered (ended result)
+run_answered seen name query firings search calls before after old new result calm schema statement given query_given can (refused end why quiet same) =
     stop_answered end (texts_stop before.files name query _ calm.files schema statement given query_given) why
-run_answered {S = S} seen name query firings search before after old new result calm schema statement given query_given can (read other its same_result is are ends) =
+run_answered {S = S} seen name query firings search calls before after old new result calm schema statement given query_given can (read other its same_result is are ends) =
     let schemas = same_schema before.files name schema other given is in
     let query_is : QueryIsGiven before.files query other statement = subst (λ (s : Schema). QueryIsGiven before.files query s statement) schemas query_given in
     let statements = same_statement before.files query other statement its query_is are in
     let names : Names = record { schema = name; query = query; plan = []; relations = other.relations } in
-    let able : (plan : Plan) (entries : List Chosen) → IsPlanned other its firings search plan entries → IsPrinted entries plan before after → CanExecute seen other plan old new =
-    subst (λ (t : Statement). (plan : Plan) (entries : List Chosen) → IsPlanned other t firings search plan entries → IsPrinted entries plan before after → CanExecute seen other plan old new) statements
-    (subst (λ (s : Schema). (plan : Plan) (entries : List Chosen) → IsPlanned s statement firings search plan entries → IsPrinted entries plan before after → CanExecute seen s plan old new) schemas can) in
-    statement_answered seen other its names before after old new calm firings search (IsResult seen other its new) able result ends
+    let able : (plan : Plan) (entries : List Chosen) → IsPlanned other its firings search plan entries → IsPrinted entries plan before after → CanExecute seen other plan calls old new =
+    subst (λ (t : Statement). (plan : Plan) (entries : List Chosen) → IsPlanned other t firings search plan entries → IsPrinted entries plan before after → CanExecute seen other plan calls old new) statements
+    (subst (λ (s : Schema). (plan : Plan) (entries : List Chosen) → IsPlanned s statement firings search plan entries → IsPrinted entries plan before after → CanExecute seen s plan calls old new) schemas can) in
+    statement_answered seen other its names before after old new calm firings search calls (IsResult seen other its new) able result ends

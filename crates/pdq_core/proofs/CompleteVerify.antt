@@ -1,27 +1,34 @@
 -- The command `verify` is answered.
-use Rattle.std.proofs.Common.{◌≡◌, ℕ, List, [], ◌∷◌, take, Option, None, Some, Result, Ok, Err, refl, sym, ◌∙◌, subst}
-use Rattle.std.specs.Prelude.{IfErr}
-use Rattle.lists.proofs.Members.{contains_got}
+use Rattle.std.proofs.Common.{◌≡◌, ◌≢◌, inl, inr, ℕ, List, [], ◌∷◌, take, Option, None, Some, Result, Ok, Err, refl, sym, ◌∙◌, ap, subst}
+use Rattle.std.specs.Prelude.{IfErr, IsSome, slice_get}
+use Rattle.lists.proofs.Members.{some_injective, contains_got}
 use Rattle.meaning.specs.declared.types.Fact.{Fact}
 use Rattle.access_schema.specs.declared.schema.Schema.{Schema}
 use Rattle.source_trait.specs.Asking.{RowList, Seen, CallGives}
-use Rattle.source_trait.specs.Lanes.{KindsStay}
+use Rattle.source_trait.specs.Lanes.{source_of, KindsStay, LanesStay}
+use Rattle.source_trait.specs.declared.source.AttachFault.{AttachFault}
+use Rattle.source_trait.specs.declared.source.AttachFault.TheVariants as attach
 use Rattle.source_trait.specs.declared.source.CallFault.{CallFault}
 use Rattle.source_trait.specs.declared.source.CallFault.TheVariants as call
 use Rattle.source_trait.specs.declared.lanes.Kind.{Kind}
 use Rattle.source_trait.specs.declared.lanes.Lane.{Lane}
 use Rattle.source_trait.proofs.LaneSteps.{StepsOn-stays, StepsOn-source, KindsStay-refl, KindsStay-trans}
-use Rattle.middleware.proofs.Attached.{order_stays}
+use Rattle.middleware.specs.Needs.{AttachBreaksAt, AttachesNeeded}
+use Rattle.middleware.specs.Needs.AttachesNeeded.{done as all_attached, no_source, unknown_kind, refused, no_memory}
+use Rattle.middleware.specs.declared.fault.RunFault.{RunFault}
+use Rattle.middleware.proofs.LaneStays.{attach_stay}
 use Rattle.middleware.proofs.Lacking.{rises_strictly}
 use Rattle.data_verify.specs.declared.broken.Broken.{Broken}
 use Rattle.command_io.specs.declared.stop.Stop.{Stop}
 use Rattle.command_io.specs.declared.stop.Stop.TheVariants as stop
+use Rattle.command_io.specs.Executing.{stop_of_run}
 use Rattle.command_io.specs.declared.outcome.Outcome.{Outcome}
 use Rattle.command_io.specs.Moments.{Moment}
-use Rattle.verify_command.specs.RuleRelations.{RulesName}
+use Rattle.verify_command.specs.RuleRelations.{RulesName, needed_first}
 use Rattle.verify_command.specs.Asking.{AsksOne, AsksInOrder}
-use Rattle.verify_command.specs.Verifying.{Verifies, used}
-use Rattle.verify_command.specs.Verifying.Verifies.{no_memory as nothing_done, no_memory_attaching, no_memory_asking, no_source, unknown_kind, not_attached, not_asked, done as verified}
+use Rattle.verify_command.specs.Verifying.{Tests, Verifies, used}
+use Rattle.verify_command.specs.Verifying.Tests.{no_memory as tests_memory, not_asked, done as verified}
+use Rattle.verify_command.specs.Verifying.Verifies.{not_attached, attached}
 use Rattle.verify_command.specs.Ends.{VerifyEnds}
 use Rattle.verify_command.specs.Ends.VerifyEnds.{no_schema, stopped, cut, done as shown}
 use Rattle.pdq_core.specs.Runs.{ended}
@@ -40,31 +47,71 @@ module _ {S : Type 0} (seen : S → Seen) where
     asks_stay (rel ∷ rels) facts old new (rows, rest, middle, e, one, later) =
         KindsStay-trans seen old middle new (one_stays rel (Ok rows) old middle one) (asks_stay rels rest middle new later)
 
-    module _ (old new : List (Kind S)) (serve : Serve seen schema (RulesName schema) old new) where
-      verify_stop : (result : Result (Option Broken) Stop) → Verifies seen schema old new result → IfErr result (λ why. why ≡ stop.Memory)
-      verify_stop result (nothing_done same) = refl
-      verify_stop result (no_memory_attaching rels rel are breaks) = refl
-      verify_stop result (no_memory_asking rels middle are order part) = refl
-      verify_stop result (no_source rel first same) =
+    -- where the first lane serves the relations that the rules name
+    module _ (old new : List (Lane S)) (serve : Serve seen schema (RulesName schema) (used old) (used new)) where
+      used_at : (lanes : List (Lane S)) (place : ℕ) (lane : Lane S) → place ≡ 0 → slice_get lanes place ≡ Some lane → used lanes ≡ lane.kinds.items
+      used_at lanes place lane first at = go lanes (ap (slice_get lanes) (sym first) ∙ at)
+        where
+          go : (l : List (Lane S)) → slice_get l 0 ≡ Some lane → used l ≡ lane.kinds.items
+          go [] is = absurd (cc)
+          go (x ∷ rest) is = ap (λ (y : Lane S). y.kinds.items) (some_injective x lane is)
+
+      attach_stop : (rel : ℕ) (why : AttachFault) → AttachBreaksAt seen schema (needed_first schema) rel why old new → why ≢ attach.NoMemory → ⊥
+      attach_stop rel why stops apart =
+          let b = stops.breaks in
+          let r = b.refused in
+          let rels = stops.rels b.place in
+          let are = stops.are b.place in
+          let first : b.place ≡ 0 = ((are.exactly rel).0 (contains_got rels r.n rel r.at)).0 in
+          let serves : Serve seen schema (RulesName schema) b.before.kinds.items b.after.kinds.items =
+          subst (λ (l : List (Kind S)). Serve seen schema (RulesName schema) l b.after.kinds.items) (used_at old b.place b.before first b.was)
+          (subst (λ (l : List (Kind S)). Serve seen schema (RulesName schema) (used old) l) (used_at new b.place b.after first b.now) serve) in
+          none_refused seen schema (RulesName schema) b.before.kinds.items b.after.kinds.items serves
+          (take r.n rels) r.middle rel why (rises_take rels r.n rel (rises_strictly rels are.ascends) r.at)
+          (λ other among. ((are.exactly other).0 (in_first r.n rels other among)).1) ((are.exactly rel).0 (contains_got rels r.n rel r.at)).1 apart r.attached r.refused
+
+      attaches_stop : (why : RunFault) → AttachesNeeded seen schema (needed_first schema) old new (Err why) → stop_of_run why ≡ stop.Memory
+      attaches_stop why (no_source rel first same) =
           let none = first.lacks in
-          let some = serve.lines rel first.named in
+          let some = serve.lines rel first.wanted.1.1 in
           absurd (cc)
-      verify_stop result (unknown_kind rel first same) =
-          let none = first.lacks in
-          let some = serve.kinds rel first.line first.named first.line_is in
-          absurd (cc)
-      verify_stop result (not_attached rels rel why are breaks apart) =
-          absurd (none_refused seen schema (RulesName schema) old new serve (take breaks.n rels) breaks.middle rel why (rises_take rels breaks.n rel (rises_strictly rels are.ascends) breaks.at)
-          (λ other among. (are.exactly other).0 (in_first breaks.n rels other among)) ((are.exactly rel).0 (contains_got rels breaks.n rel breaks.at)) apart breaks.attached breaks.refused)
-      verify_stop result (not_asked rels rel middle are order breaks) =
+      attaches_stop why (unknown_kind rel first same) = elim first.lacks [
+        | inl empty ↦
+            let some = serve.kinds rel first.line first.wanted.1.1 first.line_is in
+            let none = subst (λ (l : List (Lane S)). IsSome (source_of (used l) first.line.kind)) empty some in
+            absurd (cc)
+        | inr lack ↦
+            let (place, lane, at, need, none) = lack in
+            let some = serve.kinds rel first.line need.1 first.line_is in
+            let there = subst (λ (l : List (Kind S)). IsSome (source_of l first.line.kind)) (used_at old place lane need.0 at) some in
+            absurd (cc)
+      ]
+      attaches_stop why (refused rel its breaks have apart) = absurd (attach_stop rel its breaks apart)
+      attaches_stop why (no_memory how) = refl
+
+      used_stay : (lanes later : List (Lane S)) → LanesStay seen lanes later → KindsStay seen (used lanes) (used later)
+      used_stay [] [] stay = tt
+      used_stay [] (u ∷ us) stay = absurd stay
+      used_stay (w ∷ ws) [] stay = absurd stay
+      used_stay (w ∷ ws) (u ∷ us) stay = stay.0
+
+      tests_stop : (middle : List (Lane S)) → KindsStay seen (used old) (used middle) → (result : Result (Option Broken) Stop) →
+          Tests seen schema (used middle) (used new) result → IfErr result (λ why. why ≡ stop.Memory)
+      tests_stop middle stays result (tests_memory rels are part) = refl
+      tests_stop middle stays result (not_asked rels rel are breaks) =
           let one = breaks.failed in
-          let moved = StepsOn-source breaks.middle new (λ s t. CallGives (seen s) (seen t) rel [] [] (Err call.Failed)) one.line.kind one.steps in
+          let moved = StepsOn-source breaks.middle (used new) (λ s t. CallGives (seen s) (seen t) rel [] [] (Err call.Failed)) one.line.kind one.steps in
           let gives : CallGives (seen moved.before) (seen moved.after) rel [] [] (Err call.Failed) = moved.steps in
-          let stay : KindsStay seen old breaks.middle =
-          KindsStay-trans seen old middle breaks.middle (order_stays seen schema rels old middle order) (asks_stay (take breaks.n rels) breaks.facts middle breaks.middle breaks.asked) in
-          absurd (none_rose seen schema (RulesName schema) old new serve breaks.middle rel one.line moved.before moved.after ((are.exactly rel).0 (contains_got rels breaks.n rel breaks.at)) one.line_is
-          stay moved.was moved.now (gives.failed refl))
-      verify_stop result (verified found finds) = tt
+          let stay : KindsStay seen (used old) breaks.middle =
+          KindsStay-trans seen (used old) (used middle) breaks.middle stays (asks_stay (take breaks.n rels) breaks.facts (used middle) breaks.middle breaks.asked) in
+          absurd (none_rose seen schema (RulesName schema) (used old) (used new) serve breaks.middle rel one.line moved.before moved.after
+          ((are.exactly rel).0 (contains_got rels breaks.n rel breaks.at)) one.line_is stay moved.was moved.now (gives.failed refl))
+      tests_stop middle stays result (verified found finds) = tt
+
+      verify_stop : (result : Result (Option Broken) Stop) → Verifies seen schema old new result → IfErr result (λ why. why ≡ stop.Memory)
+      verify_stop result (not_attached why attaches) = attaches_stop why attaches
+      verify_stop result (attached middle its (all_attached each have) tests) =
+          tests_stop middle (used_stay old middle (attach_stay seen schema each.rels old middle each.order)) result tests
 
   pub verify_answered : (name : List ℕ) (before after : Moment) (old new : List (Lane S)) (result : Result Outcome Stop) → NoneRose before after →
       (schema : Schema) → SchemaIsGiven before.files name schema → Serve seen schema (RulesName schema) (used old) (used new) → VerifyEnds seen name before after old new result →
@@ -73,7 +120,7 @@ module _ {S : Type 0} (seen : S → Seen) where
   verify_answered name before after old new result calm schema given serve (stopped its why end is verifies same told quiet) =
       let serves : Serve seen its (RulesName its) (used old) (used new) =
       subst (λ (s : Schema). Serve seen s (RulesName s) (used old) (used new)) (same_schema before.files name schema its given is) serve in
-      let memory : why ≡ stop.Memory = verify_stop its (used old) (used new) serves (Err why) verifies in
+      let memory : why ≡ stop.Memory = verify_stop its old new serves (Err why) verifies in
       stop_answered end (λ its_end e. e ∙ memory) told
   verify_answered name before after old new result calm schema given serve (cut its found end is verifies same took told) = stop_answered end (result_stop _ calm.out) told
   verify_answered name before after old new result calm schema given serve (shown its None is verifies same took quiet) = done

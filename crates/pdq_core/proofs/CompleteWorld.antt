@@ -12,6 +12,7 @@ use Rattle.source_trait.specs.declared.lanes.Lane.{Lane}
 use Rattle.command_io.specs.declared.stop.Stop.{Stop}
 use Rattle.command_io.specs.declared.stop.Stop.TheVariants as stop
 use Rattle.command_io.specs.declared.outcome.Outcome.{Outcome}
+use Rattle.command_io.specs.declared.delivery.TheConstants.{CALLS}
 use Rattle.command_io.specs.Moments.{Moment, outputs_of}
 use Rattle.command_io.specs.FaultLines.{Names}
 use Rattle.world_source.specs.Texts.{schema_text, query_text}
@@ -43,8 +44,8 @@ module _ {S : Type 0} (seen : S → Seen) (size : ℕ) (before after : Moment) (
       let statement_is = subst (λ (s : Schema). IsStatementText s query_text given.statement) schemas given.statement_is in
       let statements = one_statement other query_text given.statement its statement_is are in
       let names : Names = record { schema = []; query = []; plan = []; relations = other.relations } in
-      let able : (plan : Plan) (entries : List Chosen) → IsPlanned other its FIRINGS UNITS plan entries → IsPrinted entries plan before after → CanExecute seen other plan old new =
-      subst (λ (t : Statement). (plan : Plan) (entries : List Chosen) → IsPlanned other t FIRINGS UNITS plan entries → IsPrinted entries plan before after → CanExecute seen other plan old new) statements
-      (subst (λ (s : Schema). (plan : Plan) (entries : List Chosen) → IsPlanned s given.statement FIRINGS UNITS plan entries → IsPrinted entries plan before after → CanExecute seen s plan old new) schemas
+      let able : (plan : Plan) (entries : List Chosen) → IsPlanned other its FIRINGS UNITS plan entries → IsPrinted entries plan before after → CanExecute seen other plan CALLS old new =
+      subst (λ (t : Statement). (plan : Plan) (entries : List Chosen) → IsPlanned other t FIRINGS UNITS plan entries → IsPrinted entries plan before after → CanExecute seen other plan CALLS old new) statements
+      (subst (λ (s : Schema). (plan : Plan) (entries : List Chosen) → IsPlanned s given.statement FIRINGS UNITS plan entries → IsPrinted entries plan before after → CanExecute seen s plan CALLS old new) schemas
       given.execution) in
-      statement_answered seen other its names before after old new calm FIRINGS UNITS (IsSummary seen size other its new) able result ends
+      statement_answered seen other its names before after old new calm FIRINGS UNITS CALLS (IsSummary seen size other its new) able result ends

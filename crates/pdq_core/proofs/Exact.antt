@@ -71,8 +71,8 @@ never_spent : (command : Command) (told : Option Contents) (status : Status) →
 never_spent Help told status says short = absurd short
 never_spent (Print name) told status says short = absurd short
 never_spent (Explain name query firings search) told status says short = decides told name query firings status says short
-never_spent (Run name query firings search workers) told status says short = decides told name query firings status says short
-never_spent (Exec name plan workers) told status says short = absurd short
+never_spent (Run name query firings search workers calls) told status says short = decides told name query firings status says short
+never_spent (Exec name plan workers calls) told status says short = absurd short
 never_spent (Check name query plan firings) told status says short = judges told name query plan firings status says short
 never_spent (Verify name) told status says short = absurd short
 never_spent (World size workers) told status says short = absurd short
@@ -82,9 +82,9 @@ says_none Help told status says answered memory short = absurd short
 says_none (Print name) told status says answered memory short = absurd short
 says_none (Explain name query firings search) told status says answered memory short =
     (finds_none told name query firings status says short.texts, none_found told name query firings status says answered memory (decides told name query firings status says short))
-says_none (Run name query firings search workers) told status says answered memory short =
+says_none (Run name query firings search workers calls) told status says answered memory short =
     (finds_none told name query firings status says short.texts, none_found told name query firings status says answered memory (decides told name query firings status says short))
-says_none (Exec name plan workers) told status says answered memory short = absurd short
+says_none (Exec name plan workers calls) told status says answered memory short = absurd short
 says_none (Check name query plan firings) told status says answered memory short =
     (finds_wrong told name query plan firings status says short.given, wrong_found told name query plan firings status says answered memory (judges told name query plan firings status says short))
 says_none (Verify name) told status says answered memory short = absurd short

@@ -85,14 +85,14 @@ module _ (told : Option Contents) (name query : List ℕ) (firings : ℕ) where
     explained_says search names before after result (shown text outcome (shows_log select log spent text_is) took quiet) =
         read_as (RunsOn firings) (longer schema statement firings select log spent)
 
-    run_says : {S : Type 0} (seen : S → Seen) (search : ℕ) (IsText : Plan → Run_of → List ℕ → Type 0) (names : Names) (before after : Outputs) (old new : List (Lane S)) (result : Result Outcome Stop) →
-        StatementEnds seen schema statement firings search IsText names before after old new result → Says (ended result) told name query firings
-    run_says seen search IsText names before after old new result (no_decision end why quiet same) = stop_says end
-    run_says seen search IsText names before after old new result (untold decision middle count end decided took why quiet same) = stop_says end
-    run_says seen search IsText names before after old new result (refuted text refutes took quiet same) = read_as HasNoPlan refutes.refutes.none
-    run_says seen search IsText names before after old new result (undecided select log spent took quiet same) = read_as (RunsOn firings) (longer schema statement firings select log spent)
-    run_says seen search IsText names before after old new result (stopped plan entries middle count why end planned took delivery line) = stop_says end
-    run_says seen search IsText names before after old new result (done plan entries planned took delivery) = read_as HasPlan (has_plan schema statement firings search plan entries planned)
+    run_says : {S : Type 0} (seen : S → Seen) (search calls : ℕ) (IsText : Plan → Run_of → List ℕ → Type 0) (names : Names) (before after : Outputs) (old new : List (Lane S)) (result : Result Outcome Stop) →
+        StatementEnds seen schema statement firings search calls IsText names before after old new result → Says (ended result) told name query firings
+    run_says seen search calls IsText names before after old new result (no_decision end why quiet same) = stop_says end
+    run_says seen search calls IsText names before after old new result (untold decision middle count end decided took why quiet same) = stop_says end
+    run_says seen search calls IsText names before after old new result (refuted text refutes took quiet same) = read_as HasNoPlan refutes.refutes.none
+    run_says seen search calls IsText names before after old new result (undecided select log spent took quiet same) = read_as (RunsOn firings) (longer schema statement firings select log spent)
+    run_says seen search calls IsText names before after old new result (stopped plan entries middle count why end planned took delivery line) = stop_says end
+    run_says seen search calls IsText names before after old new result (done plan entries planned took delivery) = read_as HasPlan (has_plan schema statement firings search plan entries planned)
 
 module _ {S : Type 0} (seen : S → Seen) (words : List (List ℕ)) (command : Command) (before after : Moment) (old new : List (Lane S)) (one : (other : Command) → IsCommand words command → IsCommand words other → command ≡ other) (is : IsCommand words command) where
   its : (other : Command) (status : Status) → IsCommand words other → SaysOf other before.files status → SaysOf command before.files status
@@ -106,11 +106,11 @@ module _ {S : Type 0} (seen : S → Seen) (words : List (List ℕ)) (command : C
   says status (explain name query firings search result also (explained schema statement same_result schema_is statement_is ends) same) =
       its (Explain name query firings search) (ended result) also
       (explained_says before.files name query firings schema statement schema_is statement_is search (record { schema = name; query = query; plan = []; relations = schema.relations }) (outputs_of before) (outputs_of after) result ends)
-  says status (run name query firings search workers result also (refused end why quiet same) behind) = its (Run name query firings search workers) (status_of end) also (stop_says before.files name query firings end)
-  says status (run name query firings search workers result also (read schema statement same_result schema_is statement_is ends) behind) =
-      its (Run name query firings search workers) (ended result) also
-      (run_says before.files name query firings schema statement schema_is statement_is seen search _ (record { schema = name; query = query; plan = []; relations = schema.relations }) (outputs_of before) (outputs_of after) (take workers old) (take workers new) result ends)
-  says status (exec name plan workers result also ends behind) = its (Exec name plan workers) (ended result) also tt
+  says status (run name query firings search workers calls result also (refused end why quiet same) behind) = its (Run name query firings search workers calls) (status_of end) also (stop_says before.files name query firings end)
+  says status (run name query firings search workers calls result also (read schema statement same_result schema_is statement_is ends) behind) =
+      its (Run name query firings search workers calls) (ended result) also
+      (run_says before.files name query firings schema statement schema_is statement_is seen search calls _ (record { schema = name; query = query; plan = []; relations = schema.relations }) (outputs_of before) (outputs_of after) (take workers old) (take workers new) result ends)
+  says status (exec name plan workers calls result also ends behind) = its (Exec name plan workers calls) (ended result) also tt
   says status (check name query plan firings result also ends same) = its (Check name query plan firings) (ended result) also (checked_says name query plan firings before after result ends)
   says status (verify name result also ends) = its (Verify name) (ended result) also tt
   says status (world size workers result also ends behind) = its (World size workers) (ended result) also tt

@@ -118,11 +118,11 @@ pub record HoldWithin {S : Type 0} (seen : S → Seen) (schema : Schema) (plan :
   pub within : KeepsCap schema plan instance cap
 
 -- Of the used lanes: there is one where the plan accesses a relation, the sources of each serve the plan's relations, and where all of
--- these came to be attached on each, no round passes the cap.
-pub record CanExecute {S : Type 0} (seen : S → Seen) (schema : Schema) (plan : Plan) (old new : List (Lane S)) : Type 0 where
+-- these came to be attached on each, no round passes the cap of so many calls.
+pub record CanExecute {S : Type 0} (seen : S → Seen) (schema : Schema) (plan : Plan) (calls : ℕ) (old new : List (Lane S)) : Type 0 where
   pub some : (rel : ℕ) → IsAccessed schema plan rel → 0 < length old
   pub serve : OnLanes (Serve seen schema (IsAccessed schema plan)) old new
-  pub within : OnLanes (AllAttached seen schema plan) old new → HoldWithin seen schema plan CALLS new
+  pub within : OnLanes (AllAttached seen schema plan) old new → HoldWithin seen schema plan calls new
 
 -- ---- sources that tell
 
@@ -173,19 +173,21 @@ pub record TextsAreGiven (told : Option Contents) (name query : List ℕ) : Type
   pub query_given : QueryIsGiven told query schema statement
 
 -- For `run`: the texts are given, and the plan for the statement that was printed can be executed.
-pub record RunIsSupplied {S : Type 0} (seen : S → Seen) (name query : List ℕ) (firings search : ℕ) (before after : Moment) (old new : List (Lane S)) : Type 0 where
+pub record RunIsSupplied {S : Type 0} (seen : S → Seen) (name query : List ℕ) (firings search calls : ℕ)
+    (before after : Moment) (old new : List (Lane S)) : Type 0 where
   pub texts : TextsAreGiven before.files name query
   pub execution : (plan : Plan) (entries : List Chosen) → IsPlanned texts.schema texts.statement firings search plan entries →
-      IsPrinted entries plan before after → CanExecute seen texts.schema plan old new
+      IsPrinted entries plan before after → CanExecute seen texts.schema plan calls old new
 
 -- For `exec`: the texts are given, and the plan is lawful and can be executed.
-pub record ExecIsSupplied {S : Type 0} (seen : S → Seen) (name its : List ℕ) (told : Option Contents) (old new : List (Lane S)) : Type 0 where
+pub record ExecIsSupplied {S : Type 0} (seen : S → Seen) (name its : List ℕ) (calls : ℕ)
+    (told : Option Contents) (old new : List (Lane S)) : Type 0 where
   pub schema : Schema
   pub plan : Plan
   pub schema_given : SchemaIsGiven told name schema
   pub plan_given : PlanIsGiven told its plan
   pub lawful : MayRun schema plan
-  pub execution : CanExecute seen schema plan old new
+  pub execution : CanExecute seen schema plan calls old new
 
 -- For `check`: the texts of a schema, of a statement over it and of a plan are given.
 pub record CheckIsSupplied (told : Option Contents) (name query its : List ℕ) : Type 0 where
@@ -206,15 +208,17 @@ pub record WorldIsSupplied {S : Type 0} (seen : S → Seen) (size : ℕ) (before
   pub schema_is : IsSchemaText (schema_text size) schema
   pub statement_is : IsStatementText schema query_text statement
   pub execution : (plan : Plan) (entries : List Chosen) → IsPlanned schema statement FIRINGS UNITS plan entries →
-      IsPrinted entries plan before after → CanExecute seen schema plan old new
+      IsPrinted entries plan before after → CanExecute seen schema plan CALLS old new
 
 -- What a command needs is supplied, on the lanes that it uses.
 abbrev pub IsSupplied : {S : Type 0} → (S → Seen) → Command → Moment → Moment → List (Lane S) → List (Lane S) → Type 0
 IsSupplied seen Help before after old new = Unit {0}
 IsSupplied seen (Print name) before after old new = (schema : Schema) × SchemaIsGiven before.files name schema
 IsSupplied seen (Explain name query firings search) before after old new = TextsAreGiven before.files name query
-IsSupplied seen (Run name query firings search workers) before after old new = RunIsSupplied seen name query firings search before after (take workers old) (take workers new)
-IsSupplied seen (Exec name plan workers) before after old new = ExecIsSupplied seen name plan before.files (take workers old) (take workers new)
+IsSupplied seen (Run name query firings search workers calls) before after old new =
+    RunIsSupplied seen name query firings search calls before after (take workers old) (take workers new)
+IsSupplied seen (Exec name plan workers calls) before after old new = ExecIsSupplied seen name plan calls before.files
+    (take workers old) (take workers new)
 IsSupplied seen (Check name query plan firings) before after old new = CheckIsSupplied before.files name query plan
 IsSupplied seen (Verify name) before after old new = VerifyIsSupplied seen name before.files old new
 IsSupplied seen (World size workers) before after old new = WorldIsSupplied seen size before after (take workers old) (take workers new)

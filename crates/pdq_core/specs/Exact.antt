@@ -24,13 +24,14 @@ pub record GivenWith (told : Option Contents) (name query its : List ℕ) (P : S
 -- one that judges a plan no base run from a frozen select or branch. It is said of no other command.
 abbrev pub HasNoLongRun : Command → Option Contents → Type 0
 HasNoLongRun (Explain name query firings search) told = GivenAs told name query (λ schema statement. RunsOn firings schema statement → ⊥)
-HasNoLongRun (Run name query firings search workers) told = GivenAs told name query (λ schema statement. RunsOn firings schema statement → ⊥)
+HasNoLongRun (Run name query firings search workers calls) told = GivenAs told name query
+    (λ schema statement. RunsOn firings schema statement → ⊥)
 HasNoLongRun (Check name query plan firings) told = GivenWith told name query plan (λ schema statement its. FiresOn firings schema statement its → ⊥)
 HasNoLongRun _ told = ⊥
 
 -- No lawful plan is equivalent to the statement that is given; or the plan that is given is not lawful, or not equivalent to it.
 abbrev pub HasNone : Command → Option Contents → Type 0
 HasNone (Explain name query firings search) told = GivenAs told name query HasNoPlan
-HasNone (Run name query firings search workers) told = GivenAs told name query HasNoPlan
+HasNone (Run name query firings search workers calls) told = GivenAs told name query HasNoPlan
 HasNone (Check name query plan firings) told = GivenWith told name query plan IsWrong
 HasNone _ told = ⊥

@@ -46,12 +46,15 @@ pub data Runs {S : Type 0} (seen : S → Seen) (words : List (List ℕ)) (before
   -- the words are `explain SCHEMA QUERY`, with a number of firings and one of search units
   explain : (name query : List ℕ) (firings search : ℕ) (result : Result Outcome Stop) → IsCommand words (Explain name query firings search) →
       ExplainEnds name query firings search before after result → new ≡ old → Runs seen words before after old new (ended result)
-  -- the words are `run SCHEMA QUERY`, with a number of firings, one of search units and one of workers
-  run : (name query : List ℕ) (firings search workers : ℕ) (result : Result Outcome Stop) → IsCommand words (Run name query firings search workers) →
-      RunEnds seen name query firings search before after (take workers old) (take workers new) result → drop workers new ≡ drop workers old → Runs seen words before after old new (ended result)
-  -- the words are `exec SCHEMA PLAN`, with a number of workers
-  exec : (name plan : List ℕ) (workers : ℕ) (result : Result Outcome Stop) → IsCommand words (Exec name plan workers) →
-      ExecEnds seen name plan before after (take workers old) (take workers new) result → drop workers new ≡ drop workers old → Runs seen words before after old new (ended result)
+  -- the words are `run SCHEMA QUERY`, with a number of firings, one of search units, one of workers and one of calls
+  run : (name query : List ℕ) (firings search workers calls : ℕ) (result : Result Outcome Stop) →
+      IsCommand words (Run name query firings search workers calls) →
+      RunEnds seen name query firings search calls before after (take workers old) (take workers new) result →
+      drop workers new ≡ drop workers old → Runs seen words before after old new (ended result)
+  -- the words are `exec SCHEMA PLAN`, with a number of workers and one of calls
+  exec : (name plan : List ℕ) (workers calls : ℕ) (result : Result Outcome Stop) → IsCommand words (Exec name plan workers calls) →
+      ExecEnds seen name plan calls before after (take workers old) (take workers new) result →
+      drop workers new ≡ drop workers old → Runs seen words before after old new (ended result)
   -- the words are `check SCHEMA QUERY PLAN`, with a number of firings
   check : (name query plan : List ℕ) (firings : ℕ) (result : Result Outcome Stop) → IsCommand words (Check name query plan firings) →
       CheckEnds name query plan firings before after result → new ≡ old → Runs seen words before after old new (ended result)

@@ -100,6 +100,6 @@ SaysOfPlan _ told name query its firings = Unit {0}
 -- That is so of the commands that decide a statement, and of the one that judges a plan.
 abbrev pub SaysOf : Command → Option Contents → Status → Type 0
 SaysOf (Explain name query firings search) told status = Says status told name query firings
-SaysOf (Run name query firings search workers) told status = Says status told name query firings
+SaysOf (Run name query firings search workers calls) told status = Says status told name query firings
 SaysOf (Check name query plan firings) told status = SaysOfPlan status told name query plan firings
 SaysOf _ told status = Unit {0}

@@ -26,19 +26,24 @@ pub fn run_on_first<R: Threads + Sync, F: Files, S: Source + Send + Drop, O: Sin
     firings: u32,
     search: u32,
     workers: u32,
+    calls: u32,
     outside: &mut Outside<F, O, E>,
     lanes: &mut Vec<Lane<S>>,
 ) -> Result<Outcome, Stop>
     requires budget { firings ≤ MOST_FIRINGS }
     requires units { search ≤ MOST_UNITS }
     requires workers { workers ≤ 8 }
-    ensures ends { RunEnds S.seen schema.now query.now firings search outside.old outside.new (take workers lanes.old.items) (take workers lanes.new.items) result }
+    requires calls { calls ≤ 1_000_000 }
+    ensures ends { RunEnds S.seen schema.now query.now firings search calls outside.old outside.new
+        (take workers lanes.old.items) (take workers lanes.new.items) result }
     ensures behind { drop workers lanes.new.items ≡ drop workers lanes.old.items }
     ensures stays { Stays outside.old outside.new }
     ensures lanes { LanesStay S.seen lanes.old.items lanes.new.items }
 {
     let (used, _behind) = first_and_behind(lanes.as_mut_slice(), workers as usize);
-    run_query(rt, alloc, schema, query, firings, search, outside, used)
+    run_query(
+        rt, alloc, schema, query, firings, search, calls, outside, used,
+    )
 }
 
 /// `exec` on the first lanes. Those behind stay.
@@ -48,17 +53,20 @@ pub fn exec_on_first<R: Threads + Sync, F: Files, S: Source + Send + Drop, O: Si
     schema: &Text,
     plan: &Text,
     workers: u32,
+    calls: u32,
     outside: &mut Outside<F, O, E>,
     lanes: &mut Vec<Lane<S>>,
 ) -> Result<Outcome, Stop>
     requires workers { workers ≤ 8 }
-    ensures ends { ExecEnds S.seen schema.now plan.now outside.old outside.new (take workers lanes.old.items) (take workers lanes.new.items) result }
+    requires calls { calls ≤ 1_000_000 }
+    ensures ends { ExecEnds S.seen schema.now plan.now calls outside.old outside.new
+        (take workers lanes.old.items) (take workers lanes.new.items) result }
     ensures behind { drop workers lanes.new.items ≡ drop workers lanes.old.items }
     ensures stays { Stays outside.old outside.new }
     ensures lanes { LanesStay S.seen lanes.old.items lanes.new.items }
 {
     let (used, _behind) = first_and_behind(lanes.as_mut_slice(), workers as usize);
-    exec_plan(rt, alloc, schema, plan, outside, used)
+    exec_plan(rt, alloc, schema, plan, calls, outside, used)
 }
 
 /// `world` on the first lanes. Those behind stay.

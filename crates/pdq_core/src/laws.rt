@@ -10,7 +10,6 @@ ghost use Rattle.plan_form.specs.Grammar.{IsPlanText};
 ghost use Rattle.source_trait.specs.declared.lanes.Lane.{Lane};
 ghost use Rattle.middleware.specs.PlanSources.{IsAccessed};
 ghost use Rattle.middleware.specs.LaneBranches.{OnEach};
-ghost use Rattle.command_io.specs.declared.delivery.TheConstants.{CALLS};
 ghost use Rattle.command_io.specs.declared.exit_status.Status.{Status};
 ghost use Rattle.command_io.specs.declared.exit_status.Status.TheVariants as ends_in;
 ghost use Rattle.command_io.specs.Moments.{Moment};
@@ -38,9 +37,10 @@ pub fn runs_without_faults_are_answered<S: Source>()
 /// What the law above needs of sources can be given. Where those of each used lane tell what they hold, offer one instance within
 /// their limits and do not fail, they serve; and a plan can be executed if no round of it on the instance passes the cap.
 pub fn sources_that_tell_serve<S: Source>()
-    ensures plan { (schema : Schema) (plan : Plan) (old new : List (Lane S)) (instance : List Fact) → ((rel : ℕ) → IsAccessed schema plan rel → 0 < length old) →
+    ensures plan { (schema : Schema) (plan : Plan) (calls : ℕ) (old new : List (Lane S)) (instance : List Fact) →
+        ((rel : ℕ) → IsAccessed schema plan rel → 0 < length old) →
         OnEach old (λ kinds. OfferInstance S.seen schema (IsAccessed schema plan) kinds instance) → OnLanes (NoSourceRose S.seen schema (IsAccessed schema plan)) old new →
-        KeepsCap schema plan instance CALLS → CanExecute S.seen schema plan old new }
+        KeepsCap schema plan instance calls → CanExecute S.seen schema plan calls old new }
     ensures rules { (schema : Schema) (old new : List (Lane S)) (instance : List Fact) →
         OfferInstance S.seen schema (RulesName schema) (used old) instance → NoSourceRose S.seen schema (RulesName schema) (used old) (used new) →
         Serve S.seen schema (RulesName schema) (used old) (used new) }

@@ -60,17 +60,19 @@ pub fn run_words<R: Threads + Sync, F: Files, S: Source + Send + Drop, O: Sink, 
                 firings,
                 search,
                 workers,
+                calls,
             },
         ) => ended(run_on_first(
-            rt, alloc, schema, query, firings, search, workers, outside, lanes,
+            rt, alloc, schema, query, firings, search, workers, calls, outside, lanes,
         )),
         Some(
             Command::Exec {
                 schema,
                 plan,
                 workers,
+                calls,
             },
-        ) => ended(exec_on_first(rt, alloc, schema, plan, workers, outside, lanes)),
+        ) => ended(exec_on_first(rt, alloc, schema, plan, workers, calls, outside, lanes)),
         Some(
             Command::Check {
                 schema,

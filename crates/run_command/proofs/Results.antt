@@ -18,7 +18,6 @@ use Rattle.middleware.specs.declared.fault.Run.{Run}
 use Rattle.middleware.specs.LaneBranches.{LanesHoldPlan}
 use Rattle.middleware.specs.Executing.{Executes}
 use Rattle.command_io.specs.declared.stop.Stop.{Stop}
-use Rattle.command_io.specs.declared.delivery.TheConstants.{CALLS}
 use Rattle.command_io.specs.FaultLines.{Names}
 use Rattle.command_io.specs.Moments.{Outputs}
 use Rattle.command_io.specs.Writing.{TookAll}
@@ -45,10 +44,10 @@ use Rattle.run_command.specs.Ends.{IsResult, StatementEnds}
 use Rattle.run_command.specs.World.{IsSummary}
 use Rattle.run_command.specs.Ends.StatementEnds.{no_decision, untold, refuted, undecided, stopped, done}
 
-module _ {S : Type 0} (seen : S → Seen) (schema : Schema) (statement : Statement) (firings search : ℕ) (plan : Plan) (entries : List Chosen) (is : IsPlanned schema statement firings search plan entries)
+module _ {S : Type 0} (seen : S → Seen) (schema : Schema) (statement : Statement) (firings search calls : ℕ) (plan : Plan) (entries : List Chosen) (is : IsPlanned schema statement firings search plan entries)
     (columns : List (List ℕ)) (named : result_names statement.selects ≡ columns) (old new : List (Lane S)) where
   -- the text of the rows is the result
-  pub result_of : (run : Run) (text : List ℕ) → Executes seen schema plan CALLS old new (Ok run) → IsRowText columns (Contains run.rows) text →
+  pub result_of : (run : Run) (text : List ℕ) → Executes seen schema plan calls old new (Ok run) → IsRowText columns (Contains run.rows) text →
       IsResult seen schema statement new plan run text
   result_of run text executes of_rows = record { given = rw named of_rows; rows = rows; answers = answers }
     where
@@ -60,9 +59,9 @@ module _ {S : Type 0} (seen : S → Seen) (schema : Schema) (statement : Stateme
           (λ row. (is.is.equivalent.sound instance row model, is.is.equivalent.complete instance row model)) (rows instance holds)
 
 -- the summary of an execution is the result of a world
-pub summary_of : {S : Type 0} (seen : S → Seen) (schema : Schema) (statement : Statement) (firings search : ℕ) (plan : Plan) (entries : List Chosen) → IsPlanned schema statement firings search plan entries →
-    (size : ℕ) (old new : List (Lane S)) (run : Run) (text : List ℕ) → Executes seen schema plan CALLS old new (Ok run) → text ≡ summary size run.made run.rows → IsSummary seen size schema statement new plan run text
-summary_of seen schema statement firings search plan entries is size old new run text executes given = record {
+pub summary_of : {S : Type 0} (seen : S → Seen) (schema : Schema) (statement : Statement) (firings search calls : ℕ) (plan : Plan) (entries : List Chosen) → IsPlanned schema statement firings search plan entries →
+    (size : ℕ) (old new : List (Lane S)) (run : Run) (text : List ℕ) → Executes seen schema plan calls old new (Ok run) → text ≡ summary size run.made run.rows → IsSummary seen size schema statement new plan run text
+summary_of seen schema statement firings search calls plan entries is size old new run text executes given = record {
   given = given;
   rows = λ instance holds. executes.rows instance holds;
   answers = λ instance holds model row.
@@ -71,7 +70,7 @@ summary_of seen schema statement firings search plan entries is size old new run
 }
 
 -- where the decision was written whole, what it shows was
-module _ {S : Type 0} (seen : S → Seen) (schema : Schema) (statement : Statement) (firings search : ℕ) (fits : StatementFits schema statement) (decision : Decision)
+module _ {S : Type 0} (seen : S → Seen) (schema : Schema) (statement : Statement) (firings search : ℕ) (decision : Decision)
     (right : IsDecided schema statement firings search decision) where
   -- a plan is one for the statement, and can be written
   pub plan_of : (plan : Plan) (entries : List Chosen) → decision ≡ Planned plan entries → IsPlanFor schema statement plan × PlanFits plan
@@ -89,35 +88,35 @@ module _ {S : Type 0} (seen : S → Seen) (schema : Schema) (statement : Stateme
           IsPlanned schema statement firings search plan entries × TookAll old new (planned_text entries plan)
       go (right_plan of its for can chosen) told = (planned schema statement firings search plan entries for can chosen (subst IsUtf8 told.is told.utf8), subst (TookAll old new) told.is told.took)
 
-  module _ (IsText : Plan → Run → List ℕ → Type 0) (names : Names) (before after : Outputs) (old new : List (Lane S)) (out : after.out ≡ before.out) (lanes : new ≡ old) where
+  module _ (fits : StatementFits schema statement) (calls : ℕ) (IsText : Plan → Run → List ℕ → Type 0) (names : Names) (before after : Outputs) (old new : List (Lane S)) (out : after.out ≡ before.out) (lanes : new ≡ old) where
     -- a refutation
     pub none_told : (pair : Witness) → decision ≡ NoPlan pair → Written schema decision before.err after.err →
-        StatementEnds seen schema statement firings search IsText names before after old new (Ok outcome.No)
+        StatementEnds seen schema statement firings search calls IsText names before after old new (Ok outcome.No)
     none_told pair is written = go (subst (IsDecided schema statement firings search) is right) (subst (λ d. Written schema d before.err after.err) is written)
       where
         go : IsDecided schema statement firings search (NoPlan pair) → Written schema (NoPlan pair) before.err after.err →
-            StatementEnds seen schema statement firings search IsText names before after old new (Ok outcome.No)
+            StatementEnds seen schema statement firings search calls IsText names before after old new (Ok outcome.No)
         go (right_pair of for) told = refuted told.text (refutation_told schema statement pair told.text fits for told.is told.utf8) told.took out lanes
 
     -- the log of spent firings
     pub log_told : (select : ℕ) (log : List Firing) → decision ≡ Undecided select log → Written schema decision before.err after.err →
-        StatementEnds seen schema statement firings search IsText names before after old new (Ok outcome.Undecided)
+        StatementEnds seen schema statement firings search calls IsText names before after old new (Ok outcome.Undecided)
     log_told select log is written = go (subst (IsDecided schema statement firings search) is right) (subst (λ d. Written schema d before.err after.err) is written)
       where
         go : IsDecided schema statement firings search (Undecided select log) → Written schema (Undecided select log) before.err after.err →
-            StatementEnds seen schema statement firings search IsText names before after old new (Ok outcome.Undecided)
+            StatementEnds seen schema statement firings search calls IsText names before after old new (Ok outcome.Undecided)
         go (right_log one its for) told = undecided select log for (subst (TookAll before.err after.err) told.is told.took) out lanes
 
 -- what the text of an execution says, its result says
-module _ {S : Type 0} (seen : S → Seen) (schema : Schema) (statement : Statement) (firings search : ℕ) (IsText IsRight : Plan → Run → List ℕ → Type 0) (names : Names) (before after : Outputs) (old new : List (Lane S))
-    (says : (plan : Plan) (entries : List Chosen) (run : Run) (text : List ℕ) → IsPlanned schema statement firings search plan entries → Executes seen schema plan CALLS old new (Ok run) → IsText plan run text → IsRight plan run text) where
+module _ {S : Type 0} (seen : S → Seen) (schema : Schema) (statement : Statement) (firings search calls : ℕ) (IsText IsRight : Plan → Run → List ℕ → Type 0) (names : Names) (before after : Outputs) (old new : List (Lane S))
+    (says : (plan : Plan) (entries : List Chosen) (run : Run) (text : List ℕ) → IsPlanned schema statement firings search plan entries → Executes seen schema plan calls old new (Ok run) → IsText plan run text → IsRight plan run text) where
   delivers : (plan : Plan) (entries : List Chosen) → IsPlanned schema statement firings search plan entries → (result : Result (Unit {0}) Stop) →
-      Delivers seen schema plan CALLS (IsText plan) old new before.out after.out (Rose before.out_faults after.out_faults) result →
-      Delivers seen schema plan CALLS (IsRight plan) old new before.out after.out (Rose before.out_faults after.out_faults) result
-  delivers plan entries is = delivers_as seen schema plan CALLS (IsText plan) (IsRight plan) old new before.out after.out (Rose before.out_faults after.out_faults) (λ run text executes given. says plan entries run text is executes given)
+      Delivers seen schema plan calls (IsText plan) old new before.out after.out (Rose before.out_faults after.out_faults) result →
+      Delivers seen schema plan calls (IsRight plan) old new before.out after.out (Rose before.out_faults after.out_faults) result
+  delivers plan entries is = delivers_as seen schema plan calls (IsText plan) (IsRight plan) old new before.out after.out (Rose before.out_faults after.out_faults) (λ run text executes given. says plan entries run text is executes given)
 
-  pub with_text : (result : Result Outcome Stop) → StatementEnds seen schema statement firings search IsText names before after old new result →
-      StatementEnds seen schema statement firings search IsRight names before after old new result
+  pub with_text : (result : Result Outcome Stop) → StatementEnds seen schema statement firings search calls IsText names before after old new result →
+      StatementEnds seen schema statement firings search calls IsRight names before after old new result
   with_text result (no_decision end why out lanes) = no_decision end why out lanes
   with_text result (untold decision middle count end is told why out lanes) = untold decision middle count end is told why out lanes
   with_text result (refuted text is told out lanes) = refuted text is told out lanes

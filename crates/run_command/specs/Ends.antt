@@ -20,7 +20,6 @@ use Rattle.command_io.specs.declared.stop.Stop.{Stop}
 use Rattle.command_io.specs.declared.stop.Stop.TheVariants as stop
 use Rattle.command_io.specs.declared.outcome.Outcome.{Outcome}
 use Rattle.command_io.specs.declared.outcome.Outcome.TheVariants as outcome
-use Rattle.command_io.specs.declared.delivery.TheConstants.{CALLS}
 use Rattle.command_io.specs.Inputs.{SchemaIsRead, QueryIsRead, TextsStop}
 use Rattle.command_io.specs.Moments.{Moment, Outputs, outputs_of, Between, DecisionStop}
 use Rattle.command_io.specs.Writing.{TookAll}
@@ -45,43 +44,50 @@ pub record IsResult {S : Type 0} (seen : S → Seen) (schema : Schema) (statemen
 -- What became of a statement: nothing was decided; or standard error took the text of a decision, whole or not; and where that was a
 -- plan and was taken whole, the plan was executed, and standard output took the text of the result, whole or not. `IsText` says which text
 -- that is.
-pub data StatementEnds {S : Type 0} (seen : S → Seen) (schema : Schema) (statement : Statement) (firings search : ℕ) (IsText : Plan → Run → List ℕ → Type 0) (names : Names) (before after : Outputs)
-    (old new : List (Lane S)) : Result Outcome Stop → Type 0 where
+pub data StatementEnds {S : Type 0} (seen : S → Seen) (schema : Schema) (statement : Statement) (firings search calls : ℕ)
+    (IsText : Plan → Run → List ℕ → Type 0) (names : Names) (before after : Outputs) (old new : List (Lane S)) : Result Outcome Stop → Type 0 where
   -- memory was wanted for a decision, and nothing but the line was written
   no_decision : (end : Stop) →
       StopsFor (λ given. given ≡ stop.Memory) names before.err after.err (Rose before.err_faults after.err_faults) end →
-      after.out ≡ before.out → new ≡ old → StatementEnds seen schema statement firings search IsText names before after old new (Err end)
+      after.out ≡ before.out → new ≡ old → StatementEnds seen schema statement firings search calls IsText names
+      before after old new (Err end)
   -- the decision was not written whole, and nothing else was touched; the line of that may be missing only where its writing failed too
   untold : (decision : Decision) (middle : Option (List ℕ)) (count : Between before.err_faults after.err_faults) (end : Stop) →
       IsDecided schema statement firings search decision → TookPartOf before.err middle (IsDecisionText schema decision) →
       StopsFor (DecisionStop (Rose before.err_faults count.faults)) names middle after.err (Rose count.faults after.err_faults) end →
-      after.out ≡ before.out → new ≡ old → StatementEnds seen schema statement firings search IsText names before after old new (Err end)
+      after.out ≡ before.out → new ≡ old → StatementEnds seen schema statement firings search calls IsText names
+      before after old new (Err end)
   -- there is no plan: the refutation was written whole, and nothing else was touched
   refuted : (text : List ℕ) → IsRefuted schema statement text → TookAll before.err after.err text →
-      after.out ≡ before.out → new ≡ old → StatementEnds seen schema statement firings search IsText names before after old new (Ok outcome.No)
+      after.out ≡ before.out → new ≡ old → StatementEnds seen schema statement firings search calls IsText names
+      before after old new (Ok outcome.No)
   -- the firings were spent: their log was written whole, and nothing else was touched
   undecided : (select : ℕ) (log : List Firing) → IsUndecided schema statement firings select log →
       TookAll before.err after.err (undecided_text schema select log) →
-      after.out ≡ before.out → new ≡ old → StatementEnds seen schema statement firings search IsText names before after old new (Ok outcome.Undecided)
+      after.out ≡ before.out → new ≡ old → StatementEnds seen schema statement firings search calls IsText names
+      before after old new (Ok outcome.Undecided)
   -- the plan was written whole, and its execution stopped, or the text of the result was not written whole
   stopped : (plan : Plan) (entries : List Chosen) (middle : Option (List ℕ)) (count : Between before.err_faults after.err_faults) (why end : Stop) →
       IsPlanned schema statement firings search plan entries → TookAll before.err middle (planned_text entries plan) →
-      Delivers seen schema plan CALLS (IsText plan) old new before.out after.out (Rose before.out_faults after.out_faults) (Err why) →
+      Delivers seen schema plan calls (IsText plan) old new before.out after.out (Rose before.out_faults after.out_faults) (Err why) →
       StopsFor (λ given. given ≡ why) names middle after.err (Rose count.faults after.err_faults) end →
-      StatementEnds seen schema statement firings search IsText names before after old new (Err end)
+      StatementEnds seen schema statement firings search calls IsText names before after old new (Err end)
   -- it was executed, and the result was written whole
   done : (plan : Plan) (entries : List Chosen) → IsPlanned schema statement firings search plan entries → TookAll before.err after.err (planned_text entries plan) →
-      Delivers seen schema plan CALLS (IsText plan) old new before.out after.out (Rose before.out_faults after.out_faults) (Ok tt) →
-      StatementEnds seen schema statement firings search IsText names before after old new (Ok outcome.Done)
+      Delivers seen schema plan calls (IsText plan) old new before.out after.out (Rose before.out_faults after.out_faults) (Ok tt) →
+      StatementEnds seen schema statement firings search calls IsText names before after old new (Ok outcome.Done)
 
 -- How `run` ends: a text was refused, and nothing but the line was written; or both were read, and the statement was decided.
-pub data RunEnds {S : Type 0} (seen : S → Seen) (schema_name query_name : List ℕ) (firings search : ℕ) (before after : Moment) (old new : List (Lane S)) :
+pub data RunEnds {S : Type 0} (seen : S → Seen) (schema_name query_name : List ℕ) (firings search calls : ℕ)
+    (before after : Moment) (old new : List (Lane S)) :
     Result Outcome Stop → Type 0 where
   refused : (end : Stop) →
       StopsFor (TextsStop before.files schema_name query_name (Rose before.file_faults after.file_faults))
       (record { schema = schema_name; query = query_name; plan = []; relations = [] }) before.err after.err (Rose before.err_faults after.err_faults) end →
-      after.out ≡ before.out → new ≡ old → RunEnds seen schema_name query_name firings search before after old new (Err end)
+      after.out ≡ before.out → new ≡ old → RunEnds seen schema_name query_name firings search calls before after old new (Err end)
   read : (schema : Schema) (statement : Statement) (result : Result Outcome Stop) →
       SchemaIsRead before.files schema_name schema → QueryIsRead before.files query_name schema statement →
-      StatementEnds seen schema statement firings search (IsResult seen schema statement new) (record { schema = schema_name; query = query_name; plan = []; relations = schema.relations }) (outputs_of before) (outputs_of after) old new result →
-      RunEnds seen schema_name query_name firings search before after old new result
+      StatementEnds seen schema statement firings search calls (IsResult seen schema statement new)
+      (record { schema = schema_name; query = query_name; plan = []; relations = schema.relations })
+      (outputs_of before) (outputs_of after) old new result →
+      RunEnds seen schema_name query_name firings search calls before after old new result

@@ -8,7 +8,7 @@ ghost use Rattle.run_command.specs.World.{WorldEnds, WorldStop};
 
 use crate::run::answer;
 use access_schema::Schema;
-use command_io::{FileNames, Outcome, Outputs, Report, Stop, tell};
+use command_io::{CALLS, FileNames, Outcome, Outputs, Report, Stop, tell};
 use lists::Text;
 use meaning::types::Statement;
 use source_trait::{Lane, Sink, Source};
@@ -57,6 +57,7 @@ pub fn run_world<R: Threads + Sync, S: Source + Send + Drop, O: Sink, E: Sink>(
             FIRINGS,
             UNITS,
             Report::Summary(size),
+            CALLS,
             outputs,
             lanes,
         ),

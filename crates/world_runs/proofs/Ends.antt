@@ -25,7 +25,10 @@ use Rattle.no_plan_witness.specs.declared.decision.Decision.TheVariants as decis
 use Rattle.middleware.specs.declared.fault.Run.{Run}
 use Rattle.middleware.specs.PlanSources.{IsAccessed}
 use Rattle.middleware.specs.LaneRounds.{started}
-use Rattle.middleware.specs.LaneBranches.{OnEach}
+use Rattle.middleware.specs.LaneBranches.{OnEach, LanesHoldPlan}
+use Rattle.middleware.specs.Needs.AttachesNeeded.{done as all_done}
+use Rattle.middleware.specs.LaneRunning.{AttachesAndAsks}
+use Rattle.middleware.specs.LaneRunning.AttachesAndAsks.{attached}
 use Rattle.middleware.proofs.LaneBranching.{each_asked}
 use Rattle.command_io.specs.declared.delivery.TheConstants.{CALLS}
 use Rattle.command_io.specs.declared.stop.Stop.{Stop}
@@ -112,21 +115,25 @@ module _ {S : Type 0} (seen : S → Seen) (size : ℕ) (some : 1 ≤ size) (few 
     offers : OnEach old (λ kinds. OfferInstance seen schema (IsAccessed schema its) kinds (world_facts size))
     offers l among = generator_offers size some few schema is seen l.kinds.items (lanes l among) its
 
-    can : CanExecute seen schema its old new
-    can = offers_execute seen schema its old new (world_facts size) (λ rel needed. lane) offers
+    can : CanExecute seen schema its CALLS old new
+    can = offers_execute seen schema its CALLS old new (world_facts size) (λ rel needed. lane) offers
         (on_lanes (NoRiseOf seen (codes "world")) (NoSourceRose seen schema (IsAccessed schema its)) (world_calm size some few schema is seen its) old new (lanes_calm seen old new stay lanes))
         (keeps_cap size some few schema is its one)
 
     stops : (IsText : Run → List ℕ → Type 0) (why : Stop) → Delivers seen schema its CALLS IsText old new before.out after.out (Rose before.out_faults after.out_faults) (Err why) → IsOver why
-    stops IsText _ (no_rows fault executes same) = subst IsOver (sym (execution_stop seen schema its old new can fault executes)) no_memory
+    stops IsText _ (no_rows fault executes same) = subst IsOver (sym (execution_stop seen schema its CALLS old new can fault executes)) no_memory
     stops IsText _ (no_text run executes same) = no_memory
     stops IsText _ (cut run text end executes is_text part cause) = result_stop end cause
+
+    held : (run : Run) → AttachesAndAsks seen schema its CALLS old new (Ok run) → LanesHoldPlan seen schema its new (world_facts size)
+    held run (attached middle result (all_done each have) rounds) =
+        lanes_hold seen schema its (world_facts size) old new offers
+        (all_attached seen schema its old middle new each (each_asked seen schema rounds.list (map started middle) new rounds.asks))
 
     over : Delivers seen schema its CALLS (IsSummary seen size schema world_statement new its) old new before.out after.out (Rose before.out_faults after.out_faults) (Ok tt) → WorldIsOver size before after (Ok outcome.Done)
     over (delivered run text executes is_text took) =
         let meant = world_meaning size schema is in
-        let does = executes.does in
-        let hold = lanes_hold seen schema its (world_facts size) old new offers (all_attached seen schema its does.attaches.rels does.attaches.ascends does.attaches.exactly old does.attached new does.attaches.order (each_asked seen schema does.rounds.list (map started does.attached) new does.rounds.asks)) in
+        let hold = held run executes.does in
         let (requests, are, made_is) = executes.made (world_facts size) hold in
         let made : run.made ≡ 7 * size + 1 = made_is ∙ requests_made size some few schema is its one requests are in
         let holds : IsModel (meaning_of schema) (world_facts size) = subst (λ (s : SchemaParts). IsModel s (world_facts size)) (sym meant) (model size some few) in
@@ -138,7 +145,7 @@ module _ {S : Type 0} (seen : S → Seen) (size : ℕ) (some : 1 ≤ size) (few 
         done run.rows count (subst (TookAll before.out after.out) (is_text.given ∙ ap (λ made. summary size made run.rows) made) took)
 
   statement_over : (schema : Schema) → IsWorldSchema size schema → (names : Names) (result : Result Outcome Stop) →
-      StatementEnds seen schema world_statement FIRINGS UNITS (IsSummary seen size schema world_statement new) names before after old new result → WorldIsOver size before after result
+      StatementEnds seen schema world_statement FIRINGS UNITS CALLS (IsSummary seen size schema world_statement new) names before after old new result → WorldIsOver size before after result
   statement_over schema is names _ (no_decision end why quiet same) = stops_with IsOver end no_memory (λ given memory. subst IsOver (sym memory) no_memory) why
   statement_over schema is names _ (untold decision middle count end of took why quiet same) = stops_with IsOver end no_memory (λ given cause. decision_stop count.faults count.begun count.ended given cause) why
   statement_over schema is names _ (refuted text pair took quiet same) = absurd (never_refuted size schema is pair.pair pair.refutes)
@@ -154,4 +161,4 @@ module _ {S : Type 0} (seen : S → Seen) (size : ℕ) (some : 1 ≤ size) (few 
       let same = statement_alone size schema statement own are in
       let names : Names = record { schema = []; query = []; plan = []; relations = schema.relations } in
       statement_over schema own names result
-      (subst (λ (t : Statement). StatementEnds seen schema t FIRINGS UNITS (IsSummary seen size schema t new) names before after old new result) same ends)
+      (subst (λ (t : Statement). StatementEnds seen schema t FIRINGS UNITS CALLS (IsSummary seen size schema t new) names before after old new result) same ends)

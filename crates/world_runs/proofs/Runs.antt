@@ -46,8 +46,8 @@ module _ {S : Type 0} (seen : S → Seen) (old new : List (Lane S)) where
     run_over _ (help result also ends same) = absurd (its Help also)
     run_over _ (print_schema name result also ends same) = absurd (its (Print name) also)
     run_over _ (explain name query firings search result also ends same) = absurd (its (Explain name query firings search) also)
-    run_over _ (run name query firings search lanes result also ends behind) = absurd (its (Run name query firings search lanes) also)
-    run_over _ (exec name plan lanes result also ends behind) = absurd (its (Exec name plan lanes) also)
+    run_over _ (run name query firings search lanes calls result also ends behind) = absurd (its (Run name query firings search lanes calls) also)
+    run_over _ (exec name plan lanes calls result also ends behind) = absurd (its (Exec name plan lanes calls) also)
     run_over _ (check name query plan firings result also ends same) = absurd (its (Check name query plan firings) also)
     run_over _ (verify name result also ends) = absurd (its (Verify name) also)
     run_over _ (world other lanes result also ends behind) =

@@ -38,12 +38,12 @@ deliver-requires-clause-short g c κs within = short c.args.plan.now c.requires.
 pub returns-in-Ok-deliver-clause-ends : goal.returns-in-Ok-deliver-clause-ends
 returns-in-Ok-deliver-clause-ends g c =
     rw (← c.outputs.view_is) (done c.in-Ok.ensures.lawful
-    (delivered g.S.Source.seen c.args.schema.now c.args.plan.now _ _ _ _ _ (Ok tt) (rw c.in-Ok-column_names.ensures at c.in-Ok-deliver.ensures.delivers)) refl)
+    (delivered g.S.Source.seen c.args.schema.now c.args.plan.now c.args.calls _ _ _ _ _ (Ok tt) (rw c.in-Ok-column_names.ensures at c.in-Ok-deliver.ensures.delivers)) refl)
 
 pub returns-clause-ends : goal.returns-clause-ends
 returns-clause-ends g c =
     rw (← c.outputs.view_is) (stopped c.in-Err-deliver.stop c.tell-in-Err-deliver.result c.in-Ok.ensures.lawful
-    (delivered g.S.Source.seen c.args.schema.now c.args.plan.now _ _ _ _ _ (Err c.in-Err-deliver.stop) (rw c.in-Ok-column_names.ensures at c.in-Err-deliver.ensures.delivers)) (record {
+    (delivered g.S.Source.seen c.args.schema.now c.args.plan.now c.args.calls _ _ _ _ _ (Err c.in-Err-deliver.stop) (rw c.in-Ok-column_names.ensures at c.in-Err-deliver.ensures.delivers)) (record {
       given = c.in-Err-deliver.stop;
       cause = refl;
       tells = rw c.as_slice-relations.ensures at c.tell-in-Err-deliver.ensures.tells;

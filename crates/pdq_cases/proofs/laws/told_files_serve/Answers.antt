@@ -5,8 +5,8 @@ use Rattle.pdq_cases.proofs.Folders.{files_offer}
 use Rattle.pdq_cases.proofs.laws.told_files_serve.Goals as goal
 
 pub returns-clause-plan : goal.returns-clause-plan
-returns-clause-plan g c = λ schema plan old new instance kind files some folders give calm within.
-    c.sources_that_tell_serve.ensures.plan schema plan old new instance some
+returns-clause-plan g c = λ schema plan calls old new instance kind files some folders give calm within.
+    c.sources_that_tell_serve.ensures.plan schema plan calls old new instance some
     (λ lane among. files_offer g.S.Source.seen schema (IsAccessed schema plan) lane.kinds.items instance kind files (folders lane among) give) calm within
 
 pub returns-clause-rules : goal.returns-clause-rules

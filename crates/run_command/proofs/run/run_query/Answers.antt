@@ -8,9 +8,9 @@ use Rattle.run_command.proofs.run.run_query.Goals as goal
 pub returns-in-Ok-clause-ends : goal.returns-in-Ok-clause-ends
 returns-in-Ok-clause-ends g c =
     rw (← c.outside.view_is, ← c.outside-inside.view_is) (read c.in-Ok.schema c.in-Ok.statement c.answer.result c.in-Ok.ensures.schema c.in-Ok.ensures.statement
-    (with_text g.S.Source.seen c.in-Ok.schema c.in-Ok.statement c.args.firings c.args.search _ _ _ _ _ _ _
+    (with_text g.S.Source.seen c.in-Ok.schema c.in-Ok.statement c.args.firings c.args.search c.args.calls _ _ _ _ _ _ _
     (λ plan entries run text is executes given.
-    result_of g.S.Source.seen c.in-Ok.schema c.in-Ok.statement c.args.firings c.args.search plan entries is c.result_names.result.now (sym c.result_names.ensures) _ _ run text executes given)
+    result_of g.S.Source.seen c.in-Ok.schema c.in-Ok.statement c.args.firings c.args.search c.args.calls plan entries is c.result_names.result.now (sym c.result_names.ensures) _ _ run text executes given)
     c.answer.result (rw (c.as_str.ensures, c.as_str-2.ensures) at c.answer.ensures.ends)))
 
 pub returns-in-Err-clause-ends : goal.returns-in-Err-clause-ends

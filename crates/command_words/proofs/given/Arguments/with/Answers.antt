@@ -23,8 +23,8 @@ returns-in_err-number_in_range-in-Given-clause-none c =
 pub returns-in_ok-with-in-Positional-clause-some :
     goal.returns-in_ok-with-in-Positional-clause-some
 returns-in_ok-with-in-Positional-clause-some c items give =
-    subst (λ (i : Lent). Give (items ++ item_of i ∷ []) (record { positionals = c.in_ok-with-in-Positional.field-0; firings = c.args.self.firings; search = c.args.self.search; workers = c.args.self.workers })) (sym c.in-Positional.is)
-    (give_positional items c.in-Positional.word.now c.args.self (record { positionals = c.in_ok-with-in-Positional.field-0; firings = c.args.self.firings; search = c.args.self.search; workers = c.args.self.workers }) c.in_ok-with-in-Positional.ensures refl refl refl give)
+    subst (λ (i : Lent). Give (items ++ item_of i ∷ []) (record { positionals = c.in_ok-with-in-Positional.field-0; firings = c.args.self.firings; search = c.args.self.search; workers = c.args.self.workers; calls = c.args.self.calls })) (sym c.in-Positional.is)
+    (give_positional items c.in-Positional.word.now c.args.self (record { positionals = c.in_ok-with-in-Positional.field-0; firings = c.args.self.firings; search = c.args.self.search; workers = c.args.self.workers; calls = c.args.self.calls }) c.in_ok-with-in-Positional.ensures refl refl refl refl give)
 
 pub returns-in_ok-number_in_range-in-Given-clause-some :
     goal.returns-in_ok-number_in_range-in-Given-clause-some
