@@ -1,44 +1,15 @@
-// A run of the program's top call on two lanes, whose look-ups wait for one another.
-use command_io::{Outputs, Outside};
-use lists::{Bytes, Places, Row, Seq, Text, Texts};
-use pdq_core::{Status, run_words};
-use row_text::PackedRows;
-use source_trait::{
-    AttachFault, CallFault, Files, Kind, Lane, MemoryFiles, MemorySink, MemorySource, NamedFile,
-    RequestLog, Sink, Source, Table, locators_differ, names_differ,
+// Runs of the program's top call on two lanes, whose look-ups wait for one another.
+use crate::office::{
+    Faults, NO_FAULTS, PLAN, PROFILES, ROWS, are_first_then, asked, kind, lane, office, outside,
+    ran,
 };
-use std::alloc::{AllocError, Global};
+use lists::{Places, Row, Text, Texts};
+use row_text::PackedRows;
+use source_trait::{AttachFault, CallFault, Lane, MemorySource, RequestLog, Source};
+use std::alloc::Global;
 use std::sync::atomic::{AtomicU64, Ordering};
 use std::test::Fail;
 use std::thread::Threads;
-
-const SCHEMA: &str = "relation profinfo(eid, onum, lname)
-relation udirect(eid, lname)
-method prof_by_eid on profinfo(eid) cost 2
-method all_direct on udirect() cost 5
-rule profinfo(e, o, l) -> udirect(e, l)
-source profinfo meeting 'p'
-source udirect meeting 'u'
-";
-
-const QUERY: &str = "SELECT DISTINCT eid, onum FROM profinfo WHERE lname = 'smith'";
-
-const PLAN: &str = "# select 1 cost 7 least
-plan 2
-branch
-access all_direct(new, 'smith')
-access prof_by_eid($0, new, 'smith')
-output $0, $1
-end
-";
-
-const ROWS: &str = "eid,onum
-1,101
-3,103
-";
-
-/// The relation `profinfo` of the schema.
-const PROFILES: u32 = 0;
 
 // A source in memory whose look-ups of profiles wait for those of another lane: each raises a shared count, looks at it until it is at
 // least 2, and where it was so raises a second one.
@@ -92,100 +63,17 @@ impl<'a> Source for Meeting<'a> {
     }
 }
 
-fn row(alloc: Global, words: &[&str]) -> Result<Row, AllocError> {
-    let mut row = Seq::new(alloc);
-    for word in words {
-        row.push(Text::from_str(alloc, word)?)?;
-    }
-    Ok(row)
-}
-
-// Two profiles of the name smith, and a directory of three people.
-fn office(alloc: Global) -> Result<MemorySource, Fail> {
-    let mut profiles = Seq::new(alloc);
-    profiles.push(row(alloc, &["1", "101", "smith"])?)?;
-    profiles.push(row(alloc, &["3", "103", "smith"])?)?;
-    let mut people = Seq::new(alloc);
-    people.push(row(alloc, &["1", "smith"])?)?;
-    people.push(row(alloc, &["2", "jones"])?)?;
-    people.push(row(alloc, &["3", "smith"])?)?;
-    let mut tables = Seq::new(alloc);
-    tables.push(Table {
-        locator: Text::from_str(alloc, "p")?,
-        rows: profiles,
-    })?;
-    tables.push(Table {
-        locator: Text::from_str(alloc, "u")?,
-        rows: people,
-    })?;
-    if !locators_differ(&tables) {
-        return Err(Fail::from("two tables have one locator"));
-    }
-    Ok(MemorySource::new(alloc, tables, Seq::new(alloc), Seq::new(alloc)))
-}
-
-// A lane of one source, of the kind `meeting`.
-fn lane<S: Source + Send + Drop>(alloc: Global, object: S) -> Result<Lane<S>, AllocError> {
-    let mut kinds = Vec::new(alloc);
-    kinds.push(Kind {
-        name: Text::from_str(alloc, "meeting")?,
-        object,
-    })?;
-    Ok(Lane::new(kinds))
-}
-
-fn file(alloc: Global, name: &str, text: &str) -> Result<NamedFile, AllocError> {
-    Ok(NamedFile {
-        name: Text::from_str(alloc, name)?,
-        bytes: Bytes::from_vec(text.as_bytes().to_vec(alloc)?),
-    })
-}
-
-// The files `s` and `q`: the schema and the query.
-fn texts(alloc: Global) -> Result<MemoryFiles, Fail> {
-    let mut files = Seq::new(alloc);
-    files.push(file(alloc, "s", SCHEMA)?)?;
-    files.push(file(alloc, "q", QUERY)?)?;
-    if !names_differ(&files) {
-        return Err(Fail::from("two files have one name"));
-    }
-    Ok(MemoryFiles::new(alloc, files, Seq::new(alloc)))
-}
-
-// The status of the run, by its exit code.
-fn ran<R: Threads + Sync, F: Files, S: Source + Send + Drop, O: Sink, E: Sink>(
-    rt: &R,
-    alloc: Global,
-    words: &[Text],
-    outside: &mut Outside<F, O, E>,
-    lanes: &mut Vec<Lane<S>>,
-) -> bool {
-    match run_words(rt, alloc, words, outside, lanes) {
-        Status::Done => true,
-        _ => false,
-    }
-}
-
 // Whether a run on these lanes with two workers writes the plan and the rows.
 fn answers<R: Threads + Sync, S: Source + Send + Drop>(
     rt: &R,
     alloc: Global,
     lanes: &mut Vec<Lane<S>>,
 ) -> Result<bool, Fail> {
-    let mut words = Vec::new(alloc);
-    for word in ["run", "s", "q", "--workers", "2"] {
-        words.push(Text::from_str(alloc, word)?)?;
-    }
-    let mut outside = Outside {
-        files: texts(alloc)?,
-        outputs: Outputs {
-            out: MemorySink::new(alloc, 1000, Seq::new(alloc)),
-            err: MemorySink::new(alloc, 1000, Seq::new(alloc)),
-        },
-    };
-    let done = ran(rt, alloc, words.as_slice(), &mut outside, lanes);
+    let mut outside = outside(alloc, NO_FAULTS)?;
+    let words = ["run", "s.pdq", "q.sql", "--workers", "2"];
+    let code = ran(rt, alloc, &words, &mut outside, lanes)?;
     let wrote = &outside.outputs;
-    Ok(done && wrote.out.bytes() == ROWS.as_bytes() && wrote.err.bytes() == PLAN.as_bytes())
+    Ok(code == 0 && wrote.out.bytes() == ROWS.as_bytes() && wrote.err.bytes() == PLAN.as_bytes())
 }
 
 // Whether a run with two workers writes the plan and the rows, on two lanes whose look-ups raise these counts.
@@ -197,7 +85,7 @@ fn answers_by_two<R: Threads + Sync>(
 ) -> Result<bool, Fail> {
     let mut lanes = Vec::new(alloc);
     for _ in 0..2 {
-        let own = office(alloc)?;
+        let own = office(alloc, NO_FAULTS)?;
         lanes.push(lane(alloc, Meeting { own, called, met })?)?;
     }
     answers(rt, alloc, &mut lanes)
@@ -211,5 +99,101 @@ fn two_workers_ask_at_once(rt: HostRuntime) -> Result<(), Fail> {
     assert!(rt; answers_by_two(&rt, rt.alloc(), &called, &met)?);
     assert_eq!(rt; met.load(Ordering::SeqCst), 2);
     assert_eq!(rt; called.load(Ordering::SeqCst), 2);
+    Ok(())
+}
+
+// A lane whose profiles are a source of their own, with these faults, and raise the counts.
+fn lane_of_two_kinds<'a>(
+    alloc: Global,
+    faults: Faults,
+    called: &'a AtomicU64,
+    met: &'a AtomicU64,
+) -> Result<Lane<Meeting<'a>>, Fail> {
+    let mut kinds = Vec::new(alloc);
+    let own = office(alloc, faults)?;
+    kinds.push(kind(alloc, "profiles", Meeting { own, called, met })?)?;
+    let own = office(alloc, NO_FAULTS)?;
+    kinds.push(kind(alloc, "csv", Meeting { own, called, met })?)?;
+    Ok(Lane::new(kinds))
+}
+
+/// The employee whose profile the only request of the lane's first source asked for.
+fn looked_up<S: Source>(alloc: Global, lane: &Lane<S>) -> Result<Text, Fail> {
+    let [profiles, _] = lane.kinds.as_slice() else {
+        return Err(Fail::from("a lane has not two sources"));
+    };
+    let Some(log) = profiles.object.told() else {
+        return Err(Fail::from("a source does not tell its requests"));
+    };
+    only_value(alloc, log)
+}
+
+/// The only value of the only request of a log.
+fn only_value(alloc: Global, log: &RequestLog) -> Result<Text, Fail> {
+    let requests = log.requests(alloc)?;
+    let [request] = requests.as_slice() else {
+        return Err(Fail::from("a log has not one request"));
+    };
+    let [value] = request.values.as_slice() else {
+        return Err(Fail::from("a request has not one value"));
+    };
+    Ok(Text::from_str(alloc, value.as_str())?)
+}
+
+/// How many requests the second sources of both lanes were asked together.
+fn listed_times<S: Source>(failed: &Lane<S>, other: &Lane<S>) -> usize {
+    match (failed.kinds.as_slice(), other.kinds.as_slice()) {
+        ([_, one], [_, two]) => asked(one).saturating_add(asked(two)),
+        _ => 0,
+    }
+}
+
+/// Whether the first lane is stopped and the second is not, each was asked for one of the two profiles, and the directory was listed once.
+fn first_alone_stopped<S: Source>(alloc: Global, lanes: &[Lane<S>]) -> Result<bool, Fail> {
+    let [failed, other] = lanes else {
+        return Err(Fail::from("there are not two lanes"));
+    };
+    let one = looked_up(alloc, failed)?;
+    let two = looked_up(alloc, other)?;
+    let both = one.as_str() == "1" && two.as_str() == "3"
+        || one.as_str() == "3" && two.as_str() == "1";
+    Ok(both && listed_times(failed, other) == 1 && failed.stopped && !other.stopped)
+}
+
+/// Whether a run of two workers reports the failed look-up of the first lane, and the second lane has done its own.
+fn fails_on_the_first<R: Threads + Sync>(
+    rt: &R,
+    alloc: Global,
+    called: &AtomicU64,
+    met: &AtomicU64,
+) -> Result<bool, Fail> {
+    let faults = Faults {
+        call: 1,
+        ..NO_FAULTS
+    };
+    let mut lanes = Vec::new(alloc);
+    lanes.push(lane_of_two_kinds(alloc, faults, called, met)?)?;
+    lanes.push(lane_of_two_kinds(alloc, NO_FAULTS, called, met)?)?;
+    let mut outside = outside(alloc, NO_FAULTS)?;
+    let words = ["run", "two.pdq", "q.sql", "--workers", "2"];
+    let code = ran(rt, alloc, &words, &mut outside, &mut lanes)?;
+    let wrote = &outside.outputs;
+    let line = "call failed in branch 1 step 2\n";
+    let reported = are_first_then(wrote.err.bytes(), PLAN, PLAN.len(), line);
+    Ok(
+        code == 5
+            && reported
+            && wrote.out.bytes().is_empty()
+            && first_alone_stopped(alloc, lanes.as_slice())?,
+    )
+}
+
+// The look-ups of both lanes are under way when one of them fails.
+#[test]
+fn a_failed_call_leaves_that_of_the_other_lane(rt: HostRuntime) -> Result<(), Fail> {
+    let called = AtomicU64::new(0);
+    let met = AtomicU64::new(0);
+    assert!(rt; fails_on_the_first(&rt, rt.alloc(), &called, &met)?);
+    assert_eq!(rt; met.load(Ordering::SeqCst), 2);
     Ok(())
 }

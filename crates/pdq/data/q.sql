@@ -1,1 +1,1 @@
-SELECT DISTINCT b FROM r
+SELECT DISTINCT eid, onum FROM profinfo WHERE lname = 'smith'

@@ -1,5 +1,6 @@
 // Proofs over small schemas, with firings, facts and known values that are worked out by hand.
 mod calls;
+mod closings;
 mod listing;
 mod looks;
 mod marks;
