@@ -1,0 +1,1 @@
+SELECT DISTINCT a FROM r WHERE a = '1' AND a = '2'
