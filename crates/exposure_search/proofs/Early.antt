@@ -31,11 +31,11 @@ use Rattle.exposure_search.proofs.Serving.{adds_same}
 use Rattle.exposure_search.proofs.Opened.{opened, candidate_for, open_exactly}
 use Rattle.exposure_search.proofs.Steps.{walked}
 
--- ---- a set at whose facts no rule that counts can fire, without a match
+-- ---- a set whose facts have no goal, as no rule that counts can fire and there is no match, or as has been seen of the path's facts
 
 module _ (schema : SchemaParts) (proof : Proving) (path : List Move) (set : List Bool) (walk : IsWalk (IsOpen schema proof.constants proof.end.base) (no_facts (length proof.end.base)) path set) where
   -- the facts of the set are those of the path
-  along_same : AreSame (picked proof.end.base set) (facts_along proof.end.base path)
+  pub along_same : AreSame (picked proof.end.base set) (facts_along proof.end.base path)
   along_same =
       let its = walked schema proof.constants proof.end.base path (no_facts (length proof.end.base)) set [] (none_same proof.end.base) walk in
       subst (λ gs. AreSame (picked proof.end.base set) gs) (sym its.facts) its.same
@@ -59,13 +59,16 @@ module _ (schema : SchemaParts) (proof : Proving) (path : List Move) (set : List
         (needed_stay schema.rules proof.end.next (IsWanted queries head relevant.wanted) relevant.closed.bodies marks.makers.items relevant.makers facts cannot log begun last (omega arith) (λ f wants there. there) run
         (ground a atom) (inl (goal, among, (atom, of_goal, record { assignment = a; heads = e; makes = refl }))) (are atom of_goal)) refl
 
-    pub bare_end : IsProofOf schema proof → AreShort schema.rules → AreRelevant schema proof.constants proof.end.base proof.end.next queries head marks → CannotMake schema.rules marks.makers.items (facts_along proof.end.base path) → CannotMatch queries (facts_along proof.end.base path) →
-        IsVisitEnd (exploring_of schema proof queries head budget marks) path set end.NoGoal 0
-    bare_end is short relevant cannot unmatched =
+    -- where the facts of the path have no goal, the set has none
+    pub none_along : (HasGoalFrom schema queries head proof.end.next (facts_along proof.end.base path) → ⊥) → HasGoalFrom schema queries head proof.end.next (picked proof.end.base set) → ⊥
+    none_along none has = none (goal_same schema queries head proof.end.next (picked proof.end.base set) (facts_along proof.end.base path) along_same has)
+
+    pub bare_end : (HasGoalFrom schema queries head proof.end.next (picked proof.end.base set) → ⊥) → IsVisitEnd (exploring_of schema proof queries head budget marks) path set end.NoGoal 0
+    bare_end none =
         let (firings, tried) = (is_space schema proof.constants proof.end.base proof.end.next (length (bases_of (log_of proof)))).runs path set walk in
         record {
           goal = λ e. absurd (cc);
-          none = λ e has. none_bare is short relevant cannot unmatched has;
+          none = λ e has. none has;
           long = λ e. absurd (cc);
           due = λ e. absurd (cc);
           run = (firings, tried, omega arith);

@@ -16,6 +16,7 @@ pub mod MovesFrom
 pub mod CandidateLists
 pub mod Opened
 pub mod Early
+pub mod Refuted
 pub mod Visited
 pub mod Explored
 pub mod Growing

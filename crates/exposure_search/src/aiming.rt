@@ -6,7 +6,7 @@ ghost use Rattle.rule_pass.specs.declared.pass.TheConstants.{MOST_FIRINGS};
 ghost use Rattle.accessible_copy.specs.Goals.{IsCounted};
 ghost use Rattle.exposure_search.specs.Making.{IsBaseProof};
 ghost use Rattle.exposure_search.specs.Exploring.{exploring_of};
-ghost use Rattle.exposure_search.specs.Aims.{space_of, IsAimed};
+ghost use Rattle.exposure_search.specs.Aims.{space_of, IsAimed, AreNamedFor};
 
 use crate::candidate_index::CandidateIndex;
 use crate::candidates::{Candidate, candidates_of};
@@ -51,6 +51,7 @@ impl<'a> Aim<'a> {
         requires counted { (query : Query) → Contains queries.now query → IsCounted query }
         requires few { length queries.now ≤ 2 ^ 32 }
         requires budget { budget ≤ MOST_FIRINGS }
+        requires named { AreNamedFor (meaning_of schema.now) proof.now.constants proof.now.end.base proof.now.end.next queries.now head.now }
         ensures space { IfOk result (λ aim. space_of aim proof.now ≡
             exploring_of (meaning_of schema.now) proof.now queries.now head.now budget aim.marks) }
         ensures aimed { IfOk result (λ aim. IsAimed aim proof.now) }

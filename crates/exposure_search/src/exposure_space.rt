@@ -7,6 +7,7 @@ ghost use Rattle.accessible_copy.specs.Goals.{IsCounted, IsGoal};
 ghost use Rattle.least_search.specs.Walks.{IsWalk, no_facts};
 ghost use Rattle.exposure_search.specs.Making.{IsBaseProof};
 ghost use Rattle.exposure_search.specs.Exploring.{exploring_of, space_size, CanExpose, GainsAt, HasGoalAt, HasMatchAt, HasTry, HasRunBeyond, IsFounded};
+ghost use Rattle.exposure_search.specs.Aims.{AreNamedFor};
 ghost use Rattle.exposure_search.specs.Visiting.{IsReached};
 ghost use Rattle.exposure_search.specs.Spaces.{explored_is_space};
 
@@ -59,6 +60,7 @@ impl<'a> ExposureSpace<'a> {
         requires counted { (query : Query) → Contains queries.now query → IsCounted query }
         requires few { length queries.now ≤ 2 ^ 32 }
         requires budget { budget ≤ MOST_FIRINGS }
+        requires named { AreNamedFor (meaning_of schema.now) proof.constants proof.end.base proof.end.next queries.now head.now }
         ensures space { IfOk result (λ space. space ≡ exploring_of (meaning_of schema.now) proof queries.now head.now budget space.marks) }
         ensures founded { IfOk result (λ space. IsFounded space) }
     {

@@ -44,7 +44,7 @@ pub(crate) fn go_along(
 }
 
 /// The base fact with this number.
-fn fact_at(facts: &[Ground], number: usize) -> &Ground
+pub(crate) fn fact_at(facts: &[Ground], number: usize) -> &Ground
     requires { number < length facts.now }
     ensures { result.now ≡ fact_at facts.now number }
 {

@@ -17,6 +17,7 @@ mod looking;
 mod makers;
 mod marks;
 mod quieting;
+mod refuting;
 mod relevance;
 mod visiting;
 mod wanted;

@@ -1,5 +1,5 @@
 // A visit of a set.
-ghost use Rattle.std.specs.Prelude.{◌≡◌, ◌<◌, ◌≤◌, ◌⊎◌, Contains, IfOk, OnOk, IfSome, IfNone, false};
+ghost use Rattle.std.specs.Prelude.{◌≡◌, ◌<◌, ◌≤◌, ◌⊎◌, Contains, IfOk, OnOk, IfSome, IfNone, Ok, true, false};
 ghost use Rattle.access_schema.specs.Meaning.{meaning_of};
 ghost use Rattle.accessible_copy.specs.Proving.{IsProofOf};
 ghost use Rattle.accessible_copy.specs.Goals.{IsGoal};
@@ -21,6 +21,7 @@ use crate::going::go_along;
 use crate::listing::active_moves;
 use crate::looking::look;
 use crate::quieting::{may_fire, may_match};
+use crate::refuting::is_refuted;
 use accessible_copy::{Match, Proof, goal, mark, settle, undo};
 use least_search::{End, Move, Visit};
 use lists::NoMemory;
@@ -28,8 +29,8 @@ use lists::NoMemory;
 /// Goes along the path, settles the copy there with at most `room` firings, looks for a match, undoes the copy firings, and lists
 /// the moves of relevant facts from there that gain something and cost less than `below`.
 ///
-/// Where the relations of the path's facts show that there is no match, nothing is exposed: the moves are those of candidates that can
-/// be made from these facts.
+/// Where the relations of the path's facts or a closing of these show that there is no goal, nothing is exposed: the moves are those of
+/// candidates that can be made from these facts.
 pub(crate) fn visit_set(
     aim: &Aim,
     proof: &mut Proof,
@@ -50,7 +51,7 @@ pub(crate) fn visit_set(
         aim.facts.as_slice(),
         path,
     );
-    if fires || needs_look(aim, path) {
+    if !is_bare(aim, proof, path, set, fires)? {
         return visit_copy(aim, proof, path, set, fires, room, below);
     }
     let moves = moves_from(
@@ -66,6 +67,26 @@ pub(crate) fn visit_set(
         fired: 0,
         moves,
     })
+}
+
+/// Whether the path's facts are seen to have no goal before they are exposed: by a closing where a rule on which a match can rest
+/// `fires`, and else by their relations.
+fn is_bare(
+    aim: &Aim,
+    proof: &Proof,
+    path: &[Move],
+    set: &[bool],
+    fires: bool,
+) -> Result<bool, NoMemory>
+    requires aimed { IsAimed aim.now proof.now }
+    requires walk { LeadsTo (space_of aim.now proof.now) path.now set.now }
+    requires still { fires ≡ false → CannotMake aim.now.schema.now.rules aim.now.marks.makers.items (facts_along aim.now.facts.items path.now) }
+    ensures { result ≡ Ok true → HasGoalAt (space_of aim.now proof.now) set.now → ⊥ }
+{
+    if fires {
+        return is_refuted(aim, proof, path, set);
+    }
+    Ok(!needs_look(aim, path))
 }
 
 /// Whether the copy has to be looked at: the path takes more firings than a run may have, or its facts have one of each relation of

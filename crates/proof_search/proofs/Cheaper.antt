@@ -9,14 +9,12 @@ use Rattle.meaning.specs.declared.types.Firing.{Firing}
 use Rattle.meaning.specs.declared.types.Val.{Val}
 use Rattle.meaning.specs.Values.{Value}
 use Rattle.meaning.specs.Plans.{IsWellFormed}
-use Rattle.meaning.specs.Triggers.{IsFiringRun, IsQuiet, ground}
+use Rattle.meaning.specs.Triggers.{IsFiringRun, IsQuiet}
 use Rattle.meaning.specs.Runs.{Proof, IsRun, base_state, opening, frozen_head}
 use Rattle.meaning.specs.Fitting.{Fit, RulesFit, QueryFits, QueryHasConstants}
 use Rattle.meaning.specs.Extract.{IsBase, IsExposing, HasGoalAfter, exposures_cost}
 use Rattle.meaning.proofs.Steps.{cost_once}
 use Rattle.meaning_laws.proofs.Carrying.{run_fires}
-use Rattle.meaning_laws.proofs.Keeping.{run_keeps, named_more}
-use Rattle.meaning_laws.proofs.Kept.{kept_opening}
 use Rattle.meaning_laws.proofs.Rivals.{rival_exposes}
 use Rattle.access_schema.specs.Meaning.{meaning_of}
 use Rattle.access_schema.proofs.Keeping.{well_formed, rules_fit}
@@ -31,7 +29,7 @@ use Rattle.least_search.specs.declared.search.Ended.{Ended}
 use Rattle.least_search.specs.declared.search.Ended.TheVariants as ended
 use Rattle.least_search.specs.Walks.{CanGain, GoalsGrow, IsNode, walk_cost}
 use Rattle.least_search.specs.Costs.{IsLeastCost, IsEnough as ServesRuns}
-use Rattle.exposure_search.specs.Exploring.{Exploring, exploring_of, IsFounded, space_size, CanExpose, GainsAt, HasGoalAt, HasMatchAt, HasTry, IsRunBeyond, HasRunBeyond}
+use Rattle.exposure_search.specs.Exploring.{Exploring, exploring_of, IsFounded, space_size, CanExpose, GainsAt, HasGoalAt, HasMatchAt, HasTry, HasRunBeyond}
 use Rattle.exposure_search.proofs.Explored.{least_found, tries_within, match_goal}
 use Rattle.exposure_search.proofs.Growing.{goals_grown}
 use Rattle.accessible_copy.specs.Proving.{Proving, IsProofOf}
@@ -43,6 +41,7 @@ use Rattle.plan_extract.specs.Arranged.{IsArrangedBranch}
 use Rattle.plan_extract.proofs.Shown.{same_shown}
 use Rattle.proof_search.specs.Searches.{AreSearchable}
 use Rattle.proof_search.specs.Chosen.{IsRunOf, NoneIsEnough, HasLongRun}
+use Rattle.proof_search.proofs.Based.{base_from}
 use Rattle.proof_search.specs.Choices.{IsLeastFor, CostsAtMost, IsSpaceOf, IsSaidFor}
 use Rattle.proof_search.specs.declared.question.Question.{Question}
 use Rattle.proof_search.specs.Questions.{IsQuestion, IsBranchOn, IsSpaceOn, IsChoiceOn}
@@ -75,15 +74,7 @@ module _ (schema : SchemaParts) (queries : List Query) (query : Query) (firings 
     -- the base state is one for the query
     base_is : IsBase schema space.constants query space.base (frozen_head query)
     base_is =
-        let kept = kept_opening schema space.constants query fits its in
-        let on = run_keeps schema space.constants space.log (base_state (opening query)) space.base rules kept.base_named kept.base_fits opened in
-        record {
-          quiet = subst (λ (s : SchemaParts). IsQuiet s.rules space.base) is.schema_is is.founded.quiet;
-          named = on.named;
-          fits = on.fit;
-          answered = (kept.answered.0, (λ atom among. on.grows (ground kept.answered.0 atom) (kept.answered.1 atom among)), kept.answered.2);
-          head_named = λ v c. named_more space.constants query.variables space.base.next v on.next (kept.head_named v c);
-        }
+        base_from schema space.constants query rules fits its space.log space.base opened (subst (λ (s : SchemaParts). IsQuiet s.rules space.base) is.schema_is is.founded.quiet)
 
     -- what the search has shown is the least cost of a rival
     pub least_for : IsWellFormed schema → AreShort schema.rules → (best : ℕ) → IsLeastCost (space_size space) (CanGain (CanExpose space) (GainsAt space)) (HasGoalAt space) best → (branch : Branch) → CostsAtMost schema branch best →

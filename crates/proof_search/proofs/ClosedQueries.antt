@@ -1,12 +1,10 @@
 -- What a search over a query closed under the rules says of the query.
-use Rattle.std.proofs.Common.{◌≡◌, ℕ, List, map, sym, ap, ◌∙◌, subst}
-use Rattle.std.specs.Prelude.{Contains}
+use Rattle.std.proofs.Common.{◌≡◌, ℕ, map, sym, ap, ◌∙◌, subst}
 use Rattle.meaning.specs.declared.types.Branch.{Branch}
 use Rattle.meaning.specs.declared.types.Query.{Query}
 use Rattle.meaning.specs.declared.types.Val.TheVariants.{Const, Label}
-use Rattle.meaning.specs.Values.{Value}
 use Rattle.meaning.specs.Matching.{value_of}
-use Rattle.meaning.specs.Runs.{opening}
+use Rattle.meaning.specs.Runs.{opening, frozen_head}
 use Rattle.meaning.specs.Fitting.{RulesFit, QueryFits, QueryHasConstants}
 use Rattle.access_schema.specs.Meaning.{meaning_of}
 use Rattle.access_schema.proofs.Keeping.{well_formed, rules_fit}
@@ -15,12 +13,15 @@ use Rattle.rule_pass.proofs.Chains.{are_short}
 use Rattle.least_search.specs.Walks.{CanGain, GoalsGrow}
 use Rattle.least_search.specs.Costs.{IsLeastCost}
 use Rattle.accessible_copy.specs.Proving.{Proving}
+use Rattle.exposure_search.specs.Making.{IsBaseProof}
+use Rattle.exposure_search.specs.Aims.{AreNamedFor}
 use Rattle.exposure_search.specs.Exploring.{Exploring, exploring_of, IsFounded, space_size, CanExpose, GainsAt, HasGoalAt}
 use Rattle.small_base.specs.Closed.{IsClosed}
 use Rattle.small_base.proofs.Refuting.{rivals_of_more}
 use Rattle.proof_search.specs.Choices.{IsLeastFor, CostsAtMost, IsSpaceOf}
 use Rattle.proof_search.specs.declared.question.Question.{Question}
 use Rattle.proof_search.specs.Questions.{IsQuestion}
+use Rattle.proof_search.proofs.Based.{named_for}
 use Rattle.proof_search.proofs.Cheaper.{goals_at, least_for}
 
 module _ (question : Question) (is : IsQuestion question) (more : Query) (closed : IsClosed (meaning_of question.schema.now) question.query.now more) where
@@ -33,6 +34,15 @@ module _ (question : Question) (is : IsQuestion question) (more : Query) (closed
   known_more : QueryHasConstants question.known.now more
   known_more = closed.constants question.known.now known_rules.have (is.queries question.query.now is.among).constants
 
+  -- the head of the question is the frozen one of the closed query
+  head_more : question.head.now ≡ frozen_head more
+  head_more = is.head ∙ ap (map (value_of Const Label)) (sym closed.more_atoms.head)
+
+  -- what stands in its base has names
+  pub named_over : (base : Proving) → IsBaseProof (meaning_of question.schema.now) base → base.start ≡ opening more → base.constants ≡ question.known.now →
+      AreNamedFor (meaning_of question.schema.now) base.constants base.end.base base.end.next question.queries.now question.head.now
+  named_over = named_for question is more fits_more known_more head_more
+
   module _ (base : Proving) (start : base.start ≡ opening more) (constants : base.constants ≡ question.known.now) (space : Exploring)
       (e : space ≡ exploring_of (meaning_of question.schema.now) base question.queries.now question.head.now question.firings space.marks) (founded : IsFounded space) where
     space_over : IsSpaceOf (meaning_of question.schema.now) question.queries.now more question.firings space
@@ -40,7 +50,7 @@ module _ (question : Question) (is : IsQuestion question) (more : Query) (closed
       schema_is = ap (λ (x : Exploring). x.schema) e;
       start = ap (λ (x : Exploring). x.start) e ∙ start;
       queries_are = ap (λ (x : Exploring). x.queries) e;
-      head = ap (λ (x : Exploring). x.head) e ∙ is.head ∙ ap (map (value_of Const Label)) (sym closed.more_atoms.head);
+      head = ap (λ (x : Exploring). x.head) e ∙ head_more;
       budget = ap (λ (x : Exploring). x.budget) e;
       founded = founded;
     }

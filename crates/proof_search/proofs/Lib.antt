@@ -3,6 +3,7 @@ pub mod Literals
 pub mod Searching
 pub mod Found
 pub mod Formed
+pub mod Based
 pub mod Cheaper
 pub mod ClosedQueries
 mod Parts

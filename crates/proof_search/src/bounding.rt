@@ -7,7 +7,7 @@ ghost use Rattle.small_base.specs.Closed.{IsClosed};
 ghost use Rattle.proof_search.specs.Choices.{IsLeastFor};
 ghost use Rattle.proof_search.specs.Questions.{IsQuestion, IsBranchOn, IsChoiceOn};
 
-use crate::choosing::search_below;
+use crate::choosing::{choose, search_below};
 use crate::outcome::Choice;
 use crate::question::Question;
 use access_cost::{Least, cost};
@@ -21,11 +21,37 @@ use std::alloc::Global;
 /// The most facts of a small base.
 const MOST_CLOSED: u32 = 1024;
 
-/// The choice; and where it is not said of its branch that no rival costs less, a search over a small base may show that.
+/// The first branch of a query, or one that costs less, and what is known of its cost.
 ///
-/// That search has `search` units of its own. What it says of units and firings that are spent is not of the query, and is dropped. Where
-/// no units are given, nothing is looked for.
+/// A search over a small base may show that the first branch costs the least, and then nothing else is searched. It has `search` units of
+/// its own. What it says of units and firings that are spent is not of the query, and is dropped. Else the query's own base is searched, and
+/// a cheaper branch that comes of it is looked at over the small base as well. Where no units are given, nothing is looked for.
 pub fn bounded(
+    alloc: Global,
+    question: &Question<'_>,
+    first: Branch,
+    search: u32,
+) -> Result<Choice, NoMemory>
+    requires question { IsQuestion question.now }
+    requires first { IsBranchOn question.now first }
+    ensures { IfOk result (IsChoiceOn question.now search) }
+{
+    if search > 0 && is_least(alloc, question, &first, search)? {
+        return Ok(Choice {
+            branch: first,
+            least: Least::Shown,
+        });
+    }
+    let bound = cost(&first, question.schema);
+    let choice = choose(alloc, question, first, search)?;
+    if search == 0 || cost(&choice.branch, question.schema) >= bound {
+        return Ok(choice);
+    }
+    bounded_again(alloc, question, choice, search)
+}
+
+/// The choice; and where it is not said of its branch that no rival costs less, a search over a small base may show that.
+fn bounded_again(
     alloc: Global,
     question: &Question<'_>,
     choice: Choice,
@@ -36,10 +62,7 @@ pub fn bounded(
     ensures { IfOk result (IsChoiceOn question.now search) }
 {
     let Choice { branch, least } = choice;
-    if search == 0 || least == Least::Shown {
-        return Ok(Choice { branch, least });
-    }
-    if is_least(alloc, question, &branch, search)? {
+    if least != Least::Shown && is_least(alloc, question, &branch, search)? {
         return Ok(Choice {
             branch,
             least: Least::Shown,

@@ -10,7 +10,6 @@ ghost use Rattle.proof_search.specs.Questions.{IsQuestion, IsSearchFor, IsOutcom
 
 use crate::attempting::attempted;
 use crate::bounding::bounded;
-use crate::choosing::choose;
 use crate::exposing::Turn;
 use crate::outcome::{Outcome, QueryOutcome};
 use crate::proving::prove;
@@ -98,8 +97,7 @@ fn outcome_for(
     ensures { IfOk result (IsOutcomeOn question.now search) }
 {
     if let Some(first) = attempted(alloc, question, search)? {
-        let choice = choose(alloc, question, first, search)?;
-        return Ok(QueryOutcome::Branch(bounded(alloc, question, choice, search)?));
+        return Ok(QueryOutcome::Branch(bounded(alloc, question, first, search)?));
     }
     let (proof, quiet) = prove(alloc, question, Turn::All)?;
     let outcome = outcome_of(alloc, question, &proof, quiet, search);
@@ -125,8 +123,7 @@ fn outcome_of(
     match branch_in(alloc, question, proof)? {
         Some(first) => {
             let branch = spare(alloc, question, first, proof.sizes().base, search)?;
-            let choice = choose(alloc, question, branch, search)?;
-            Ok(QueryOutcome::Branch(bounded(alloc, question, choice, search)?))
+            Ok(QueryOutcome::Branch(bounded(alloc, question, branch, search)?))
         }
         None => without_goal(alloc, proof, quiet, question.known, question.head),
     }

@@ -1,16 +1,20 @@
-use Rattle.std.proofs.Common.{List, ℕ, subst, arith}
+use Rattle.std.proofs.Common.{List, ℕ, Ok, ap, subst, arith}
 use Rattle.meaning.specs.declared.types.Ground.{Ground}
 use Rattle.meaning.specs.declared.types.Rule.{Rule}
-use Rattle.rule_pass.proofs.Bounds.{orderly}
-use Rattle.rule_pass.proofs.Chains.{are_short}
 use Rattle.access_schema.specs.Meaning.{meaning_of}
 use Rattle.exposure_search.specs.declared.candidates.Candidate.{Candidate}
-use Rattle.exposure_search.specs.Making.{CannotMake}
-use Rattle.exposure_search.specs.Ahead.{CannotFire, CannotMatch, facts_along}
+use Rattle.exposure_search.specs.Ahead.{CannotFire, facts_along}
 use Rattle.exposure_search.specs.Candidates.{AreCandidates, AreMovesFrom}
 use Rattle.exposure_search.proofs.Missing.{cannot_make}
 use Rattle.exposure_search.proofs.Early.{bare_end, bare_moves}
 use Rattle.exposure_search.proofs.visiting.visit_set.Goals as goal
+
+pub is_bare-requires-clause-still : goal.is_bare-requires-clause-still
+is_bare-requires-clause-still c off =
+    cannot_make c.args.aim.now.schema.now.rules c.args.aim.now.marks.makers.items c.args.aim.now.makers.items (facts_along c.args.aim.now.facts.items c.args.path.now) c.requires.aimed.makers
+    (subst (λ (facts : List Ground). CannotFire c.args.aim.now.schema.now.rules c.args.aim.now.makers.items (facts_along facts c.args.path.now)) c.as_slice-3.ensures.value
+    (subst (λ (makers : List ℕ). CannotFire c.args.aim.now.schema.now.rules makers (facts_along c.as_slice-3.result.now c.args.path.now)) c.as_slice-2.ensures.value
+    (subst (λ (rules : List Rule). CannotFire rules c.as_slice-2.result.now (facts_along c.as_slice-3.result.now c.args.path.now)) c.as_slice.ensures (c.may_fire-fires.ensures off))))
 
 pub visit_copy-requires-clause-still : goal.visit_copy-requires-clause-still
 visit_copy-requires-clause-still c off =
@@ -21,14 +25,8 @@ visit_copy-requires-clause-still c off =
 
 pub returns-clause-visit : goal.returns-clause-visit
 returns-clause-visit c = record {
-  ended = bare_end (meaning_of c.args.aim.now.schema.now) c.args.proof.now c.args.path.now c.args.set.now c.requires.walk c.args.aim.now.queries.now c.args.aim.now.head.now c.args.aim.now.budget c.args.aim.now.marks c.requires.aimed.ready.exposes.run
-      (are_short c.args.aim.now.schema.now.rules (orderly c.args.aim.now.schema.now).non_recursive) c.requires.aimed.ready.relevant
-      (subst (λ (facts : List Ground). CannotMake c.args.aim.now.schema.now.rules c.args.aim.now.marks.makers.items (facts_along facts c.args.path.now)) c.requires.aimed.ready.facts_are
-      (cannot_make c.args.aim.now.schema.now.rules c.args.aim.now.marks.makers.items c.args.aim.now.makers.items (facts_along c.args.aim.now.facts.items c.args.path.now) c.requires.aimed.makers
-      (subst (λ (facts : List Ground). CannotFire c.args.aim.now.schema.now.rules c.args.aim.now.makers.items (facts_along facts c.args.path.now)) c.as_slice-3.ensures.value
-      (subst (λ (makers : List ℕ). CannotFire c.args.aim.now.schema.now.rules makers (facts_along c.as_slice-3.result.now c.args.path.now)) c.as_slice-2.ensures.value
-      (subst (λ (rules : List Rule). CannotFire rules c.as_slice-2.result.now (facts_along c.as_slice-3.result.now c.args.path.now)) c.as_slice.ensures (c.may_fire-fires.ensures c.if-fires.false))))))
-      (subst (λ (facts : List Ground). CannotMatch c.args.aim.now.queries.now (facts_along facts c.args.path.now)) c.requires.aimed.ready.facts_are (c.needs_look.ensures c.if-needs_look.false));
+  ended = bare_end (meaning_of c.args.aim.now.schema.now) c.args.proof.now c.args.path.now c.args.set.now c.requires.walk c.args.aim.now.queries.now c.args.aim.now.head.now c.args.aim.now.budget c.args.aim.now.marks
+      (c.in_ok-is_bare.ensures (ap Ok c.if-not-branch.false));
   few = omega arith;
   spent = λ e. absurd (cc);
   moves = bare_moves (meaning_of c.args.aim.now.schema.now) c.args.proof.now c.args.path.now c.args.set.now c.requires.walk c.args.aim.now.queries.now c.args.aim.now.head.now c.args.aim.now.budget c.args.aim.now.marks c.requires.aimed.ready.exposes.run

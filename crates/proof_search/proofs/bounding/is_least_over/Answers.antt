@@ -6,12 +6,16 @@ use Rattle.least_search.specs.Walks.{CanGain}
 use Rattle.least_search.specs.Costs.{IsLeastCost, best_cost}
 use Rattle.exposure_search.specs.Exploring.{space_size, CanExpose, GainsAt, HasGoalAt}
 use Rattle.proof_search.specs.Choices.{CostsAtMost}
-use Rattle.proof_search.proofs.ClosedQueries.{goals_over, least_over}
+use Rattle.proof_search.proofs.ClosedQueries.{named_over, goals_over, least_over}
 use Rattle.proof_search.proofs.bounding.is_least_over.Goals as goal
 
 pub cost-bound-requires-clause-named : goal.cost-bound-requires-clause-named
 cost-bound-requires-clause-named c =
     let question = c.args.question.now in lawful_named (meaning_of question.schema.now) question.known.now 0 c.args.branch.now.steps c.args.branch.now.output c.requires.branch.rival.lawful
+
+pub new-requires-clause-named : goal.new-requires-clause-named
+new-requires-clause-named c =
+    named_over c.args.question.now c.requires.question c.args.more.now c.requires.closed c.in-Some.base (rw c.in-Some.is at c.in_ok-made.ensures.base) (rw c.in-Some.is at c.in_ok-made.ensures.start) (rw c.in-Some.is at c.in_ok-made.ensures.constants)
 
 pub search_below-found-requires : goal.search_below-found-requires
 search_below-found-requires c =

@@ -7,12 +7,19 @@ use Rattle.least_search.specs.Costs.{IsLeastCost, best_cost}
 use Rattle.exposure_search.specs.Exploring.{space_size, CanExpose, GainsAt, HasGoalAt}
 use Rattle.proof_search.specs.Choices.{CostsAtMost}
 use Rattle.proof_search.specs.Questions.{IsBranchOn, IsSpaceOn}
+use Rattle.proof_search.proofs.Based.{named_for}
 use Rattle.proof_search.proofs.Cheaper.{space_on, goals_here, chosen_on}
 use Rattle.proof_search.proofs.choosing.choose_over.Goals as goal
 
 pub cost-bound-requires-clause-named : goal.cost-bound-requires-clause-named
 cost-bound-requires-clause-named c =
     let question = c.args.question.now in lawful_named (meaning_of question.schema.now) question.known.now 0 c.args.first.steps c.args.first.output c.requires.first.rival.lawful
+
+pub new-requires-clause-named : goal.new-requires-clause-named
+new-requires-clause-named c =
+    let question = c.args.question.now in
+    let can = c.requires.question.queries question.query.now c.requires.question.among in
+    named_for question c.requires.question question.query.now can.fits can.constants c.requires.question.head c.args.base c.requires.base c.requires.start c.requires.constants
 
 pub search_below-requires : goal.search_below-requires
 search_below-requires c =

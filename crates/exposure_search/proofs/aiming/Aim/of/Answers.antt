@@ -37,5 +37,6 @@ returns-clause-aimed c = record {
   };
   makers = subst (λ (marks : List Bool). AreTheMarked marks c.in_ok-makers.makers.items) c.as_slice-2.ensures.value c.in_ok-makers.ensures;
   candidates = subst (λ (facts : List Ground). AreCandidates c.args.schema.now.methods c.args.proof.now.constants facts c.in_ok-marks.marks c.in_ok-candidates.candidates.items) c.as_slice-3.ensures.value c.in_ok-candidates.ensures;
+  named = c.requires.named;
   index = subst (λ (candidates : List Candidate). IsCandidateIndex candidates c.in_ok-index.index) c.as_slice-4.ensures.value c.in_ok-index.ensures;
 }
