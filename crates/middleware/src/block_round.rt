@@ -106,8 +106,8 @@ pub fn next_blocks<R: Threads + Sync, S: Source + Send + Drop>(
     }
 }
 
-// Joins the blocks that a step asks by, and names its places by the columns of the join.
-fn asking_of(
+/// Joins the blocks that a step asks by, and names its places by the columns of the join.
+pub fn asking_of(
     alloc: Global,
     step: &Step,
     method: &Method,
@@ -136,8 +136,8 @@ fn asking_of(
     })
 }
 
-// Joins what a step gave with the other blocks that it names, and drops the columns that are named no more.
-fn checked_blocks(
+/// Joins what a step gave with the other blocks that it names, and drops the columns that are named no more.
+pub fn checked_blocks(
     alloc: Global,
     steps: &[Step],
     outs: &[Out],

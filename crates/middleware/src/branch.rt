@@ -131,8 +131,8 @@ fn stop_at(step: usize, made: u32, fault: RoundFault) -> BranchFault
     }
 }
 
-// Adds the outputs of the partial rows in blocks, but for most doubles. A block that the output does not name has a row, and adds nothing.
-fn add_outputs(
+/// Adds the outputs of the partial rows in blocks, but for most doubles. A block that the output does not name has a row, and adds nothing.
+pub fn add_outputs(
     alloc: Global,
     outs: &[Out],
     count: u32,

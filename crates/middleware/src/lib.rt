@@ -30,10 +30,15 @@ mod rounds;
 mod run_plan;
 mod whole_answer;
 
+pub use accesses::accessed;
 pub use answers::Answers;
+pub use block_round::{Asking, asking_of, checked_blocks};
+pub use blocks::Block;
+pub use branch::add_outputs;
 pub use fault::{Run, RunFault};
-pub use lane_round::{AskFault, ask_round};
-pub use lookup::line_of;
+pub use lane_round::{AskFault, ask_round, start};
+pub use lookup::{line_of, method_of};
 pub use needs::attach_needed;
+pub use round::{Wanted, join_answers, wanted_rows};
 pub use row_text::csv_text;
 pub use run_plan::{execute, execute_attached};

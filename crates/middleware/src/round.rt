@@ -115,8 +115,8 @@ fn join_wanted<R: Threads + Sync, S: Source + Send + Drop>(
     }
 }
 
-// The partial rows grown by the rows of the answers to their requests.
-fn join_answers(
+/// The partial rows grown by the rows of the answers to their requests.
+pub fn join_answers(
     alloc: Global,
     places: &[Place],
     inputs: &[u32],
@@ -145,8 +145,8 @@ pub struct Wanted {
     pub requests: PackedRows,
 }
 
-// The distinct partial rows, and what they ask for.
-fn wanted_rows(
+/// The distinct partial rows, and what they ask for.
+pub fn wanted_rows(
     alloc: Global,
     places: &[Place],
     inputs: &[u32],
