@@ -43,8 +43,9 @@ pub fn goal(
     Ok(None)
 }
 
-/// Values for the variables that make the atoms facts of the store, and the head these values.
-fn head_match(
+/// Values for the query's variables that make its atoms facts of the store and its head these values. None comes exactly
+/// where the values are no answer of the query.
+pub fn head_match(
     alloc: Global,
     query: &Query,
     store: &Store,

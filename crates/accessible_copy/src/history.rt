@@ -1,4 +1,4 @@
-// The log of a proof, to which passes write their firings.
+// The log of a proof, to which passes write their firings: a path of states, each with what its firing adds.
 ghost use Rattle.std.specs.Prelude.{◌≡◌, ◌+◌, ◌++◌, ◌∷◌, [], ℕ, OnOk, OnErr, length, take, slice_get, option_copied};
 ghost use Rattle.std.proofs.lemmas.List.{length_push};
 ghost use Rattle.meaning.specs.declared.types.Trigger.{Trigger};
@@ -8,13 +8,14 @@ use crate::entry::{Entry, Sizes};
 use lists::NoMemory;
 use meaning::types::{Firing, Trigger};
 use rule_pass::Log;
+use state_path::StatePath;
 use std::alloc::Global;
 use std::marker::Model;
 
 /// Entries, which kind the next trigger is, and the sizes that passes of this kind leave as they are.
 #[derive(Drop)]
 pub struct History {
-    entries: Vec<Entry>,
+    entries: StatePath<Entry>,
     copies: bool,
     held: Sizes,
 }
@@ -24,7 +25,7 @@ impl Model for History {
 
     ghost Value = { Written };
 
-    ghost view = { λ h. record { entries = h.entries.items; copies = h.copies; held = h.held } };
+    ghost view = { λ h. record { entries = h.entries; copies = h.copies; held = h.held } };
 }
 
 impl History {
@@ -33,7 +34,7 @@ impl History {
         ensures { result.entries ≡ [] }
     {
         History {
-            entries: Vec::new(alloc),
+            entries: StatePath::new(alloc),
             copies: false,
             held: Sizes {
                 base: 0,
@@ -65,8 +66,7 @@ impl History {
         ensures pushed { OnOk result (self.new ≡ record self.old { entries = self.old.entries ++ record { firing = firing; before = before } ∷ [] }) }
         ensures refused { OnErr result (self.new ≡ self.old) }
     {
-        self.entries.push(Entry { firing, before })?;
-        Ok(())
+        self.entries.push(Entry { firing, before })
     }
 
     /// Drops all entries behind the first `count`. Takes no memory.
@@ -121,14 +121,10 @@ impl Log for History {
     fn write_down(&mut self, trigger: Trigger, facts: usize) -> Result<(), NoMemory> {
         let before = sizes_at(self.copies, self.held, facts, trigger.fresh);
         let firing = firing_of(self.copies, trigger);
-        self.entries.push(Entry { firing, before })?;
-        Ok(())
+        self.entries.push(Entry { firing, before })
     }
 
     fn take_back(&mut self) {
-        let count = self.entries.len();
-        if count > 0 {
-            self.entries.truncate(count - 1);
-        }
+        self.entries.pop();
     }
 }

@@ -25,7 +25,7 @@ mod ways;
 
 pub use entry::{Entry, Exposed, Mark, Sizes};
 pub use exposing::expose;
-pub use goals::{Match, goal, no_values};
+pub use goals::{Match, goal, head_match, no_values};
 pub use going::goes_on;
 pub use holders::Holders;
 pub use listing::{exposures, indexed_exposures};

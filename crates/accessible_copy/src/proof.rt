@@ -75,13 +75,31 @@ impl Proof {
         ensures constants { IfOk result (λ proof. proof.constants ≡ known.now) }
         ensures empty { IfOk result (λ proof. proof.entries ≡ []) }
     {
-        let for_base = Positions::of_rules(alloc, schema.rules.as_slice())?;
-        let for_copy = looked_for(alloc, schema, goals)?;
+        let base = opening_state(
+            alloc,
+            query,
+            Positions::of_rules(alloc, schema.rules.as_slice())?,
+        )?;
+        let Ok(copy) = empty_copy(alloc, schema, query, goals) else {
+            drop(base);
+            return Err(NoMemory);
+        };
+        let Ok(known) = Known::start(alloc, known) else {
+            drop(copy);
+            drop(base);
+            return Err(NoMemory);
+        };
+        let Ok(opening) = opening_state(alloc, query, Positions::none(alloc)) else {
+            drop(known);
+            drop(copy);
+            drop(base);
+            return Err(NoMemory);
+        };
         Ok(Proof {
-            opening: opening_state(alloc, query, Positions::none(alloc))?,
-            base: opening_state(alloc, query, for_base)?,
-            copy: State::start(alloc, Vec::new(alloc), query.variables, for_copy)?,
-            known: Known::start(alloc, known)?,
+            opening,
+            base,
+            copy,
+            known,
             history: History::new(alloc),
             open_facts: None,
         })
@@ -196,6 +214,19 @@ pub fn opening_state(alloc: Global, query: &Query, positions: Positions) -> Resu
 {
     let facts = ground_under(alloc, query.atoms.as_slice(), &Freezing)?;
     Ok(State::start(alloc, facts, query.variables, positions)?)
+}
+
+/// A copy without facts, made for matches of the goals, with the variables of the query as labels that are taken.
+fn empty_copy(
+    alloc: Global,
+    schema: &Schema,
+    query: &Query,
+    goals: &Queries,
+) -> Result<State, NoMemory>
+    ensures { IfOk result (λ state. state ≡ record { facts = []; next = query.now.variables }) }
+{
+    let positions = looked_for(alloc, schema, goals)?;
+    Ok(State::start(alloc, Vec::new(alloc), query.variables, positions)?)
 }
 
 /// The positions that the rules look for, and all of the goals' atoms.
