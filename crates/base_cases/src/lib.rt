@@ -13,3 +13,7 @@ mod of_meaning;
 mod of_pq_text;
 #[cfg(test)]
 mod of_row_text;
+#[cfg(test)]
+mod of_shared_rounds;
+#[cfg(test)]
+mod of_state_path;

@@ -1,0 +1,6 @@
+pub mod Turning
+pub mod Adding
+pub mod Rounding
+pub mod Booking
+pub mod Counting
+pub mod Again

@@ -1,0 +1,2 @@
+pub mod SharedRounds
+pub mod Books

@@ -1,0 +1,7 @@
+//! Rounds that plans share.
+#![tactic(auto)]
+
+mod book;
+pub mod laws;
+
+pub use book::{Book, Shelf};
