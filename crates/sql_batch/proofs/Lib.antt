@@ -1,0 +1,4 @@
+pub mod Queries
+pub mod Answering
+pub mod Unique
+pub mod Single
