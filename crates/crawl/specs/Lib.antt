@@ -1,4 +1,6 @@
-pub mod Rows
-pub mod Rounds
-pub mod Lent
-pub mod Log
+pub mod Crawling
+pub mod Knowing
+pub mod Progress
+pub mod Asking
+pub mod Rounding
+pub mod Reaching

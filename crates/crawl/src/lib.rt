@@ -1,15 +1,14 @@
-//! A crawl: everything that the methods reach is asked for, round by round, until nothing new can be asked.
+//! Everything that the methods of a schema reach: lanes of sources crawled, round by round.
 //!
-//! So far the rounds by themselves, without sources. Begin at `specs/Rows.antt`, `specs/Rounds.antt` and `specs/Log.antt`,
-//! which find a round's requests from the known values; `src/laws.rt` says that they are those of `meaning`, by its
-//! `specs/Crawls.antt`.
+//! Crates above call `crawl` of `src/lanes.rt`. Begin at `specs/Crawling.antt`, which says what it promises in the record `Crawls`.
 #![tactic(auto)]
 
-mod class_list;
-mod counting;
-pub mod laws;
-mod row_making;
+mod asks;
+mod known;
+mod lanes;
+mod progress;
+mod round;
+mod rows;
+mod taking;
 
-pub use class_list::classes;
-pub use counting::{count_round, count_rows};
-pub use row_making::{rows_of_class, rows_of_one};
+pub use lanes::crawl;

@@ -1,5 +1,0 @@
-use Rattle.crawl.proofs.Logging.{log_is_crawl}
-use Rattle.crawl.proofs.laws.log_is_a_crawl.Goals as goal
-
-pub returns : goal.returns
-returns c = log_is_crawl

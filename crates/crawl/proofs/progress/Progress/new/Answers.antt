@@ -1,0 +1,7 @@
+use Rattle.std.proofs.Common.{refl}
+use Rattle.crawl.proofs.Gaining.{begins}
+use Rattle.crawl.proofs.progress.Progress.new.Goals as goal
+
+pub returns-in-Ok : goal.returns-in-Ok
+returns-in-Ok c = begins c.args.constants.now c.new-known.result c.new-known.ensures.all c.new-known.ensures.fresh
+    (record { known = c.take_in.new.self; received = c.new.result; made = 0; rounds = 0 }) c.in-Ok.ensures c.new.ensures.items refl refl

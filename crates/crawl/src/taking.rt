@@ -1,0 +1,60 @@
+// The answers of a round, taken into what was received.
+ghost use Rattle.std.specs.Prelude.{◌≡◌, ◌+◌, ◌<◌, ◌^◌, OnOk, Some, length, slice_get};
+ghost use Rattle.crawl_rounds.specs.Log.{IsAmong};
+ghost use Rattle.crawl.specs.Progress.{Gains, StandsInAnswers, answered_by, TakesRound};
+
+use crate::progress::Progress;
+use lists::NoMemory;
+use middleware::Answers;
+use row_text::LentRows;
+use source_trait::Ask;
+use std::alloc::Global;
+
+/// Takes the answers of a round, to which all values so far are old. Where memory is refused, a part of them may have been taken.
+pub fn take_round(
+    alloc: Global,
+    asks: &[Ask],
+    answers: &Answers,
+    progress: &mut Progress,
+) -> Result<(), NoMemory>
+    requires answered { length answers.now ≡ length asks.now }
+    requires made { progress.old.made + length asks.now < 2 ^ 32 }
+    requires rounds { progress.old.rounds + 1 < 2 ^ 32 }
+    ensures { OnOk result (TakesRound (answered_by asks.now answers.now) progress.old progress.new) }
+{
+    progress.known.settle();
+    take_answers(alloc, asks, answers, progress)?;
+    progress.made += asks.len() as u32;
+    progress.rounds += 1;
+    Ok(())
+}
+
+// Takes the answers, each to the request at its place.
+fn take_answers(
+    alloc: Global,
+    asks: &[Ask],
+    answers: &Answers,
+    progress: &mut Progress,
+) -> Result<(), NoMemory>
+    requires { length answers.now ≡ length asks.now }
+    ensures { OnOk result (Gains (StandsInAnswers (answered_by asks.now answers.now)) (IsAmong (answered_by asks.now answers.now)) progress.old progress.new) }
+{
+    let mut number: usize = 0;
+    for ask in asks {
+        let rows = rows_at(answers, number);
+        progress.take_rows(alloc, ask.request.rel, &rows)?;
+        number += 1;
+    }
+    Ok(())
+}
+
+// The rows of the answer of a number that there is.
+fn rows_at(answers: &Answers, number: usize) -> LentRows<'_>
+    requires { number < length answers.now }
+    ensures { slice_get answers.now number ≡ Some result }
+{
+    match answers.get(number) {
+        Some(rows) => rows,
+        None => unreachable!(),
+    }
+}

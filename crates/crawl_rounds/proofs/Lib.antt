@@ -1,0 +1,9 @@
+pub mod Ascending
+pub mod RowCounts
+pub mod LastPlace
+pub mod Growing
+pub mod RowOrder
+pub mod RowMembers
+pub mod ClassOrder
+pub mod Rounds
+pub mod Logging
