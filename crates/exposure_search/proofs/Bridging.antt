@@ -20,7 +20,8 @@ use Rattle.least_search.specs.Costs.{IsLeastCost}
 use Rattle.exposure_search.specs.declared.marks.Marks.{Marks}
 use Rattle.exposure_search.specs.Tries.{picked, IsMarked, IsRelevantMove, Adds}
 use Rattle.exposure_search.specs.Spaces.{exposes_same, known_same}
-use Rattle.exposure_search.specs.Sets.{AreSame, turned, got_contained, got_once, picked_at, picked_back, same_more, none_same, none_length, truth}
+use Rattle.least_search.proofs.Sets.{none_length}
+use Rattle.exposure_search.specs.Sets.{AreSame, turned, got_contained, got_once, picked_at, picked_back, same_more, none_same, truth}
 use Rattle.exposure_search.proofs.Gaining.{AreGains}
 
 -- the moves by which a search goes

@@ -65,13 +65,12 @@ module _ (schema : SchemaParts) (proof : Proving) (path : List Move) (set : List
 
     pub bare_end : (HasGoalFrom schema queries head proof.end.next (picked proof.end.base set) → ⊥) → IsVisitEnd (exploring_of schema proof queries head budget marks) path set end.NoGoal 0
     bare_end none =
-        let (firings, tried) = (is_space schema proof.constants proof.end.base proof.end.next (length (bases_of (log_of proof)))).runs path set walk in
         record {
           goal = λ e. absurd (cc);
           none = λ e has. none has;
           long = λ e. absurd (cc);
           due = λ e. absurd (cc);
-          run = (firings, tried, omega arith);
+          run = (is_space schema proof.constants proof.end.base proof.end.next).runs path set walk;
         }
 
     -- the moves of the candidates that can be made

@@ -1,5 +1,5 @@
 -- Spaces of proofs, and what a search over them shows.
-use Rattle.std.proofs.Common.{◌≡◌, ℕ, ◌+◌, ◌≤◌, List, [], ◌∷◌, ◌++◌, length, map, Bool, refl, sym, ap, ◌∙◌, subst, arith}
+use Rattle.std.proofs.Common.{◌≡◌, ℕ, suc, ◌+◌, ◌≤◌, List, [], ◌∷◌, ◌++◌, length, map, Bool, refl, sym, ap, ◌∙◌, subst, arith}
 use Rattle.std.specs.Prelude.{Contains, false}
 use Rattle.std.proofs.lemmas.List.{append-nil, length-append, length-map}
 use Rattle.lists.proofs.Members.{contains_got}
@@ -33,11 +33,13 @@ use Rattle.rule_pass.specs.States.{SomeActive}
 use Rattle.rule_pass.specs.Levels.{AreShort}
 use Rattle.accessible_copy.proofs.Listed.{proof_once}
 use Rattle.least_search.specs.declared.node.Node.{Node}
+use Rattle.least_search.specs.declared.space.Move.{Move}
 use Rattle.least_search.specs.Walks.{CanGain, IsNode, no_facts}
 use Rattle.least_search.specs.Costs.{IsLeastCost, AreRunsWithin}
 use Rattle.exposure_search.specs.declared.marks.Marks.{Marks}
 use Rattle.exposure_search.specs.Tries.{picked, exposures_in}
 use Rattle.exposure_search.specs.Making.{bases_of, IsBaseProof, OnlyExposes}
+use Rattle.exposure_search.specs.Ahead.{facts_along}
 use Rattle.exposure_search.specs.Exploring.{Exploring, exploring_of, space_size, CanExpose, GainsAt, HasGoalAt, HasMatchAt, HasTry, IsRunBeyond, IsFounded}
 use Rattle.exposure_search.specs.Relevance.{IsWanted, AreRelevant}
 use Rattle.exposure_search.specs.Spaces.{open_walk}
@@ -84,10 +86,18 @@ least_found space best founded short rules have named fit head_named least expos
 
 -- what bounds runs bounds tries
 pub tries_within : (space : Exploring) (m n : ℕ) → IsFounded space → ((log : List Firing) (end : Proof) → IsRun space.schema space.constants 0 space.start log end → (length log ≤ m) × (exposures_in log ≤ n)) → AreRunsWithin (HasTry space) m n
-tries_within space m n founded bounds firings exposures tried =
-    let (log, end, run, long, shown) = try_run space.schema space.constants space.start space.log space.base firings exposures founded.none_exposed founded.none_copied founded.run founded.quiet tried in
+tries_within space m n founded bounds path firings tried =
+    let (log, end, run, long, shown) = try_run space.schema space.constants space.start space.log space.base tried.trial
+    founded.none_exposed founded.none_copied founded.run founded.quiet tried.is in
     let (few, low) = bounds log end run in
-    (subst (λ k. k ≤ m) long few, subst (λ k. k ≤ n) shown low)
+    let many : firings ≡ length tried.trial.copy = tried.many in
+    let moves : length tried.trial.exposures ≡ length path =
+    sym (length-map tried.trial.exposures (λ (e : Exposure). e.fact)) ∙ ap length tried.along ∙ length_along space.base.facts path in
+    (omega arith, omega arith)
+  where
+    length_along : (base : List Ground) (moves : List Move) → length (facts_along base moves) ≡ length moves
+    length_along base [] = refl
+    length_along base (move ∷ moves) = ap suc (length_along base moves)
 
 -- a match is a goal
 pub match_goal : (space : Exploring) (set : List Bool) → RulesFit space.schema space.constants → ((query : Query) → Contains space.queries query → QueryHasConstants space.constants query) → AreNamed space.constants space.base.next space.base.facts →

@@ -20,3 +20,4 @@ pub mod Refuted
 pub mod Visited
 pub mod Explored
 pub mod Growing
+pub mod Spending

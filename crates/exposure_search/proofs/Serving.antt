@@ -1,7 +1,6 @@
 -- Moves that stand for active exposures are moves from a set.
 use Rattle.std.proofs.Common.{◌≡◌, ◌<◌, ℕ, List, [], ◌∷◌, length, Bool, true, Some, sym, ap, ◌∙◌, subst, inl, inr, ⊎_elim}
 use Rattle.std.specs.Prelude.{Contains}
-use Rattle.std.proofs.lemmas.List.{length-set}
 use Rattle.std.proofs.lemmas.Option.{slice_get_within}
 use Rattle.lists.proofs.Members.{contains_got, got_below}
 use Rattle.meaning.specs.declared.types.SchemaParts.{SchemaParts}
@@ -10,17 +9,15 @@ use Rattle.accessible_copy.specs.Proving.{Proving, IsProofOf}
 use Rattle.accessible_copy.specs.Known.{known_values}
 use Rattle.accessible_copy.proofs.Listed.{proof_once, known_to, known_from}
 use Rattle.least_search.specs.declared.space.Move.{Move}
-use Rattle.least_search.specs.Walks.{IsWalk, no_facts, with_fact}
+use Rattle.least_search.specs.Walks.{IsWalk, no_facts}
 use Rattle.exposure_search.specs.Tries.{picked, IsOpen, Adds}
 use Rattle.exposure_search.specs.Making.{IsActiveMove}
 use Rattle.exposure_search.specs.Spaces.{known_same}
-use Rattle.exposure_search.specs.Sets.{AreSame, got_once, picked_at, none_length, truth}
+use Rattle.least_search.proofs.Sets.{none_length}
+use Rattle.least_search.proofs.Cutting.{walk_length}
+use Rattle.exposure_search.specs.Sets.{AreSame, got_once, picked_at, truth}
 
 module _ (schema : SchemaParts) (proof : Proving) (is : IsProofOf schema proof) where
-  walk_length : (path : List Move) (set end : List Bool) → IsWalk (IsOpen schema proof.constants proof.end.base) set path end → length end ≡ length set
-  walk_length [] set end e = ap length e
-  walk_length (move ∷ path) set end (open', walk) = walk_length path (with_fact set move) end walk ∙ length-set set move.fact true
-
   -- what gains something gains it too where no more facts are exposed
   pub adds_same : (first second : List Ground) (needed : List Bool) (number : ℕ) → ((f : Ground) → Contains second f → Contains first f) → Adds (known_values proof.constants first) proof.end.base needed number → Adds (known_values proof.constants second) proof.end.base needed number
   adds_same first second needed number within gains =
@@ -31,7 +28,7 @@ module _ (schema : SchemaParts) (proof : Proving) (is : IsProofOf schema proof) 
     pub active_open : (move : Move) → IsActiveMove schema proof move → IsOpen schema proof.constants proof.end.base set move
     active_open move active =
         let base : List Ground = proof.end.base in
-        let (mark, marked) = got_below set move.fact (subst (λ n. move.fact < n) (sym (walk_length path (no_facts (length base)) set walk ∙ none_length (length base))) (slice_get_within base move.fact active.fact active.at)) in (
+        let (mark, marked) = got_below set move.fact (subst (λ n. move.fact < n) (sym (walk_length (IsOpen schema proof.constants base) (no_facts (length base)) path set walk ∙ none_length (length base))) (slice_get_within base move.fact active.fact active.at)) in (
           record { method = active.of; fact = active.fact },
           record {
             fact = active.at;

@@ -37,9 +37,10 @@ use Rattle.least_search.specs.declared.space.End.TheVariants as end
 use Rattle.least_search.specs.Walks.{IsWalk, no_facts}
 use Rattle.least_search.specs.Ends.{GoesOn}
 use Rattle.exposure_search.specs.declared.marks.Marks.{Marks}
-use Rattle.exposure_search.specs.Tries.{picked, IsOpen, IsMarked, Adds, IsTry, HasMatchFrom}
+use Rattle.exposure_search.specs.Tries.{picked, IsOpen, IsMarked, Adds, HasMatchFrom}
 use Rattle.exposure_search.specs.Making.{bases_of, GoesBeyond, OnlyExposes, SameBase, all_made, IsExposedBy, IsActiveMove, IsServed, IsStill}
 use Rattle.exposure_search.specs.Relevance.{AreRelevant, IsWanted}
+use Rattle.exposure_search.specs.Trials.{IsTrialAlong}
 use Rattle.exposure_search.specs.Exploring.{exploring_of, HasGoalAt, HasRunBeyond}
 use Rattle.exposure_search.specs.Visiting.{IsVisitEnd, AreMovesAt, IsReached}
 use Rattle.exposure_search.specs.Sets.{AreSame, none_same}
@@ -173,33 +174,31 @@ module _ (schema : SchemaParts) (queries : List Query) (head : List Val) (budget
       )) still
 
   -- what was tried
-  tried : IsTry schema proof.constants (base_state proof.end) (length (bases_of (log_of proof))) (length (bases_of (log_of proof)) + length trail.made + length settles.more) (length path)
-  tried = record {
-    made = trail.made;
-    copy = settles.more;
-    end = copy_state settled.end;
-    exposing = trail.exposing;
-    copies = copy_base_run;
-    firings_are = refl;
-    exposures_are = sym trail.many;
+  tried : (count : ℕ) → count ≡ length settles.more → IsTrialAlong schema proof.constants (base_state proof.end) path count
+  tried count many = record {
+    trial = record { exposures = trail.made; copy = settles.more };
+    is = record { end = copy_state settled.end; exposing = trail.exposing; copies = copy_base_run };
+    along = sym trail.facts;
+    cost = trail.cost;
+    many = many;
   }
 
   -- where a copy trigger is active, one more firing can be tried
-  tried_on : SomeActive schema.rules (copy_state settled.end) → (firings : ℕ) × IsTry schema proof.constants (base_state proof.end) (length (bases_of (log_of proof))) firings (length path) × (length settles.more < firings)
-  tried_on (trigger, (rule, first)) =
-      let longer : length (settles.more ++ trigger ∷ []) ≡ length settles.more + 1 = length_push settles.more trigger in (
-        length (bases_of (log_of proof)) + length trail.made + length (settles.more ++ trigger ∷ []),
-        record {
-          made = trail.made;
-          copy = settles.more ++ trigger ∷ [];
-          end = fired (copy_state settled.end) trigger rule;
-          exposing = trail.exposing;
-          copies = base_push schema.rules settles.more (record { facts = exposed_facts trail.made; next = proof.end.next }) (copy_state settled.end) trigger rule copy_base_run first;
-          firings_are = refl;
-          exposures_are = sym trail.many;
-        },
-        omega arith,
-      )
+  tried_on : SomeActive schema.rules (copy_state settled.end) → (count : ℕ) → count ≡ length settles.more →
+      IsTrialAlong schema proof.constants (base_state proof.end) path (count + 1)
+  tried_on (trigger, (rule, first)) count many =
+      let longer : length (settles.more ++ trigger ∷ []) ≡ length settles.more + 1 = length_push settles.more trigger in
+      let run : IsBaseRun schema.rules (record { facts = exposed_facts trail.made; next = proof.end.next }) (settles.more ++ trigger ∷ [])
+      (fired (copy_state settled.end) trigger rule) =
+      base_push schema.rules settles.more (record { facts = exposed_facts trail.made; next = proof.end.next }) (copy_state settled.end)
+      trigger rule copy_base_run first in
+      record {
+        trial = record { exposures = trail.made; copy = settles.more ++ trigger ∷ [] };
+        is = record { end = fired (copy_state settled.end) trigger rule; exposing = trail.exposing; copies = run };
+        along = sym trail.facts;
+        cost = trail.cost;
+        many = omega arith;
+      }
 
   -- where the firings are spent, some run is longer
   pub runs_beyond : GoesBeyond schema budget settled → HasRunBeyond (exploring_of schema proof queries head budget marks)
@@ -226,8 +225,8 @@ module _ (schema : SchemaParts) (queries : List Query) (head : List Val) (budget
         goal = λ e. goal_matches (goal e);
         none = λ e. none_still short relevant (still e) (none e);
         long = λ e. runs_beyond (long e);
-        due = λ e. let (firings, tries, more) = tried_on (due e) in (firings, tries, omega arith);
-        run = (length (bases_of (log_of proof)) + length trail.made + length settles.more, tried, omega arith);
+        due = λ e. tried_on (due e) fired (omega arith);
+        run = tried fired (omega arith);
       }
 
   -- the proof that was reached

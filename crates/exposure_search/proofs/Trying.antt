@@ -17,7 +17,8 @@ use Rattle.meaning.specs.Matching.{OccursIn}
 use Rattle.meaning.specs.Runs.{Proof, base_state, copy_state, IsRun, IsBaseRun, IsBaseQuiet}
 use Rattle.meaning.specs.Triggers.{State, bound, assigned, fired, IsActive}
 use Rattle.meaning.specs.Extract.{Exposure, exposed_facts, IsExposing}
-use Rattle.exposure_search.specs.Tries.{IsTry, exposures_in}
+use Rattle.exposure_search.specs.Tries.{exposures_in}
+use Rattle.exposure_search.specs.Trials.{Trial, IsTrial}
 
 module _ (rules : List Rule) (facts : List Ground) where
   -- the body's values don't depend on the new labels
@@ -101,13 +102,14 @@ module _ (schema : SchemaParts) (constants : List (List ℕ)) where
   both_counts (Copy trigger ∷ log) more = let (a, b) = both_counts log more in ((let h : length (log ++ more) ≡ length log + length more = a in omega arith), b)
   both_counts (Expose number fact ∷ log) more = let (a, b) = both_counts log more in ((let h : length (log ++ more) ≡ length log + length more = a in omega arith), (let h : exposures_in (log ++ more) ≡ exposures_in log + exposures_in more = b in omega arith))
 
-  -- a try is a run from the start, with as many firings and exposures
-  pub try_run : (start : Proof) (log : List Trigger) (base : State) (firings exposures : ℕ) → start.exposed ≡ [] → start.copy ≡ [] → IsBaseRun schema.rules (base_state start) log base → ((trigger : Trigger) (rule : Rule) → IsActive schema.rules base trigger rule → ⊥) →
-      IsTry schema constants base (length log) firings exposures →
-      (whole : List Firing) × (end : Proof) × IsRun schema constants 0 start whole end × (length whole ≡ firings) × (exposures_in whole ≡ exposures)
-  try_run start log base firings exposures none_exposed none_copied run quiet try =
-      let es : List Exposure = try.made in
-      let copy : List Trigger = try.copy in
+  -- a trial is a run from the start, with as many firings and exposures
+  pub try_run : (start : Proof) (log : List Trigger) (base : State) (trial : Trial) → start.exposed ≡ [] → start.copy ≡ [] → IsBaseRun schema.rules (base_state start) log base → ((trigger : Trigger) (rule : Rule) → IsActive schema.rules base trigger rule → ⊥) →
+      IsTrial schema constants base trial →
+      (whole : List Firing) × (end : Proof) × IsRun schema constants 0 start whole end
+      × (length whole ≡ length log + length trial.exposures + length trial.copy) × (exposures_in whole ≡ length trial.exposures)
+  try_run start log base trial none_exposed none_copied run quiet try =
+      let es : List Exposure = trial.exposures in
+      let copy : List Trigger = trial.copy in
       let last : State = try.end in
       let begun : ◌≡◌ {A = Proof} (record { base = base.facts; exposed = []; copy = []; next = base.next }) (record start { base = base.facts; next = base.next }) =
       (λ i. record { base = base.facts; exposed = (sym none_exposed) i; copy = (sym none_copied) i; next = base.next }) in
@@ -121,6 +123,6 @@ module _ (schema : SchemaParts) (constants : List (List ℕ)) where
         map Base log ++ (middle ++ map Copy copy),
         end,
         base_then start log base (middle ++ map Copy copy) end run (subst (λ p. IsRun schema constants 0 p (middle ++ map Copy copy) end) begun goes),
-        (let a' : length (map Base log ++ (middle ++ map Copy copy)) ≡ length log + length (middle ++ map Copy copy) = a in let c' : length (middle ++ map Copy copy) ≡ length middle + length (map Copy copy) = c in let e' : length (map Copy copy) ≡ length copy = e in let l' : length middle ≡ length es = long in let m' : firings ≡ length log + length es + length copy = try.firings_are in omega arith),
-        (let b' : exposures_in (map Base log ++ (middle ++ map Copy copy)) ≡ exposures_in (middle ++ map Copy copy) = b in let d' : exposures_in (middle ++ map Copy copy) ≡ exposures_in middle + exposures_in (map Copy copy) = d in let f' : exposures_in (map Copy copy) ≡ 0 = f in let n' : exposures_in middle ≡ length es = counted in let x' : exposures ≡ length es = try.exposures_are in omega arith),
+        (let a' : length (map Base log ++ (middle ++ map Copy copy)) ≡ length log + length (middle ++ map Copy copy) = a in let c' : length (middle ++ map Copy copy) ≡ length middle + length (map Copy copy) = c in let e' : length (map Copy copy) ≡ length copy = e in let l' : length middle ≡ length es = long in omega arith),
+        (let b' : exposures_in (map Base log ++ (middle ++ map Copy copy)) ≡ exposures_in (middle ++ map Copy copy) = b in let d' : exposures_in (middle ++ map Copy copy) ≡ exposures_in middle + exposures_in (map Copy copy) = d in let f' : exposures_in (map Copy copy) ≡ 0 = f in let n' : exposures_in middle ≡ length es = counted in omega arith),
       )

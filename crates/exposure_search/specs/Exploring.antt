@@ -14,8 +14,9 @@ use Rattle.accessible_copy.specs.Known.{known_values}
 use Rattle.accessible_copy.specs.Proving.{Proving, log_of}
 use Rattle.least_search.specs.declared.space.Move.{Move}
 use Rattle.exposure_search.specs.declared.marks.Marks.{Marks}
-use Rattle.exposure_search.specs.Tries.{picked, IsRelevantMove, Adds, IsTry, HasMatchFrom}
+use Rattle.exposure_search.specs.Tries.{picked, IsRelevantMove, Adds, HasMatchFrom}
 use Rattle.exposure_search.specs.Making.{bases_of}
+use Rattle.exposure_search.specs.Trials.{IsTrialAlong}
 use Rattle.exposure_search.specs.Relevance.{AreRelevant}
 
 -- What contracts see of a space: the schema, the known constants, the state that the proof began with, its base firings and the
@@ -66,9 +67,9 @@ HasGoalAt space set = HasGoalFrom space.schema space.queries space.head space.ba
 abbrev pub HasMatchAt : Exploring → List Bool → Type 0
 HasMatchAt space set = HasMatchFrom space.schema space.queries space.head space.base.next (picked space.base.facts set)
 
--- Some exposures and copy firings after the base firings make so many firings, so many of them exposures.
-abbrev pub HasTry : Exploring → ℕ → ℕ → Type 0
-HasTry space firings exposures = IsTry space.schema space.constants space.base (length space.log) firings exposures
+-- After the exposures of the path so many firings are due in the copy, one after another.
+abbrev pub HasTry : Exploring → List Move → ℕ → Type 0
+HasTry space path firings = IsTrialAlong space.schema space.constants space.base path firings
 
 -- Some run from the start has more firings than are allowed.
 pub record IsRunBeyond (schema : SchemaParts) (constants : List Value) (start : Proof) (budget : ℕ) : Type 0 where

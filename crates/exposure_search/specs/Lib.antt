@@ -2,6 +2,7 @@ pub mod Tries
 pub mod Sets
 pub mod Making
 pub mod Ahead
+pub mod Trials
 pub mod Candidates
 pub mod Relevance
 pub mod Exploring

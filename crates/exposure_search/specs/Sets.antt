@@ -74,10 +74,6 @@ none_picked (g ∷ base) = none_picked base
 pub none_same : (base : List Ground) → AreSame (picked base (no_facts (length base))) []
 none_same base = subst (λ gs. AreSame gs []) (sym (none_picked base)) (record { to = λ f c. c; from = λ f c. c })
 
-pub none_length : (n : ℕ) → length (no_facts n) ≡ n
-none_length zero = refl
-none_length (suc n) = ap suc (none_length n)
-
 pub within_got : (s t : List Bool) (k : ℕ) → IsSubset s t → slice_get s k ≡ Some true → slice_get t k ≡ Some true
 within_got [] t k w e = absurd (cc)
 within_got (b ∷ s) [] k w e = absurd w

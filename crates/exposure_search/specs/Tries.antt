@@ -1,5 +1,5 @@
 -- Exposures as moves between sets of base facts, each by its number.
-use Rattle.std.specs.Prelude.{◌≡◌, ◌⊎◌, ℕ, ◌+◌, List, [], ◌∷◌, Contains, Bool, true, false, slice_get, length, Some}
+use Rattle.std.specs.Prelude.{◌≡◌, ◌⊎◌, ℕ, ◌+◌, List, [], ◌∷◌, Contains, Bool, true, false, slice_get, Some}
 use Rattle.meaning.specs.declared.types.SchemaParts.{SchemaParts}
 use Rattle.meaning.specs.declared.types.Ground.{Ground}
 use Rattle.meaning.specs.declared.types.Trigger.{Trigger}
@@ -11,8 +11,7 @@ use Rattle.meaning.specs.declared.types.Val.TheVariants.{Const}
 use Rattle.meaning.specs.Values.{Value}
 use Rattle.meaning.specs.Matching.{GroundsOf, IsQueryAnswer}
 use Rattle.meaning.specs.Triggers.{State, IsFiringRun}
-use Rattle.meaning.specs.Runs.{IsBaseRun}
-use Rattle.meaning.specs.Extract.{Exposure, exposed_facts, Exposes, IsExposing}
+use Rattle.meaning.specs.Extract.{Exposure, Exposes}
 use Rattle.least_search.specs.declared.space.Move.{Move}
 
 -- The base facts that a set marks.
@@ -49,16 +48,6 @@ abbrev pub Adds : List Val → List Ground → List Bool → ℕ → Type 0
 Adds known base needed number =
     IsMarked needed number
     ⊎ ((fact : Ground) × (v : Val) × (slice_get base number ≡ Some fact) × Contains fact.vals v × (Contains known v → ⊥))
-
--- After so many base firings, exposures in order and copy firings behind them make these numbers of firings and exposures.
-pub record IsTry (schema : SchemaParts) (constants : List Value) (base : State) (fired firings exposures : ℕ) : Type 0 where
-  pub made : List Exposure
-  pub copy : List Trigger
-  pub end : State
-  pub exposing : IsExposing schema constants base.facts [] made
-  pub copies : IsBaseRun schema.rules (record { facts = exposed_facts made; next = base.next }) copy end
-  pub firings_are : firings ≡ fired + length made + length copy
-  pub exposures_are : exposures ≡ length made
 
 -- Some run of firings from the facts has a match of one of the queries with this head.
 pub record HasMatchFrom (schema : SchemaParts) (queries : List Query) (head : List Val) (next : ℕ)

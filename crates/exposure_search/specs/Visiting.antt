@@ -1,5 +1,5 @@
 -- What a visit of a set shows.
-use Rattle.std.specs.Prelude.{◌≡◌, ◌<◌, ◌≤◌, ℕ, List, [], ◌++◌, Contains, Bool, length, map}
+use Rattle.std.specs.Prelude.{◌≡◌, ◌<◌, ◌≤◌, ◌+◌, ℕ, List, [], ◌++◌, Contains, Bool, length, map}
 use Rattle.std.specs.List.{AllZip}
 use Rattle.meaning.specs.declared.types.Trigger.{Trigger}
 use Rattle.meaning.specs.declared.types.Firing.TheVariants.{Base, Copy}
@@ -17,14 +17,13 @@ use Rattle.least_search.specs.Ends.{GoesOn}
 use Rattle.exposure_search.specs.Making.{IsServed, IsExposedBy}
 use Rattle.exposure_search.specs.Exploring.{Exploring, CanExpose, GainsAt, HasGoalAt, HasMatchAt, HasTry, HasRunBeyond}
 
--- What the end of a visit says of the set, to which a path of that length leads, after so many copy firings. Where the units are spent, a
--- run along the path has more.
+-- What the end of a visit says of the set to which the path leads, after so many copy firings. Where the units are spent, one more is due.
 pub record IsVisitEnd (space : Exploring) (path : List Move) (set : List Bool) (ended : End) (fired : ℕ) : Type 0 where
   pub goal : ended ≡ end.Goal → HasMatchAt space set
   pub none : ended ≡ end.NoGoal → HasGoalAt space set → ⊥
   pub long : ended ≡ end.FiringsSpent → HasRunBeyond space
-  pub due : ended ≡ end.UnitsSpent → (firings : ℕ) × HasTry space firings (length path) × (fired < firings)
-  pub run : (firings : ℕ) × HasTry space firings (length path) × (fired ≤ firings)
+  pub due : ended ≡ end.UnitsSpent → HasTry space path (fired + 1)
+  pub run : HasTry space path fired
 
 -- The moves are possible at the set, and where the search goes on, one serves for each that is, gains something there, and costs less
 -- than the limit.

@@ -14,8 +14,10 @@ ghost use Rattle.meaning.specs.Extract.{Exposure, exposed_facts, exposures_cost,
 ghost use Rattle.rule_pass.specs.Levels.{AreShort};
 ghost use Rattle.least_search.specs.declared.node.Node.{Node};
 ghost use Rattle.least_search.specs.Walks.{CanGain, IsNode, GoalsGrow};
-ghost use Rattle.least_search.specs.Costs.{IsLeastCost, AreRunsWithin};
+ghost use Rattle.least_search.specs.declared.cuts.Cut.{Cut};
+ghost use Rattle.least_search.specs.Costs.{IsLeastCost, AreRunsWithin, IsSpent};
 ghost use Rattle.exposure_search.specs.Tries.{exposures_in};
+ghost use Rattle.exposure_search.specs.Trials.{HasMoreToDo};
 ghost use Rattle.exposure_search.specs.Exploring.{Exploring, space_size, CanExpose, GainsAt, HasGoalAt, HasMatchAt, HasTry, IsFounded};
 
 /// A match at the set of a node gives exposures in order at the node's cost, and copy firings after which there is a match.
@@ -46,6 +48,14 @@ pub fn runs_bound_tries()
     ensures { (space : Exploring) (m n : ℕ) → IsFounded space →
         ((log : List Firing) (end : Proof) → IsRun space.schema space.constants 0 space.start log end →
         (length log ≤ m) × (exposures_in log ≤ n)) → AreRunsWithin (HasTry space) m n }
+{}
+
+/// What a search of the space says where its units are spent, in terms of exposures: there are more sets of these, each below the bound,
+/// and more firings due in their copies, than units.
+pub fn spent_has_more()
+    ensures { (space : Exploring) (cuts : List Cut) (bound units : ℕ) → IsFounded space →
+        IsSpent (space_size space) (CanExpose space) (HasTry space) cuts bound units →
+        HasMoreToDo space.schema space.constants space.base bound units }
 {}
 
 /// A match at a set is a goal of it, where rules and queries have known constants and the base facts are named and fit.

@@ -24,3 +24,4 @@ mod wanted;
 
 pub use exposure_space::ExposureSpace;
 pub use founding::base_proof;
+pub use refuting::has_head;

@@ -12,8 +12,8 @@ ghost use Rattle.exposure_search.specs.Aims.{space_of, IsAimed, LeadsTo};
 
 use crate::aiming::Aim;
 use crate::going::fact_at;
-use accessible_copy::{Proof, no_values};
-use homomorphism::{Store, first_match, unify};
+use accessible_copy::{Proof, head_match};
+use homomorphism::Store;
 use least_search::Move;
 use lists::{Copies, NoMemory};
 use meaning::types::{Ground, Queries, Query, Vals};
@@ -61,7 +61,12 @@ fn facts_along(alloc: Global, facts: &[Ground], path: &[Move]) -> Result<Vec<Gro
 }
 
 /// Whether some query has an answer with these head values in the facts.
-fn has_head(alloc: Global, queries: &Queries, facts: &Store, head: &Vals) -> Result<bool, NoMemory>
+pub fn has_head(
+    alloc: Global,
+    queries: &Queries,
+    facts: &Store,
+    head: &Vals,
+) -> Result<bool, NoMemory>
     requires { (query : TheQuery) → Contains queries.now query → IsCounted query }
     ensures { result ≡ Ok false → (query : TheQuery) → Contains queries.now query →
         IsQueryAnswer Const (GroundsOf facts.now) query head.now → ⊥ }
@@ -79,9 +84,5 @@ fn has_answer(alloc: Global, query: &Query, facts: &Store, head: &Vals) -> Resul
     requires { IsCounted query.now }
     ensures { result ≡ Ok false → IsQueryAnswer Const (GroundsOf facts.now) query.now head.now → ⊥ }
 {
-    let given = no_values(alloc, query.variables as usize)?;
-    match unify(alloc, given, query.head.as_slice(), head.as_slice())? {
-        Some(narrow) => Ok(first_match(alloc, &query.atoms, facts, &narrow)?.is_some()),
-        None => Ok(false),
-    }
+    Ok(head_match(alloc, query, facts, head)?.is_some())
 }

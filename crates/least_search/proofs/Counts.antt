@@ -112,7 +112,7 @@ pub push_walk : (CanMove : List Bool → Move → Type 0) (set : List Bool) (mov
 push_walk CanMove set [] end move e can = (subst (λ s. CanMove s move) e can, ap (λ s. slice_set s move.fact true) e)
 push_walk CanMove set (first ∷ moves) end move (here, walk) can = (here, push_walk CanMove (slice_set set first.fact true) moves end move walk can)
 
-module _ (n : ℕ) (CanMove : List Bool → Move → Type 0) (HasRun : ℕ → ℕ → Type 0) (space : IsSpace n CanMove HasRun) where
+module _ (n : ℕ) (CanMove : List Bool → Move → Type 0) (HasRun : List Move → ℕ → Type 0) (space : IsSpace n CanMove HasRun) where
   -- a set that a walk of as many moves as it has facts leads to
   Reached : List Bool → Type 0
   Reached set = (moves : List Move) × IsWalk CanMove (no_facts n) moves set × (length moves ≡ count set)
@@ -143,14 +143,13 @@ module _ (n : ℕ) (CanMove : List Bool → Move → Type 0) (HasRun : ℕ → �
       let (larger, reached, grown, its) = merge first.path (no_facts n) first.set large (are first (contains_here first nodes)).walk (walk_within CanMove (no_facts n) moves large walk) (moves, walk, counts) in
       (larger, reached, (λ node c. ⊎_elim (λ e. subst (λ (x : Way). IsSubset x.set larger) e its) (λ there. within_chain node.set large larger (all node there) grown) (contains_cases first nodes node c)))
 
-  -- distinct sets that walks lead to are at most 2 ^ the exposures of a run
-  pub nodes_bound : (nodes : List Way) → ((node : Way) → Contains nodes node → IsWay n CanMove node) → AreDistinct (sets_of nodes) → (most : ℕ) → ((firings exposures : ℕ) → HasRun firings exposures → exposures ≤ most) → length nodes ≤ 2 ^ most
+  -- distinct sets that walks lead to are at most 2 ^ the moves of a run
+  pub nodes_bound : (nodes : List Way) → ((node : Way) → Contains nodes node → IsWay n CanMove node) → AreDistinct (sets_of nodes) → (most : ℕ) → ((path : List Move) (firings : ℕ) → HasRun path firings → length path ≤ most) → length nodes ≤ 2 ^ most
   unfolding Reached
   nodes_bound nodes are distinct most runs =
       let (large, (moves, walk, counts), all) = gather nodes are in
       let sets : length (sets_of nodes) ≤ 2 ^ count large = sets_within large (sets_of nodes) (λ s c. let (node, among, e) = contains_mapped (λ (x : Way). x.set) nodes s c in subst (λ t. IsSubset t large) e (all node among)) distinct in
-      let (firings, run) = space.runs moves large walk in
-      let few : length moves ≤ most = runs firings (length moves) run in
+      let few : length moves ≤ most = runs moves 0 (space.runs moves large walk) in
       let few' : count large ≤ most = omega (arith, few, counts) in
       let power : 2 ^ count large ≤ 2 ^ most = power_mono (count large) most few' in
       let same : length (sets_of nodes) ≡ length nodes = length-map nodes (λ (x : Way). x.set) in
@@ -168,7 +167,7 @@ module _ (n : ℕ) (CanMove : List Bool → Move → Type 0) (HasRun : ℕ → �
   -- where a pair is enough, the units are not spent
   pub not_spent : (nodes : List Way) → ((node : Way) → Contains nodes node → IsWay n CanMove node) → AreDistinct (sets_of nodes) → (units search : ℕ) → IsCounted HasRun (length nodes) units → search ≤ units → (m most : ℕ) → IsEnough HasRun search m most → ⊥
   not_spent nodes are distinct units search counted spent m most enough =
-      let few : length nodes ≤ 2 ^ most = nodes_bound nodes are distinct most (λ f e run. (enough.runs f e run).1) in
+      let few : length nodes ≤ 2 ^ most = nodes_bound nodes are distinct most (λ path f run. (enough.runs path f run).1) in
       let made : units ≤ length nodes * (m + 1) = counted m most enough.runs in
       let grown : length nodes * (m + 1) ≤ 2 ^ most * (m + 1) = times (length nodes) (2 ^ most) (m + 1) few in
       let split : (2 ^ most + 1) * (m + 1) ≡ 2 ^ most * (m + 1) + (m + 1) = distribute (2 ^ most) (m + 1) in

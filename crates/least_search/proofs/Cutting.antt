@@ -11,6 +11,7 @@ use Rattle.least_search.specs.declared.side.Side.{Side}
 use Rattle.least_search.specs.Walks.{IsWalk, walk_cost, no_facts, with_fact, IsSubset, IsSpace, GoalsGrow, CanGain}
 use Rattle.least_search.specs.Costs.{IsLeastCost}
 use Rattle.least_search.specs.Cuts.{CanPay, AreCuts, holding, is_within, rest, rest_of}
+use Rattle.least_search.proofs.Sets.{none_length}
 use Rattle.least_search.proofs.Searched.{IsGuide}
 use Rattle.least_search.specs.Sides.{IsNearSide, HaveLeft, LeastOf, HasPaid, HavePaid, HasPaidFor, AreResidues, no_residue, whole}
 
@@ -148,10 +149,6 @@ pub walk_length : (CanMove : List Bool → Move → Type 0) (set : List Bool) (m
 walk_length CanMove set [] end same = ap length same
 walk_length CanMove set (move ∷ moves) end (can, walk) = walk_length CanMove (with_fact set move) moves end walk ∙ length-set set move.fact true
 
-pub none_length : (n : ℕ) → length (no_facts n) ≡ n
-none_length zero = refl
-none_length (suc n) = let e : length (no_facts n) ≡ n = none_length n in omega arith
-
 -- the cuts that were found so far have no goal, and the moves paid for them
 pub record AreFound (n : ℕ) (CanMove : List Bool → Move → Type 0) (HasGoal : List Bool → Type 0) (cuts : List Cut) (residues : List Residue) : Type 0 where
   pub sized : (cut : Cut) → Contains cuts cut → length cut.set.items ≡ n
@@ -253,7 +250,7 @@ rest_held (cut ∷ cuts) set fact new =
 pub held_rest : (held : List Bool) (cuts : List Cut) (set : List Bool) (fact : ℕ) → held ≡ holding cuts set → slice_get set fact ≡ Some false → rest_of cuts held fact ≡ rest cuts (slice_set set fact true)
 held_rest held cuts set fact is new = ap (λ (marks : List Bool). rest_of cuts marks fact) is ∙ rest_held cuts set fact new
 
-module _ (n : ℕ) (CanMove : List Bool → Move → Type 0) (HasRun : ℕ → ℕ → Type 0) (space : IsSpace n CanMove HasRun) where
+module _ (n : ℕ) (CanMove : List Bool → Move → Type 0) (HasRun : List Move → ℕ → Type 0) (space : IsSpace n CanMove HasRun) where
   -- a cut at whose set the move is not possible holds the set with the fact, where it holds the set
   free : (cut : Cut) (cuts : List Cut) (set : List Bool) (move : Move) (left : ℕ) → CanMove set move → (CanMove cut.set.items move → ⊥) →
       rest cuts set ≤ left + rest cuts (with_fact set move) → rest (cut ∷ cuts) set ≤ left + rest (cut ∷ cuts) (with_fact set move)
@@ -312,7 +309,7 @@ module _ (n : ℕ) (CanMove : List Bool → Move → Type 0) (HasRun : ℕ → �
           omega arith
 
 -- the cuts guide a search
-pub guide_of : (n : ℕ) (CanMove : List Bool → Move → Type 0) (HasRun : ℕ → ℕ → Type 0) (HasGoal : List Bool → Type 0) (cuts : List Cut) → IsSpace n CanMove HasRun → AreCuts n CanMove HasGoal cuts → GoalsGrow HasGoal → IsGuide CanMove HasGoal cuts
+pub guide_of : (n : ℕ) (CanMove : List Bool → Move → Type 0) (HasRun : List Move → ℕ → Type 0) (HasGoal : List Bool → Type 0) (cuts : List Cut) → IsSpace n CanMove HasRun → AreCuts n CanMove HasGoal cuts → GoalsGrow HasGoal → IsGuide CanMove HasGoal cuts
 guide_of n CanMove HasRun HasGoal cuts space are grow =
     record { falls = rest_falls n CanMove HasRun space HasGoal cuts are; ends = rest_ends n CanMove HasRun space HasGoal cuts are grow }
 

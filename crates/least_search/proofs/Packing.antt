@@ -5,6 +5,7 @@ use Rattle.std.proofs.lemmas.List.{length-set, set-set, set-get_or, get_or-set_s
 use Rattle.std.proofs.lemmas.Nat.{pow_pos, div-add-mod', mod_below}
 use Rattle.std.proofs.lemmas.Option.{slice_get_within}
 use Rattle.least_search.specs.Walks.{no_facts}
+use Rattle.least_search.proofs.Sets.{none_length}
 use Rattle.least_search.specs.Packing.{digit, word, words, packed}
 
 head_same : (x y : ℕ) (xs ys : List ℕ) → x ∷ xs ≡ y ∷ ys → x ≡ y
@@ -170,11 +171,7 @@ words_none zero n = refl
 words_none (suc count) n =
     ap (λ (k : ℕ). k ∷ words count (drop 64 (no_facts n))) (word_none 64 n) ∙ ap (λ (s : List Bool). 0 ∷ words count s) (drop_none 64 n) ∙ ap (λ (ws : List ℕ). 0 ∷ ws) (words_none count (n - 64))
 
-length_none : (n : ℕ) → length (no_facts n) ≡ n
-length_none zero = refl
-length_none (suc n) = ap suc (length_none n)
-
 pub packed_none : (n : ℕ) → slice_set (replicate (n / 64 + 2) 0) 0 n ≡ packed (no_facts n)
 packed_none n =
     let count : n / 64 + 2 ≡ suc (suc (n / 64)) = omega arith in
-    rw count (ap (λ (ws : List ℕ). n ∷ ws) (sym (words_none (suc (n / 64)) n)) ∙ ap (λ (k : ℕ). k ∷ words (suc (k / 64)) (no_facts n)) (sym (length_none n)))
+    rw count (ap (λ (ws : List ℕ). n ∷ ws) (sym (words_none (suc (n / 64)) n)) ∙ ap (λ (k : ℕ). k ∷ words (suc (k / 64)) (no_facts n)) (sym (none_length n)))

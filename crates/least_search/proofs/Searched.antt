@@ -26,5 +26,5 @@ pub record IsSearched (n : ℕ) (CanMove CanGo : List Bool → Move → Type 0) 
   pub closed : (node : Way) (move : Move) → Contains looked node → CanGo node.set move → sum_of cuts (way_with node move) < bound → IsCovered looked waiting (slice_set node.set move.fact true) (node.cost + move.cost)
 
 -- so many units were spent on sets, in which at most m firings each were made
-abbrev pub IsCounted : (ℕ → ℕ → Type 0) → ℕ → ℕ → Type 0
+abbrev pub IsCounted : (List Move → ℕ → Type 0) → ℕ → ℕ → Type 0
 IsCounted HasRun sets units = (m n : ℕ) → AreRunsWithin HasRun m n → units ≤ sets * (m + 1)

@@ -129,34 +129,42 @@ not_long true r a e = let h : r ≡ ended.FiringsSpent = a in absurd (cc)
 not_long false r a e = refl
 
 -- the units of one more look
-pub counted_more : (HasRun : ℕ → ℕ → Type 0) (sets units fired firings exposures : ℕ) → IsCounted HasRun sets units → HasRun firings exposures → fired ≤ firings → IsCounted HasRun (sets + 1) (units + 1 + fired)
-counted_more HasRun sets units fired firings exposures counted run few m n runs =
+pub counted_more : (HasRun : List Move → ℕ → Type 0) (sets units fired : ℕ) (path : List Move) → IsCounted HasRun sets units →
+    HasRun path fired → IsCounted HasRun (sets + 1) (units + 1 + fired)
+counted_more HasRun sets units fired path counted run m n runs =
     let before : units ≤ sets * (m + 1) = counted m n runs in
-    let most : firings ≤ m = (runs firings exposures run).0 in
+    let most : fired ≤ m = (runs path fired run).0 in
     let split : (sets + 1) * (m + 1) ≡ sets * (m + 1) + (m + 1) = distribute sets (m + 1) in
     omega arith
   where
     distribute : (a c : ℕ) → (a + 1) * c ≡ a * c + c
     distribute a c = grind arith
 
--- the units of one more look are spent on its set and on firings of a run along its way
-pub spend_more : (HasRun : ℕ → ℕ → Type 0) (ways : List Way) (way : Way) (units firings more : ℕ) → CanSpend HasRun ways units → HasRun firings (length way.path) → more ≤ 1 + firings →
-    CanSpend HasRun (ways ++ way ∷ []) (units + more)
-spend_more HasRun [] way units firings more none run few = (firings, 0, run, omega arith, refl)
-spend_more HasRun (first ∷ ways) way units firings more (fired, others, its, enough, later) run few = (fired, others + more, its, omega arith, spend_more HasRun ways way others firings more later run few)
+-- the units of one more look are spent on its set and on the firings of a run along its way
+pub spend_more : (HasRun : List Move → ℕ → Type 0) (ways : List Way) (way : Way) (units firings : ℕ) → CanSpend HasRun ways units →
+    HasRun way.path firings → CanSpend HasRun (ways ++ way ∷ []) (units + 1 + firings)
+spend_more HasRun [] way units firings none run = (firings, 0, run, omega arith, refl)
+spend_more HasRun (first ∷ ways) way units firings (fired, others, its, all, later) run =
+    (fired, others + 1 + firings, its, omega arith, spend_more HasRun ways way others firings later run)
 
--- the sets that were looked at and one more take more units than there are
-pub spent_now : (n : ℕ) (CanMove : List Bool → Move → Type 0) (HasRun : ℕ → ℕ → Type 0) (cuts : List Cut) (bound search : ℕ) (looked : List Way) (node : Way) (units firings more : ℕ) →
-    ((way : Way) → Contains looked way → IsWay n CanMove way) → IsWay n CanMove node → ((way : Way) → Contains looked way → sum_of cuts way < bound) → sum_of cuts node < bound →
-    AreDistinct (sets_of looked) → (Contains (sets_of looked) node.set → ⊥) → CanSpend HasRun looked units → HasRun firings (length node.path) → more ≤ 1 + firings → units + more ≡ search + 1 →
-    IsSpent n CanMove HasRun cuts bound search
-spent_now n CanMove HasRun cuts bound search looked node units firings more are is low under distinct new spend run few sum =
+-- the sets that were looked at and one more take one unit more than there are
+pub spent_now : (n : ℕ) (CanMove : List Bool → Move → Type 0) (HasRun : List Move → ℕ → Type 0) (cuts : List Cut) (bound search : ℕ)
+    (looked : List Way) (node : Way) (units firings : ℕ) → ((way : Way) → Contains looked way → IsWay n CanMove way) →
+    IsWay n CanMove node → ((way : Way) → Contains looked way → sum_of cuts way < bound) → sum_of cuts node < bound →
+    AreDistinct (sets_of looked) → (Contains (sets_of looked) node.set → ⊥) → CanSpend HasRun looked units →
+    HasRun node.path firings → units + firings ≡ search → IsSpent n CanMove HasRun cuts bound search
+spent_now n CanMove HasRun cuts bound search looked node units firings are is low under distinct new spend run sum =
     record {
       ways = looked ++ node ∷ [];
-      walks = λ way c. ⊎_elim (λ old. are way old) (λ e. subst (λ (w : Way). IsWay n CanMove w) e is) (Contains-push_cases looked node way c);
-      low = λ way c. ⊎_elim (λ old. low way old) (λ e. subst (λ (w : Way). sum_of cuts w < bound) e under) (Contains-push_cases looked node way c);
-      distinct = subst (λ (ss : List (List Bool)). AreDistinct ss) (sym (sets_push looked node)) (distinct_push (sets_of looked) node.set distinct new);
-      wanted = subst (λ k. CanSpend HasRun (looked ++ node ∷ []) k) sum (spend_more HasRun looked node units firings more spend run few);
+      walks = λ way c. ⊎_elim (λ old. are way old) (λ e. subst (λ (w : Way). IsWay n CanMove w) e is)
+          (Contains-push_cases looked node way c);
+      low = λ way c. ⊎_elim (λ old. low way old) (λ e. subst (λ (w : Way). sum_of cuts w < bound) e under)
+          (Contains-push_cases looked node way c);
+      distinct = subst (λ (ss : List (List Bool)). AreDistinct ss) (sym (sets_push looked node))
+          (distinct_push (sets_of looked) node.set distinct new);
+      wanted = subst (λ k. CanSpend HasRun (looked ++ node ∷ []) k)
+          (let one : units + 1 + firings ≡ search + 1 = omega arith in one)
+          (spend_more HasRun looked node units firings spend run);
     }
 
 module _ (cuts : List Cut) (bound : ℕ) (way : Way) (moves : List Move) (looked before : List Way) where

@@ -18,19 +18,19 @@ abbrev pub best_cost : ℕ → Option Node → ℕ
 best_cost bound None = bound
 best_cost bound (Some node) = node.cost
 
--- Every run has at most m firings, at most n of them exposures.
-abbrev pub AreRunsWithin : (ℕ → ℕ → Type 0) → ℕ → ℕ → Type 0
-AreRunsWithin HasRun m n = (firings exposures : ℕ) → HasRun firings exposures → (firings ≤ m) × (exposures ≤ n)
+-- Every run makes at most m firings, along at most n moves.
+abbrev pub AreRunsWithin : (List Move → ℕ → Type 0) → ℕ → ℕ → Type 0
+AreRunsWithin HasRun m n = (path : List Move) (firings : ℕ) → HasRun path firings → (firings ≤ m) × (length path ≤ n)
 
--- So many units can be spent on the sets of these ways: one on each, and one on each firing of a run along its way.
-abbrev pub CanSpend : (ℕ → ℕ → Type 0) → List Way → ℕ → Type 0
+-- So many units are spent on the sets of these ways: one on each, and one on each firing of a run along its way.
+abbrev pub CanSpend : (List Move → ℕ → Type 0) → List Way → ℕ → Type 0
 CanSpend HasRun [] units = units ≡ 0
-CanSpend HasRun (way ∷ ways) units = (firings others : ℕ) × HasRun firings (length way.path) ×
-    (units ≤ 1 + firings + others) × CanSpend HasRun ways others
+CanSpend HasRun (way ∷ ways) units = (firings others : ℕ) × HasRun way.path firings ×
+    (units ≡ 1 + firings + others) × CanSpend HasRun ways others
 
 -- More units are wanted than there are: they can be spent on different sets, to each of which a walk leads whose cost, with what is
 -- still to be paid there, is below the bound.
-pub record IsSpent (n : ℕ) (CanMove : List Bool → Move → Type 0) (HasRun : ℕ → ℕ → Type 0) (cuts : List Cut)
+pub record IsSpent (n : ℕ) (CanMove : List Bool → Move → Type 0) (HasRun : List Move → ℕ → Type 0) (cuts : List Cut)
     (bound search : ℕ) : Type 0 where
   pub ways : List Way
   pub walks : (way : Way) → Contains ways way → IsWay n CanMove way
@@ -38,7 +38,7 @@ pub record IsSpent (n : ℕ) (CanMove : List Bool → Move → Type 0) (HasRun :
   pub distinct : AreDistinct (map (λ (way : Way). way.set) ways)
   pub wanted : CanSpend HasRun ways (search + 1)
 
--- Every run has at most m firings, at most n of them exposures, and so many units serve for all sets of n exposures.
-pub record IsEnough (HasRun : ℕ → ℕ → Type 0) (search m n : ℕ) : Type 0 where
+-- Every run makes at most m firings, along at most n moves, and so many units serve for all sets of n facts.
+pub record IsEnough (HasRun : List Move → ℕ → Type 0) (search m n : ℕ) : Type 0 where
   pub runs : AreRunsWithin HasRun m n
   pub units : (2 ^ n + 1) * (m + 1) ≤ search

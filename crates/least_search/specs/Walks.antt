@@ -1,6 +1,6 @@
 -- Sets of numbered facts, as one mark for each fact, and walks of moves that add a fact each (a search through a graph of
 -- states by operators, Hart, Nilsson and Raphael 1968).
-use Rattle.std.specs.Prelude.{◌≡◌, ℕ, zero, suc, ◌+◌, List, [], ◌∷◌, Bool, true, false, slice_set, slice_get, length, Some}
+use Rattle.std.specs.Prelude.{◌≡◌, ℕ, zero, suc, ◌+◌, List, [], ◌∷◌, Bool, true, false, slice_set, slice_get, Some}
 use Rattle.least_search.specs.declared.space.Move.{Move}
 use Rattle.least_search.specs.declared.node.Node.{Node}
 
@@ -43,11 +43,10 @@ IsSubset (small ∷ smalls) (large ∷ larges) = (small ≡ true → large ≡ t
 abbrev pub GoalsGrow : (List Bool → Type 0) → Type 0
 GoalsGrow HasGoal = (set larger : List Bool) → HasGoal set → IsSubset set larger → HasGoal larger
 
--- A move adds a fact that is not in the set, and is possible at each larger set without that fact; and each walk from the
--- empty set is a run with as many exposures as it has moves.
-pub record IsSpace (n : ℕ) (CanMove : List Bool → Move → Type 0) (HasRun : ℕ → ℕ → Type 0) : Type 0 where
+-- A move adds a fact that is not in the set, and is possible at each larger set without that fact; and along each walk from
+-- the empty set there is a run that makes no firing.
+pub record IsSpace (n : ℕ) (CanMove : List Bool → Move → Type 0) (HasRun : List Move → ℕ → Type 0) : Type 0 where
   pub new : (set : List Bool) (move : Move) → CanMove set move → slice_get set move.fact ≡ Some false
   pub grows : (set larger : List Bool) (move : Move) → CanMove set move → IsSubset set larger →
       slice_get larger move.fact ≡ Some false → CanMove larger move
-  pub runs : (moves : List Move) (end : List Bool) → IsWalk CanMove (no_facts n) moves end →
-      (firings : ℕ) × HasRun firings (length moves)
+  pub runs : (moves : List Move) (end : List Bool) → IsWalk CanMove (no_facts n) moves end → HasRun moves 0

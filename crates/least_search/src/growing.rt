@@ -47,6 +47,9 @@ pub(crate) fn near_side<S: Space>(
     };
     let mut refused = vec![in alloc; false; space.facts()]?;
     for _ in residues {
+        if visits.left == 0 {
+            return Ok(Some(side));
+        }
         let batch = open_moves(alloc, space, &side, residues, refused.as_slice())?;
         if batch.is_empty() {
             return Ok(Some(side));

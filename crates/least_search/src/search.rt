@@ -55,6 +55,7 @@ pub fn cheapest<S: Space>(
     ensures better { IfOk result (λ outcome. IfSome outcome.better (λ node. IsNode (S.size space.old) (S.CanMove space.old) node × S.HasMatch space.old node.set.items × (node.cost < bound))) }
     ensures shown { IfOk result (λ outcome. outcome.ended ≡ ended.Shown → IsLeastCost (S.size space.old) (CanGain (S.CanMove space.old) (S.Gains space.old)) (S.HasGoal space.old) (best_cost bound outcome.better)) }
     ensures search { IfOk result (λ outcome. (units : ℕ) → outcome.ended ≡ ended.SearchSpent units → (m n : ℕ) → IsEnough (S.HasRun space.old) search m n → ⊥) }
+    ensures none { IfOk result (λ outcome. (units : ℕ) → outcome.ended ≡ ended.SearchSpent units → outcome.better ≡ None) }
     ensures units { IfOk result (λ outcome. (units : ℕ) → outcome.ended ≡ ended.SearchSpent units → units ≡ search) }
     ensures spent { IfOk result (λ outcome. (units : ℕ) → outcome.ended ≡ ended.SearchSpent units → IsSpent (S.size space.old) (S.CanMove space.old) (S.HasRun space.old) cuts.now bound search) }
     ensures firings { IfOk result (λ outcome. outcome.ended ≡ ended.FiringsSpent → S.HasLongRun space.old) }

@@ -55,8 +55,8 @@ pub trait Space {
     /// some run over the set has a match: what a branch is read off
     ghost HasMatch: { Self → List Bool → Type 0 };
 
-    /// some run makes so many firings, so many of them exposures
-    ghost HasRun: { Self → ℕ → ℕ → Type 0 };
+    /// some run along the path makes so many firings: a unit of a search is one of these, or a set
+    ghost HasRun: { Self → List Move → ℕ → Type 0 };
 
     /// some run makes more firings than are allowed
     ghost HasLongRun: { Self → Type 0 };
@@ -91,8 +91,8 @@ pub trait Space {
         ensures long { IfOk result (λ visit. visit.end ≡ end.FiringsSpent → HasLongRun self.old) }
         ensures room { IfOk result (λ visit. visit.fired ≤ room) }
         ensures spent { IfOk result (λ visit. visit.end ≡ end.UnitsSpent → visit.fired ≡ room) }
-        ensures due { IfOk result (λ visit. visit.end ≡ end.UnitsSpent → (firings : ℕ) × HasRun self.old firings (length path.now) × (room < firings)) }
-        ensures run { IfOk result (λ visit. (firings : ℕ) × HasRun self.old firings (length path.now) × (visit.fired ≤ firings)) }
+        ensures due { IfOk result (λ visit. visit.end ≡ end.UnitsSpent → HasRun self.old path.now (room + 1)) }
+        ensures run { IfOk result (λ visit. HasRun self.old path.now visit.fired) }
         ensures possible { IfOk result (λ visit. (move : Move) → Contains visit.moves.items move → CanMove self.old set.now move) }
         ensures complete { IfOk result (λ visit. GoesOn visit.end → (move : Move) → CanMove self.old set.now move →
             Gains self.old set.now move → move.cost < below →

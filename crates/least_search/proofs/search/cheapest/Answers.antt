@@ -60,10 +60,10 @@ returns-then-units-search-clause-spent g c units told =
     let is : IsTaken c.loop-frontier.frontier c.take.new.self c.in-Some.taken = search rules in
     let next : IsNext c.args.cuts.now c.args.bound (looked_in c.loop-frontier.frontier) (waiting_in c.loop-frontier.frontier) (waiting_in c.take.new.self) (way_of c.in-Some.taken.node) = subst (λ (cs : List Cut). IsNext cs c.args.bound (looked_in c.loop-frontier.frontier) (waiting_in c.loop-frontier.frontier) (waiting_in c.take.new.self) (way_of c.in-Some.taken.node)) c.loop-frontier.invariant.cuts (subst (λ b. IsNext c.loop-frontier.frontier.cuts.now b (looked_in c.loop-frontier.frontier) (waiting_in c.loop-frontier.frontier) (waiting_in c.take.new.self) (way_of c.in-Some.taken.node)) c.loop-frontier.invariant.bound is.next) in
     let way_is : IsWay (g.S.Space.size c.args.space.now) (g.S.Space.CanMove c.args.space.now) (way_of c.in-Some.taken.node) = c.loop-frontier.invariant.searched.waiting_are (way_of c.in-Some.taken.node) next.among in
-    let (firings, run) = (g.met.S.Space.is_space c.args.space.now).runs c.in-Some.taken.node.path.items c.in-Some.taken.node.set.items way_is.walk in
+    let run : g.S.Space.HasRun c.args.space.now c.in-Some.taken.node.path.items 0 = (g.met.S.Space.is_space c.args.space.now).runs c.in-Some.taken.node.path.items c.in-Some.taken.node.set.items way_is.walk in
     let same : c.loop-frontier.units ≡ c.args.search = c.if-units-search.true in
-    spent_now (g.S.Space.size c.args.space.now) (g.S.Space.CanMove c.args.space.now) (g.S.Space.HasRun c.args.space.now) c.args.cuts.now c.args.bound c.args.search (looked_in c.loop-frontier.frontier) (way_of c.in-Some.taken.node) c.loop-frontier.units firings 1 c.loop-frontier.invariant.searched.looked_are way_is c.loop-frontier.invariant.low next.low
-    c.loop-frontier.invariant.distinct next.new c.loop-frontier.invariant.spend run (omega arith) (omega arith)
+    spent_now (g.S.Space.size c.args.space.now) (g.S.Space.CanMove c.args.space.now) (g.S.Space.HasRun c.args.space.now) c.args.cuts.now c.args.bound c.args.search (looked_in c.loop-frontier.frontier) (way_of c.in-Some.taken.node) c.loop-frontier.units 0 c.loop-frontier.invariant.searched.looked_are way_is c.loop-frontier.invariant.low next.low
+    c.loop-frontier.invariant.distinct next.new c.loop-frontier.invariant.spend run (omega arith)
 
 pub returns-in-Goal-clause-shown : goal.returns-in-Goal-clause-shown
 returns-in-Goal-clause-shown g c shown =
@@ -77,15 +77,14 @@ pub returns-in-UnitsSpent-clause-search : goal.returns-in-UnitsSpent-clause-sear
 returns-in-UnitsSpent-clause-search g c spent told m n enough =
     let is : IsTaken c.loop-frontier.frontier c.take.new.self c.in-Some.taken = search rules in
     let next : IsNext c.args.cuts.now c.args.bound (looked_in c.loop-frontier.frontier) (waiting_in c.loop-frontier.frontier) (waiting_in c.take.new.self) (way_of c.in-Some.taken.node) = subst (λ (cs : List Cut). IsNext cs c.args.bound (looked_in c.loop-frontier.frontier) (waiting_in c.loop-frontier.frontier) (waiting_in c.take.new.self) (way_of c.in-Some.taken.node)) c.loop-frontier.invariant.cuts (subst (λ b. IsNext c.loop-frontier.frontier.cuts.now b (looked_in c.loop-frontier.frontier) (waiting_in c.loop-frontier.frontier) (waiting_in c.take.new.self) (way_of c.in-Some.taken.node)) c.loop-frontier.invariant.bound is.next) in
-    let (firings, run, few) = c.in_ok-visit.ensures.run in
-    let its : g.S.Space.HasRun c.args.space.now firings (length c.deref.result.now) = subst (λ s. g.S.Space.HasRun s firings (length c.deref.result.now)) c.loop-frontier.invariant.back run in
+    let its : g.S.Space.HasRun c.args.space.now c.deref.result.now c.in_ok-visit.visit.fired = subst (λ s. g.S.Space.HasRun s c.deref.result.now c.in_ok-visit.visit.fired) c.loop-frontier.invariant.back c.in_ok-visit.ensures.run in
     let fired : c.in_ok-visit.visit.fired ≡ c.args.search - c.loop-frontier.units - 1 = c.in_ok-visit.ensures.spent c.in-UnitsSpent.is in
     let units : c.loop-frontier.units ≤ c.args.search = c.loop-frontier.invariant.units in
     let more : length (looked_in c.loop-frontier.frontier) + 1 ≡ length ((way_of c.in-Some.taken.node) ∷ (looked_in c.loop-frontier.frontier)) = omega arith in
     not_spent (g.S.Space.size c.args.space.now) (g.S.Space.CanMove c.args.space.now) (g.S.Space.HasRun c.args.space.now) (g.met.S.Space.is_space c.args.space.now) ((way_of c.in-Some.taken.node) ∷ (looked_in c.loop-frontier.frontier))
     (λ x there. ⊎_elim (λ e. subst (λ y. IsWay (g.S.Space.size c.args.space.now) (g.S.Space.CanMove c.args.space.now) y) e (c.loop-frontier.invariant.searched.waiting_are (way_of c.in-Some.taken.node) next.among)) (λ old. c.loop-frontier.invariant.searched.looked_are x old) (contains_cases (way_of c.in-Some.taken.node) (looked_in c.loop-frontier.frontier) x there))
     (next.new, c.loop-frontier.invariant.distinct) (c.loop-frontier.units + 1 + c.in_ok-visit.visit.fired) c.args.search
-    (subst (λ k. IsCounted (g.S.Space.HasRun c.args.space.now) k (c.loop-frontier.units + 1 + c.in_ok-visit.visit.fired)) more (counted_more (g.S.Space.HasRun c.args.space.now) (length (looked_in c.loop-frontier.frontier)) c.loop-frontier.units c.in_ok-visit.visit.fired firings (length c.deref.result.now) c.loop-frontier.invariant.counted its few))
+    (subst (λ k. IsCounted (g.S.Space.HasRun c.args.space.now) k (c.loop-frontier.units + 1 + c.in_ok-visit.visit.fired)) more (counted_more (g.S.Space.HasRun c.args.space.now) (length (looked_in c.loop-frontier.frontier)) c.loop-frontier.units c.in_ok-visit.visit.fired c.deref.result.now c.loop-frontier.invariant.counted its))
     (omega arith) m n enough
 
 pub returns-in-UnitsSpent-clause-spent : goal.returns-in-UnitsSpent-clause-spent
@@ -93,13 +92,12 @@ returns-in-UnitsSpent-clause-spent g c spent told =
     let is : IsTaken c.loop-frontier.frontier c.take.new.self c.in-Some.taken = search rules in
     let next : IsNext c.args.cuts.now c.args.bound (looked_in c.loop-frontier.frontier) (waiting_in c.loop-frontier.frontier) (waiting_in c.take.new.self) (way_of c.in-Some.taken.node) = subst (λ (cs : List Cut). IsNext cs c.args.bound (looked_in c.loop-frontier.frontier) (waiting_in c.loop-frontier.frontier) (waiting_in c.take.new.self) (way_of c.in-Some.taken.node)) c.loop-frontier.invariant.cuts (subst (λ b. IsNext c.loop-frontier.frontier.cuts.now b (looked_in c.loop-frontier.frontier) (waiting_in c.loop-frontier.frontier) (waiting_in c.take.new.self) (way_of c.in-Some.taken.node)) c.loop-frontier.invariant.bound is.next) in
     let way_is : IsWay (g.S.Space.size c.args.space.now) (g.S.Space.CanMove c.args.space.now) (way_of c.in-Some.taken.node) = c.loop-frontier.invariant.searched.waiting_are (way_of c.in-Some.taken.node) next.among in
-    let (firings, run, beyond) = c.in_ok-visit.ensures.due c.in-UnitsSpent.is in
-    let its : g.S.Space.HasRun c.args.space.now firings (length c.in-Some.taken.node.path.items) = subst (λ (p : List Move). g.S.Space.HasRun c.args.space.now firings (length p)) c.deref.ensures.value (subst (λ s. g.S.Space.HasRun s firings (length c.deref.result.now)) c.loop-frontier.invariant.back run) in
-    let past : c.args.search - c.loop-frontier.units - 1 < firings = beyond in
+    let room : ℕ = c.args.search - c.loop-frontier.units - 1 in
+    let its : g.S.Space.HasRun c.args.space.now c.in-Some.taken.node.path.items (room + 1) = subst (λ (p : List Move). g.S.Space.HasRun c.args.space.now p (room + 1)) c.deref.ensures.value (subst (λ s. g.S.Space.HasRun s c.deref.result.now (room + 1)) c.loop-frontier.invariant.back (c.in_ok-visit.ensures.due c.in-UnitsSpent.is)) in
     let units : c.loop-frontier.units ≤ c.args.search = c.loop-frontier.invariant.units in
     let wanted : c.loop-frontier.units ≡ c.args.search → ⊥ = c.if-units-search.false in
-    spent_now (g.S.Space.size c.args.space.now) (g.S.Space.CanMove c.args.space.now) (g.S.Space.HasRun c.args.space.now) c.args.cuts.now c.args.bound c.args.search (looked_in c.loop-frontier.frontier) (way_of c.in-Some.taken.node) c.loop-frontier.units firings (c.args.search - c.loop-frontier.units - 1 + 2) c.loop-frontier.invariant.searched.looked_are way_is c.loop-frontier.invariant.low next.low
-    c.loop-frontier.invariant.distinct next.new c.loop-frontier.invariant.spend its (omega arith) (omega arith)
+    spent_now (g.S.Space.size c.args.space.now) (g.S.Space.CanMove c.args.space.now) (g.S.Space.HasRun c.args.space.now) c.args.cuts.now c.args.bound c.args.search (looked_in c.loop-frontier.frontier) (way_of c.in-Some.taken.node) c.loop-frontier.units (room + 1) c.loop-frontier.invariant.searched.looked_are way_is c.loop-frontier.invariant.low next.low
+    c.loop-frontier.invariant.distinct next.new c.loop-frontier.invariant.spend its (omega arith)
 
 pub push_moves-requires-clause-low : goal.push_moves-requires-clause-low
 push_moves-requires-clause-low g c =
@@ -126,9 +124,8 @@ loop-frontier-preserved g c =
     let moves : c.deref-in-loop-frontier-2.result.now ≡ c.in_ok-visit.visit.moves.items = search rules in
     let now : c.visit.new.self ≡ c.args.space.now = c.in_ok-visit.ensures.back ∙ back in
     let pushed : looked_in c.push_moves.new.frontier ≡ (looked_in c.loop-frontier.frontier) ++ (way_of c.in-Some.taken.node) ∷ [] = c.in_ok-push_moves.ensures.looked ∙ is.looked in
-    let (firings, run, few) = c.in_ok-visit.ensures.run in
-    let its : g.S.Space.HasRun c.args.space.now firings (length c.deref.result.now) = subst (λ s. g.S.Space.HasRun s firings (length c.deref.result.now)) c.loop-frontier.invariant.back run in
-    let path_run : g.S.Space.HasRun c.args.space.now firings (length c.in-Some.taken.node.path.items) = subst (λ (p : List Move). g.S.Space.HasRun c.args.space.now firings (length p)) c.deref.ensures.value its in
+    let its : g.S.Space.HasRun c.args.space.now c.deref.result.now c.in_ok-visit.visit.fired = subst (λ s. g.S.Space.HasRun s c.deref.result.now c.in_ok-visit.visit.fired) c.loop-frontier.invariant.back c.in_ok-visit.ensures.run in
+    let path_run : g.S.Space.HasRun c.args.space.now c.in-Some.taken.node.path.items c.in_ok-visit.visit.fired = subst (λ (p : List Move). g.S.Space.HasRun c.args.space.now p c.in_ok-visit.visit.fired) c.deref.ensures.value its in
     let units : c.loop-frontier.units ≤ c.args.search = c.loop-frontier.invariant.units in
     let room : c.in_ok-visit.visit.fired ≤ c.args.search - c.loop-frontier.units - 1 = c.in_ok-visit.ensures.room in
     let wanted : c.loop-frontier.units ≡ c.args.search → ⊥ = c.if-units-search.false in
@@ -155,10 +152,9 @@ loop-frontier-preserved g c =
           (pushed_reached (g.S.Space.size c.args.space.now) (CanGain (g.S.Space.CanMove c.args.space.now) (g.S.Space.Gains c.args.space.now)) c.args.cuts.now c.args.bound (way_of c.in-Some.taken.node) c.in_ok-visit.visit.moves.items ((looked_in c.loop-frontier.frontier) ++ (way_of c.in-Some.taken.node) ∷ []) (waiting_in c.take.new.self) (waiting_in c.push_moves.new.frontier) wait' complete));
       long = ends.2;
       distinct = subst (λ (ws : List Way). AreDistinct (sets_of ws)) (sym pushed) (rw (sets_push (looked_in c.loop-frontier.frontier) (way_of c.in-Some.taken.node)) (distinct_push (sets_of (looked_in c.loop-frontier.frontier)) c.in-Some.taken.node.set.items c.loop-frontier.invariant.distinct next.new));
-      counted = subst (λ (ws : List Way). IsCounted (g.S.Space.HasRun c.args.space.now) (length ws) (c.loop-frontier.units + 1 + c.in_ok-visit.visit.fired)) (sym pushed) (subst (λ k. IsCounted (g.S.Space.HasRun c.args.space.now) k (c.loop-frontier.units + 1 + c.in_ok-visit.visit.fired)) more (counted_more (g.S.Space.HasRun c.args.space.now) (length (looked_in c.loop-frontier.frontier)) c.loop-frontier.units c.in_ok-visit.visit.fired firings (length c.deref.result.now) c.loop-frontier.invariant.counted its few));
+      counted = subst (λ (ws : List Way). IsCounted (g.S.Space.HasRun c.args.space.now) (length ws) (c.loop-frontier.units + 1 + c.in_ok-visit.visit.fired)) (sym pushed) (subst (λ k. IsCounted (g.S.Space.HasRun c.args.space.now) k (c.loop-frontier.units + 1 + c.in_ok-visit.visit.fired)) more (counted_more (g.S.Space.HasRun c.args.space.now) (length (looked_in c.loop-frontier.frontier)) c.loop-frontier.units c.in_ok-visit.visit.fired c.deref.result.now c.loop-frontier.invariant.counted its));
       units = omega arith;
       low = λ way there. ⊎_elim (λ old. c.loop-frontier.invariant.low way old) (λ e. subst (λ (w : Way). sum_of c.args.cuts.now w < c.args.bound) e next.low) (Contains-push_cases (looked_in c.loop-frontier.frontier) (way_of c.in-Some.taken.node) way (subst (λ (ws : List Way). Contains ws way) pushed there));
       spend = subst (λ (ws : List Way). CanSpend (g.S.Space.HasRun c.args.space.now) ws (c.loop-frontier.units + 1 + c.in_ok-visit.visit.fired)) (sym pushed)
-          (subst (λ k. CanSpend (g.S.Space.HasRun c.args.space.now) ((looked_in c.loop-frontier.frontier) ++ (way_of c.in-Some.taken.node) ∷ []) k) (let e : c.loop-frontier.units + (1 + c.in_ok-visit.visit.fired) ≡ c.loop-frontier.units + 1 + c.in_ok-visit.visit.fired = omega arith in e)
-          (spend_more (g.S.Space.HasRun c.args.space.now) (looked_in c.loop-frontier.frontier) (way_of c.in-Some.taken.node) c.loop-frontier.units firings (1 + c.in_ok-visit.visit.fired) c.loop-frontier.invariant.spend path_run (omega arith)));
+          (spend_more (g.S.Space.HasRun c.args.space.now) (looked_in c.loop-frontier.frontier) (way_of c.in-Some.taken.node) c.loop-frontier.units c.in_ok-visit.visit.fired c.loop-frontier.invariant.spend path_run);
     }

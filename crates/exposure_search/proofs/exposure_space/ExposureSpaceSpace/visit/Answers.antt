@@ -1,8 +1,8 @@
-use Rattle.std.proofs.Common.{sym, subst, arith}
+use Rattle.std.proofs.Common.{◌+◌, sym, subst}
 use Rattle.std.specs.Prelude.{IfOk}
 use Rattle.std.proofs.lemmas.Result.{IfOk-weaker}
 use Rattle.least_search.specs.Walks.{no_facts}
-use Rattle.exposure_search.specs.Exploring.{space_size}
+use Rattle.exposure_search.specs.Exploring.{space_size, HasTry}
 use Rattle.exposure_search.specs.Aims.{LeadsTo}
 use Rattle.exposure_search.specs.Visiting.{IsVisit}
 use Rattle.exposure_search.specs.Spaces.{open_walk}
@@ -56,6 +56,5 @@ returns-clause-complete c =
 pub returns-clause-due : goal.returns-clause-due
 returns-clause-due c =
     IfOk-weaker c.visit_set.result (IsVisit c.args.self.now c.args.path.now c.args.set.now c.args.room c.args.below) _ (λ visit is e.
-    let (firings, tried, more) = is.ended.due e in
-    let all = is.spent e in (firings, tried, omega arith))
+    subst (λ fired. HasTry c.args.self.now c.args.path.now (fired + 1)) (is.spent e) (is.ended.due e))
     (subst (λ s. IfOk c.visit_set.result (IsVisit s c.args.path.now c.args.set.now c.args.room c.args.below)) c.self.view_is c.visit_set.ensures.visit)
