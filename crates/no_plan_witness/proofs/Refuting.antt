@@ -23,8 +23,9 @@ use Rattle.meaning.specs.Runs.{Proof, IsRun, opening, frozen_head, IsStuck}
 use Rattle.meaning.specs.Fitting.{RulesFit, QueryHasConstants, QueryFits, IsKept}
 use Rattle.meaning.specs.Conjunctive.{StandFor}
 use Rattle.meaning.specs.Claims.{Refutes}
-use Rattle.meaning_laws.proofs.Kept.{kept_opening, kept_run, run_refutes}
+use Rattle.meaning_laws.proofs.Kept.{kept_opening, kept_run}
 use Rattle.meaning_laws.proofs.Renaming.{naming_exists}
+use Rattle.meaning_laws.proofs.Witness.{witness_refutes}
 use Rattle.no_plan_witness.specs.declared.refutation.Witness.{Witness}
 use Rattle.no_plan_witness.specs.Texts.{labels_in, numbered_text, Names, text_under, AreNamesFor}
 use Rattle.no_plan_witness.specs.Witnesses.{IsWitnessOf}
@@ -182,15 +183,33 @@ head_occurs schema constants query proof fits kept k c =
         label_occurs proof.base (record { rel = atom.rel; vals = map (value_of Const a) atom.terms }) k (are atom there)
         (subst (Contains (map (value_of Const a) atom.terms)) is (contains_map (value_of Const a) atom.terms (Var x) occurs))
 
-pub witnesses_refute : (schema : SchemaParts) (constants : List (List ℕ)) (statement : Statement) (queries : List Query) (query : Query) (log : List Firing) (end : Proof) (pair : Witness) → RulesFit schema constants → StandFor schema queries statement → Contains queries query → ((q : Query) → Contains queries q → QueryHasConstants constants q) → QueryFits schema query → IsRun schema constants 0 (opening query) log end → IsStuck schema constants queries end (frozen_head query) → IsWitnessOf constants end (frozen_head query) pair → Refutes schema constants statement pair.first pair.second pair.answer
-witnesses_refute schema constants statement queries query log end pair rules stand among have fits run stuck is =
-    let kept = kept_run schema constants query 0 (opening query) log end rules (kept_opening schema constants query fits (have query among)) run in
-    let h : ℕ → List ℕ = named constants (end.base ++ end.copy) is.names is.named in
-    let refuted = run_refutes schema constants statement queries query log end h rules stand among have fits run stuck (is_naming constants (end.base ++ end.copy) is.names is.named end.next) in
-    let first : renamed h end.base ≡ pair.first = same_facts constants (end.base ++ end.copy) is.names is.named end.base (λ fact c. Contains-append_left end.base end.copy fact c) ∙ sym is.first in
-    let second : renamed h end.copy ≡ pair.second = same_facts constants (end.base ++ end.copy) is.names is.named end.copy (λ fact c. Contains-append_right end.base end.copy fact c) ∙ sym is.second in
-    let head : map (image h) (frozen_head query) ≡ pair.answer = same_head constants (end.base ++ end.copy) is.names is.named (frozen_head query)
+pub stuck_refutes : (schema : SchemaParts) (constants : List (List ℕ)) (statement : Statement) (queries : List Query) (query : Query)
+    (end : Proof) (pair : Witness) → RulesFit schema constants → StandFor schema queries statement → Contains queries query →
+    ((q : Query) → Contains queries q → QueryHasConstants constants q) → QueryFits schema query → IsKept schema constants query end →
+    IsStuck schema constants queries end (frozen_head query) → IsWitnessOf constants end.base end.copy (frozen_head query) pair →
+    Refutes schema constants statement pair.first pair.second pair.answer
+stuck_refutes schema constants statement queries query end pair rules stand among have fits kept stuck is =
+    let all : List Ground = end.base ++ end.copy in
+    let h : ℕ → List ℕ = named constants all is.names is.named in
+    let refuted = witness_refutes schema constants statement queries query end h rules stand among have kept stuck
+    (is_naming constants all is.names is.named end.next) in
+    let first : renamed h end.base ≡ pair.first =
+    same_facts constants all is.names is.named end.base (λ fact c. Contains-append_left end.base end.copy fact c) ∙ sym is.first_is in
+    let second : renamed h end.copy ≡ pair.second =
+    same_facts constants all is.names is.named end.copy (λ fact c. Contains-append_right end.base end.copy fact c) ∙ sym is.second_is in
+    let head : map (image h) (frozen_head query) ≡ pair.answer = same_head constants all is.names is.named (frozen_head query)
     (λ k c. more_labels end.base end.copy k (head_occurs schema constants query end fits kept k c)) ∙ sym is.answer in
     subst (λ row. Refutes schema constants statement pair.first pair.second row) head
     (subst (λ facts. Refutes schema constants statement pair.first facts (map (image h) (frozen_head query))) second
     (subst (λ facts. Refutes schema constants statement facts (renamed h end.copy) (map (image h) (frozen_head query))) first refuted))
+
+pub witnesses_refute : (schema : SchemaParts) (constants : List (List ℕ)) (statement : Statement) (queries : List Query) (query : Query)
+    (log : List Firing) (end : Proof) (pair : Witness) → RulesFit schema constants → StandFor schema queries statement →
+    Contains queries query → ((q : Query) → Contains queries q → QueryHasConstants constants q) → QueryFits schema query →
+    IsRun schema constants 0 (opening query) log end → IsStuck schema constants queries end (frozen_head query) →
+    IsWitnessOf constants end.base end.copy (frozen_head query) pair →
+    Refutes schema constants statement pair.first pair.second pair.answer
+witnesses_refute schema constants statement queries query log end pair rules stand among have fits run stuck is =
+    let kept : IsKept schema constants query end =
+    kept_run schema constants query 0 (opening query) log end rules (kept_opening schema constants query fits (have query among)) run in
+    stuck_refutes schema constants statement queries query end pair rules stand among have fits kept stuck is

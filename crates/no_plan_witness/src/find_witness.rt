@@ -9,29 +9,43 @@ use lists::{Copies, NoMemory, Texts};
 use meaning::types::{Ground, Vals};
 use std::alloc::Global;
 
-/// The base facts and the copy facts of a proof, and the head, with texts for their labels: in ascending order, each label takes the
-/// next of `_1`, `_2`, `_3` and so on that is not a known constant. So two labels never get one text, and none gets a constant's.
-///
-/// A label of the head that is in no fact has the empty text.
+/// The base facts and the copy facts of a proof, and the head, named as in `named_pair`.
 pub fn witness(
     alloc: Global,
     proof: &Proof,
     known: &Texts,
     head: &Vals,
 ) -> Result<Witness, NoMemory>
-    ensures { IfOk result (IsWitnessOf known.now proof.now.end head.now) }
+    ensures { IfOk result (IsWitnessOf known.now proof.now.end.base proof.now.end.copy head.now) }
 {
     let base = base_facts(alloc, proof)?;
     let copy = copy_facts(alloc, proof)?;
-    let naming = Naming::new(alloc, base.as_slice(), copy.as_slice(), known)?;
+    named_pair(alloc, base.as_slice(), copy.as_slice(), known, head)
+}
+
+/// The facts of both lists, and the head, with texts for their labels: in ascending order, each label takes the next of `_1`, `_2`,
+/// `_3` and so on that is not a known constant. So two labels never get one text, and none gets a constant's.
+///
+/// A label of the head that is in no fact has the empty text.
+pub fn named_pair(
+    alloc: Global,
+    first: &[Ground],
+    second: &[Ground],
+    known: &Texts,
+    head: &Vals,
+) -> Result<Witness, NoMemory>
+    ensures { IfOk result (IsWitnessOf known.now first.now second.now head.now) }
+{
+    let naming = Naming::new(alloc, first, second, known)?;
     Ok(Witness {
-        first: naming.instance(alloc, base.as_slice())?,
-        second: naming.instance(alloc, copy.as_slice())?,
+        first: naming.instance(alloc, first)?,
+        second: naming.instance(alloc, second)?,
         answer: naming.row(alloc, head.as_slice())?,
     })
 }
 
-fn base_facts(alloc: Global, proof: &Proof) -> Result<Vec<Ground>, NoMemory>
+/// Copies of the base facts.
+pub fn base_facts(alloc: Global, proof: &Proof) -> Result<Vec<Ground>, NoMemory>
     ensures { IfOk result (λ facts. facts.items ≡ proof.now.end.base) }
 {
     let mut facts = Vec::new(alloc);
@@ -41,7 +55,8 @@ fn base_facts(alloc: Global, proof: &Proof) -> Result<Vec<Ground>, NoMemory>
     Ok(facts)
 }
 
-fn copy_facts(alloc: Global, proof: &Proof) -> Result<Vec<Ground>, NoMemory>
+/// Copies of the copy facts.
+pub fn copy_facts(alloc: Global, proof: &Proof) -> Result<Vec<Ground>, NoMemory>
     ensures { IfOk result (λ facts. facts.items ≡ proof.now.end.copy) }
 {
     let mut facts = Vec::new(alloc);

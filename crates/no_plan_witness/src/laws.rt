@@ -4,10 +4,11 @@ ghost use Rattle.meaning.specs.declared.types.SchemaParts.{SchemaParts};
 ghost use Rattle.meaning.specs.declared.types.Statement.{Statement};
 ghost use Rattle.meaning.specs.declared.types.Query.{Query};
 ghost use Rattle.meaning.specs.declared.types.Firing.{Firing};
+ghost use Rattle.meaning.specs.declared.types.Ground.{Ground};
 ghost use Rattle.meaning.specs.declared.types.Val.{Val};
 ghost use Rattle.meaning.specs.Values.{Value};
 ghost use Rattle.meaning.specs.Runs.{Proof, IsRun, opening, frozen_head, IsStuck};
-ghost use Rattle.meaning.specs.Fitting.{RulesFit, QueryFits, QueryHasConstants};
+ghost use Rattle.meaning.specs.Fitting.{RulesFit, QueryFits, QueryHasConstants, IsKept};
 ghost use Rattle.meaning.specs.Conjunctive.{StandFor};
 ghost use Rattle.meaning.specs.Claims.{Refutes};
 ghost use Rattle.no_plan_witness.specs.declared.refutation.Witness.{Witness};
@@ -23,14 +24,25 @@ pub fn witnesses_refute()
         RulesFit schema constants → StandFor schema queries statement → Contains queries query →
         ((q : Query) → Contains queries q → QueryHasConstants constants q) → QueryFits schema query →
         IsRun schema constants 0 (opening query) log end → IsStuck schema constants queries end (frozen_head query) →
-        IsWitnessOf constants end (frozen_head query) pair →
+        IsWitnessOf constants end.base end.copy (frozen_head query) pair →
+        Refutes schema constants statement pair.first pair.second pair.answer }
+{}
+
+/// The same of a proof in which nothing is active and no query has a goal, whatever made it, if it has what runs keep.
+pub fn stuck_refutes()
+    ensures { (schema : SchemaParts) (constants : List Value) (statement : Statement) (queries : List Query) (query : Query)
+        (end : Proof) (pair : Witness) →
+        RulesFit schema constants → StandFor schema queries statement → Contains queries query →
+        ((q : Query) → Contains queries q → QueryHasConstants constants q) → QueryFits schema query →
+        IsKept schema constants query end → IsStuck schema constants queries end (frozen_head query) →
+        IsWitnessOf constants end.base end.copy (frozen_head query) pair →
         Refutes schema constants statement pair.first pair.second pair.answer }
 {}
 
 /// The answer of a witness has one value for each of the head.
 pub fn answer_length()
-    ensures { (constants : List Value) (proof : Proof) (head : List Val) (pair : Witness) →
-        IsWitnessOf constants proof head pair → length pair.answer ≡ length head }
+    ensures { (constants : List Value) (first second : List Ground) (head : List Val) (pair : Witness) →
+        IsWitnessOf constants first second head pair → length pair.answer ≡ length head }
 {}
 
 /// A pair with a fault does not refute, unless the fault is want of memory.

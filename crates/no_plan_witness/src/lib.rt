@@ -1,7 +1,8 @@
 //! Refutations: two instances and a row, which show that a statement has no plan; and what is decided of a statement.
 //!
 //! Crates above use this: `witness` gives the pair of a proof, and by the law `witnesses_refute` it refutes where nothing is active
-//! in the proof and no query has a goal. `check_witness` answers `Ok` exactly where a pair refutes. Begin at `specs/Texts.antt` and
+//! in the proof and no query has a goal. `named_pair` does the same for facts that are put together otherwise, by the law
+//! `stuck_refutes`. `check_witness` answers `Ok` exactly where a pair refutes. Begin at `specs/Texts.antt` and
 //! `specs/Witnesses.antt`.
 #![tactic(auto)]
 
@@ -19,7 +20,7 @@ mod refutation;
 
 pub use decision::{Chosen, ChosenList, Decision};
 pub use fault::{Which, WitnessFault};
-pub use find_witness::witness;
+pub use find_witness::{base_facts, copy_facts, named_pair, witness};
 pub use judge_witness::check_witness;
 pub use naming::Naming;
 pub use refutation::Witness;

@@ -10,7 +10,8 @@ use Rattle.meaning.specs.declared.types.Val.{Val}
 use Rattle.meaning.specs.Values.{Value}
 use Rattle.meaning.specs.Plans.{IsWellFormed}
 use Rattle.meaning.specs.Triggers.{IsFiringRun, IsQuiet}
-use Rattle.meaning.specs.Runs.{Proof, IsRun, base_state, opening, frozen_head}
+use Rattle.meaning.specs.Runs.{Proof, IsRun, IsBaseRun, base_state, opening, frozen_head}
+use Rattle.meaning.specs.Costs.{IsCost}
 use Rattle.meaning.specs.Fitting.{Fit, RulesFit, QueryFits, QueryHasConstants}
 use Rattle.meaning.specs.Extract.{IsBase, IsExposing, HasGoalAfter, exposures_cost}
 use Rattle.meaning.proofs.Steps.{cost_once}
@@ -29,6 +30,7 @@ use Rattle.least_search.specs.declared.search.Ended.{Ended}
 use Rattle.least_search.specs.declared.search.Ended.TheVariants as ended
 use Rattle.least_search.specs.Walks.{CanGain, GoalsGrow, IsNode, walk_cost}
 use Rattle.least_search.specs.Costs.{IsLeastCost, IsEnough as ServesRuns}
+use Rattle.exposure_search.specs.Trials.{HasMoreToDo}
 use Rattle.exposure_search.specs.Exploring.{Exploring, exploring_of, IsFounded, space_size, CanExpose, GainsAt, HasGoalAt, HasMatchAt, HasTry, HasRunBeyond}
 use Rattle.exposure_search.proofs.Explored.{least_found, tries_within, match_goal}
 use Rattle.exposure_search.proofs.Growing.{goals_grown}
@@ -40,7 +42,7 @@ use Rattle.plan_extract.specs.Trimmed.{IsShown}
 use Rattle.plan_extract.specs.Arranged.{IsArrangedBranch}
 use Rattle.plan_extract.proofs.Shown.{same_shown}
 use Rattle.proof_search.specs.Searches.{AreSearchable}
-use Rattle.proof_search.specs.Chosen.{IsRunOf, NoneIsEnough, HasLongRun}
+use Rattle.proof_search.specs.Chosen.{IsRunOf, NoneIsEnough, HasMoreFor, HasLongRun}
 use Rattle.proof_search.proofs.Based.{base_from}
 use Rattle.proof_search.specs.Choices.{IsLeastFor, CostsAtMost, IsSpaceOf, IsSaidFor}
 use Rattle.proof_search.specs.declared.question.Question.{Question}
@@ -64,6 +66,20 @@ module _ (schema : SchemaParts) (queries : List Query) (query : Query) (firings 
             (enough.few_firings log its, enough.few_exposures log its));
         units = enough.units;
       })
+
+  -- there is more to do for a branch at the cost that was the bound
+  pub more_for : (search cost : ℕ) (branch : Branch) → IsCost schema branch cost → HasMoreToDo space.schema space.constants space.base cost search →
+      HasMoreFor schema space.constants search branch query
+  more_for search cost branch costs more = record {
+    bases = space.log;
+    base = space.base;
+    cost = cost;
+    fired = subst (λ start. IsBaseRun schema.rules (base_state start) space.log space.base) is.start
+        (subst (λ (s : SchemaParts). IsBaseRun s.rules (base_state space.start) space.log space.base) is.schema_is is.founded.run);
+    quiet = subst (λ (s : SchemaParts). IsQuiet s.rules space.base) is.schema_is is.founded.quiet;
+    costs = costs;
+    more = subst (λ s. HasMoreToDo s space.constants space.base cost search) is.schema_is more;
+  }
 
   module _ (rules : RulesFit schema space.constants) (have : (q : Query) → Contains queries q → QueryHasConstants space.constants q) (fits : QueryFits schema query) (its : QueryHasConstants space.constants query) where
     opened : IsFiringRun schema.rules (base_state (opening query)) space.log space.base
@@ -139,16 +155,23 @@ module _ (question : Question) (is : IsQuestion question) (space : Exploring) (i
       (end ≡ ended.Shown → least ≡ known_cost.Shown) → ((units : ℕ) → end ≡ ended.SearchSpent units → least ≡ known_cost.SearchSpent search) → (end ≡ ended.FiringsSpent → least ≡ known_cost.FiringsSpent question.firings) →
       (end ≡ ended.Shown → IsLeastCost (space_size space) (CanGain (CanExpose space) (GainsAt space)) (HasGoalAt space) best) →
       ((units : ℕ) → end ≡ ended.SearchSpent units → (m n : ℕ) → ServesRuns (HasTry space) search m n → ⊥) →
+      ((units : ℕ) → end ≡ ended.SearchSpent units → (cost : ℕ) × IsCost (meaning_of question.schema.now) branch cost × HasMoreToDo space.schema space.constants space.base cost search) →
       (end ≡ ended.FiringsSpent → HasRunBeyond space) →
       IsSaidFor (meaning_of question.schema.now) space.constants question.queries.now question.firings search question.query.now branch least
-  said_here search branch best costs ended.Shown least shown spent long is_least none beyond =
+  said_here search branch best costs ended.Shown least shown spent long is_least none more beyond =
       let can = searchable question.query.now is.among in
       subst (IsSaidFor (meaning_of question.schema.now) space.constants question.queries.now question.firings search question.query.now branch) (sym (shown refl))
       (least_for (meaning_of question.schema.now) question.queries.now question.query.now question.firings space its.of_query fits_rules (λ q there. (searchable q there).constants) can.fits can.constants (well_formed question.schema.now) (are_short question.schema.now.rules (orderly question.schema.now).non_recursive) best (is_least refl) branch costs)
-  said_here search branch best costs (ended.SearchSpent units) least shown spent long is_least none beyond =
-      subst (IsSaidFor (meaning_of question.schema.now) space.constants question.queries.now question.firings search question.query.now branch) (sym (spent units refl))
-      (refl, none_enough (meaning_of question.schema.now) question.queries.now question.query.now question.firings space its.of_query search (none units refl))
-  said_here search branch best costs ended.FiringsSpent least shown spent long is_least none beyond =
+  said_here search branch best costs (ended.SearchSpent units) least shown spent long is_least none more beyond =
+      subst (IsSaidFor (meaning_of question.schema.now) space.constants question.queries.now question.firings search question.query.now branch) (sym (spent units refl)) (
+        refl,
+        record {
+          none_enough = none_enough (meaning_of question.schema.now) question.queries.now question.query.now question.firings space its.of_query search (none units refl);
+          more = let (cost, costs_so, left) = more units refl in
+              more_for (meaning_of question.schema.now) question.queries.now question.query.now question.firings space its.of_query search cost branch costs_so left;
+        },
+      )
+  said_here search branch best costs ended.FiringsSpent least shown spent long is_least none more beyond =
       subst (IsSaidFor (meaning_of question.schema.now) space.constants question.queries.now question.firings search question.query.now branch) (sym (long refl))
       (refl, long_run (meaning_of question.schema.now) question.queries.now question.query.now question.firings space its.of_query (beyond refl))
 
@@ -157,12 +180,13 @@ module _ (question : Question) (is : IsQuestion question) (space : Exploring) (i
       (end ≡ ended.Shown → least ≡ known_cost.Shown) → ((units : ℕ) → end ≡ ended.SearchSpent units → least ≡ known_cost.SearchSpent search) → (end ≡ ended.FiringsSpent → least ≡ known_cost.FiringsSpent question.firings) →
       (end ≡ ended.Shown → IsLeastCost (space_size space) (CanGain (CanExpose space) (GainsAt space)) (HasGoalAt space) best) →
       ((units : ℕ) → end ≡ ended.SearchSpent units → (m n : ℕ) → ServesRuns (HasTry space) search m n → ⊥) →
+      ((units : ℕ) → end ≡ ended.SearchSpent units → (cost : ℕ) × IsCost (meaning_of question.schema.now) branch cost × HasMoreToDo space.schema space.constants space.base cost search) →
       (end ≡ ended.FiringsSpent → HasRunBeyond space) →
       IsChoiceOn question search (record { branch = branch; least = least })
-  chosen_on search branch least one best costs end shown spent long is_least none beyond = record {
+  chosen_on search branch least one best costs end shown spent long is_least none more beyond = record {
     branch = one;
     said = subst (λ known. IsSaidFor (meaning_of question.schema.now) known question.queries.now question.firings search question.query.now branch least) its.constants
-        (said_here search branch best costs end least shown spent long is_least none beyond);
+        (said_here search branch best costs end least shown spent long is_least none more beyond);
   }
 
   pub goals_here : GoalsGrow (HasGoalAt space)

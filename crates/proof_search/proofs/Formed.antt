@@ -14,14 +14,11 @@ use Rattle.meaning.specs.declared.types.Select.{Select}
 use Rattle.meaning.specs.declared.types.Statement.{Statement}
 use Rattle.meaning.specs.Values.{Value, Row}
 use Rattle.meaning.specs.Instances.{IsInstance}
-use Rattle.meaning.specs.declared.types.Val.TheVariants.{Const, Label}
 use Rattle.meaning.specs.Claims.{Refutes}
 use Rattle.meaning.specs.Costs.{IsRival}
-use Rattle.meaning.specs.Matching.{AnswersQuery, value_of}
+use Rattle.meaning.specs.Matching.{AnswersQuery}
 use Rattle.meaning.specs.Answers.{AnswersSelect}
-use Rattle.meaning.specs.Homomorphisms.{image}
 use Rattle.meaning.specs.Triggers.{terms_bound}
-use Rattle.meaning.specs.Runs.{frozen_head}
 use Rattle.meaning.specs.Conjunctive.{term_of, IsAtomFor, IsConjunctive, StandFor}
 use Rattle.meaning.specs.Fitting.{QueryFits, QueryHasConstants}
 use Rattle.meaning.specs.Extract.{IsQueryRival}
@@ -32,13 +29,12 @@ use Rattle.access_schema.specs.declared.schema.Schema.{Schema}
 use Rattle.access_schema.specs.Meaning.{meaning_of}
 use Rattle.access_schema.specs.Invariant.{terms_of}
 use Rattle.access_schema.proofs.Ordered.{ordered_from, bound_is}
-use Rattle.access_schema.proofs.Keeping.{well_formed, rules_fit}
+use Rattle.access_schema.proofs.Keeping.{well_formed}
 use Rattle.sql_conjunctive.specs.Form.{HaveLiterals, IsNumbered, Clashes}
 use Rattle.rule_pass.specs.declared.pass.TheConstants.{MOST_FIRINGS}
 use Rattle.proof_search.specs.Searches.{AreSearchable}
 use Rattle.no_plan_witness.specs.declared.refutation.Witness.{Witness}
-use Rattle.no_plan_witness.specs.Texts.{text_under}
-use Rattle.proof_search.specs.Branches.{IsQueryBranch, IsStuckPair}
+use Rattle.proof_search.specs.Branches.{IsQueryBranch, IsRefutingPair}
 use Rattle.proof_search.specs.Outcomes.{IsFirstSpent}
 use Rattle.proof_search.specs.Plans.{known_of, AreQueriesOf, IsPlanFor, HasFewSteps}
 use Rattle.access_cost.specs.declared.least.Least.{Least}
@@ -50,12 +46,11 @@ use Rattle.no_plan_witness.specs.declared.decision.Chosen.TheVariants as chosen
 use Rattle.no_plan_witness.specs.declared.decision.Decision.{Decision}
 use Rattle.no_plan_witness.specs.declared.decision.Decision.TheVariants as decision
 use Rattle.proof_search.specs.declared.outcome.Choice.{Choice}
-use Rattle.proof_search.specs.Chosen.{NoneIsEnough, HasLongRun, OfForm, IsSaid, AreChosen}
+use Rattle.proof_search.specs.Chosen.{AreSpent, HasLongRun, OfForm, IsSaid, AreChosen}
 use Rattle.proof_search.specs.Choices.{IsSaidFor, IsChoice}
 use Rattle.proof_search.specs.Outcomes.{IsPlanOf}
 use Rattle.proof_search.specs.Decisions.{IsRefutation, IsUndecided, IsDecision}
 use Rattle.proof_search.specs.Decisions.IsDecision.{plan as of_plan}
-use Rattle.no_plan_witness.proofs.Refuting.{witnesses_refute}
 use Rattle.plan_extract.proofs.Read.{schema_narrow}
 use Rattle.sql_conjunctive.proofs.Counted.{bounded_terms, ordered_short, terms_few}
 
@@ -185,18 +180,18 @@ module _ (schema : Schema) (statement : Statement) (select : Select) (queries : 
     steps = λ branch among. few branches queries all branch among;
   }
 
-  -- a query that is stuck
-  pub refuted : ((c : Value) → Contains schema.constants c → Contains (known_of schema statement) c) → AreSearchable (meaning_of schema) (known_of schema statement) queries → (query : Query) → Contains queries query →
-      (pair : Witness) → IsStuckPair (meaning_of schema) (known_of schema statement) queries query pair → IsRefutation schema statement pair
-  refuted have can query among pair its =
-      let known = known_of schema statement in
-      let refutes : Refutes (meaning_of schema) known statement pair.first pair.second pair.answer =
-      witnesses_refute (meaning_of schema) known statement queries query its.log its.end pair (rules_fit schema known have) stand among (λ other there. (can other there).constants) (can query among).fits its.run its.stuck its.of_end in
+  -- a pair that refutes, whatever made it
+  pub refuted : (query : Query) → Contains queries query → (pair : Witness) →
+      IsRefutingPair (meaning_of schema) (known_of schema statement) queries query pair → IsRefutation schema statement pair
+  refuted query among pair its =
+      let refutes : Refutes (meaning_of schema) (known_of schema statement) statement pair.first pair.second pair.answer =
+      its.refutes statement stand in
       record {
         refutes = refutes;
-        none = no_plan_lem (meaning_of schema) known statement pair.first pair.second pair.answer (well_formed schema) refutes;
+        none = no_plan_lem (meaning_of schema) (known_of schema statement) statement pair.first pair.second pair.answer (well_formed schema)
+            refutes;
         wide = λ other there.
-            ap length its.of_end.answer ∙ length-map (frozen_head query) (image (text_under its.of_end.names)) ∙ length-map query.head (value_of Const Label) ∙ ap length (are.form query among).head ∙ length-map select.items (term_of query.atoms)
+            its.wide ∙ ap length (are.form query among).head ∙ length-map select.items (term_of query.atoms)
             ∙ ap (λ (x : Select). length x.items) (contains_one select other (subst (λ list. Contains list other) one there));
       }
 
@@ -236,7 +231,7 @@ module _ (schema : Schema) (statement : Statement) (select : Select) (queries : 
   said_of : (firings search : ℕ) (query : Query) → Contains queries query → (branch : Branch) (least : Least) →
       IsSaidFor (meaning_of schema) (known_of schema statement) queries firings search query branch least → IsSaid schema statement firings search select branch least
   said_of firings search query among branch Shown is = λ rival cost other its cost_is other_is. is rival cost other (rival_for query among rival its) cost_is other_is
-  said_of firings search query among branch (SearchSpent units) is = (is.0, of_form (NoneIsEnough (meaning_of schema) (known_of schema statement) firings search) query among is.1)
+  said_of firings search query among branch (SearchSpent units) is = (is.0, of_form (AreSpent (meaning_of schema) (known_of schema statement) firings search branch) query among is.1)
   said_of firings search query among branch (FiringsSpent spent) is = (is.0, of_form (HasLongRun (meaning_of schema) (known_of schema statement) firings) query among is.1)
 
   module _ (firings search : ℕ) where

@@ -1,6 +1,6 @@
 -- What the search of a query comes to.
-use Rattle.std.proofs.Common.{◌≡◌, ℕ, ◌+◌, ◌≤◌, List, [], ◌∷◌, ◌++◌, length, take, Bool, true, false, Option, Some, None, Result, Ok, Err, sym, subst, arith}
-use Rattle.std.specs.Prelude.{slice_get, IfOk}
+use Rattle.std.proofs.Common.{◌≡◌, ℕ, ◌+◌, ◌≤◌, List, [], ◌∷◌, ◌++◌, length, take, Option, Some, None, sym, subst, arith}
+use Rattle.std.specs.Prelude.{slice_get}
 use Rattle.std.specs.List.{AllZip}
 use Rattle.std.specs.Option.{option_or}
 use Rattle.std.proofs.lemmas.List.{length-map}
@@ -12,48 +12,26 @@ use Rattle.meaning.specs.declared.types.Branch.{Branch}
 use Rattle.meaning.specs.declared.types.Firing.{Firing}
 use Rattle.meaning.specs.declared.types.Val.{Val}
 use Rattle.meaning.specs.Values.{Value}
-use Rattle.meaning.specs.Runs.{Proof, IsOrderedRun, NoExposure, HasGoal, opening, frozen_head}
+use Rattle.meaning.specs.Runs.{HasGoal, opening, frozen_head}
 use Rattle.meaning.specs.Fitting.{QueryHasConstants}
-use Rattle.meaning_laws.proofs.Kept.{ordered_is_run}
 use Rattle.access_schema.specs.Meaning.{meaning_of}
 use Rattle.accessible_copy.specs.declared.entry.Entry.{Entry}
 use Rattle.accessible_copy.specs.Proving.{Proving, log_of}
 use Rattle.accessible_copy.specs.Goals.{IsGoal}
-use Rattle.accessible_copy.specs.Rounds.{IsAllQuiet, GoesOn}
-use Rattle.no_plan_witness.specs.declared.refutation.Witness.{Witness}
-use Rattle.no_plan_witness.specs.Witnesses.{IsWitnessOf}
+use Rattle.accessible_copy.specs.Rounds.{GoesOn}
 use Rattle.proof_search.specs.Searches.{IsSearch}
 use Rattle.plan_extract.specs.Branches.{IsBranchFor, IsProofFor}
-use Rattle.proof_search.specs.Branches.{IsStuckPair, IsSpentLog}
+use Rattle.proof_search.specs.Branches.{IsSpentLog}
 use Rattle.proof_search.specs.Choices.{IsChoice}
-use Rattle.proof_search.specs.Outcomes.{IsQueryOutcome, IsWithoutGoal, IsFirstSpent}
+use Rattle.proof_search.specs.Outcomes.{IsFirstSpent}
 use Rattle.proof_search.specs.declared.outcome.Choice.{Choice}
-use Rattle.proof_search.specs.declared.outcome.QueryOutcome.{QueryOutcome}
-use Rattle.proof_search.specs.declared.outcome.QueryOutcome.TheVariants as one
 use Rattle.proof_search.specs.declared.question.Question.{Question}
 use Rattle.proof_search.specs.Questions.{IsQuestion, IsSearchFor, IsBranchOn}
+use Rattle.proof_search.proofs.RefutingPairs.{run_moved}
 use Rattle.plan_extract.proofs.Zips.{zip_push}
 
-module _ (schema : SchemaParts) (known : List Value) (queries : List Query) (firings units : ℕ) (query : Query) (proof : Proving) (search : IsSearch schema firings (opening query) known proof)
+module _ (schema : SchemaParts) (known : List Value) (queries : List Query) (firings : ℕ) (query : Query) (proof : Proving) (search : IsSearch schema firings (opening query) known proof)
     (none : HasGoal queries proof.end (frozen_head query) → ⊥) where
-  moved : (log : List Firing) (end : Proof) → IsOrderedRun schema proof.constants 0 proof.start log end → IsOrderedRun schema known 0 (opening query) log end
-  moved log end run = subst (λ start. IsOrderedRun schema known 0 start log end) search.begun (subst (λ constants. IsOrderedRun schema constants 0 proof.start log end) search.constants run)
-
-  -- no goal, and nothing is active
-  pub stuck_pair : IsAllQuiet schema proof → (pair : Witness) → IsWitnessOf known proof.end (frozen_head query) pair → IsStuckPair schema known queries query pair
-  stuck_pair its pair of_end = record {
-    log = log_of proof;
-    end = proof.end;
-    run = ordered_is_run schema known 0 (opening query) (log_of proof) proof.end (moved (log_of proof) proof.end search.ordered);
-    stuck = record {
-      base = its.base;
-      exposures = subst (λ constants. NoExposure schema constants proof.end) search.constants its.exposures;
-      copy = its.copy;
-      goal = none;
-    };
-    of_end = of_end;
-  }
-
   -- no goal, and the firings are spent
   pub spent_log : firings ≤ length proof.entries → GoesOn schema proof → IsSpentLog schema known queries firings query (log_of proof)
   spent_log low (firing, next, on) =
@@ -62,21 +40,10 @@ module _ (schema : SchemaParts) (known : List Value) (queries : List Query) (fir
       record {
         end = proof.end;
         count = omega arith;
-        run = moved (log_of proof) proof.end search.ordered;
+        run = run_moved schema firings (opening query) known proof search (log_of proof) proof.end search.ordered;
         no_goal = none;
-        goes_on = (firing, next, moved (log_of proof ++ firing ∷ []) next on);
+        goes_on = (firing, next, run_moved schema firings (opening query) known proof search (log_of proof ++ firing ∷ []) next on);
       }
-
-  without : (quiet : Bool) → (quiet ≡ true → IsAllQuiet schema proof) → (quiet ≡ false → (firings ≤ length proof.entries) × GoesOn schema proof) → (head : List Val) → head ≡ frozen_head query →
-      (outcome : QueryOutcome) → IsWithoutGoal known proof quiet head outcome → IsQueryOutcome schema known queries firings units query outcome
-  without quiet all on head same (one.Branch branch) is = absurd is
-  without quiet all on head same (one.Stuck pair) is = stuck_pair (all is.0) pair (subst (λ vals. IsWitnessOf known proof.end vals pair) same is.1)
-  without quiet all on head same (one.Spent log) is = let its = on is.0 in subst (IsSpentLog schema known queries firings query) (sym is.1) (spent_log its.0 its.1)
-
-  pub ended : {E : Type 0} → (quiet : Bool) → (quiet ≡ true → IsAllQuiet schema proof) → (quiet ≡ false → (firings ≤ length proof.entries) × GoesOn schema proof) → (head : List Val) → head ≡ frozen_head query →
-      (result : Result QueryOutcome E) → IfOk result (IsWithoutGoal known proof quiet head) → IfOk result (IsQueryOutcome schema known queries firings units query)
-  ended quiet all on head same (Ok outcome) is = without quiet all on head same outcome is
-  ended quiet all on head same (Err e) is = tt
 
 module _ (question : Question) (is : IsQuestion question) where
   -- a proof of a search is one for its query

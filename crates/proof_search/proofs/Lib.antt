@@ -2,6 +2,7 @@ pub mod Turns
 pub mod Literals
 pub mod Searching
 pub mod Found
+pub mod RefutingPairs
 pub mod Formed
 pub mod Based
 pub mod Cheaper

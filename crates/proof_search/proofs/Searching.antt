@@ -17,7 +17,7 @@ use Rattle.rule_pass.specs.States.{SomeActive}
 use Rattle.rule_pass.proofs.OnePass.{met_quiet}
 use Rattle.accessible_copy.specs.declared.entry.Entry.{Entry}
 use Rattle.accessible_copy.specs.Known.{facts_of}
-use Rattle.accessible_copy.specs.Proving.{Proving, IsProofOf, IsOrdered, log_of, sizes_of, firings_of, IsWritten}
+use Rattle.accessible_copy.specs.Proving.{Proving, IsProofOf, IsOrdered, log_of, sizes_of, firings_of}
 use Rattle.accessible_copy.specs.Written.{firing_of}
 use Rattle.accessible_copy.specs.Settling.{Settles, CanFollow}
 use Rattle.accessible_copy.specs.Exposing.{with_exposure}

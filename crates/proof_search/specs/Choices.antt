@@ -1,5 +1,5 @@
 -- The branch that is chosen for a query, and what is known of its cost.
-use Rattle.std.specs.Prelude.{◌≡◌, ℕ, ◌<◌, ◌≤◌, List}
+use Rattle.std.specs.Prelude.{◌≡◌, ℕ, ◌<◌, ◌≤◌, List, None}
 use Rattle.std.specs.Option.{IfSome}
 use Rattle.meaning.specs.declared.types.SchemaParts.{SchemaParts}
 use Rattle.meaning.specs.declared.types.Query.{Query}
@@ -12,12 +12,13 @@ use Rattle.least_search.specs.declared.search.Ended.TheVariants as ended
 use Rattle.least_search.specs.declared.search.Outcome.{Outcome}
 use Rattle.least_search.specs.Walks.{CanGain, IsNode}
 use Rattle.least_search.specs.Costs.{IsLeastCost, IsEnough, best_cost}
+use Rattle.exposure_search.specs.Trials.{HasMoreToDo}
 use Rattle.exposure_search.specs.Exploring.{Exploring, IsFounded, space_size, CanExpose, GainsAt, HasGoalAt, HasMatchAt, HasTry, HasRunBeyond}
 use Rattle.access_cost.specs.declared.least.Least.{Least}
 use Rattle.access_cost.specs.declared.least.Least.TheVariants.{Shown, SearchSpent, FiringsSpent}
 use Rattle.proof_search.specs.declared.outcome.Choice.{Choice}
 use Rattle.proof_search.specs.Branches.{IsQueryBranch}
-use Rattle.proof_search.specs.Chosen.{NoneIsEnough, HasLongRun}
+use Rattle.proof_search.specs.Chosen.{AreSpent, HasLongRun}
 
 -- No rival for the query, among all the queries, costs less than the branch.
 abbrev pub IsLeastFor : SchemaParts → List Value → List Query → Query → Branch → Type 0
@@ -39,20 +40,23 @@ pub record IsSpaceOf (schema : SchemaParts) (queries : List Query) (query : Quer
   pub founded : IsFounded space
 
 -- What a search of the space has found costs less than the bound, and what its end says is so: no walk to a goal costs less than what
--- was found, or than the bound; or no pair of numbers is enough for the units; or some run is longer than the budget.
+-- was found, or than the bound; or nothing was found, no pair of numbers is enough for the units, and there is more to do; or some run is
+-- longer than the budget.
 pub record IsFound (space : Exploring) (bound search : ℕ) (outcome : Outcome) : Type 0 where
   pub better : IfSome outcome.better (λ node. IsNode (space_size space) (CanExpose space) node × HasMatchAt space node.set.items × (node.cost < bound))
   pub shown : outcome.ended ≡ ended.Shown →
       IsLeastCost (space_size space) (CanGain (CanExpose space) (GainsAt space)) (HasGoalAt space) (best_cost bound outcome.better)
   pub spent : (units : ℕ) → outcome.ended ≡ ended.SearchSpent units → (m n : ℕ) → IsEnough (HasTry space) search m n → ⊥
+  pub none : (units : ℕ) → outcome.ended ≡ ended.SearchSpent units → outcome.better ≡ None
+  pub more : (units : ℕ) → outcome.ended ≡ ended.SearchSpent units → HasMoreToDo space.schema space.constants space.base bound search
   pub firings : outcome.ended ≡ ended.FiringsSpent → HasRunBeyond space
 
--- What is said of the cost of a query's branch is so: no rival costs less; or all units of the search were spent, and no pair was
--- enough; or some run of the query is longer than the budget of firings.
+-- What is said of the cost of a query's branch is so: no rival costs less; or all units of the search were spent, and there was more to
+-- do; or some run of the query is longer than the budget of firings.
 abbrev pub IsSaidFor : SchemaParts → List Value → List Query → ℕ → ℕ → Query → Branch → Least → Type 0
 IsSaidFor schema known queries firings search query branch Shown = IsLeastFor schema known queries query branch
 IsSaidFor schema known queries firings search query branch (SearchSpent units) =
-    (units ≡ search) × NoneIsEnough schema known firings search query
+    (units ≡ search) × AreSpent schema known firings search branch query
 IsSaidFor schema known queries firings search query branch (FiringsSpent spent) =
     (spent ≡ firings) × HasLongRun schema known firings query
 

@@ -7,11 +7,14 @@ use Rattle.meaning.specs.declared.types.Query.{Query}
 use Rattle.meaning.specs.declared.types.SchemaParts.{SchemaParts}
 use Rattle.meaning.specs.declared.types.Select.{Select}
 use Rattle.meaning.specs.declared.types.Statement.{Statement}
+use Rattle.meaning.specs.declared.types.Trigger.{Trigger}
 use Rattle.meaning.specs.Values.{Value}
 use Rattle.meaning.specs.Conjunctive.{IsConjunctive}
 use Rattle.meaning.specs.Costs.{IsCost, IsLeast}
-use Rattle.meaning.specs.Runs.{Proof, IsRun, opening}
+use Rattle.meaning.specs.Runs.{Proof, IsRun, IsBaseRun, opening, opening_state}
+use Rattle.meaning.specs.Triggers.{State, IsQuiet}
 use Rattle.exposure_search.specs.Tries.{exposures_in}
+use Rattle.exposure_search.specs.Trials.{HasMoreToDo}
 use Rattle.access_cost.specs.declared.least.Least.{Least}
 use Rattle.access_cost.specs.declared.least.Least.TheVariants.{Shown, SearchSpent, FiringsSpent}
 use Rattle.access_schema.specs.declared.schema.Schema.{Schema}
@@ -41,6 +44,22 @@ NoneIsEnough schema known firings search query = (m n : ℕ) → IsEnough schema
 abbrev pub HasLongRun : SchemaParts → List Value → ℕ → Query → Type 0
 HasLongRun schema known firings query = (log : List Firing) × IsRunOf schema known query log × (firings < length log)
 
+-- More is to be done for the branch of the query than so many units allow: behind the query's base firings there are sets of exposures
+-- that cost less than the branch, and firings that are due in their copies. Each takes a unit.
+pub record HasMoreFor (schema : SchemaParts) (known : List Value) (search : ℕ) (branch : Branch) (query : Query) : Type 0 where
+  pub bases : List Trigger
+  pub base : State
+  pub cost : ℕ
+  pub fired : IsBaseRun schema.rules (opening_state query) bases base
+  pub quiet : IsQuiet schema.rules base
+  pub costs : IsCost schema branch cost
+  pub more : HasMoreToDo schema known base cost search
+
+-- The units are spent: no pair of numbers is enough for the query, and more is to be done for its branch.
+pub record AreSpent (schema : SchemaParts) (known : List Value) (firings search : ℕ) (branch : Branch) (query : Query) : Type 0 where
+  pub none_enough : NoneIsEnough schema known firings search query
+  pub more : HasMoreFor schema known search branch query
+
 -- That is so of the select's conjunctive form, whose variables are numbered by first occurrence.
 pub record OfForm (schema : SchemaParts) (select : Select) (P : Query → Type 0) : Type 0 where
   pub query : Query
@@ -48,12 +67,12 @@ pub record OfForm (schema : SchemaParts) (select : Select) (P : Query → Type 0
   pub numbered : IsNumbered query
   pub so : P query
 
--- What is said of the cost of a select's branch is so: no rival costs less; or all units of the search were spent, and no pair was
--- enough; or some run of the select is longer than the budget of firings.
+-- What is said of the cost of a select's branch is so: no rival costs less; or all units of the search were spent, and there was more to
+-- do; or some run of the select is longer than the budget of firings.
 abbrev pub IsSaid : Schema → Statement → ℕ → ℕ → Select → Branch → Least → Type 0
 IsSaid schema statement firings search select branch Shown = IsLeast (meaning_of schema) (known_of schema statement) statement select branch
 IsSaid schema statement firings search select branch (SearchSpent units) =
-    (units ≡ search) × OfForm (meaning_of schema) select (NoneIsEnough (meaning_of schema) (known_of schema statement) firings search)
+    (units ≡ search) × OfForm (meaning_of schema) select (AreSpent (meaning_of schema) (known_of schema statement) firings search branch)
 IsSaid schema statement firings search select branch (FiringsSpent spent) =
     (spent ≡ firings) × OfForm (meaning_of schema) select (HasLongRun (meaning_of schema) (known_of schema statement) firings)
 

@@ -1,35 +1,26 @@
 -- What the searches of queries come to.
-use Rattle.std.specs.Prelude.{◌≡◌, ℕ, Bool, true, false, List, [], ◌∷◌, Contains, take, slice_get, Some}
+use Rattle.std.specs.Prelude.{◌≡◌, ℕ, List, [], ◌∷◌, Contains, take, slice_get, Some}
 use Rattle.std.specs.List.{AllZip}
 use Rattle.meaning.specs.declared.types.SchemaParts.{SchemaParts}
 use Rattle.meaning.specs.declared.types.Query.{Query}
 use Rattle.meaning.specs.declared.types.Firing.{Firing}
-use Rattle.meaning.specs.declared.types.Val.{Val}
 use Rattle.meaning.specs.Values.{Value}
 use Rattle.meaning.specs.Costs.{IsCost}
-use Rattle.accessible_copy.specs.Proving.{Proving, log_of}
 use Rattle.no_plan_witness.specs.declared.decision.Chosen.TheVariants as chosen
 use Rattle.no_plan_witness.specs.declared.decision.Decision.{Decision}
 use Rattle.no_plan_witness.specs.declared.decision.Decision.TheVariants as decision
-use Rattle.no_plan_witness.specs.Witnesses.{IsWitnessOf}
 use Rattle.proof_search.specs.declared.outcome.Choice.{Choice}
 use Rattle.proof_search.specs.declared.outcome.QueryOutcome.{QueryOutcome}
 use Rattle.proof_search.specs.declared.outcome.QueryOutcome.TheVariants as one
 use Rattle.proof_search.specs.declared.outcome.Outcome.{Outcome}
 use Rattle.proof_search.specs.declared.outcome.Outcome.TheVariants as all
-use Rattle.proof_search.specs.Branches.{IsStuckPair, IsSpentLog}
+use Rattle.proof_search.specs.Branches.{IsRefutingPair, IsSpentLog}
 use Rattle.proof_search.specs.Choices.{IsChoice}
-
--- What a proof without a goal comes to: a pair of its end where nothing is active, and otherwise its log.
-abbrev pub IsWithoutGoal : List Value → Proving → Bool → List Val → QueryOutcome → Type 0
-IsWithoutGoal known proof quiet head (one.Branch choice) = ⊥
-IsWithoutGoal known proof quiet head (one.Stuck pair) = (quiet ≡ true) × IsWitnessOf known proof.end head pair
-IsWithoutGoal known proof quiet head (one.Spent log) = (quiet ≡ false) × (log ≡ log_of proof)
 
 -- What the search of a query comes to.
 abbrev pub IsQueryOutcome : SchemaParts → List Value → List Query → ℕ → ℕ → Query → QueryOutcome → Type 0
 IsQueryOutcome schema known queries firings search query (one.Branch choice) = IsChoice schema known queries firings search query choice
-IsQueryOutcome schema known queries firings search query (one.Stuck pair) = IsStuckPair schema known queries query pair
+IsQueryOutcome schema known queries firings search query (one.Refuted pair) = IsRefutingPair schema known queries query pair
 IsQueryOutcome schema known queries firings search query (one.Spent log) = IsSpentLog schema known queries firings query log
 
 -- The log is that of a query whose firings are spent, and the queries before it have branches.
@@ -41,11 +32,11 @@ pub record IsFirstSpent (schema : SchemaParts) (known : List Value) (queries : L
   pub branches : AllZip (IsChoice schema known queries firings search) (take number queries) before
   pub spent : IsSpentLog schema known queries firings query log
 
--- What the search of the queries comes to: a branch for each, or one of them is stuck, or the firings of the first without a branch
+-- What the search of the queries comes to: a branch for each, or a pair against all plans, or the firings of the first without a branch
 -- are spent.
 abbrev pub IsOutcome : SchemaParts → List Value → List Query → ℕ → ℕ → Outcome → Type 0
 IsOutcome schema known queries firings search (all.Branches choices) = AllZip (IsChoice schema known queries firings search) queries choices
-IsOutcome schema known queries firings search (all.Stuck pair) = (query : Query) × Contains queries query × IsStuckPair schema known queries query pair
+IsOutcome schema known queries firings search (all.Refuted pair) = (query : Query) × Contains queries query × IsRefutingPair schema known queries query pair
 IsOutcome schema known queries firings search (all.Spent log) = IsFirstSpent schema known queries firings search log
 
 -- The decision is the plan of this branch, with its cost and what is known of it.

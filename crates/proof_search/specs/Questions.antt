@@ -1,16 +1,20 @@
 -- What is asked of a query, and what answers it.
 use Rattle.std.specs.Prelude.{◌≡◌, ◌≤◌, ◌^◌, ℕ, List, Contains, length}
 use Rattle.meaning.specs.declared.types.Branch.{Branch}
-use Rattle.meaning.specs.Runs.{opening, frozen_head}
+use Rattle.meaning.specs.declared.types.Val.TheVariants.{Const}
+use Rattle.meaning.specs.Matching.{MeetsAll, GroundsOf}
+use Rattle.meaning.specs.Fitting.{IsKept}
+use Rattle.meaning.specs.Runs.{Proof, NoExposure, opening, frozen_head}
 use Rattle.access_schema.specs.Meaning.{meaning_of}
 use Rattle.rule_pass.specs.declared.pass.TheConstants.{MOST_FIRINGS}
 use Rattle.accessible_copy.specs.Proving.{Proving}
 use Rattle.exposure_search.specs.Exploring.{Exploring}
+use Rattle.no_plan_witness.specs.declared.refutation.Witness.{Witness}
 use Rattle.proof_search.specs.declared.outcome.Choice.{Choice}
 use Rattle.proof_search.specs.declared.outcome.QueryOutcome.{QueryOutcome}
 use Rattle.proof_search.specs.declared.question.Question.{Question}
 use Rattle.proof_search.specs.Searches.{AreSearchable, IsSearch}
-use Rattle.proof_search.specs.Branches.{IsQueryBranch}
+use Rattle.proof_search.specs.Branches.{IsQueryBranch, IsRefutingPair}
 use Rattle.proof_search.specs.Choices.{IsSpaceOf, IsChoice}
 use Rattle.proof_search.specs.Outcomes.{IsQueryOutcome}
 
@@ -31,6 +35,16 @@ IsSearchFor question proof = IsSearch (meaning_of question.schema.now) question.
 -- The branch is one for the query, among the queries.
 abbrev pub IsBranchOn : Question → Branch → Type 0
 IsBranchOn question branch = IsQueryBranch (meaning_of question.schema.now) question.known.now question.queries.now question.query.now branch
+
+-- The pair refutes each statement for which the queries stand.
+abbrev pub IsRefutedOn : Question → Witness → Type 0
+IsRefutedOn question pair = IsRefutingPair (meaning_of question.schema.now) question.known.now question.queries.now question.query.now pair
+
+-- The proof has what runs of the query keep, its base facts meet the rules, and each base fact that can be exposed is.
+pub record IsExhausted (question : Question) (proof : Proof) : Type 0 where
+  pub kept : IsKept (meaning_of question.schema.now) question.known.now question.query.now proof
+  pub met : MeetsAll Const (GroundsOf proof.base) question.schema.now.rules
+  pub exposures : NoExposure (meaning_of question.schema.now) question.known.now proof
 
 -- The space is that of the query's base firings, with the known constants.
 pub record IsSpaceOn (question : Question) (space : Exploring) : Type 0 where

@@ -47,11 +47,11 @@ pub fn bounded(
     if search == 0 || cost(&choice.branch, question.schema) >= bound {
         return Ok(choice);
     }
-    bounded_again(alloc, question, choice, search)
+    confirmed(alloc, question, choice, search)
 }
 
 /// The choice; and where it is not said of its branch that no rival costs less, a search over a small base may show that.
-fn bounded_again(
+fn confirmed(
     alloc: Global,
     question: &Question<'_>,
     choice: Choice,

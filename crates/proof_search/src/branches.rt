@@ -1,11 +1,12 @@
 // The branches of queries.
-ghost use Rattle.std.specs.Prelude.{◌≡◌, ◌≤◌, ◌^◌, ℕ, true, false, List, IfOk, IfSome, Contains, length};
+ghost use Rattle.std.specs.Prelude.{◌≡◌, ◌≤◌, ◌^◌, ℕ, true, false, List, IfOk, Contains, length};
+ghost use Rattle.meaning.specs.Runs.{HasGoal};
 ghost use Rattle.access_schema.specs.Meaning.{meaning_of};
 ghost use Rattle.rule_pass.specs.declared.pass.TheConstants.{MOST_FIRINGS};
 ghost use Rattle.accessible_copy.specs.Proving.{log_of};
 ghost use Rattle.accessible_copy.specs.Rounds.{IsAllQuiet, GoesOn};
 ghost use Rattle.proof_search.specs.Searches.{AreSearchable};
-ghost use Rattle.proof_search.specs.Outcomes.{IsQueryOutcome, IsWithoutGoal, IsOutcome};
+ghost use Rattle.proof_search.specs.Outcomes.{IsQueryOutcome, IsOutcome};
 ghost use Rattle.proof_search.specs.Questions.{IsQuestion, IsSearchFor, IsOutcomeOn};
 
 use crate::attempting::attempted;
@@ -15,11 +16,12 @@ use crate::outcome::{Outcome, QueryOutcome};
 use crate::proving::prove;
 use crate::question::Question;
 use crate::reading::branch_in;
+use crate::refuting::refuted;
 use crate::sparing::spare;
 use access_schema::Schema;
 use accessible_copy::Proof;
 use lists::{Copies, NoMemory, Seq, Texts};
-use meaning::types::{Firings, Queries, Query, Vals};
+use meaning::types::{Firings, Queries, Query};
 use no_plan_witness::witness;
 use plan_extract::frozen_values;
 use std::alloc::Global;
@@ -27,8 +29,8 @@ use std::alloc::Global;
 /// A branch for each of the queries, in order, each read off a proof of at most `firings` firings, and searched for a cheaper one with
 /// `search` units.
 ///
-/// Where a query is stuck, its pair comes at once. Where the firings of one are spent, the others are searched too, as one of them
-/// may be stuck; if none is, the log of the first comes.
+/// A pair against every plan comes at once. Where the firings of a query are spent, the others are searched too, as one of them may
+/// give such a pair; if none does, the log of the first comes.
 pub fn branches_for(
     alloc: Global,
     schema: &Schema,
@@ -48,7 +50,7 @@ pub fn branches_for(
     for query in queries.as_slice() {
         match branch_for(alloc, schema, query, queries, known, firings, search)? {
             QueryOutcome::Branch(choice) => choices.push(choice)?,
-            QueryOutcome::Stuck(pair) => return Ok(Outcome::Stuck(pair)),
+            QueryOutcome::Refuted(pair) => return Ok(Outcome::Refuted(pair)),
             QueryOutcome::Spent(log) => spent = spent.or(Some(log)),
         }
     }
@@ -125,27 +127,33 @@ fn outcome_of(
             let branch = spare(alloc, question, first, proof.sizes().base, search)?;
             Ok(QueryOutcome::Branch(bounded(alloc, question, branch, search)?))
         }
-        None => without_goal(alloc, proof, quiet, question.known, question.head),
+        None => without_goal(alloc, question, proof, quiet),
     }
 }
 
-/// What a proof without a goal comes to: its pair where nothing is active, and otherwise its log.
+/// What a proof without a goal comes to: its pair where nothing is active, and otherwise that of a small base, or its log.
 fn without_goal(
     alloc: Global,
+    question: &Question<'_>,
     proof: &Proof,
     quiet: bool,
-    known: &Texts,
-    head: &Vals,
 ) -> Result<QueryOutcome, NoMemory>
-    ensures { IfOk result (IsWithoutGoal known.now proof.now quiet head.now) }
+    requires question { IsQuestion question.now }
+    requires search { IsSearchFor question.now proof.now }
+    requires quiet { quiet ≡ true → IsAllQuiet (meaning_of question.now.schema.now) proof.now }
+    requires spent { quiet ≡ false → (question.now.firings ≤ length proof.now.entries) × GoesOn (meaning_of question.now.schema.now) proof.now }
+    requires goal { HasGoal question.now.queries.now proof.now.end question.now.head.now → ⊥ }
+    ensures { (search : ℕ) → IfOk result (IsOutcomeOn question.now search) }
 {
     if quiet {
-        let pair = witness(alloc, proof, known, head)?;
-        Ok(QueryOutcome::Stuck(pair))
-    } else {
-        let log = copied_log(alloc, proof)?;
-        Ok(QueryOutcome::Spent(log))
+        let pair = witness(alloc, proof, question.known, question.head)?;
+        return Ok(QueryOutcome::Refuted(pair));
     }
+    if let Some(pair) = refuted(alloc, question)? {
+        return Ok(QueryOutcome::Refuted(pair));
+    }
+    let log = copied_log(alloc, proof)?;
+    Ok(QueryOutcome::Spent(log))
 }
 
 /// A copy of the log of a proof.

@@ -7,7 +7,7 @@ ghost use Rattle.access_cost.specs.declared.least.Least.TheVariants as least;
 ghost use Rattle.least_search.specs.declared.search.Ended.TheVariants as ended;
 ghost use Rattle.least_search.specs.Walks.{GoalsGrow, IsNode};
 ghost use Rattle.exposure_search.specs.Making.{IsBaseProof};
-ghost use Rattle.exposure_search.specs.Exploring.{space_size, CanExpose, HasGoalAt, HasMatchAt};
+ghost use Rattle.exposure_search.specs.Exploring.{space_size, CanExpose, HasGoalAt, HasMatchAt, IsFounded};
 ghost use Rattle.proof_search.specs.Chosen.{HasLongRun};
 ghost use Rattle.proof_search.specs.Choices.{CostsAtMost, IsFound};
 ghost use Rattle.proof_search.specs.Questions.{IsQuestion, IsBranchOn, IsSpaceOn, IsChoiceOn};
@@ -108,7 +108,8 @@ pub(crate) fn search_below(
     bound: u64,
     search: u64,
 ) -> Result<Outcome, NoMemory>
-    requires { GoalsGrow (HasGoalAt space.old) }
+    requires grow { GoalsGrow (HasGoalAt space.old) }
+    requires founded { IsFounded space.old }
     ensures back { OnOk result (space.new ≡ space.old) }
     ensures found { IfOk result (IsFound space.old bound search) }
 {

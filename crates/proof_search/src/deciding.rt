@@ -29,8 +29,8 @@ pub const MOST_UNITS: u32 = 1_000_000;
 /// units for the search for a cheaper branch of each.
 ///
 /// A plan is read off proofs of the selects' conjunctive queries, and a select that never has an answer has no branch. Where nothing is
-/// active any more and there is no goal, two instances refute every plan. Where the firings are spent before either, nothing is
-/// decided, and the log of the firings comes.
+/// active any more and there is no goal, two instances refute every plan. Where the firings are spent before either, a small base may
+/// give two such instances; else nothing is decided, and the log of the firings comes.
 ///
 /// A unit is one set of exposed facts that was not looked at before in the search of this select, or one active firing made in it.
 pub fn decide(
@@ -51,7 +51,7 @@ pub fn decide(
     let known = known(alloc, schema, statement)?;
     match branches_for(alloc, schema, &queries, &known, firings, search)? {
         Outcome::Branches(choices) => plan_of(alloc, schema, width, choices),
-        Outcome::Stuck(pair) => Ok(Decision::NoPlan(pair)),
+        Outcome::Refuted(pair) => Ok(Decision::NoPlan(pair)),
         Outcome::Spent(log) => Ok(Decision::Undecided { select: 0, log }),
     }
 }

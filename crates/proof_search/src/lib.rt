@@ -14,6 +14,7 @@ mod outcome;
 mod proving;
 mod question;
 mod reading;
+mod refuting;
 mod sparing;
 
 pub use deciding::{MOST_UNITS, decide};

@@ -15,20 +15,20 @@ pub struct Choice {
     pub least: Least,
 }
 
-/// What the search of a query comes to: its branch; the pair of its proof, where nothing is active any more and there is no goal; or
-/// the log of its proof, where the firings are spent.
+/// What the search of a query comes to: its branch; a pair that refutes every plan; or the log of its proof, where the firings are
+/// spent.
 #[derive(Drop)]
 pub enum QueryOutcome {
     Branch(Choice),
-    Stuck(Witness),
+    Refuted(Witness),
     Spent(Firings),
 }
 
-/// What the search of several queries comes to: a branch for each; the pair of one that is stuck; or the log of the first whose
+/// What the search of several queries comes to: a branch for each; a pair that refutes every plan; or the log of the first whose
 /// firings are spent.
 #[derive(Drop)]
 pub enum Outcome {
     Branches(Choices),
-    Stuck(Witness),
+    Refuted(Witness),
     Spent(Firings),
 }

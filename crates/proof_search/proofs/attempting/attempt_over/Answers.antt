@@ -1,4 +1,4 @@
-use Rattle.std.proofs.Common.{sym, subst, ap, List, ℕ, arith}
+use Rattle.std.proofs.Common.{subst, arith}
 use Rattle.std.specs.Prelude.{Contains}
 use Rattle.meaning.specs.declared.types.SchemaParts.{SchemaParts}
 use Rattle.access_schema.specs.Meaning.{meaning_of}

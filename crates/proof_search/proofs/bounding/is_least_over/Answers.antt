@@ -17,8 +17,8 @@ pub new-requires-clause-named : goal.new-requires-clause-named
 new-requires-clause-named c =
     named_over c.args.question.now c.requires.question c.args.more.now c.requires.closed c.in-Some.base (rw c.in-Some.is at c.in_ok-made.ensures.base) (rw c.in-Some.is at c.in_ok-made.ensures.start) (rw c.in-Some.is at c.in_ok-made.ensures.constants)
 
-pub search_below-found-requires : goal.search_below-found-requires
-search_below-found-requires c =
+pub search_below-found-requires-clause-grow : goal.search_below-found-requires-clause-grow
+search_below-found-requires-clause-grow c =
     goals_over c.args.question.now c.requires.question c.args.more.now c.requires.closed c.in-Some.base (rw c.in-Some.is at c.in_ok-made.ensures.start) (rw c.in-Some.is at c.in_ok-made.ensures.constants)
     c.in_ok-space.space c.in_ok-space.ensures.space c.in_ok-space.ensures.founded
 

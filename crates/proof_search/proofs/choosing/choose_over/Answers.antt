@@ -1,4 +1,4 @@
-use Rattle.std.proofs.Common.{◌≡◌, Option, Some, None, rules, sym, subst, arith}
+use Rattle.std.proofs.Common.{◌≡◌, Option, Some, None, rules, sym, ◌∙◌, subst, arith}
 use Rattle.access_schema.specs.Meaning.{meaning_of}
 use Rattle.meaning.proofs.Steps.{lawful_named}
 use Rattle.least_search.specs.declared.node.Node.{Node}
@@ -21,8 +21,8 @@ new-requires-clause-named c =
     let can = c.requires.question.queries question.query.now c.requires.question.among in
     named_for question c.requires.question question.query.now can.fits can.constants c.requires.question.head c.args.base c.requires.base c.requires.start c.requires.constants
 
-pub search_below-requires : goal.search_below-requires
-search_below-requires c =
+pub search_below-requires-clause-grow : goal.search_below-requires-clause-grow
+search_below-requires-clause-grow c =
     let question = c.args.question.now in
     goals_here question c.requires.question c.in_ok-space.space (space_on question c.requires.question c.args.base c.requires.start c.requires.constants c.in_ok-space.space c.in_ok-space.ensures.space c.in_ok-space.ensures.founded)
 
@@ -36,7 +36,7 @@ returns-in_default-better c =
     chosen_on question c.requires.question space its c.args.search c.args.first c.least_of-least.result c.requires.first c.cost-bound.result costs c.in-Ok.field-0.ended
     c.least_of-least.ensures.shown c.least_of-least.ensures.search c.least_of-least.ensures.firings
     (λ end. subst (λ (b : Option Node). IsLeastCost (space_size space) (CanGain (CanExpose space) (GainsAt space)) (HasGoalAt space) (best_cost c.cost-bound.result b)) found (c.in-Ok.ensures.found.shown end))
-    c.in-Ok.ensures.found.spent c.in-Ok.ensures.found.firings
+    c.in-Ok.ensures.found.spent (λ units e. (c.cost-bound.result, c.cost-bound.ensures, c.in-Ok.ensures.found.more units e)) c.in-Ok.ensures.found.firings
 
 pub cheaper-requires-clause-space : goal.cheaper-requires-clause-space
 cheaper-requires-clause-space c =
@@ -54,4 +54,4 @@ returns-in-Some-2 c =
     chosen_on question c.requires.question space its c.args.search c.in-Some-2.branch c.least_of-least.result one c.in-Some.node.cost costs c.in-Ok.field-0.ended
     c.least_of-least.ensures.shown c.least_of-least.ensures.search c.least_of-least.ensures.firings
     (λ end. subst (λ (b : Option Node). IsLeastCost (space_size space) (CanGain (CanExpose space) (GainsAt space)) (HasGoalAt space) (best_cost c.cost-bound.result b)) found (c.in-Ok.ensures.found.shown end))
-    c.in-Ok.ensures.found.spent c.in-Ok.ensures.found.firings
+    c.in-Ok.ensures.found.spent (λ units e. let none : None ≡ Some c.in-Some.node = sym (c.in-Ok.ensures.found.none units e) ∙ found in absurd (cc)) c.in-Ok.ensures.found.firings

@@ -1,12 +1,11 @@
-use Rattle.std.proofs.Common.{◌≡◌, [], inl, sym, subst}
+use Rattle.std.proofs.Common.{[], inl, sym, subst}
 use Rattle.std.specs.Prelude.{Contains}
 use Rattle.std.specs.List.{AllZip}
 use Rattle.lists.proofs.Members.{contains_here}
 use Rattle.meaning.specs.declared.types.Query.{Query}
 use Rattle.access_schema.specs.Meaning.{meaning_of}
 use Rattle.sql_conjunctive.specs.Form.{HaveLiterals}
-use Rattle.proof_search.specs.Searches.{AreSearchable}
-use Rattle.proof_search.specs.Branches.{IsStuckPair}
+use Rattle.proof_search.specs.Branches.{IsRefutingPair}
 use Rattle.proof_search.specs.Choices.{IsChoice}
 use Rattle.proof_search.specs.Outcomes.{IsFirstSpent}
 use Rattle.proof_search.specs.Plans.{known_of}
@@ -49,22 +48,17 @@ returns-in-Branches c =
     subst (λ known. AllZip (IsChoice (meaning_of c.args.schema.now) known c.in_ok-queries.queries c.args.firings c.args.search) c.in_ok-queries.queries c.in-Branches.choices) c.in_ok-known.ensures.order (rw c.in-Branches.is at c.in_ok-choices.ensures) in
     ended_plan c.args.schema.now c.args.statement.now c.only_select-select.result.now c.in_ok-queries.queries c.only_select-select.ensures c.in_ok-queries.ensures c.args.firings c.args.search c.in-Branches.choices all c.len-width.result c.len-width.ensures c.plan_of.result c.plan_of.ensures
 
-pub returns-in-Stuck : goal.returns-in-Stuck
-returns-in-Stuck c =
+pub returns-in-Refuted : goal.returns-in-Refuted
+returns-in-Refuted c =
     let schema = meaning_of c.args.schema.now in
-    let select = c.only_select-select.result.now in
     let queries = c.in_ok-queries.queries in
-    let pair = c.in-Stuck.pair in
-    let same : c.in_ok-known.known ≡ known_of c.args.schema.now c.args.statement.now = c.in_ok-known.ensures.order in
-    let found : (query : Query) × Contains queries query × IsStuckPair schema c.in_ok-known.known queries query pair = rw c.in-Stuck.is at c.in_ok-choices.ensures in
-    let literals : HaveLiterals c.in_ok-known.known select = known_literals c.args.statement.now select c.only_select-select.ensures c.in_ok-known.known c.args.schema.now.constants c.in_ok-known.ensures.members in
-    let among : Contains c.args.statement.now.selects select = subst (λ list. Contains list select) (sym c.only_select-select.ensures) (contains_here select []) in
-    let can : AreSearchable schema c.in_ok-known.known queries =
-    searchable c.args.schema.now c.args.statement.now select queries c.only_select-select.ensures c.in_ok-queries.ensures c.in_ok-known.known literals (c.requires.fits.bounded select among).froms in
+    let pair = c.in-Refuted.pair in
+    let found : (query : Query) × Contains queries query × IsRefutingPair schema c.in_ok-known.known queries query pair =
+    rw c.in-Refuted.is at c.in_ok-choices.ensures in
     no_plan pair
-    (refuted c.args.schema.now c.args.statement.now select queries c.only_select-select.ensures c.in_ok-queries.ensures
-    (λ constant there. subst (λ known. Contains known constant) same ((c.in_ok-known.ensures.members constant).1 (inl there)))
-    (subst (λ known. AreSearchable schema known queries) same can) found.0 found.1 pair (subst (λ known. IsStuckPair schema known queries found.0 pair) same found.2))
+    (refuted c.args.schema.now c.args.statement.now c.only_select-select.result.now queries c.only_select-select.ensures
+    c.in_ok-queries.ensures found.0 found.1 pair
+    (subst (λ known. IsRefutingPair schema known queries found.0 pair) c.in_ok-known.ensures.order found.2))
 
 pub returns : goal.returns
 returns c =
