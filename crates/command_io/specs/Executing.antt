@@ -1,4 +1,4 @@
--- How the execution of a plan stops a command, and how what is said of it is written.
+-- How an execution stops a command, and how what is said of it is written.
 use Rattle.std.specs.Prelude.{◌≡◌, ◌<◌, ◌^◌, ℕ, List, Contains, Option, Result, Ok, Err, length}
 use Rattle.meaning.specs.declared.types.Branch.{Branch}
 use Rattle.meaning.specs.declared.types.Plan.{Plan}
@@ -28,18 +28,23 @@ stop_of_run (fault.Attach rel why) = stop.Run (fault.Attach rel why)
 stop_of_run (fault.CallFailed branch step) = stop.Run (fault.CallFailed branch step)
 stop_of_run (fault.OverCalls made wanted cap) = stop.Run (fault.OverCalls made wanted cap)
 
--- The plan was executed, and a sink took the text of that, as `IsText` says: whole, or a first part of it, or nothing where there is no text.
-pub data Delivers {S : Type 0} (seen : S → Seen) (schema : Schema) (plan : Plan) (cap : ℕ) (IsText : Run → List ℕ → Type 0) (old new : List (Lane S))
-    (out_old out_new : Option (List ℕ)) (rose : Type 0) : Result (Unit {0}) Stop → Type 0 where
+-- An execution as a command sees it: a fault of it is the stop that it brings.
+abbrev pub ExecutesOrStops : {S : Type 0} → (S → Seen) → Schema → Plan → ℕ → List (Lane S) → List (Lane S) → Result Run Stop → Type 0
+ExecutesOrStops seen schema plan cap old new (Ok run) = Executes seen schema plan cap old new (Ok run)
+ExecutesOrStops seen schema plan cap old new (Err end) =
+    (why : RunFault) × Executes seen schema plan cap old new (Err why) × (end ≡ stop_of_run why)
+
+-- Something was executed, which gave rows or a stop as `Ran` says, and a sink took the text of that, as `IsText` says: whole, or a first part
+-- of it, or nothing where there is no text.
+pub data Delivers {A : Type 0} (Ran : Result A Stop → Type 0) (IsText : A → List ℕ → Type 0) (out_old out_new : Option (List ℕ)) (rose : Type 0)
+    : Result (Unit {0}) Stop → Type 0 where
   -- the text was taken whole
-  done : (run : Run) (text : List ℕ) → Executes seen schema plan cap old new (Ok run) → IsText run text →
-      TookAll out_old out_new text → Delivers seen schema plan cap IsText old new out_old out_new rose (Ok tt)
+  done : (run : A) (text : List ℕ) → Ran (Ok run) → IsText run text → TookAll out_old out_new text →
+      Delivers Ran IsText out_old out_new rose (Ok tt)
   -- the execution stopped
-  no_rows : (why : RunFault) → Executes seen schema plan cap old new (Err why) → out_new ≡ out_old →
-      Delivers seen schema plan cap IsText old new out_old out_new rose (Err (stop_of_run why))
-  -- it came to its end, and there was no memory for the text
-  no_text : (run : Run) → Executes seen schema plan cap old new (Ok run) → out_new ≡ out_old →
-      Delivers seen schema plan cap IsText old new out_old out_new rose (Err stop.Memory)
+  no_rows : (end : Stop) → Ran (Err end) → out_new ≡ out_old → Delivers Ran IsText out_old out_new rose (Err end)
+  -- there was no memory for the text
+  no_text : (run : A) → Ran (Ok run) → out_new ≡ out_old → Delivers Ran IsText out_old out_new rose (Err stop.Memory)
   -- the text was not taken whole
-  cut : (run : Run) (text : List ℕ) (end : Stop) → Executes seen schema plan cap old new (Ok run) → IsText run text →
-      TookPart out_old out_new text → ResultStop rose end → Delivers seen schema plan cap IsText old new out_old out_new rose (Err end)
+  cut : (run : A) (text : List ℕ) (end : Stop) → Ran (Ok run) → IsText run text → TookPart out_old out_new text → ResultStop rose end →
+      Delivers Ran IsText out_old out_new rose (Err end)

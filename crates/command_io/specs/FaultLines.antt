@@ -157,4 +157,5 @@ fault_line names stop.DecisionWrite = write_line
 fault_line names (stop.Illegal fault) = illegal_text fault
 fault_line names (stop.Run fault) = run_line names.relations fault
 fault_line names (stop.WholeFailed rel) = codes "call failed on " ++ relation_name names.relations rel ++ codes "\n"
+fault_line names (stop.NotMet line) = line
 fault_line names stop.ResultWrite = write_line

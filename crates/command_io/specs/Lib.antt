@@ -5,4 +5,5 @@ pub mod Writing
 pub mod FaultLines
 pub mod Telling
 pub mod Executing
+pub mod Verified
 pub mod Reports

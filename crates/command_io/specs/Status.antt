@@ -61,4 +61,5 @@ status_of stop.DecisionWrite = is.Write
 status_of (stop.Illegal fault) = is.Text
 status_of (stop.Run fault) = run_status fault
 status_of (stop.WholeFailed rel) = is.Fault
+status_of (stop.NotMet line) = is.No
 status_of stop.ResultWrite = is.Write

@@ -1,10 +1,10 @@
 // From a plan to what is written of its execution.
-ghost use Rattle.std.specs.Prelude.{◌≡◌, ◌≤◌, IfOk, List, ℕ, length};
+ghost use Rattle.std.specs.Prelude.{◌≡◌, ◌≤◌, IfOk, List, ℕ, Ok, length};
 ghost use Rattle.meaning.specs.Plans.{IsLawful};
 ghost use Rattle.access_schema.specs.Meaning.{meaning_of};
 ghost use Rattle.source_trait.specs.Causes.{Rose};
 ghost use Rattle.source_trait.specs.Lanes.{LanesStay};
-ghost use Rattle.command_io.specs.Executing.{IsShort, Delivers, stop_of_run as stop_for};
+ghost use Rattle.command_io.specs.Executing.{IsShort, Delivers, ExecutesOrStops, stop_of_run as stop_for};
 ghost use Rattle.command_io.specs.Reports.{IsReport};
 
 use crate::stop::Stop;
@@ -45,16 +45,29 @@ pub fn deliver<R: Threads + Sync, S: Source + Send + Drop, O: Sink>(
     requires short { IsShort plan.now }
     requires cap { cap ≤ 1_000_000 }
     requires lanes { length lanes.old ≤ 8 }
-    ensures delivers { Delivers S.seen schema.now plan.now cap (IsReport report.entry) lanes.old lanes.new
+    ensures delivers { Delivers (ExecutesOrStops S.seen schema.now plan.now cap lanes.old lanes.new) (IsReport report.entry)
         (O.taken out.old) (O.taken out.new) (Rose (O.faults out.old) (O.faults out.new)) result }
     ensures lanes { LanesStay S.seen lanes.old lanes.new }
     ensures later { O.faults out.old ≤ O.faults out.new }
 {
-    let executed = match execute(rt, alloc, plan, schema, lanes, cap) {
-        Ok(executed) => executed,
-        Err(fault) => return Err(stop_of_run(fault)),
-    };
-    let text = match report_text(alloc, report, &executed) {
+    match execute(rt, alloc, plan, schema, lanes, cap) {
+        Ok(executed) => write_report(alloc, report, &executed, out),
+        Err(fault) => Err(stop_of_run(fault)),
+    }
+}
+
+/// Writes the report of an execution that gave these rows.
+pub fn write_report<O: Sink>(
+    alloc: Global,
+    report: Report<'_>,
+    run: &Run,
+    out: &mut O,
+) -> Result<(), Stop>
+    ensures delivers { Delivers (λ ended. ended ≡ Ok run.now) (IsReport report.entry)
+        (O.taken out.old) (O.taken out.new) (Rose (O.faults out.old) (O.faults out.new)) result }
+    ensures later { O.faults out.old ≤ O.faults out.new }
+{
+    let text = match report_text(alloc, report, run) {
         Ok(text) => text,
         Err(_) => return Err(Stop::Memory),
     };

@@ -17,9 +17,10 @@ mod source_lines;
 mod stop;
 mod summary;
 mod telling;
+mod verified;
 mod write;
 
-pub use delivery::{CALLS, Report, deliver, stop_of_run};
+pub use delivery::{CALLS, Report, deliver, stop_of_run, write_report};
 pub use exit_status::Status;
 pub use inputs::{
     PLAN_LIMIT, QUERY_LIMIT, SCHEMA_LIMIT, plan_of_file, read_texts, schema_of, statement_of,
@@ -29,4 +30,5 @@ pub use outcome::Outcome;
 pub use outside::{Outputs, Outside};
 pub use stop::{Input, Stop, status};
 pub use telling::{print, say, tell};
+pub use verified::{deliver_verified, stop_of_verify};
 pub use write::write_all;

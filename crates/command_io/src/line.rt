@@ -45,6 +45,7 @@ pub fn line_of(
             *rel,
             b"\n",
         ),
+        Stop::NotMet { line } => plain(alloc, line.as_slice()),
         Stop::ResultWrite => plain(alloc, b"write failed\n"),
     }
 }

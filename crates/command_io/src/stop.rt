@@ -3,6 +3,7 @@ ghost use Rattle.std.specs.Prelude.{◌≡◌};
 ghost use Rattle.command_io.specs.Status.{status_of, file_status as status_of_file, attach_status as status_of_attach, run_status as status_of_run};
 
 use crate::exit_status::Status;
+use lists::Bytes;
 use middleware::RunFault;
 use plan_form::{PlanFault, PlanReadFault};
 use source_trait::{AttachFault, FileFault};
@@ -40,6 +41,8 @@ pub enum Stop {
     Run(RunFault),
     /// A request for a whole relation failed.
     WholeFailed { rel: u32 },
+    /// A rule is not met, as this line says.
+    NotMet { line: Bytes },
     /// The result could not be written to standard output.
     ResultWrite,
 }
@@ -59,6 +62,7 @@ pub fn status(stop: &Stop) -> Status
         Stop::Illegal(_) => Status::Text,
         Stop::Run(fault) => run_status(*fault),
         Stop::WholeFailed { rel: _ } => Status::Fault,
+        Stop::NotMet { line: _ } => Status::No,
         Stop::ResultWrite => Status::Write,
     }
 }

@@ -1,17 +1,19 @@
 -- What items give, item by item.
-use Rattle.std.proofs.Common.{◌≡◌, ℕ, ◌<◌, ◌≤◌, Bool, true, false, eqb, List, [], ◌∷◌, ◌++◌, length, Option, None, Some, refl, sym, ap, subst, ◌∙◌, arith, append_assoc}
+use Rattle.std.proofs.Common.{◌≡◌, ℕ, ◌<◌, ◌≤◌, ◌+◌, Bool, true, false, eqb, List, [], ◌∷◌, ◌++◌, length, Option, None, Some, refl, sym, ap, subst, ◌∙◌, arith, append_assoc}
 use Rattle.std.specs.Prelude.{if◌then◌else◌, IfNone, IfSome, MatchOption, IsSome}
 use Rattle.std.specs.Fmt.{decimal}
 use Rattle.std.proofs.lemmas.Bool.{eqb-true}
-use Rattle.command_words.specs.Table.{same_option, InRange}
-use Rattle.command_words.specs.Splits.{Item, Positional, Given, Begins, Splits, End, More, positionals_of, texts_of, IsSet, Once, Absent, item_of}
-use Rattle.command_words.specs.Arguments.{words_of, given_number, IsGiven, Give, AreArguments, MayBe}
+use Rattle.command_words.specs.Table.{same_option, InRange, same_flag}
+use Rattle.command_words.specs.Splits.{Item, Positional, Given, Raised, Begins, Splits, End, More, positionals_of, texts_of, times_raised, IsSet, Once, Absent, IsRaised, item_of}
+use Rattle.command_words.specs.Arguments.{words_of, given_number, given_flag, IsGiven, Give, AreArguments, MayBe}
 use Rattle.command_words.specs.declared.item.Item.{Item as Lent}
 use Rattle.command_words.specs.declared.table.CommandName.{CommandName}
 use Rattle.command_words.specs.declared.table.OptionName.{OptionName}
 use Rattle.command_words.specs.declared.table.OptionName.TheVariants.{Firings, Search, Workers, Calls}
+use Rattle.command_words.specs.declared.table.FlagName.{FlagName}
+use Rattle.command_words.specs.declared.table.FlagName.TheVariants as flag
 use Rattle.command_words.specs.declared.given.Arguments.{Arguments}
-use Rattle.command_words.proofs.Splitting.{Parts, ended, more, parts, none_begins, first_once, same_options, same_itself}
+use Rattle.command_words.proofs.Splitting.{Parts, ended, more, parts, none_begins, first_once, same_options, same_itself, same_flags}
 
 -- ---- items one behind another
 
@@ -19,6 +21,7 @@ positionals_append : (items others : List Item) → positionals_of (items ++ oth
 positionals_append [] others = refl
 positionals_append (Positional word ∷ items) others = ap (λ (ws : List (List ℕ)). word ∷ ws) (positionals_append items others)
 positionals_append (Given option text ∷ items) others = positionals_append items others
+positionals_append (Raised which ∷ items) others = positionals_append items others
 
 texts_step : (text : List ℕ) (all front back : List (List ℕ)) (t : Bool) → all ≡ front ++ back → (if t then text ∷ all else all) ≡ (if t then text ∷ front else front) ++ back
 texts_step text all front back true e = ap (λ (ws : List (List ℕ)). text ∷ ws) e
@@ -28,6 +31,13 @@ texts_append : (option : OptionName) (items others : List Item) → texts_of opt
 texts_append option [] others = refl
 texts_append option (Positional word ∷ items) others = texts_append option items others
 texts_append option (Given other text ∷ items) others = texts_step text (texts_of option (items ++ others)) (texts_of option items) (texts_of option others) (same_option option other) (texts_append option items others)
+texts_append option (Raised which ∷ items) others = texts_append option items others
+
+raised_append : (which : FlagName) (items others : List Item) → times_raised which (items ++ others) ≡ times_raised which items + times_raised which others
+raised_append which [] others = omega arith
+raised_append which (Positional word ∷ items) others = raised_append which items others
+raised_append which (Given option text ∷ items) others = raised_append which items others
+raised_append which (Raised other ∷ items) others = let rest = raised_append which items others in omega (arith, rest)
 
 append_none : (xs : List (List ℕ)) → xs ++ [] ≡ xs
 append_none [] = refl
@@ -43,14 +53,26 @@ moved : (option : OptionName) (items others : List Item) (number : Option ℕ) �
 moved option items others None e is = e ∙ is
 moved option items others (Some n) e is = (e ∙ is.0, is.1)
 
-pub give_positional : (items : List Item) (word : List ℕ) (arguments after : Arguments) → words_of after.positionals ≡ words_of arguments.positionals ++ word ∷ [] → after.firings ≡ arguments.firings → after.search ≡ arguments.search → after.workers ≡ arguments.workers → after.calls ≡ arguments.calls → Give items arguments → Give (items ++ Positional word ∷ []) after
-give_positional items word arguments after words same alike equal capped give = record {
+still_raised : (which : FlagName) (items others : List Item) (up after : Bool) → times_raised which others ≡ times_raised which items → after ≡ up → IsRaised which items up → IsRaised which others after
+still_raised which items others true after e is raised = subst (IsRaised which others) (sym is) (e ∙ raised)
+still_raised which items others false after e is raised = subst (IsRaised which others) (sym is) (e ∙ raised)
+
+-- an item that raises no flag, behind others
+unraised : (which : FlagName) (items : List Item) (item : Item) → times_raised which (item ∷ []) ≡ 0 → times_raised which (items ++ item ∷ []) ≡ times_raised which items
+unraised which items item none = let all = raised_append which items (item ∷ []) in omega (arith, all, none)
+
+pub give_positional : (items : List Item) (word : List ℕ) (arguments after : Arguments) → words_of after.positionals ≡ words_of arguments.positionals ++ word ∷ [] → after.firings ≡ arguments.firings → after.search ≡ arguments.search → after.workers ≡ arguments.workers → after.calls ≡ arguments.calls → after.verify ≡ arguments.verify → Give items arguments → Give (items ++ Positional word ∷ []) after
+give_positional items word arguments after words same alike equal capped flagged give = record {
   in_order = positionals_append items (Positional word ∷ []) ∙ ap (λ (ws : List (List ℕ)). ws ++ word ∷ []) give.in_order ∙ sym words;
   are_given = λ option.
       let texts = texts_append option items (Positional word ∷ []) ∙ append_none (texts_of option items) in
       subst (λ (n : Option ℕ). IsGiven option (items ++ Positional word ∷ []) n) (kept option) (moved option items (items ++ Positional word ∷ []) (given_number option arguments) texts (give.are_given option));
+  are_raised = λ which. still_raised which items (items ++ Positional word ∷ []) (given_flag which arguments) (given_flag which after) (unraised which items (Positional word) refl) (kept_flag which) (give.are_raised which);
 }
   where
+    kept_flag : (which : FlagName) → given_flag which after ≡ given_flag which arguments
+    kept_flag flag.Verify = flagged
+
     kept : (option : OptionName) → given_number option arguments ≡ given_number option after
     kept Firings = sym same
     kept Search = sym alike
@@ -85,13 +107,68 @@ given_text option other text items n number after false same is le given free nu
     subst (IsGiven option (items ++ Given other text ∷ [])) (sym numbers) (moved option items (items ++ Given other text ∷ []) number (texts ∙ append_none (texts_of option items)) given)
 
 pub give_option : (items : List Item) (other : OptionName) (text : List ℕ) (n : ℕ) (arguments after : Arguments) → text ≡ decimal n → InRange other n → given_number other arguments ≡ None → after.positionals ≡ arguments.positionals →
-    ((option : OptionName) → given_number option after ≡ (if same_option option other then Some n else given_number option arguments)) → Give items arguments → Give (items ++ Given other text ∷ []) after
-give_option items other text n arguments after is le free same numbers give = record {
+    ((option : OptionName) → given_number option after ≡ (if same_option option other then Some n else given_number option arguments)) → ((which : FlagName) → given_flag which after ≡ given_flag which arguments) → Give items arguments → Give (items ++ Given other text ∷ []) after
+give_option items other text n arguments after is le free same numbers flags give = record {
   in_order = positionals_append items (Given other text ∷ []) ∙ append_none (positionals_of items) ∙ give.in_order ∙ ap words_of (sym same);
   are_given = λ option.
       given_text option other text items n (given_number option arguments) (given_number option after) (same_option option other) refl is le (give.are_given option)
       (λ which. ap (λ (o : OptionName). given_number o arguments) which ∙ free) (numbers option) (texts_append option items (Given other text ∷ []));
+  are_raised = λ which. still_raised which items (items ++ Given other text ∷ []) (given_flag which arguments) (given_flag which after) (unraised which items (Given other text) refl) (flags which) (give.are_raised which);
 }
+
+-- ---- one more flag
+
+flag_after : (other which : FlagName) (items : List Item) (was after t : Bool) → same_flag other which ≡ t → IsRaised other items was → (other ≡ which → was ≡ false) → after ≡ (if t then true else was) → IsRaised other (items ++ Raised which ∷ []) after
+flag_after other which items was after true same raised free is =
+    let none : times_raised other items ≡ 0 = subst (IsRaised other items) (free (same_flags other which same)) raised in
+    let last : times_raised other (Raised which ∷ []) ≡ 1 = ap (λ (t : Bool). (if t then 1 else 0) + 0) same in
+    let all = raised_append other items (Raised which ∷ []) in
+    let once : times_raised other (items ++ Raised which ∷ []) ≡ 1 = omega (arith, all, none, last) in
+    subst (IsRaised other (items ++ Raised which ∷ [])) (sym is) once
+flag_after other which items was after false same raised free is =
+    let last : times_raised other (Raised which ∷ []) ≡ 0 = ap (λ (t : Bool). (if t then 1 else 0) + 0) same in
+    still_raised other items (items ++ Raised which ∷ []) was after (unraised other items (Raised which) last) is raised
+
+pub give_flag : (items : List Item) (which : FlagName) (arguments after : Arguments) → given_flag which arguments ≡ false → after.positionals ≡ arguments.positionals → ((option : OptionName) → given_number option after ≡ given_number option arguments) →
+    ((other : FlagName) → given_flag other after ≡ (if same_flag other which then true else given_flag other arguments)) → Give items arguments → Give (items ++ Raised which ∷ []) after
+give_flag items which arguments after free same numbers flags give = record {
+  in_order = positionals_append items (Raised which ∷ []) ∙ append_none (positionals_of items) ∙ give.in_order ∙ ap words_of (sym same);
+  are_given = λ option.
+      let texts = texts_append option items (Raised which ∷ []) ∙ append_none (texts_of option items) in
+      subst (λ (n : Option ℕ). IsGiven option (items ++ Raised which ∷ []) n) (sym (numbers option)) (moved option items (items ++ Raised which ∷ []) (given_number option arguments) texts (give.are_given option));
+  are_raised = λ other.
+      flag_after other which items (given_flag other arguments) (given_flag other after) (same_flag other which) refl (give.are_raised other)
+      (λ e. ap (λ (f : FlagName). given_flag f arguments) e ∙ free) (flags other);
+}
+
+same_flag_itself : (which : FlagName) → same_flag which which ≡ true
+same_flag_itself flag.Verify = refl
+
+-- a flag that is raised already
+raised_twice : (items rest : List Item) (which : FlagName) (arguments : Arguments) → given_flag which arguments ≡ true → Give items arguments → MayBe (items ++ Raised which ∷ rest) → ⊥
+raised_twice items rest which arguments up give may =
+    let before : times_raised which items ≡ 1 = subst (IsRaised which items) up (give.are_raised which) in
+    let all = raised_append which items (Raised which ∷ rest) in
+    let again : times_raised which (Raised which ∷ rest) ≡ 1 + times_raised which rest = ap (λ (t : Bool). (if t then 1 else 0) + times_raised which rest) (same_flag_itself which) in
+    let once = may.once which in
+    omega (arith, before, all, again, once)
+
+-- what `with_flag` answers
+pub with_flag : (lent : Lent) (which : FlagName) (arguments : Arguments) (r : Option Arguments) → item_of lent ≡ Raised which →
+    MatchOption r (given_flag which arguments ≡ true) (λ more. given_flag which arguments ≡ false) → IfSome r (λ more. more.positionals ≡ arguments.positionals) →
+    IfSome r (λ more. (option : OptionName) → given_number option more ≡ given_number option arguments) →
+    IfSome r (λ more. (other : FlagName) → given_flag other more ≡ (if same_flag other which then true else given_flag other arguments)) →
+    IfSome r (λ more. (items : List Item) → Give items arguments → Give (items ++ item_of lent ∷ []) more)
+with_flag lent which arguments None item free same numbers flags = tt
+with_flag lent which arguments (Some next) item free same numbers flags = λ items give.
+    subst (λ (i : Item). Give (items ++ i ∷ []) next) (sym item) (give_flag items which arguments next free same numbers flags give)
+
+pub without_flag : (lent : Lent) (which : FlagName) (arguments : Arguments) (r : Option Arguments) → item_of lent ≡ Raised which →
+    MatchOption r (given_flag which arguments ≡ true) (λ more. given_flag which arguments ≡ false) →
+    IfNone r ((items rest : List Item) → Give items arguments → MayBe (items ++ item_of lent ∷ rest) → ⊥)
+without_flag lent which arguments None item up = λ items rest give may.
+    raised_twice items rest which arguments up give (subst (λ (i : Item). MayBe (items ++ i ∷ rest)) item may)
+without_flag lent which arguments (Some next) item up = tt
 
 -- a list with a text inside that is one text is that text alone
 alone : (xs ys : List (List ℕ)) (text one : List ℕ) → xs ++ text ∷ ys ≡ one ∷ [] → (xs ≡ []) × (text ≡ one)
@@ -190,10 +267,11 @@ none_at (Some a) e is = absurd cc
 pub with_option : (lent : Lent) (option : OptionName) (text : List ℕ) (n : ℕ) (arguments : Arguments) (r : Option Arguments) → item_of lent ≡ Given option text → text ≡ decimal n → InRange option n →
     MatchOption r (IsSome (given_number option arguments)) (λ more. given_number option arguments ≡ None) → IfSome r (λ more. more.positionals ≡ arguments.positionals) →
     IfSome r (λ more. (other : OptionName) → given_number other more ≡ (if same_option other option then Some n else given_number other arguments)) →
+    IfSome r (λ more. (which : FlagName) → given_flag which more ≡ given_flag which arguments) →
     IfSome r (λ more. (items : List Item) → Give items arguments → Give (items ++ item_of lent ∷ []) more)
-with_option lent option text n arguments None item is le free same numbers = tt
-with_option lent option text n arguments (Some next) item is le free same numbers = λ items give.
-    subst (λ (i : Item). Give (items ++ i ∷ []) next) (sym item) (give_option items option text n arguments next is le free same numbers give)
+with_option lent option text n arguments None item is le free same numbers flags = tt
+with_option lent option text n arguments (Some next) item is le free same numbers flags = λ items give.
+    subst (λ (i : Item). Give (items ++ i ∷ []) next) (sym item) (give_option items option text n arguments next is le free same numbers flags give)
 
 not_free : (items rest : List Item) (option : OptionName) (text : List ℕ) (arguments : Arguments) (number : Option ℕ) → given_number option arguments ≡ number → IsSome number → Give items arguments → MayBe (items ++ Given option text ∷ rest) → ⊥
 not_free items rest option text arguments None e some give may = absurd cc

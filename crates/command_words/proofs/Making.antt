@@ -6,17 +6,19 @@ use Rattle.std.specs.Fmt.{decimal}
 use Rattle.std.specs.Str.Parse.{digits_value}
 use Rattle.std.proofs.lemmas.Bool.{and_parts, le-leb, leb-true}
 use Rattle.std.proofs.lemmas.Fmt.{decimal_injective, decimal_is_IsNumeral}
-use Rattle.command_words.specs.Table.{command_word, takes, least, limit, InRange, default_number}
-use Rattle.command_words.specs.Splits.{Item, Splits, positionals_of, IsSet, Once, Absent}
-use Rattle.command_words.specs.Words.{Command, Help, Schema, Explain, Run, Exec, Check, Verify, World, Setting, Asks, firings, firings_and_search, workers, workers_and_calls, IsCommand, seen_as}
+use Rattle.command_words.specs.Table.{command_word, takes, takes_flag, least, limit, InRange, default_number}
+use Rattle.command_words.specs.Splits.{Item, Splits, positionals_of, times_raised, IsSet, Once, Absent, IsRaised}
+use Rattle.command_words.specs.Words.{Command, Help, Schema, Explain, Run, Exec, Check, Verify, World, Setting, Flag, Asks, firings, firings_and_search, workers, workers_and_calls, IsCommand, seen_as}
 use Rattle.command_words.specs.Arguments.{words_of, given_number, number_of, size_of, IsGiven, AreArguments, MayBe, made}
 use Rattle.command_words.specs.declared.command.Command.{Command as Coded}
 use Rattle.command_words.specs.declared.table.CommandName.{CommandName}
 use Rattle.command_words.specs.declared.table.CommandName.TheVariants as name
 use Rattle.command_words.specs.declared.table.OptionName.{OptionName}
 use Rattle.command_words.specs.declared.table.OptionName.TheVariants.{Firings, Search, Workers, Calls}
+use Rattle.command_words.specs.declared.table.FlagName.{FlagName}
+use Rattle.command_words.specs.declared.table.FlagName.TheVariants as flag
 use Rattle.command_words.specs.declared.given.Arguments.{Arguments}
-use Rattle.command_words.proofs.Splitting.{splits_once, not_taken, front_and_rest}
+use Rattle.command_words.proofs.Splitting.{splits_once, not_taken, not_raised, front_and_rest}
 
 -- a command's word is its own
 named_by : List ℕ → CommandName
@@ -95,17 +97,19 @@ record Makes (words : List (List ℕ)) (command : Command) : Type 0 where
   pub units : ℕ
   pub lanes : ℕ
   pub calls : ℕ
+  pub verify : Bool
   pub first : words ≡ command_word name ∷ behind
   pub splits : Splits name behind items
   pub set : IsSet Firings items number
   pub set_search : IsSet Search items units
   pub set_workers : IsSet Workers items lanes
   pub set_calls : IsSet Calls items calls
-  pub is_made : made name (positionals_of items) number units lanes calls ≡ Some command
+  pub set_verify : IsRaised flag.Verify items verify
+  pub is_made : made name (positionals_of items) number units lanes calls verify ≡ Some command
 
-made_of : (words : List (List ℕ)) (which : CommandName) (positionals : List (List ℕ)) (settings : List Setting) (n units lanes calls : ℕ) (command : Command) (asks : Asks words which positionals settings) →
-    IsSet Firings asks.items n → IsSet Search asks.items units → IsSet Workers asks.items lanes → IsSet Calls asks.items calls → made which positionals n units lanes calls ≡ Some command → Makes words command
-made_of words which positionals settings n units lanes calls command asks set searched worked capped is = record {
+made_of : (words : List (List ℕ)) (which : CommandName) (positionals : List (List ℕ)) (settings : List Setting) (n units lanes calls : ℕ) (verify : Bool) (command : Command) (asks : Asks words which positionals settings) →
+    IsSet Firings asks.items n → IsSet Search asks.items units → IsSet Workers asks.items lanes → IsSet Calls asks.items calls → IsRaised flag.Verify asks.items verify → made which positionals n units lanes calls verify ≡ Some command → Makes words command
+made_of words which positionals settings n units lanes calls verify command asks set searched worked capped flagged is = record {
   name = which;
   behind = asks.behind;
   items = asks.items;
@@ -113,66 +117,72 @@ made_of words which positionals settings n units lanes calls command asks set se
   units = units;
   lanes = lanes;
   calls = calls;
+  verify = verify;
   first = asks.first;
   splits = asks.splits;
   set = set;
   set_search = searched;
   set_workers = worked;
   set_calls = capped;
-  is_made = ap (λ (ps : List (List ℕ)). made which ps n units lanes calls) asks.in_order ∙ is;
+  set_verify = flagged;
+  is_made = ap (λ (ps : List (List ℕ)). made which ps n units lanes calls verify) asks.in_order ∙ is;
 }
 
 -- an option that a command does not take
 untaken : (words : List (List ℕ)) (which : CommandName) (positionals : List (List ℕ)) (settings : List Setting) (option : OptionName) (asks : Asks words which positionals settings) → takes which option ≡ false → IsSet option asks.items (default_number option)
 untaken words which positionals settings option asks off = Absent (not_taken which option asks.behind asks.items off asks.splits) refl
 
--- a command without options
+-- a flag that a command does not take
+unflagged : (words : List (List ℕ)) (which : CommandName) (positionals : List (List ℕ)) (settings : List Setting) (asks : Asks words which positionals settings) → takes_flag which flag.Verify ≡ false → IsRaised flag.Verify asks.items false
+unflagged words which positionals settings asks off = not_raised which flag.Verify asks.behind asks.items off asks.splits
+
+-- a command without options and flags
 unset : (words : List (List ℕ)) (which : CommandName) (positionals : List (List ℕ)) (command : Command) →
-    takes which Firings ≡ false → takes which Search ≡ false → takes which Workers ≡ false → takes which Calls ≡ false →
-    made which positionals 10000 10000 1 100000 ≡ Some command → Asks words which positionals [] → Makes words command
-unset words which positionals command off without alone uncapped is asks =
-    made_of words which positionals [] 10000 10000 1 100000 command asks (untaken words which positionals [] Firings asks off) (untaken words which positionals [] Search asks without)
-    (untaken words which positionals [] Workers asks alone) (untaken words which positionals [] Calls asks uncapped) is
+    takes which Firings ≡ false → takes which Search ≡ false → takes which Workers ≡ false → takes which Calls ≡ false → takes_flag which flag.Verify ≡ false →
+    made which positionals 10000 10000 1 100000 false ≡ Some command → Asks words which positionals [] → Makes words command
+unset words which positionals command off without alone uncapped down is asks =
+    made_of words which positionals [] 10000 10000 1 100000 false command asks (untaken words which positionals [] Firings asks off) (untaken words which positionals [] Search asks without)
+    (untaken words which positionals [] Workers asks alone) (untaken words which positionals [] Calls asks uncapped) (unflagged words which positionals [] asks down) is
 
 makes : (words : List (List ℕ)) (command : Command) → IsCommand words command → Makes words command
-makes words Help asks = unset words name.Help [] Help refl refl refl refl refl asks
-makes words (Schema schema) asks = unset words name.Schema (schema ∷ []) (Schema schema) refl refl refl refl refl asks
+makes words Help asks = unset words name.Help [] Help refl refl refl refl refl refl asks
+makes words (Schema schema) asks = unset words name.Schema (schema ∷ []) (Schema schema) refl refl refl refl refl refl asks
 makes words (Explain schema query n units) asks =
     let these = schema ∷ query ∷ [] in
     let settings = firings_and_search n units in
-    made_of words name.Explain these settings n units 1 100000 (Explain schema query n units) asks asks.are_set.0 asks.are_set.1.0
-    (untaken words name.Explain these settings Workers asks refl) (untaken words name.Explain these settings Calls asks refl) refl
-makes words (Run schema query n units lanes calls) asks =
-    made_of words name.Run (schema ∷ query ∷ []) (firings_and_search n units ++ workers_and_calls lanes calls) n units lanes calls (Run schema query n units lanes calls) asks
-    asks.are_set.0 asks.are_set.1.0 asks.are_set.1.1.0 asks.are_set.1.1.1.0 refl
+    made_of words name.Explain these settings n units 1 100000 false (Explain schema query n units) asks asks.are_set.0 asks.are_set.1.0
+    (untaken words name.Explain these settings Workers asks refl) (untaken words name.Explain these settings Calls asks refl) (unflagged words name.Explain these settings asks refl) refl
+makes words (Run schema query n units lanes calls verify) asks =
+    made_of words name.Run (schema ∷ query ∷ []) (firings_and_search n units ++ workers_and_calls lanes calls ++ Flag flag.Verify verify ∷ []) n units lanes calls verify (Run schema query n units lanes calls verify) asks
+    asks.are_set.0 asks.are_set.1.0 asks.are_set.1.1.0 asks.are_set.1.1.1.0 asks.are_set.1.1.1.1.0 refl
 makes words (Exec schema plan lanes calls) asks =
     let these = schema ∷ plan ∷ [] in
     let settings = workers_and_calls lanes calls in
-    made_of words name.Exec these settings 10000 10000 lanes calls (Exec schema plan lanes calls) asks
-    (untaken words name.Exec these settings Firings asks refl) (untaken words name.Exec these settings Search asks refl) asks.are_set.0 asks.are_set.1.0 refl
+    made_of words name.Exec these settings 10000 10000 lanes calls false (Exec schema plan lanes calls) asks
+    (untaken words name.Exec these settings Firings asks refl) (untaken words name.Exec these settings Search asks refl) asks.are_set.0 asks.are_set.1.0 (unflagged words name.Exec these settings asks refl) refl
 makes words (Check schema query plan n) asks =
     let these = schema ∷ query ∷ plan ∷ [] in
     let settings = firings n in
-    made_of words name.Check these settings n 10000 1 100000 (Check schema query plan n) asks asks.are_set.0
-    (untaken words name.Check these settings Search asks refl) (untaken words name.Check these settings Workers asks refl) (untaken words name.Check these settings Calls asks refl) refl
-makes words (Verify schema) asks = unset words name.Verify (schema ∷ []) (Verify schema) refl refl refl refl refl asks
+    made_of words name.Check these settings n 10000 1 100000 false (Check schema query plan n) asks asks.are_set.0
+    (untaken words name.Check these settings Search asks refl) (untaken words name.Check these settings Workers asks refl) (untaken words name.Check these settings Calls asks refl) (unflagged words name.Check these settings asks refl) refl
+makes words (Verify schema) asks = unset words name.Verify (schema ∷ []) (Verify schema) refl refl refl refl refl refl asks
 makes words (World size lanes) (asks, low, high) =
     let these = decimal size ∷ [] in
     let settings = workers lanes in
-    made_of words name.World these settings 10000 10000 lanes 100000 (World size lanes) asks
-    (untaken words name.World these settings Firings asks refl) (untaken words name.World these settings Search asks refl) asks.are_set.0 (untaken words name.World these settings Calls asks refl)
+    made_of words name.World these settings 10000 10000 lanes 100000 false (World size lanes) asks
+    (untaken words name.World these settings Firings asks refl) (untaken words name.World these settings Search asks refl) asks.are_set.0 (untaken words name.World these settings Calls asks refl) (unflagged words name.World these settings asks refl)
     (ap (option_map (λ n. World n lanes)) (size_is (decimal size) size refl low high))
 
 -- ---- the other way round
 
-asked : (words behind : List (List ℕ)) (which : CommandName) (items : List Item) (n units lanes calls : ℕ) (positionals : List (List ℕ)) (command : Command) → words ≡ command_word which ∷ behind → Splits which behind items →
-    IsSet Firings items n → IsSet Search items units → IsSet Workers items lanes → IsSet Calls items calls → positionals_of items ≡ positionals → made which positionals n units lanes calls ≡ Some command → IsCommand words command
-asked words behind which items n units lanes calls positionals command first splits set searched worked capped order is = go which positionals first splits order is
+asked : (words behind : List (List ℕ)) (which : CommandName) (items : List Item) (n units lanes calls : ℕ) (verify : Bool) (positionals : List (List ℕ)) (command : Command) → words ≡ command_word which ∷ behind → Splits which behind items →
+    IsSet Firings items n → IsSet Search items units → IsSet Workers items lanes → IsSet Calls items calls → IsRaised flag.Verify items verify → positionals_of items ≡ positionals → made which positionals n units lanes calls verify ≡ Some command → IsCommand words command
+asked words behind which items n units lanes calls verify positionals command first splits set searched worked capped flagged order is = go which positionals first splits order is
   where
     named : (c : Command) → c ≡ command → IsCommand words c → IsCommand words command
     named c e here = subst (IsCommand words) e here
 
-    go : (which : CommandName) (positionals : List (List ℕ)) → words ≡ command_word which ∷ behind → Splits which behind items → positionals_of items ≡ positionals → made which positionals n units lanes calls ≡ Some command → IsCommand words command
+    go : (which : CommandName) (positionals : List (List ℕ)) → words ≡ command_word which ∷ behind → Splits which behind items → positionals_of items ≡ positionals → made which positionals n units lanes calls verify ≡ Some command → IsCommand words command
     go name.Help [] first splits order is = named Help (cc) (record { behind = behind; items = items; first = first; splits = splits; in_order = order; are_set = tt })
     go name.Help (a ∷ ps) first splits order is = absurd cc
     go name.Schema [] first splits order is = absurd cc
@@ -184,7 +194,7 @@ asked words behind which items n units lanes calls positionals command first spl
     go name.Explain (a ∷ b ∷ c ∷ ps) first splits order is = absurd cc
     go name.Run [] first splits order is = absurd cc
     go name.Run (a ∷ []) first splits order is = absurd cc
-    go name.Run (a ∷ b ∷ []) first splits order is = named (Run a b n units lanes calls) (cc) (record { behind = behind; items = items; first = first; splits = splits; in_order = order; are_set = (set, (searched, (worked, (capped, tt)))) })
+    go name.Run (a ∷ b ∷ []) first splits order is = named (Run a b n units lanes calls verify) (cc) (record { behind = behind; items = items; first = first; splits = splits; in_order = order; are_set = (set, (searched, (worked, (capped, (flagged, tt))))) })
     go name.Run (a ∷ b ∷ c ∷ ps) first splits order is = absurd cc
     go name.Exec [] first splits order is = absurd cc
     go name.Exec (a ∷ []) first splits order is = absurd cc
@@ -218,6 +228,12 @@ set_once option items n m (Once is le) (Absent is' e) = absurd cc
 set_once option items n m (Absent is e) (Once is' le) = absurd cc
 set_once option items n m (Absent is e) (Absent is' e') = e ∙ sym e'
 
+raised_once : (items : List Item) (up other : Bool) → IsRaised flag.Verify items up → IsRaised flag.Verify items other → up ≡ other
+raised_once items true true is is' = refl
+raised_once items true false is is' = absurd cc
+raised_once items false true is is' = absurd cc
+raised_once items false false is is' = refl
+
 -- a text of a number below the option's range is no number in it
 pub below_least : (option : OptionName) (text : List ℕ) (m : ℕ) → text ≡ decimal m → m ≤ limit option → m < least option → (n : ℕ) → InRange option n → text ≡ decimal n → ⊥
 below_least option text m is le low n within also =
@@ -238,13 +254,18 @@ makes_once words command other a b =
     let units = set_once Search a.items a.units b.units a.set_search (subst (λ (is : List Item). IsSet Search is b.units) (sym items) b.set_search) in
     let lanes = set_once Workers a.items a.lanes b.lanes a.set_workers (subst (λ (is : List Item). IsSet Workers is b.lanes) (sym items) b.set_workers) in
     let calls = set_once Calls a.items a.calls b.calls a.set_calls (subst (λ (is : List Item). IsSet Calls is b.calls) (sym items) b.set_calls) in
-    let e : made a.name (positionals_of a.items) a.number a.units a.lanes a.calls ≡ made b.name (positionals_of b.items) b.number b.units b.lanes b.calls = cc in
+    let verify = raised_once a.items a.verify b.verify a.set_verify (subst (λ (is : List Item). IsRaised flag.Verify is b.verify) (sym items) b.set_verify) in
+    let e : made a.name (positionals_of a.items) a.number a.units a.lanes a.calls a.verify ≡ made b.name (positionals_of b.items) b.number b.units b.lanes b.calls b.verify = cc in
     cc
 
 pub one_command : (words : List (List ℕ)) (command other : Command) → IsCommand words command → IsCommand words other → command ≡ other
 one_command words command other here there = makes_once words command other (makes words command here) (makes words other there)
 
 -- ---- what the calls answer
+
+raised_few : (items : List Item) (up : Bool) → IsRaised flag.Verify items up → times_raised flag.Verify items ≤ 1
+raised_few items true is = omega (arith, is)
+raised_few items false is = omega (arith, is)
 
 pub no_name : (words : List (List ℕ)) (word : List ℕ) (command : Command) → 1 ≤ length words → word ≡ get_or words 0 word → ((which : CommandName) → word ≡ command_word which → ⊥) → IsCommand words command → ⊥
 no_name words word command some is none asks =
@@ -257,28 +278,28 @@ set_number : (option : OptionName) (items : List Item) (number : Option ℕ) →
 set_number option items None given = Absent given refl
 set_number option items (Some n) given = Once given.0 given.1
 
-pub is_command : (words behind : List (List ℕ)) (word : List ℕ) (which : CommandName) (arguments : Arguments) (r : Option Coded) → words ≡ word ∷ behind → word ≡ command_word which → AreArguments which behind arguments → option_map seen_as r ≡ made which (words_of arguments.positionals) (number_of Firings arguments) (number_of Search arguments) (number_of Workers arguments) (number_of Calls arguments) → IfSome r (λ command. IsCommand words (seen_as command))
+pub is_command : (words behind : List (List ℕ)) (word : List ℕ) (which : CommandName) (arguments : Arguments) (r : Option Coded) → words ≡ word ∷ behind → word ≡ command_word which → AreArguments which behind arguments → option_map seen_as r ≡ made which (words_of arguments.positionals) (number_of Firings arguments) (number_of Search arguments) (number_of Workers arguments) (number_of Calls arguments) arguments.verify → IfSome r (λ command. IsCommand words (seen_as command))
 is_command words behind word which arguments None all is are e = tt
 is_command words behind word which arguments (Some command) all is are e =
-    asked words behind which are.items (number_of Firings arguments) (number_of Search arguments) (number_of Workers arguments) (number_of Calls arguments) (words_of arguments.positionals) (seen_as command) (all ∙ ap (λ (w : List ℕ). w ∷ behind) is) are.splits
+    asked words behind which are.items (number_of Firings arguments) (number_of Search arguments) (number_of Workers arguments) (number_of Calls arguments) arguments.verify (words_of arguments.positionals) (seen_as command) (all ∙ ap (λ (w : List ℕ). w ∷ behind) is) are.splits
     (set_number Firings are.items (given_number Firings arguments) (are.give.are_given Firings))
     (set_number Search are.items (given_number Search arguments) (are.give.are_given Search))
     (set_number Workers are.items (given_number Workers arguments) (are.give.are_given Workers))
-    (set_number Calls are.items (given_number Calls arguments) (are.give.are_given Calls)) are.give.in_order (sym e)
+    (set_number Calls are.items (given_number Calls arguments) (are.give.are_given Calls)) (are.give.are_raised flag.Verify) are.give.in_order (sym e)
 
-few_positionals : (which : CommandName) (positionals : List (List ℕ)) (n units lanes calls : ℕ) (command : Command) → made which positionals n units lanes calls ≡ Some command → length positionals ≤ 3
-few_positionals which [] n units lanes calls command is = omega arith
-few_positionals which (a ∷ []) n units lanes calls command is = omega arith
-few_positionals which (a ∷ b ∷ []) n units lanes calls command is = omega arith
-few_positionals which (a ∷ b ∷ c ∷ []) n units lanes calls command is = omega arith
-few_positionals name.Help (a ∷ b ∷ c ∷ d ∷ ps) n units lanes calls command is = absurd cc
-few_positionals name.Schema (a ∷ b ∷ c ∷ d ∷ ps) n units lanes calls command is = absurd cc
-few_positionals name.Explain (a ∷ b ∷ c ∷ d ∷ ps) n units lanes calls command is = absurd cc
-few_positionals name.Run (a ∷ b ∷ c ∷ d ∷ ps) n units lanes calls command is = absurd cc
-few_positionals name.Exec (a ∷ b ∷ c ∷ d ∷ ps) n units lanes calls command is = absurd cc
-few_positionals name.Check (a ∷ b ∷ c ∷ d ∷ ps) n units lanes calls command is = absurd cc
-few_positionals name.Verify (a ∷ b ∷ c ∷ d ∷ ps) n units lanes calls command is = absurd cc
-few_positionals name.World (a ∷ b ∷ c ∷ d ∷ ps) n units lanes calls command is = absurd cc
+few_positionals : (which : CommandName) (positionals : List (List ℕ)) (n units lanes calls : ℕ) (verify : Bool) (command : Command) → made which positionals n units lanes calls verify ≡ Some command → length positionals ≤ 3
+few_positionals which [] n units lanes calls verify command is = omega arith
+few_positionals which (a ∷ []) n units lanes calls verify command is = omega arith
+few_positionals which (a ∷ b ∷ []) n units lanes calls verify command is = omega arith
+few_positionals which (a ∷ b ∷ c ∷ []) n units lanes calls verify command is = omega arith
+few_positionals name.Help (a ∷ b ∷ c ∷ d ∷ ps) n units lanes calls verify command is = absurd cc
+few_positionals name.Schema (a ∷ b ∷ c ∷ d ∷ ps) n units lanes calls verify command is = absurd cc
+few_positionals name.Explain (a ∷ b ∷ c ∷ d ∷ ps) n units lanes calls verify command is = absurd cc
+few_positionals name.Run (a ∷ b ∷ c ∷ d ∷ ps) n units lanes calls verify command is = absurd cc
+few_positionals name.Exec (a ∷ b ∷ c ∷ d ∷ ps) n units lanes calls verify command is = absurd cc
+few_positionals name.Check (a ∷ b ∷ c ∷ d ∷ ps) n units lanes calls verify command is = absurd cc
+few_positionals name.Verify (a ∷ b ∷ c ∷ d ∷ ps) n units lanes calls verify command is = absurd cc
+few_positionals name.World (a ∷ b ∷ c ∷ d ∷ ps) n units lanes calls verify command is = absurd cc
 
 -- the command's word says which command it is
 module _ (words behind : List (List ℕ)) (word : List ℕ) (which : CommandName) (all : words ≡ word ∷ behind) (is : word ≡ command_word which) where
@@ -294,7 +315,7 @@ module _ (words behind : List (List ℕ)) (word : List ℕ) (which : CommandName
   no_arguments command none asks =
       let m = makes words command asks in
       let here = items_of command m in
-      none m.items here.1 (record { few = few_positionals m.name (positionals_of m.items) m.number m.units m.lanes m.calls command m.is_made; settable = set m })
+      none m.items here.1 (record { few = few_positionals m.name (positionals_of m.items) m.number m.units m.lanes m.calls m.verify command m.is_made; settable = set m; once = once m })
     where
       set : (m : Makes words command) (option : OptionName) → (n : ℕ) × IsSet option m.items n
       set m Firings = (m.number, m.set)
@@ -302,7 +323,10 @@ module _ (words behind : List (List ℕ)) (word : List ℕ) (which : CommandName
       set m Workers = (m.lanes, m.set_workers)
       set m Calls = (m.calls, m.set_calls)
 
-  pub not_made : (arguments : Arguments) (r : Option Coded) → AreArguments which behind arguments → option_map seen_as r ≡ made which (words_of arguments.positionals) (number_of Firings arguments) (number_of Search arguments) (number_of Workers arguments) (number_of Calls arguments) → IfNone r ((command : Command) → IsCommand words command → ⊥)
+      once : (m : Makes words command) (which : FlagName) → times_raised which m.items ≤ 1
+      once m flag.Verify = raised_few m.items m.verify m.set_verify
+
+  pub not_made : (arguments : Arguments) (r : Option Coded) → AreArguments which behind arguments → option_map seen_as r ≡ made which (words_of arguments.positionals) (number_of Firings arguments) (number_of Search arguments) (number_of Workers arguments) (number_of Calls arguments) arguments.verify → IfNone r ((command : Command) → IsCommand words command → ⊥)
   not_made arguments (Some coded) are e = tt
   not_made arguments None are e = λ command asks.
       let m = makes words command asks in
@@ -312,8 +336,9 @@ module _ (words behind : List (List ℕ)) (word : List ℕ) (which : CommandName
       let units = set_once Search are.items m.units (number_of Search arguments) (subst (λ (is : List Item). IsSet Search is m.units) items m.set_search) (set_number Search are.items (given_number Search arguments) (are.give.are_given Search)) in
       let lanes = set_once Workers are.items m.lanes (number_of Workers arguments) (subst (λ (is : List Item). IsSet Workers is m.lanes) items m.set_workers) (set_number Workers are.items (given_number Workers arguments) (are.give.are_given Workers)) in
       let calls = set_once Calls are.items m.calls (number_of Calls arguments) (subst (λ (is : List Item). IsSet Calls is m.calls) items m.set_calls) (set_number Calls are.items (given_number Calls arguments) (are.give.are_given Calls)) in
-      let same : made m.name (positionals_of m.items) m.number m.units m.lanes m.calls ≡ made which (positionals_of are.items) (number_of Firings arguments) (number_of Search arguments) (number_of Workers arguments) (number_of Calls arguments) = let n = here.0 in cc in
-      let order = ap (λ (ps : List (List ℕ)). made which ps (number_of Firings arguments) (number_of Search arguments) (number_of Workers arguments) (number_of Calls arguments)) are.give.in_order in
+      let verify = raised_once are.items m.verify arguments.verify (subst (λ (is : List Item). IsRaised flag.Verify is m.verify) items m.set_verify) (are.give.are_raised flag.Verify) in
+      let same : made m.name (positionals_of m.items) m.number m.units m.lanes m.calls m.verify ≡ made which (positionals_of are.items) (number_of Firings arguments) (number_of Search arguments) (number_of Workers arguments) (number_of Calls arguments) arguments.verify = let n = here.0 in cc in
+      let order = ap (λ (ps : List (List ℕ)). made which ps (number_of Firings arguments) (number_of Search arguments) (number_of Workers arguments) (number_of Calls arguments) arguments.verify) are.give.in_order in
       let made' = m.is_made in
       absurd cc
 

@@ -1,13 +1,15 @@
 -- Words as items: there is one way at most.
-use Rattle.std.proofs.Common.{◌≡◌, ℕ, ◌≤◌, Bool, true, false, List, [], ◌∷◌, ◌++◌, length, get_or, take, drop, ◌-◌, None, Some, refl, sym, ap, subst, ◌∙◌, inl, inr, arith}
+use Rattle.std.proofs.Common.{◌≡◌, ℕ, ◌≤◌, Bool, true, false, List, [], ◌∷◌, ◌++◌, length, get_or, take, drop, ◌-◌, ◌+◌, None, Some, refl, sym, ap, subst, ◌∙◌, inl, inr, arith}
 use Rattle.std.specs.Prelude.{◌⊎◌, codes, if◌then◌else◌}
 use Rattle.std.proofs.lemmas.List.{take_rest}
-use Rattle.command_words.specs.Table.{option_word, same_option, takes}
-use Rattle.command_words.specs.Splits.{Item, Positional, Given, IsPositional, Begins, InFront, InTwoWords, InOneWord, Splits, End, More, texts_of}
+use Rattle.command_words.specs.Table.{option_word, same_option, takes, flag_word, same_flag, takes_flag}
+use Rattle.command_words.specs.Splits.{Item, Positional, Given, Raised, IsPositional, Begins, InFront, InTwoWords, InOneWord, AsFlag, Splits, End, More, texts_of, times_raised}
 use Rattle.command_words.specs.Cuts.{before_equals, behind_equals}
 use Rattle.command_words.specs.declared.table.CommandName.{CommandName}
 use Rattle.command_words.specs.declared.table.OptionName.{OptionName}
 use Rattle.command_words.specs.declared.table.OptionName.TheVariants.{Firings, Search, Workers, Calls}
+use Rattle.command_words.specs.declared.table.FlagName.{FlagName}
+use Rattle.command_words.specs.declared.table.FlagName.TheVariants as flag
 use Rattle.command_words.proofs.Cutting.{cut, uncut}
 
 -- ---- options by their words
@@ -79,6 +81,27 @@ same_itself Search = refl
 same_itself Workers = refl
 same_itself Calls = refl
 
+-- ---- flags by their words
+
+same_flag_word : (one other : FlagName) → flag_word one ≡ flag_word other → one ≡ other
+same_flag_word flag.Verify flag.Verify e = refl
+
+pub same_flags : (one other : FlagName) → same_flag one other ≡ true → one ≡ other
+same_flags flag.Verify flag.Verify e = refl
+
+-- no word of an option is a flag's
+no_flag_word : (option : OptionName) (which : FlagName) → option_word option ≡ flag_word which → ⊥
+no_flag_word Firings flag.Verify e = let first : 102 ≡ 118 = ap (λ (word : List ℕ). get_or word 0 0) e in omega (arith, first)
+no_flag_word Search flag.Verify e = let first : 115 ≡ 118 = ap (λ (word : List ℕ). get_or word 0 0) e in omega (arith, first)
+no_flag_word Workers flag.Verify e = let first : 119 ≡ 118 = ap (λ (word : List ℕ). get_or word 0 0) e in omega (arith, first)
+no_flag_word Calls flag.Verify e = let first : 99 ≡ 118 = ap (λ (word : List ℕ). get_or word 0 0) e in omega (arith, first)
+
+before_flag : (which : FlagName) → before_equals (flag_word which) ≡ flag_word which
+before_flag flag.Verify = refl
+
+no_flag_setting : (option : OptionName) (value : List ℕ) (which : FlagName) → option_word option ++ 61 ∷ value ≡ flag_word which → ⊥
+no_flag_setting option value which e = no_flag_word option which (sym (before_setting option value) ∙ ap before_equals e ∙ before_flag which)
+
 dashed_setting : (option : OptionName) (value : List ℕ) → codes "--" ++ option_word option ++ codes "=" ++ value ≡ 45 ∷ 45 ∷ (option_word option ++ 61 ∷ value)
 dashed_setting Firings value = refl
 dashed_setting Search value = refl
@@ -94,10 +117,12 @@ data Opens (name : CommandName) (option : OptionName) (value : List ℕ) (words 
 
 data Begun (name : CommandName) (words : List (List ℕ)) (item : Item) (rest : List (List ℕ)) : Type 0 where
   front : (word : List ℕ) → words ≡ word ∷ rest → item ≡ Positional word → IsPositional word → Begun name words item rest
+  flag_front : (which : FlagName) → words ≡ (45 ∷ 45 ∷ flag_word which) ∷ rest → item ≡ Raised which → takes_flag name which ≡ true → Begun name words item rest
   option_front : (option : OptionName) (value : List ℕ) → item ≡ Given option value → takes name option ≡ true → Opens name option value words rest → Begun name words item rest
 
 begun : (name : CommandName) (words : List (List ℕ)) (item : Item) (rest : List (List ℕ)) → Begins name words item rest → Begun name words item rest
 begun name words item rest (InFront word after is) = front word refl refl is
+begun name words item rest (AsFlag which after taken) = flag_front which refl refl taken
 begun name words item rest (InTwoWords option value after taken) = option_front option value refl taken (two refl)
 begun name words item rest (InOneWord option value after taken) = option_front option value refl taken (one (ap (λ (w : List ℕ). w ∷ after) (dashed_setting option value)))
 
@@ -111,6 +136,7 @@ none_begins name words item rest begins e = go (begun name words item rest begin
 
     go : Begun name words item rest → ⊥
     go (front word is same positional) = absurd cc
+    go (flag_front which is same taken) = absurd cc
     go (option_front option value same taken opens) = opened option value opens
 
 -- a positional begins with no dash
@@ -118,7 +144,7 @@ no_dash : (word tail : List ℕ) → word ≡ 45 ∷ tail → IsPositional word 
 no_dash [] tail e is = is
 no_dash (b ∷ bs) tail e is = is cc
 
--- a word behind its dashes: which option it names, and with which text
+-- a word behind its dashes that is no flag's: which option it names, and with which text
 pub record Named (name : CommandName) (dashed : List ℕ) (behind : List (List ℕ)) (item : Item) (rest : List (List ℕ)) : Type 0 where
   pub option : OptionName
   pub value : List ℕ
@@ -127,8 +153,8 @@ pub record Named (name : CommandName) (dashed : List ℕ) (behind : List (List �
   pub word : before_equals dashed ≡ option_word option
   pub text : ((behind_equals dashed ≡ None) × (behind ≡ value ∷ rest)) ⊎ ((behind_equals dashed ≡ Some value) × (behind ≡ rest))
 
-pub named : (name : CommandName) (dashed : List ℕ) (behind : List (List ℕ)) (item : Item) (rest : List (List ℕ)) → Begins name ((45 ∷ 45 ∷ dashed) ∷ behind) item rest → Named name dashed behind item rest
-named name dashed behind item rest begins = go (begun name ((45 ∷ 45 ∷ dashed) ∷ behind) item rest begins)
+pub named : (name : CommandName) (dashed : List ℕ) (behind : List (List ℕ)) (item : Item) (rest : List (List ℕ)) → ((which : FlagName) → dashed ≡ flag_word which → ⊥) → Begins name ((45 ∷ 45 ∷ dashed) ∷ behind) item rest → Named name dashed behind item rest
+named name dashed behind item rest no_flag begins = go (begun name ((45 ∷ 45 ∷ dashed) ∷ behind) item rest begins)
   where
     opened : (option : OptionName) (value : List ℕ) → item ≡ Given option value → takes name option ≡ true → Opens name option value ((45 ∷ 45 ∷ dashed) ∷ behind) rest → Named name dashed behind item rest
     opened option value same taken (two is) =
@@ -154,6 +180,7 @@ named name dashed behind item rest begins = go (begun name ((45 ∷ 45 ∷ dashe
 
     go : Begun name ((45 ∷ 45 ∷ dashed) ∷ behind) item rest → Named name dashed behind item rest
     go (front word is same positional) = absurd (no_dash word (45 ∷ dashed) (cc) positional)
+    go (flag_front which is same taken) = absurd (no_flag which (cc))
     go (option_front option value same taken opens) = opened option value same taken opens
 
 -- ---- where an item begins words
@@ -167,6 +194,22 @@ pub begins_one : (name : CommandName) (option : OptionName) (dashed value : List
 begins_one name option dashed value rest word some taken =
     let is : option_word option ++ 61 ∷ value ≡ dashed = ap (λ (w : List ℕ). w ++ 61 ∷ value) (sym word) ∙ cut dashed value some in
     subst (λ (w : List ℕ). Begins name (w ∷ rest) (Given option value) rest) (dashed_setting option value ∙ ap (λ (w : List ℕ). 45 ∷ 45 ∷ w) is) (InOneWord option value rest taken)
+
+pub begins_flag : (name : CommandName) (which : FlagName) (dashed : List ℕ) (rest : List (List ℕ)) → dashed ≡ flag_word which → true ≡ takes_flag name which → Begins name ((45 ∷ 45 ∷ dashed) ∷ rest) (Raised which) rest
+begins_flag name which dashed rest word taken = subst (λ (w : List ℕ). Begins name ((45 ∷ 45 ∷ w) ∷ rest) (Raised which) rest) (sym word) (AsFlag which rest (sym taken))
+
+-- a flag that the command does not take begins no words
+pub refused_flag : (name : CommandName) (which : FlagName) (dashed : List ℕ) (behind : List (List ℕ)) → dashed ≡ flag_word which → false ≡ takes_flag name which → (item : Item) (rest : List (List ℕ)) → Begins name ((45 ∷ 45 ∷ dashed) ∷ behind) item rest → ⊥
+refused_flag name which dashed behind word off item rest begins = go (begun name ((45 ∷ 45 ∷ dashed) ∷ behind) item rest begins)
+  where
+    go : Begun name ((45 ∷ 45 ∷ dashed) ∷ behind) item rest → ⊥
+    go (front these is same positional) = no_dash these (45 ∷ dashed) (cc) positional
+    go (flag_front other is same taken) =
+        let e : flag_word which ≡ flag_word other = cc in
+        let there : takes_flag name which ≡ true = ap (takes_flag name) (same_flag_word which other e) ∙ taken in
+        absurd cc
+    go (option_front option value same taken (two is)) = no_flag_word option which (cc)
+    go (option_front option value same taken (one is)) = no_flag_setting option value which (cc)
 
 -- words are the first, and the others
 pub front_and_rest : (words : List (List ℕ)) (word : List ℕ) → 1 ≤ length words → word ≡ get_or words 0 word → words ≡ word ∷ take (length words - 1) (drop 1 words)
@@ -198,9 +241,10 @@ first_once name words i j r s (InFront word after is) other = go (begun name (wo
   where
     go : Begun name (word ∷ after) j s → (Positional word ≡ j) × (after ≡ s)
     go (front word' e same positional) = let w : word ≡ word' = cc in (ap Positional w ∙ sym same, cc)
+    go (flag_front which e same taken) = absurd (no_dash word (45 ∷ flag_word which) (cc) is)
     go (option_front option value same taken (two e)) = absurd (no_dash word (45 ∷ option_word option) (cc) is)
     go (option_front option value same taken (one e)) = absurd (no_dash word (45 ∷ (option_word option ++ 61 ∷ value)) (cc) is)
-first_once name words i j r s (InTwoWords option value after taken) other = go (named name (option_word option) (value ∷ after) j s other)
+first_once name words i j r s (InTwoWords option value after taken) other = go (named name (option_word option) (value ∷ after) j s (no_flag_word option) other)
   where
     go : Named name (option_word option) (value ∷ after) j s → (Given option value ≡ j) × (after ≡ s)
     go n =
@@ -208,13 +252,20 @@ first_once name words i j r s (InTwoWords option value after taken) other = go (
         let none = behind_word option in
         elim n.text [ inl e ↦ (let v : value ≡ n.value = cc in cc, cc) | inr e ↦ absurd cc ]
 first_once name words i j r s (InOneWord option value after taken) other =
-    go (named name (option_word option ++ 61 ∷ value) after j s (subst (λ (w : List ℕ). Begins name (w ∷ after) j s) (dashed_setting option value) other))
+    go (named name (option_word option ++ 61 ∷ value) after j s (no_flag_setting option value) (subst (λ (w : List ℕ). Begins name (w ∷ after) j s) (dashed_setting option value) other))
   where
     go : Named name (option_word option ++ 61 ∷ value) after j s → (Given option value ≡ j) × (after ≡ s)
     go n =
         let which : option ≡ n.option = same_word option n.option (sym (before_setting option value) ∙ n.word) in
         let some = behind_setting option value in
         elim n.text [ inl e ↦ absurd cc | inr e ↦ (let v : value ≡ n.value = cc in cc, cc) ]
+first_once name words i j r s (AsFlag which after taken) other = go (begun name ((codes "--" ++ flag_word which) ∷ after) j s other)
+  where
+    go : Begun name ((codes "--" ++ flag_word which) ∷ after) j s → (Raised which ≡ j) × (after ≡ s)
+    go (front word e same positional) = absurd (no_dash word (45 ∷ flag_word which) (cc) positional)
+    go (flag_front which' e same taken') = let f = same_flag_word which which' (cc) in (ap Raised f ∙ sym same, cc)
+    go (option_front option value same taken' (two e)) = absurd (no_flag_word option which (cc))
+    go (option_front option value same taken' (one e)) = absurd (no_flag_setting option value which (cc))
 
 -- ---- all items
 
@@ -251,9 +302,25 @@ other_text name option other text items off on none false same = none
 
 gives_none : (name : CommandName) (option : OptionName) (words : List (List ℕ)) (item : Item) (rest : List (List ℕ)) (items : List Item) → takes name option ≡ false → Begins name words item rest → texts_of option items ≡ [] → texts_of option (item ∷ items) ≡ []
 gives_none name option words item rest items off (InFront word after is) none = none
+gives_none name option words item rest items off (AsFlag which after taken) none = none
 gives_none name option words item rest items off (InTwoWords other value after taken) none = other_text name option other value items off taken none (same_option option other) refl
 gives_none name option words item rest items off (InOneWord other value after taken) none = other_text name option other value items off taken none (same_option option other) refl
 
 pub not_taken : (name : CommandName) (option : OptionName) (words : List (List ℕ)) (items : List Item) → takes name option ≡ false → Splits name words items → texts_of option items ≡ []
 not_taken name option words items off End = refl
 not_taken name option words items off (More these item rest others begins splits) = gives_none name option these item rest others off begins (not_taken name option rest others off splits)
+
+-- nor do they raise a flag that it does not take
+other_flag : (name : CommandName) (which other : FlagName) (n : ℕ) → takes_flag name which ≡ false → takes_flag name other ≡ true → n ≡ 0 → (t : Bool) → same_flag which other ≡ t → (if t then 1 else 0) + n ≡ 0
+other_flag name which other n off on none true same = let is : which ≡ other = same_flags which other same in let there : takes_flag name which ≡ true = ap (takes_flag name) is ∙ on in absurd cc
+other_flag name which other n off on none false same = omega (arith, none)
+
+raises_none : (name : CommandName) (which : FlagName) (words : List (List ℕ)) (item : Item) (rest : List (List ℕ)) (items : List Item) → takes_flag name which ≡ false → Begins name words item rest → times_raised which items ≡ 0 → times_raised which (item ∷ items) ≡ 0
+raises_none name which words item rest items off (InFront word after is) none = none
+raises_none name which words item rest items off (InTwoWords other value after taken) none = none
+raises_none name which words item rest items off (InOneWord other value after taken) none = none
+raises_none name which words item rest items off (AsFlag other after taken) none = other_flag name which other (times_raised which items) off taken none (same_flag which other) refl
+
+pub not_raised : (name : CommandName) (which : FlagName) (words : List (List ℕ)) (items : List Item) → takes_flag name which ≡ false → Splits name words items → times_raised which items ≡ 0
+not_raised name which words items off End = refl
+not_raised name which words items off (More these item rest others begins splits) = raises_none name which these item rest others off begins (not_raised name which rest others off splits)

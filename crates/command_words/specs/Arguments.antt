@@ -1,15 +1,17 @@
--- What the words behind a command's name give: at most three positionals, and a number or none for each option.
-use Rattle.std.specs.Prelude.{◌≡◌, ◌≤◌, ◌&&◌, ℕ, List, [], ◌∷◌, length, nat_eq, nat_le, if◌then◌else◌, Option, None, Some, option_map, unwrap_or}
+-- What the words behind a command's name give: at most three positionals, a number or none for each option, and each flag or not.
+use Rattle.std.specs.Prelude.{◌≡◌, ◌≤◌, ◌&&◌, ℕ, Bool, List, [], ◌∷◌, length, nat_eq, nat_le, if◌then◌else◌, Option, None, Some, option_map, unwrap_or}
 use Rattle.std.specs.Cmp.Lexicographic.{pointwise}
 use Rattle.std.specs.Fmt.{decimal}
 use Rattle.std.specs.Str.Parse.{digits_value}
 use Rattle.command_words.specs.Table.{InRange, default_number}
-use Rattle.command_words.specs.Splits.{Item, Splits, positionals_of, texts_of, IsSet}
+use Rattle.command_words.specs.Splits.{Item, Splits, positionals_of, texts_of, IsSet, times_raised, IsRaised}
 use Rattle.command_words.specs.Words.{Command, Help, Schema, Explain, Run, Exec, Check, Verify, World}
 use Rattle.command_words.specs.declared.table.CommandName.{CommandName}
 use Rattle.command_words.specs.declared.table.CommandName.TheVariants as name
 use Rattle.command_words.specs.declared.table.OptionName.{OptionName}
 use Rattle.command_words.specs.declared.table.OptionName.TheVariants.{Firings, Search, Workers, Calls}
+use Rattle.command_words.specs.declared.table.FlagName.{FlagName}
+use Rattle.command_words.specs.declared.table.FlagName.TheVariants as flag
 use Rattle.command_words.specs.declared.given.Arguments.{Arguments}
 use Rattle.command_words.specs.declared.given.Positionals.{Positionals}
 use Rattle.command_words.specs.declared.given.Positionals.TheVariants as some
@@ -30,6 +32,10 @@ given_number Calls arguments = arguments.calls
 abbrev pub number_of : OptionName → Arguments → ℕ
 number_of option arguments = unwrap_or (given_number option arguments) (default_number option)
 
+-- whether the flag is given
+abbrev pub given_flag : FlagName → Arguments → Bool
+given_flag flag.Verify arguments = arguments.verify
+
 -- The items give the option this number once, or none.
 abbrev pub IsGiven : OptionName → List Item → Option ℕ → Type 0
 IsGiven option items None = texts_of option items ≡ []
@@ -39,6 +45,7 @@ IsGiven option items (Some n) = (texts_of option items ≡ decimal n ∷ []) × 
 pub record Give (items : List Item) (arguments : Arguments) : Type 0 where
   pub in_order : positionals_of items ≡ words_of arguments.positionals
   pub are_given : (option : OptionName) → IsGiven option items (given_number option arguments)
+  pub are_raised : (flag : FlagName) → IsRaised flag items (given_flag flag arguments)
 
 -- The words split into items that give these arguments.
 pub record AreArguments (name : CommandName) (words : List (List ℕ)) (arguments : Arguments) : Type 0 where
@@ -46,24 +53,25 @@ pub record AreArguments (name : CommandName) (words : List (List ℕ)) (argument
   pub splits : Splits name words items
   pub give : Give items arguments
 
--- A command may have these items: there are at most three positionals, and each option has a number.
+-- A command may have these items: there are at most three positionals, each option has a number, and no flag is raised twice.
 pub record MayBe (items : List Item) : Type 0 where
   pub few : length (positionals_of items) ≤ 3
   pub settable : (option : OptionName) → (n : ℕ) × IsSet option items n
+  pub once : (flag : FlagName) → times_raised flag items ≤ 1
 
 -- the number of 1 to 10,000 that is written so, in digits without a leading zero
 abbrev pub size_of : List ℕ → Option ℕ
 size_of text =
     if pointwise nat_eq text (decimal (digits_value 10 text)) && (nat_le 1 (digits_value 10 text) && nat_le (digits_value 10 text) 10000) then Some (digits_value 10 text) else None
 
--- The command with these positionals, and these numbers of firings, search units, workers and calls where it takes them.
-abbrev pub made : CommandName → List (List ℕ) → ℕ → ℕ → ℕ → ℕ → Option Command
-made name.Help [] n units lanes calls = Some Help
-made name.Schema (schema ∷ []) n units lanes calls = Some (Schema schema)
-made name.Explain (schema ∷ query ∷ []) n units lanes calls = Some (Explain schema query n units)
-made name.Run (schema ∷ query ∷ []) n units lanes calls = Some (Run schema query n units lanes calls)
-made name.Exec (schema ∷ plan ∷ []) n units lanes calls = Some (Exec schema plan lanes calls)
-made name.Check (schema ∷ query ∷ plan ∷ []) n units lanes calls = Some (Check schema query plan n)
-made name.Verify (schema ∷ []) n units lanes calls = Some (Verify schema)
-made name.World (text ∷ []) n units lanes calls = option_map (λ size. World size lanes) (size_of text)
-made _ _ _ _ _ _ = None
+-- The command with these positionals, and these numbers of firings, search units, workers and calls and this flag where it takes them.
+abbrev pub made : CommandName → List (List ℕ) → ℕ → ℕ → ℕ → ℕ → Bool → Option Command
+made name.Help [] n units lanes calls verify = Some Help
+made name.Schema (schema ∷ []) n units lanes calls verify = Some (Schema schema)
+made name.Explain (schema ∷ query ∷ []) n units lanes calls verify = Some (Explain schema query n units)
+made name.Run (schema ∷ query ∷ []) n units lanes calls verify = Some (Run schema query n units lanes calls verify)
+made name.Exec (schema ∷ plan ∷ []) n units lanes calls verify = Some (Exec schema plan lanes calls)
+made name.Check (schema ∷ query ∷ plan ∷ []) n units lanes calls verify = Some (Check schema query plan n)
+made name.Verify (schema ∷ []) n units lanes calls verify = Some (Verify schema)
+made name.World (text ∷ []) n units lanes calls verify = option_map (λ size. World size lanes) (size_of text)
+made _ _ _ _ _ _ _ = None

@@ -1,9 +1,11 @@
--- The commands and the options: one case a row.
+-- The commands, the options and the flags: one case a row.
 use Rattle.std.specs.Prelude.{◌≤◌, ℕ, Bool, true, false, List, [], ◌∷◌, codes}
 use Rattle.command_words.specs.declared.table.CommandName.{CommandName}
 use Rattle.command_words.specs.declared.table.CommandName.TheVariants.{Help, Schema, Explain, Run, Exec, Check, Verify, World}
 use Rattle.command_words.specs.declared.table.OptionName.{OptionName}
 use Rattle.command_words.specs.declared.table.OptionName.TheVariants.{Firings, Search, Workers, Calls}
+use Rattle.command_words.specs.declared.table.FlagName.{FlagName}
+use Rattle.command_words.specs.declared.table.FlagName.TheVariants as flag
 
 -- the word that a command's list begins with
 abbrev pub command_word : CommandName → List ℕ
@@ -86,3 +88,19 @@ default_number Firings = 10000
 default_number Search = 10000
 default_number Workers = 1
 default_number Calls = 100000
+
+-- the flags: options without a number
+abbrev pub flags : List FlagName
+flags = flag.Verify ∷ []
+
+-- the word that names a flag, behind two dashes
+abbrev pub flag_word : FlagName → List ℕ
+flag_word flag.Verify = codes "verify"
+
+abbrev pub same_flag : FlagName → FlagName → Bool
+same_flag flag.Verify flag.Verify = true
+
+-- the flags that a command takes
+abbrev pub takes_flag : CommandName → FlagName → Bool
+takes_flag Run flag.Verify = true
+takes_flag _ _ = false

@@ -30,6 +30,7 @@ pub enum Command<'a> {
         search: u32,
         workers: u32,
         calls: u32,
+        verify: bool,
     },
     Exec {
         schema: &'a Text,
@@ -69,7 +70,7 @@ pub fn read_words(words: &[Text]) -> Option<Command<'_>>
 fn command_with<'a>(name: CommandName, arguments: Arguments<'a>) -> Option<Command<'a>>
     ensures { option_map seen_as result ≡ made name (words_of arguments.entry.positionals)
         (number_of TheFirings arguments.entry) (number_of TheSearch arguments.entry)
-        (number_of TheWorkers arguments.entry) (number_of TheCalls arguments.entry) }
+        (number_of TheWorkers arguments.entry) (number_of TheCalls arguments.entry) arguments.entry.verify }
 {
     let firings = arguments.number_of(OptionName::Firings);
     let search = arguments.number_of(OptionName::Search);
@@ -91,6 +92,7 @@ fn command_with<'a>(name: CommandName, arguments: Arguments<'a>) -> Option<Comma
             search,
             workers,
             calls,
+            verify: arguments.verify,
         }),
         (CommandName::Exec, Positionals::Two(schema, plan)) => Some(Command::Exec {
             schema,

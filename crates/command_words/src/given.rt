@@ -1,14 +1,15 @@
 // What the words behind a command's name give.
-ghost use Rattle.std.specs.Prelude.{◌≡◌, ◌≢◌, ◌++◌, ◌∷◌, [], List, ℕ, length, Option, None, Some, IsSome, IfSome, IfNone, MatchOption, if◌then◌else◌};
+ghost use Rattle.std.specs.Prelude.{◌≡◌, ◌≢◌, ◌++◌, ◌∷◌, [], List, ℕ, length, Option, None, Some, IsSome, IfSome, IfNone, MatchOption, if◌then◌else◌, true, false};
 ghost use Rattle.std.specs.Fmt.{decimal};
-ghost use Rattle.command_words.specs.Table.{same_option, InRange};
+ghost use Rattle.command_words.specs.Table.{same_option, same_flag, InRange};
 ghost use Rattle.command_words.specs.Splits.{Item as PlainItem, Splits, item_of};
-ghost use Rattle.command_words.specs.Arguments.{words_of, given_number, number_of, Give, AreArguments, MayBe};
+ghost use Rattle.command_words.specs.Arguments.{words_of, given_number, number_of, given_flag, Give, AreArguments, MayBe};
 ghost use Rattle.command_words.specs.declared.table.OptionName as options;
+ghost use Rattle.command_words.specs.declared.table.FlagName as flags;
 
 use crate::item::{Item, next_item};
 use crate::number::number_up_to;
-use crate::table::{CommandName, OptionName};
+use crate::table::{CommandName, FlagName, OptionName};
 use lists::Text;
 
 /// Positionals, in their order. No command has more than three.
@@ -20,7 +21,7 @@ pub enum Positionals<'a> {
     Three(&'a Text, &'a Text, &'a Text),
 }
 
-/// The positionals, and the number of each option that is given.
+/// The positionals, the number of each option that is given, and whether each flag is.
 #[derive(Clone, Copy)]
 pub struct Arguments<'a> {
     pub positionals: Positionals<'a>,
@@ -28,6 +29,7 @@ pub struct Arguments<'a> {
     pub search: Option<u32>,
     pub workers: Option<u32>,
     pub calls: Option<u32>,
+    pub verify: bool,
 }
 
 /// The arguments that the words behind a command's name give; none where they can be no command's.
@@ -41,6 +43,7 @@ pub fn read_arguments<'a>(name: CommandName, words: &'a [Text]) -> Option<Argume
         search: None,
         workers: None,
         calls: None,
+        verify: false,
     };
     let mut left = words;
     while !left.is_empty() {
@@ -96,6 +99,7 @@ impl<'a> Arguments<'a> {
                 ..self
             }),
             Item::Given(option, text) => self.with_number(option, number_in_range(option, text)?),
+            Item::Raised(flag) => self.with_flag(flag),
         }
     }
 
@@ -105,6 +109,7 @@ impl<'a> Arguments<'a> {
         ensures positionals { IfSome result (λ more. more.positionals ≡ self.entry.positionals) }
         ensures numbers { IfSome result (λ more. (other : options.OptionName) →
             given_number other more ≡ (if same_option other option then Some number else given_number other self.entry)) }
+        ensures flags { IfSome result (λ more. (flag : flags.FlagName) → given_flag flag more ≡ given_flag flag self.entry) }
     {
         match (option, self.given_number(option)) {
             (OptionName::Firings, None) => Some(Arguments {
@@ -121,6 +126,23 @@ impl<'a> Arguments<'a> {
             }),
             (OptionName::Calls, None) => Some(Arguments {
                 calls: Some(number),
+                ..self
+            }),
+            _ => None,
+        }
+    }
+
+    // One more flag; none where it is given already.
+    fn with_flag(self, flag: FlagName) -> Option<Arguments<'a>>
+        ensures given { MatchOption result (given_flag flag self.entry ≡ true) (λ more. given_flag flag self.entry ≡ false) }
+        ensures positionals { IfSome result (λ more. more.positionals ≡ self.entry.positionals) }
+        ensures numbers { IfSome result (λ more. (option : options.OptionName) → given_number option more ≡ given_number option self.entry) }
+        ensures flags { IfSome result (λ more. (other : flags.FlagName) →
+            given_flag other more ≡ (if same_flag other flag then true else given_flag other self.entry)) }
+    {
+        match (flag, self.verify) {
+            (FlagName::Verify, false) => Some(Arguments {
+                verify: true,
                 ..self
             }),
             _ => None,

@@ -1,8 +1,9 @@
-// The commands and the options: a command's word and the options that it takes; an option's word, limit and default.
+// The commands, the options and the flags: a command's word and what it takes; an option's word, limit and default; a flag's word.
 ghost use Rattle.std.specs.Prelude.{◌≡◌, ◌≢◌, ◌≤◌, ℕ, MatchOption};
-ghost use Rattle.command_words.specs.Table.{command_word, option_word, takes, least, limit, default_number};
+ghost use Rattle.command_words.specs.Table.{command_word, option_word, takes, least, limit, default_number, flag_word, takes_flag};
 ghost use Rattle.command_words.specs.declared.table.CommandName as commands;
 ghost use Rattle.command_words.specs.declared.table.OptionName as options;
+ghost use Rattle.command_words.specs.declared.table.FlagName as flags;
 
 /// A command without what it is given.
 #[derive(Clone, Copy)]
@@ -24,6 +25,12 @@ pub enum OptionName {
     Search,
     Workers,
     Calls,
+}
+
+/// An option without a number: its word is there, or it is not.
+#[derive(Clone, Copy)]
+pub enum FlagName {
+    Verify,
 }
 
 /// The command with this word.
@@ -56,6 +63,16 @@ pub fn option_named(word: &[u8]) -> Option<OptionName>
     }
 }
 
+/// The flag with this word, which stands behind two dashes.
+pub fn flag_named(word: &[u8]) -> Option<FlagName>
+    ensures { MatchOption result ((flag : flags.FlagName) → word.now ≢ flag_word flag) (λ flag. word.now ≡ flag_word flag) }
+{
+    match word {
+        b"verify" => Some(FlagName::Verify),
+        _ => None,
+    }
+}
+
 impl CommandName {
     /// Whether the command takes the option.
     pub fn takes(self, option: OptionName) -> bool
@@ -68,6 +85,16 @@ impl CommandName {
             (CommandName::Run | CommandName::Exec | CommandName::World, OptionName::Workers) =>
                 true,
             (CommandName::Run | CommandName::Exec, OptionName::Calls) => true,
+            _ => false,
+        }
+    }
+
+    /// Whether the command takes the flag.
+    pub fn takes_flag(self, flag: FlagName) -> bool
+        ensures { result ≡ takes_flag self flag }
+    {
+        match (self, flag) {
+            (CommandName::Run, FlagName::Verify) => true,
             _ => false,
         }
     }

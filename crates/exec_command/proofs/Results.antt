@@ -12,7 +12,7 @@ use Rattle.row_text.proofs.Texts.{IsRowText-alike}
 use Rattle.middleware.specs.declared.fault.Run.{Run}
 use Rattle.middleware.specs.Executing.{Executes}
 use Rattle.command_io.specs.declared.stop.Stop.{Stop}
-use Rattle.command_io.specs.Executing.{Delivers}
+use Rattle.command_io.specs.Executing.{ExecutesOrStops, Delivers}
 use Rattle.command_io.proofs.Delivering.{delivers_as}
 use Rattle.exec_command.specs.Known.{column_names}
 use Rattle.exec_command.specs.Ends.{IsResult}
@@ -28,7 +28,8 @@ module _ {S : Type 0} (seen : S → Seen) (schema : Schema) (plan : Plan) (calls
 
   -- so the rows are delivered as the result
   pub delivered : (out_old out_new : Option (List ℕ)) (rose : Type 0) (result : Result (Unit {0}) Stop) →
-      Delivers seen schema plan calls (λ run. IsRowText (column_names plan.width) (Contains run.rows)) old new out_old out_new rose result →
-      Delivers seen schema plan calls (IsResult seen schema plan new) old new out_old out_new rose result
+      Delivers (ExecutesOrStops seen schema plan calls old new) (λ run. IsRowText (column_names plan.width) (Contains run.rows)) out_old out_new rose result →
+      Delivers (ExecutesOrStops seen schema plan calls old new) (IsResult seen schema plan new) out_old out_new rose result
   delivered out_old out_new rose =
-      delivers_as seen schema plan calls (λ run. IsRowText (column_names plan.width) (Contains run.rows)) (IsResult seen schema plan new) old new out_old out_new rose result_of
+      delivers_as (ExecutesOrStops seen schema plan calls old new) (λ run. IsRowText (column_names plan.width) (Contains run.rows)) out_old out_new rose
+      (ExecutesOrStops seen schema plan calls old new) (IsResult seen schema plan new) (λ ended ran. ran) result_of

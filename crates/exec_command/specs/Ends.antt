@@ -22,7 +22,7 @@ use Rattle.command_io.specs.Inputs.{SchemaIsRead, PlanIsRead, SchemaStop, PlanSt
 use Rattle.command_io.specs.Moments.{Moment, Outputs, outputs_of}
 use Rattle.command_io.specs.FaultLines.{Names}
 use Rattle.command_io.specs.Telling.{StopsFor}
-use Rattle.command_io.specs.Executing.{Delivers}
+use Rattle.command_io.specs.Executing.{ExecutesOrStops, Delivers}
 use Rattle.exec_command.specs.Known.{known_to, column_names}
 
 -- The plan is lawful over the schema, its constants and the plan's own.
@@ -56,12 +56,12 @@ pub data PlanEnds {S : Type 0} (seen : S → Seen) (schema : Schema) (plan : Pla
       after.out ≡ before.out → new ≡ old → PlanEnds seen schema plan calls names before after old new (Err end)
   -- its execution stopped, or the text of its rows was not written whole
   stopped : (why end : Stop) → MayRun schema plan →
-      Delivers seen schema plan calls (IsResult seen schema plan new) old new before.out after.out (Rose before.out_faults after.out_faults) (Err why) →
+      Delivers (ExecutesOrStops seen schema plan calls old new) (IsResult seen schema plan new) before.out after.out (Rose before.out_faults after.out_faults) (Err why) →
       StopsFor (λ given. given ≡ why) names before.err after.err (Rose before.err_faults after.err_faults) end →
       PlanEnds seen schema plan calls names before after old new (Err end)
   -- it was executed, the text was written whole, and nothing was written on standard error
   done : MayRun schema plan →
-      Delivers seen schema plan calls (IsResult seen schema plan new) old new before.out after.out (Rose before.out_faults after.out_faults) (Ok tt) →
+      Delivers (ExecutesOrStops seen schema plan calls old new) (IsResult seen schema plan new) before.out after.out (Rose before.out_faults after.out_faults) (Ok tt) →
       after.err ≡ before.err → PlanEnds seen schema plan calls names before after old new (Ok outcome.Done)
 
 -- How `exec` ends: a text was refused, and nothing but the line was written; or both were read.

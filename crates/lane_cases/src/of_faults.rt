@@ -339,3 +339,49 @@ fn no_empty_piece(rt: HostRuntime) -> Result<(), Fail> {
     assert!(rt; written(&rt, rt.alloc(), &["help"])? > 0);
     Ok(())
 }
+
+/// The words of a run of the query with the rules tested first.
+const VERIFY: [&str; 4] = ["run", "s.pdq", "q.sql", "--verify"];
+
+/// Whether such a run with these faults ends with a line behind the plan's text, and so many requests asked.
+fn verified_stops<R: Threads + Sync>(
+    rt: &R,
+    alloc: Global,
+    faults: Faults,
+    line: &'static str,
+    asked: usize,
+) -> Result<bool, Fail> {
+    let wanted = Wanted {
+        code: 5,
+        rows: 0,
+        plan: PLAN.len(),
+        line,
+        asked,
+    };
+    let object = office(alloc, faults)?;
+    let mut lanes = one_lane(alloc, object)?;
+    let mut outside = outside(alloc, faults)?;
+    let code = ran(rt, alloc, &VERIFY, &mut outside, &mut lanes)?;
+    Ok(
+        code == wanted.code
+            && asked_of_one(lanes.as_slice()) == wanted.asked
+            && took(&outside.outputs, wanted),
+    )
+}
+
+/// The first two calls ask the relations whole, in ascending order, and the third is the plan's first.
+#[test]
+fn a_failed_request_for_a_whole_relation(rt: HostRuntime) -> Result<(), Fail> {
+    for (call, line) in [
+        (1, "call failed on profinfo\n"),
+        (2, "call failed on udirect\n"),
+        (3, "call failed in branch 1 step 1\n"),
+    ] {
+        let faults = Faults { call, ..NO_FAULTS };
+        assert!(rt;
+            verified_stops(&rt, rt.alloc(), faults, line, call as usize)?,
+            "call {call}"
+        );
+    }
+    Ok(())
+}

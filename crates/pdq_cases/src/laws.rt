@@ -6,8 +6,8 @@ ghost use Rattle.access_schema.specs.declared.schema.Schema.{Schema};
 ghost use Rattle.source_trait.specs.declared.lanes.Lane.{Lane};
 ghost use Rattle.middleware.specs.PlanSources.{IsAccessed};
 ghost use Rattle.middleware.specs.LaneBranches.{OnEach};
-ghost use Rattle.verify_command.specs.RuleRelations.{RulesName};
-ghost use Rattle.verify_command.specs.Verifying.{used};
+ghost use Rattle.rule_rows.specs.RuleRelations.{RulesName};
+ghost use Rattle.rule_rows.specs.Verifying.{used};
 ghost use Rattle.pdq_core.specs.Complete.{OnLanes, NoSourceRose, KeepsCap, Serve, CanExecute};
 ghost use Rattle.pdq_cases.specs.Files.{AllHaveKind, FilesGive, HasFolder};
 

@@ -31,7 +31,7 @@ use Rattle.check_command.specs.Ends.JudgeEnds.{no_verdict, cut, judged}
 use Rattle.check_command.specs.Ends.CheckEnds.{refused, no_plan, read}
 use Rattle.pdq_core.specs.Runs.{ended}
 use Rattle.pdq_core.specs.Statuses.{IsRight, IsWrong, IsTried, FiresOn, ReadWith, SaysOfPlan}
-use Rattle.pdq_core.proofs.Refusals.{IsRefusal, refusal_is}
+use Rattle.pdq_core.proofs.Refusals.{IsRefusal, IsPlain, refusal_is, memory_plain, result_plain, texts_plain, plan_plain, plain_end}
 
 -- a base run goes on by an active trigger
 run_push : (rules : List Rule) (state : State) (log : List Trigger) (end : State) (trigger : Trigger) (rule : Rule) → IsBaseRun rules state log end → IsFirstActive rules end trigger rule →
@@ -87,19 +87,21 @@ module _ (told : Option Contents) (name query its : List ℕ) (firings : ℕ) wh
   refused_says ends_in.Cap is = tt
   refused_says ends_in.Memory is = tt
 
-  stop_says : (end : Stop) → SaysOfPlan (status_of end) told name query its firings
-  stop_says end = refused_says (status_of end) (refusal_is end)
+  stop_says : (end : Stop) → IsPlain end → SaysOfPlan (status_of end) told name query its firings
+  stop_says end plain = refused_says (status_of end) (refusal_is end plain)
 
   judged_says : (schema : Schema) (statement : Statement) (plan : Plan) → SchemaIsRead told name schema → QueryIsRead told query schema statement → PlanIsRead told its plan →
       (names : Names) (before after : Outputs) (result : Result Outcome Stop) → JudgeEnds schema statement plan firings names before after result → SaysOfPlan (ended result) told name query its firings
-  judged_says schema statement plan is are said names before after result (no_verdict end why quiet) = stop_says end
-  judged_says schema statement plan is are said names before after result (cut found text end right shows part why) = stop_says end
+  judged_says schema statement plan is are said names before after result (no_verdict end why quiet) = stop_says end (plain_end end memory_plain why)
+  judged_says schema statement plan is are said names before after result (cut found text end right shows part why) = stop_says end (plain_end end (result_plain _) why)
   judged_says schema statement plan is are said names before after result (judged found text right shows all quiet) =
       verdict_says schema statement plan firings told name query its is are said found right
 
 pub checked_says : (name query its : List ℕ) (firings : ℕ) (before after : Moment) (result : Result Outcome Stop) → CheckEnds name query its firings before after result →
     SaysOfPlan (ended result) before.files name query its firings
-checked_says name query its firings before after result (refused end why quiet) = stop_says before.files name query its firings end
-checked_says name query its firings before after result (no_plan schema statement end is are why quiet) = stop_says before.files name query its firings end
+checked_says name query its firings before after result (refused end why quiet) =
+    stop_says before.files name query its firings end (plain_end end (texts_plain before.files name query _) why)
+checked_says name query its firings before after result (no_plan schema statement end is are why quiet) =
+    stop_says before.files name query its firings end (plain_end end (plan_plain before.files its _) why)
 checked_says name query its firings before after result (read schema statement plan same is are said ends) =
     judged_says before.files name query its firings schema statement plan is are said (record { schema = name; query = query; plan = its; relations = schema.relations }) (outputs_of before) (outputs_of after) result ends

@@ -7,7 +7,7 @@ use Rattle.command_io.specs.Moments.{Moment}
 use Rattle.command_words.specs.Words.{Command, IsCommand}
 use Rattle.command_words.specs.Words.Command.{Schema as Print, Explain, Run, Exec, Check, Verify, World}
 use Rattle.pdq_core.specs.Runs.{Runs}
-use Rattle.pdq_core.specs.Runs.Runs.{no_command, help, schema as print_schema, explain, run, exec, check, verify, world}
+use Rattle.pdq_core.specs.Runs.Runs.{no_command, help, schema as print_schema, explain, run, exec, check, verify as verify_rules, world}
 use Rattle.pdq_core.specs.Complete.{IsAnswered, NoneRose, IsSupplied}
 use Rattle.pdq_core.proofs.CompleteSchema.{help_answered, schema_answered}
 use Rattle.pdq_core.proofs.CompleteExplain.{explain_answered}
@@ -32,16 +32,16 @@ module _ {S : Type 0} (seen : S → Seen) (words : List (List ℕ)) (command : C
   answered status calm (explain name query firings search result also ends same) =
       let given = its (Explain name query firings search) also in
       explain_answered name query firings search before after result calm given.schema given.statement given.schema_given given.query_given ends
-  answered status calm (run name query firings search workers calls result also ends behind) =
-      let given = its (Run name query firings search workers calls) also in
-      run_answered seen name query firings search calls before after (take workers old) (take workers new) result calm given.texts.schema given.texts.statement given.texts.schema_given given.texts.query_given given.execution ends
+  answered status calm (run name query firings search workers calls verify result also ends behind) =
+      let given = its (Run name query firings search workers calls verify) also in
+      run_answered seen name query firings search calls verify before after (take workers old) (take workers new) result calm given.texts.schema given.texts.statement given.texts.schema_given given.texts.query_given given.execution ends
   answered status calm (exec name plan workers calls result also ends behind) =
       let given = its (Exec name plan workers calls) also in
       exec_answered seen name plan calls before after (take workers old) (take workers new) result calm given.schema given.plan given.schema_given given.plan_given given.lawful given.execution ends
   answered status calm (check name query plan firings result also ends same) =
       let given = its (Check name query plan firings) also in
       check_answered name query plan firings before after result calm given.texts.schema given.texts.statement given.plan given.texts.schema_given given.texts.query_given given.plan_given ends
-  answered status calm (verify name result also ends) =
+  answered status calm (verify_rules name result also ends) =
       let given = its (Verify name) also in
       verify_answered seen name before after old new result calm given.schema given.schema_given given.serve ends
   answered status calm (world size workers result also ends behind) =

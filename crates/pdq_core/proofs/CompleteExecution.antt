@@ -1,12 +1,12 @@
 -- An execution, or a delivery, is stopped by nothing but want of memory, where the sources of each lane serve and the cap is kept.
-use Rattle.std.proofs.Common.{◌≡◌, ◌≢◌, ◌<◌, ℕ, zero, suc, List, [], ◌∷◌, map, length, Option, None, Some, Err, refl, sym, ap, subst, inl, inr, arith}
+use Rattle.std.proofs.Common.{◌≡◌, ◌≢◌, ◌<◌, ℕ, zero, suc, List, [], ◌∷◌, map, length, Option, None, Some, Err, refl, sym, ◌∙◌, ap, subst, inl, inr, arith}
 use Rattle.std.specs.Prelude.{◌↔◌, Contains, IsSome, slice_get}
 use Rattle.std.specs.List.Sorted.{IsStrictlyIncreasing}
 use Rattle.lists.proofs.Members.{some_injective, contains_cases, contains_got}
 use Rattle.meaning.specs.declared.types.Plan.{Plan}
 use Rattle.access_schema.specs.declared.schema.Schema.{Schema}
 use Rattle.source_trait.specs.Asking.{Seen}
-use Rattle.source_trait.specs.Lanes.{KindsStay, LanesStay, source_of}
+use Rattle.source_trait.specs.Lanes.{KindsStay, LanesStay}
 use Rattle.source_trait.specs.declared.source.AttachFault.{AttachFault}
 use Rattle.source_trait.specs.declared.source.AttachFault.TheVariants as attach
 use Rattle.source_trait.specs.declared.lanes.Kind.{Kind}
@@ -32,9 +32,9 @@ use Rattle.middleware.proofs.LanePlanning.{plan_held_earlier}
 use Rattle.middleware.proofs.LaneStays.{started_stay, asked_stay, attach_stay}
 use Rattle.command_io.specs.declared.stop.Stop.{Stop}
 use Rattle.command_io.specs.declared.stop.Stop.TheVariants as stop
-use Rattle.command_io.specs.Executing.{stop_of_run, Delivers}
+use Rattle.command_io.specs.Executing.{stop_of_run, ExecutesOrStops, Delivers}
 use Rattle.command_io.specs.Executing.Delivers.{no_rows, no_text, cut}
-use Rattle.pdq_core.specs.Complete.{OnLanes, Serve, HoldWithin, CanExecute}
+use Rattle.pdq_core.specs.Complete.{OnLanes, AtPlaces, Serve, HoldWithin, CanExecute}
 use Rattle.pdq_core.proofs.CompleteTexts.{result_stop}
 use Rattle.pdq_core.proofs.CompleteSources.{in_first, rises_take, none_rose, none_refused}
 
@@ -46,7 +46,7 @@ on_lanes P Q follows [] (u ∷ us) all = absurd all
 on_lanes P Q follows (w ∷ ws) [] all = absurd all
 on_lanes P Q follows (w ∷ ws) (u ∷ us) all = (follows w.kinds.items u.kinds.items all.0, on_lanes P Q follows ws us all.1)
 
-none_some : {X : Type 0} (o : Option X) → o ≡ None → IsSome o → ⊥
+pub none_some : {X : Type 0} (o : Option X) → o ≡ None → IsSome o → ⊥
 none_some o none some = cc
 
 module _ {S : Type 0} (P : List (Kind S) → List (Kind S) → Type 0) where
@@ -112,6 +112,55 @@ module _ {S : Type 0} (seen : S → Seen) (schema : Schema) (plan : Plan) where
         go (λ place. rels (suc place)) (λ place. are (suc place)) ws vs us order.1 asked.1,
       )
 
+  -- The rounds of the plan, where the lanes kept their order up to them, each of them serves the plan's relations, and no round passes the cap.
+  module _ (calls : ℕ) (old middle new : List (Lane S)) (stays : LanesStay seen old middle) (serve : AtPlaces (λ place. Serves) old new)
+      (within : OnlyAsked seen schema (map started middle) new → HoldWithin seen schema plan calls (map started middle)) where
+    -- until a failed call no count fell
+    module _ (why : RunFault) (halts : PlanHalts seen schema plan calls why (map started middle) new) where
+      before_last : LanesStay seen old halts.middle
+      before_last =
+          LanesStay-trans seen old middle halts.middle stays
+          (LanesStay-trans seen middle (map started middle) halts.middle (started_stay seen middle)
+          (asked_stay seen schema (map started middle) halts.middle (each_asked seen schema halts.earlier (map started middle) halts.middle halts.asks_earlier)))
+
+      call_stop : (branch step : ℕ) → CallFails seen schema plan calls branch step halts.earlier halts.now (map started middle) halts.middle new → ⊥
+      call_stop branch step fails =
+          let f = fails.fails in
+          let (first, was, stay) = from_place (KindsStay seen) old halts.middle before_last f.place f.before f.was in
+          let moved = f.rose.rose in
+          let accessed : IsAccessed schema plan fails.method.rel = record {
+            branch = fails.its_branch;
+            step = fails.its_step;
+            method = fails.method;
+            of_plan = contains_got plan.branches branch fails.its_branch fails.there.of_plan;
+            of_branch = contains_got fails.its_branch.steps step fails.its_step fails.there.of_branch;
+            named = fails.named;
+            of_relation = refl;
+          } in
+          none_rose seen schema (IsAccessed schema plan) first.kinds.items f.after.kinds.items (serve f.place first f.after was f.now)
+          f.before.kinds.items fails.method.rel f.rose.line moved.before moved.after accessed f.rose.line_is stay moved.was moved.now moved.steps
+
+      cap_stop : (made wanted : ℕ) → CapFills seen schema plan calls made wanted halts.earlier halts.now (map started middle) halts.middle new → ⊥
+      cap_stop made wanted fills =
+          let asked : OnlyAsked seen schema (map started middle) new =
+          subst (λ (lanes : List (Lane S)). OnlyAsked seen schema (map started middle) lanes) (sym fills.unasked)
+          (each_asked seen schema halts.earlier (map started middle) halts.middle halts.asks_earlier) in
+          let holds = within asked in
+          let round = fills.rounds holds.instance holds.held in
+          let fits = holds.within fills.branch fills.step halts.earlier halts.now round in
+          let over = fills.over in
+          let is = fills.total_is in
+          let most = fills.wanted_is in
+          omega (arith, fits, over, is, most)
+
+    pub rounds_stop : (why : RunFault) → AsksRounds seen schema plan calls middle new (Err why) → stop_of_run why ≡ stop.Memory
+    rounds_stop fault.NoMemory rounds = refl
+    rounds_stop (fault.NoSource rel) rounds = absurd rounds.cause
+    rounds_stop (fault.UnknownKind rel) rounds = absurd rounds.cause
+    rounds_stop (fault.Attach rel why) rounds = absurd rounds.cause
+    rounds_stop (fault.CallFailed branch step) rounds = absurd (call_stop (fault.CallFailed branch step) rounds branch step rounds.cause)
+    rounds_stop (fault.OverCalls made wanted its) rounds = absurd (cap_stop (fault.OverCalls made wanted its) rounds made wanted rounds.cause.1)
+
   module _ (calls : ℕ) (old new : List (Lane S)) (can : CanExecute seen schema plan calls old new) where
     has_line : (rel : ℕ) → IsAccessed schema plan rel → line_for rel schema.sources ≡ None → ⊥
     has_line rel accessed none = none_some _ none (some_line old new (can.some rel accessed) can.serve rel accessed)
@@ -141,67 +190,23 @@ module _ {S : Type 0} (seen : S → Seen) (schema : Schema) (plan : Plan) where
     attaches_stop why (refused rel its breaks have apart) = absurd (attach_stop rel its breaks apart)
     attaches_stop why (no_memory how) = refl
 
-    -- until a failed call no count fell
-    module _ (why : RunFault) (middle : List (Lane S)) (each : EachAttached seen schema (needed_by schema plan) old middle)
-        (halts : PlanHalts seen schema plan calls why (map started middle) new) where
-      before_last : LanesStay seen old halts.middle
-      before_last =
-          LanesStay-trans seen old middle halts.middle (attach_stay seen schema each.rels old middle each.order)
-          (LanesStay-trans seen middle (map started middle) halts.middle (started_stay seen middle)
-          (asked_stay seen schema (map started middle) halts.middle (each_asked seen schema halts.earlier (map started middle) halts.middle halts.asks_earlier)))
-
-      call_stop : (branch step : ℕ) → CallFails seen schema plan calls branch step halts.earlier halts.now (map started middle) halts.middle new → ⊥
-      call_stop branch step fails =
-          let f = fails.fails in
-          let (first, was, stay) = from_place (KindsStay seen) old halts.middle before_last f.place f.before f.was in
-          let moved = f.rose.rose in
-          let accessed : IsAccessed schema plan fails.method.rel = record {
-            branch = fails.its_branch;
-            step = fails.its_step;
-            method = fails.method;
-            of_plan = contains_got plan.branches branch fails.its_branch fails.there.of_plan;
-            of_branch = contains_got fails.its_branch.steps step fails.its_step fails.there.of_branch;
-            named = fails.named;
-            of_relation = refl;
-          } in
-          none_rose seen schema (IsAccessed schema plan) first.kinds.items f.after.kinds.items (at_place Serves old new can.serve f.place first f.after was f.now)
-          f.before.kinds.items fails.method.rel f.rose.line moved.before moved.after accessed f.rose.line_is stay moved.was moved.now moved.steps
-
-      cap_stop : (made wanted : ℕ) → CapFills seen schema plan calls made wanted halts.earlier halts.now (map started middle) halts.middle new → ⊥
-      cap_stop made wanted fills =
-          let asked : OnlyAsked seen schema (map started middle) new =
-          subst (λ (lanes : List (Lane S)). OnlyAsked seen schema (map started middle) lanes) (sym fills.unasked)
-          (each_asked seen schema halts.earlier (map started middle) halts.middle halts.asks_earlier) in
-          let holds = can.within (all_attached old middle new each asked) in
-          let round = fills.rounds holds.instance (plan_held_earlier seen schema plan (map started middle) new asked holds.instance holds.held) in
-          let fits = holds.within fills.branch fills.step halts.earlier halts.now round in
-          let over = fills.over in
-          let is = fills.total_is in
-          let most = fills.wanted_is in
-          omega (arith, fits, over, is, most)
-
-    rounds_stop : (why : RunFault) (middle : List (Lane S)) → EachAttached seen schema (needed_by schema plan) old middle →
-        AsksRounds seen schema plan calls middle new (Err why) → stop_of_run why ≡ stop.Memory
-    rounds_stop fault.NoMemory middle each rounds = refl
-    rounds_stop (fault.NoSource rel) middle each rounds = absurd rounds.cause
-    rounds_stop (fault.UnknownKind rel) middle each rounds = absurd rounds.cause
-    rounds_stop (fault.Attach rel why) middle each rounds = absurd rounds.cause
-    rounds_stop (fault.CallFailed branch step) middle each rounds =
-        absurd (call_stop (fault.CallFailed branch step) middle each rounds branch step rounds.cause)
-    rounds_stop (fault.OverCalls made wanted its) middle each rounds =
-        absurd (cap_stop (fault.OverCalls made wanted its) middle each rounds made wanted rounds.cause.1)
-
     -- Nothing but want of memory stops the execution.
     stop_for : (why : RunFault) → AttachesAndAsks seen schema plan calls old new (Err why) → stop_of_run why ≡ stop.Memory
     stop_for why (not_attached its attaches) = attaches_stop why attaches
-    stop_for why (attached middle result (done each have) rounds) = rounds_stop why middle each rounds
+    stop_for why (attached middle result (done each have) rounds) =
+        rounds_stop calls old middle new (attach_stay seen schema each.rels old middle each.order) (at_place Serves old new can.serve)
+        (λ asked. let holds = can.within (all_attached old middle new each asked) in record {
+          instance = holds.instance;
+          held = plan_held_earlier seen schema plan (map started middle) new asked holds.instance holds.held;
+          within = holds.within;
+        }) why rounds
 
     pub execution_stop : (why : RunFault) → Executes seen schema plan calls old new (Err why) → stop_of_run why ≡ stop.Memory
     execution_stop why executes = stop_for why executes.does
 
     -- And so with a delivery, where the output does not fail.
     pub delivery_stop : (IsText : Run → List ℕ → Type 0) (out_old out_new : Option (List ℕ)) (rose : Type 0) → (rose → ⊥) → (why : Stop) →
-        Delivers seen schema plan calls IsText old new out_old out_new rose (Err why) → why ≡ stop.Memory
-    delivery_stop IsText out_old out_new rose calm why (no_rows fault executes same) = execution_stop fault executes
+        Delivers (ExecutesOrStops seen schema plan calls old new) IsText out_old out_new rose (Err why) → why ≡ stop.Memory
+    delivery_stop IsText out_old out_new rose calm why (no_rows end (fault, executes, is) same) = is ∙ execution_stop fault executes
     delivery_stop IsText out_old out_new rose calm why (no_text run executes same) = refl
     delivery_stop IsText out_old out_new rose calm why (cut run text end executes is part cause) = result_stop rose calm why cause

@@ -21,7 +21,7 @@ use Rattle.middleware.specs.Attaching.{AttachesInOrder, AttachesOne, AllAttached
 use Rattle.middleware.specs.Held.{SameFacts, HoldPlan}
 use Rattle.middleware.specs.LaneBranches.{OnEach, LanesHoldPlan}
 use Rattle.middleware.proofs.Starting.{relation_of}
-use Rattle.verify_command.proofs.Picked.{fact_of, picked_held, held_picked, of_rows}
+use Rattle.rule_rows.proofs.Picked.{fact_of, picked_held, held_picked, of_rows}
 use Rattle.pdq_core.specs.Complete.{OnLanes, NoSourceRose, Serve, KeepsCap, CanExecute, OffersFacts, OfferInstance, OfferUntold, placed, located}
 
 -- what is picked of a relation are just its facts

@@ -1,6 +1,6 @@
 -- The command `verify` is answered.
-use Rattle.std.proofs.Common.{◌≡◌, ◌≢◌, inl, inr, ℕ, List, [], ◌∷◌, take, Option, None, Some, Result, Ok, Err, refl, sym, ◌∙◌, ap, subst}
-use Rattle.std.specs.Prelude.{IfErr, IsSome, slice_get}
+use Rattle.std.proofs.Common.{◌≡◌, ◌≢◌, inl, inr, ℕ, List, [], ◌∷◌, take, None, Some, Result, Ok, Err, refl, sym, ◌∙◌, ap, subst}
+use Rattle.std.specs.Prelude.{Contains, IsSome, slice_get}
 use Rattle.lists.proofs.Members.{some_injective, contains_got}
 use Rattle.meaning.specs.declared.types.Fact.{Fact}
 use Rattle.access_schema.specs.declared.schema.Schema.{Schema}
@@ -18,18 +18,21 @@ use Rattle.middleware.specs.Needs.AttachesNeeded.{done as all_attached, no_sourc
 use Rattle.middleware.specs.declared.fault.RunFault.{RunFault}
 use Rattle.middleware.proofs.LaneStays.{attach_stay}
 use Rattle.middleware.proofs.Lacking.{rises_strictly}
-use Rattle.data_verify.specs.declared.broken.Broken.{Broken}
 use Rattle.command_io.specs.declared.stop.Stop.{Stop}
 use Rattle.command_io.specs.declared.stop.Stop.TheVariants as stop
 use Rattle.command_io.specs.Executing.{stop_of_run}
 use Rattle.command_io.specs.declared.outcome.Outcome.{Outcome}
 use Rattle.command_io.specs.Moments.{Moment}
-use Rattle.verify_command.specs.RuleRelations.{RulesName, needed_first}
-use Rattle.verify_command.specs.Asking.{AsksOne, AsksInOrder}
-use Rattle.verify_command.specs.Verifying.{Tests, Verifies, used}
-use Rattle.verify_command.specs.Verifying.Tests.{no_memory as tests_memory, not_asked, done as verified}
-use Rattle.verify_command.specs.Verifying.Verifies.{not_attached, attached}
-use Rattle.verify_command.specs.Ends.{VerifyEnds}
+use Rattle.command_io.specs.Verified.{stop_of_verify}
+use Rattle.rule_rows.specs.RuleRelations.{RulesName, needed_first}
+use Rattle.rule_rows.specs.Asking.{AsksOne, AsksInOrder}
+use Rattle.rule_rows.specs.Verifying.{Tests, Verifies, used}
+use Rattle.rule_rows.specs.Verifying.Tests.{no_memory as tests_memory, not_asked as tests_not_asked}
+use Rattle.rule_rows.specs.Verifying.Verifies.{not_attached, not_asked}
+use Rattle.rule_rows.specs.declared.fault.WholeFault.{WholeFault}
+use Rattle.rule_rows.specs.declared.fault.VerifyFault.{VerifyFault}
+use Rattle.rule_rows.specs.declared.fault.VerifyFault.TheVariants as verify_fault
+use Rattle.verify_command.specs.Ends.{TestsOrStops, VerifyEnds}
 use Rattle.verify_command.specs.Ends.VerifyEnds.{no_schema, stopped, cut, done as shown}
 use Rattle.pdq_core.specs.Runs.{ended}
 use Rattle.pdq_core.specs.Complete.{IsAnswered, NoneRose, SchemaIsGiven, Serve}
@@ -46,6 +49,27 @@ module _ {S : Type 0} (seen : S → Seen) where
     asks_stay [] facts old new (none, e) = subst (λ (kinds : List (Kind S)). KindsStay seen old kinds) (sym e) (KindsStay-refl seen old)
     asks_stay (rel ∷ rels) facts old new (rows, rest, middle, e, one, later) =
         KindsStay-trans seen old middle new (one_stays rel (Ok rows) old middle one) (asks_stay rels rest middle new later)
+
+    pub used_stay : (lanes later : List (Lane S)) → LanesStay seen lanes later → KindsStay seen (used lanes) (used later)
+    used_stay [] [] stay = tt
+    used_stay [] (u ∷ us) stay = absurd stay
+    used_stay (w ∷ ws) [] stay = absurd stay
+    used_stay (w ∷ ws) (u ∷ us) stay = stay.0
+
+    -- where the first lane serves the relations that it needs, if it needs one, no request for a whole relation fails
+    pub tests_stop : (IsNeeded : ℕ → Type 0) (old middle new : List (Lane S)) → ((rel : ℕ) → IsNeeded rel → Serve seen schema IsNeeded (used old) (used new)) →
+        KindsStay seen (used old) (used middle) → (rels : List ℕ) → ((rel : ℕ) → Contains rels rel → IsNeeded rel) → (why : WholeFault) →
+        Tests seen schema rels (used middle) (used new) (Err why) → stop_of_verify (verify_fault.NotAsked why) ≡ stop.Memory
+    tests_stop IsNeeded old middle new serve stays rels are why (tests_memory part) = refl
+    tests_stop IsNeeded old middle new serve stays rels are why (tests_not_asked rel breaks) =
+        let one = breaks.failed in
+        let moved = StepsOn-source breaks.middle (used new) (λ s t. CallGives (seen s) (seen t) rel [] [] (Err call.Failed)) one.line.kind one.steps in
+        let gives : CallGives (seen moved.before) (seen moved.after) rel [] [] (Err call.Failed) = moved.steps in
+        let stay : KindsStay seen (used old) breaks.middle =
+        KindsStay-trans seen (used old) (used middle) breaks.middle stays (asks_stay (take breaks.n rels) breaks.facts (used middle) breaks.middle breaks.asked) in
+        let needed : IsNeeded rel = are rel (contains_got rels breaks.n rel breaks.at) in
+        absurd (none_rose seen schema IsNeeded (used old) (used new) (serve rel needed) breaks.middle rel one.line moved.before moved.after
+        needed one.line_is stay moved.was moved.now (gives.failed refl))
 
     -- where the first lane serves the relations that the rules name
     module _ (old new : List (Lane S)) (serve : Serve seen schema (RulesName schema) (used old) (used new)) where
@@ -89,29 +113,14 @@ module _ {S : Type 0} (seen : S → Seen) where
       attaches_stop why (refused rel its breaks have apart) = absurd (attach_stop rel its breaks apart)
       attaches_stop why (no_memory how) = refl
 
-      used_stay : (lanes later : List (Lane S)) → LanesStay seen lanes later → KindsStay seen (used lanes) (used later)
-      used_stay [] [] stay = tt
-      used_stay [] (u ∷ us) stay = absurd stay
-      used_stay (w ∷ ws) [] stay = absurd stay
-      used_stay (w ∷ ws) (u ∷ us) stay = stay.0
+      fault_stop : (why : VerifyFault) → Verifies seen schema (needed_first schema) old new (Err why) → stop_of_verify why ≡ stop.Memory
+      fault_stop why (not_attached its attaches) = attaches_stop its attaches
+      fault_stop why (not_asked middle its (all_attached each have) tests) =
+          tests_stop (RulesName schema) old middle new (λ rel named. serve) (used_stay old middle (attach_stay seen schema each.rels old middle each.order))
+          tests.rels (λ rel among. ((tests.are.exactly rel).0 among).1) its tests.tests
 
-      tests_stop : (middle : List (Lane S)) → KindsStay seen (used old) (used middle) → (result : Result (Option Broken) Stop) →
-          Tests seen schema (used middle) (used new) result → IfErr result (λ why. why ≡ stop.Memory)
-      tests_stop middle stays result (tests_memory rels are part) = refl
-      tests_stop middle stays result (not_asked rels rel are breaks) =
-          let one = breaks.failed in
-          let moved = StepsOn-source breaks.middle (used new) (λ s t. CallGives (seen s) (seen t) rel [] [] (Err call.Failed)) one.line.kind one.steps in
-          let gives : CallGives (seen moved.before) (seen moved.after) rel [] [] (Err call.Failed) = moved.steps in
-          let stay : KindsStay seen (used old) breaks.middle =
-          KindsStay-trans seen (used old) (used middle) breaks.middle stays (asks_stay (take breaks.n rels) breaks.facts (used middle) breaks.middle breaks.asked) in
-          absurd (none_rose seen schema (RulesName schema) (used old) (used new) serve breaks.middle rel one.line moved.before moved.after
-          ((are.exactly rel).0 (contains_got rels breaks.n rel breaks.at)) one.line_is stay moved.was moved.now (gives.failed refl))
-      tests_stop middle stays result (verified found finds) = tt
-
-      verify_stop : (result : Result (Option Broken) Stop) → Verifies seen schema old new result → IfErr result (λ why. why ≡ stop.Memory)
-      verify_stop result (not_attached why attaches) = attaches_stop why attaches
-      verify_stop result (attached middle its (all_attached each have) tests) =
-          tests_stop middle (used_stay old middle (attach_stay seen schema each.rels old middle each.order)) result tests
+      verify_stop : (end : Stop) → TestsOrStops seen schema old new (Err end) → end ≡ stop.Memory
+      verify_stop end (why, verifies, is) = is ∙ fault_stop why verifies
 
   pub verify_answered : (name : List ℕ) (before after : Moment) (old new : List (Lane S)) (result : Result Outcome Stop) → NoneRose before after →
       (schema : Schema) → SchemaIsGiven before.files name schema → Serve seen schema (RulesName schema) (used old) (used new) → VerifyEnds seen name before after old new result →
@@ -120,7 +129,7 @@ module _ {S : Type 0} (seen : S → Seen) where
   verify_answered name before after old new result calm schema given serve (stopped its why end is verifies same told quiet) =
       let serves : Serve seen its (RulesName its) (used old) (used new) =
       subst (λ (s : Schema). Serve seen s (RulesName s) (used old) (used new)) (same_schema before.files name schema its given is) serve in
-      let memory : why ≡ stop.Memory = verify_stop its old new serves (Err why) verifies in
+      let memory : why ≡ stop.Memory = verify_stop its old new serves why verifies in
       stop_answered end (λ its_end e. e ∙ memory) told
   verify_answered name before after old new result calm schema given serve (cut its found end is verifies same took told) = stop_answered end (result_stop _ calm.out) told
   verify_answered name before after old new result calm schema given serve (shown its None is verifies same took quiet) = done

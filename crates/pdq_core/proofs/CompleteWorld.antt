@@ -1,5 +1,5 @@
 -- The command `world` is answered.
-use Rattle.std.proofs.Common.{◌≡◌, ℕ, List, [], Result, refl, subst}
+use Rattle.std.proofs.Common.{◌≡◌, ℕ, false, List, [], Result, refl, subst}
 use Rattle.meaning.specs.declared.types.Plan.{Plan}
 use Rattle.meaning.specs.declared.types.Statement.{Statement}
 use Rattle.access_schema.specs.declared.schema.Schema.{Schema}
@@ -48,4 +48,4 @@ module _ {S : Type 0} (seen : S → Seen) (size : ℕ) (before after : Moment) (
       subst (λ (t : Statement). (plan : Plan) (entries : List Chosen) → IsPlanned other t FIRINGS UNITS plan entries → IsPrinted entries plan before after → CanExecute seen other plan CALLS old new) statements
       (subst (λ (s : Schema). (plan : Plan) (entries : List Chosen) → IsPlanned s given.statement FIRINGS UNITS plan entries → IsPrinted entries plan before after → CanExecute seen s plan CALLS old new) schemas
       given.execution) in
-      statement_answered seen other its names before after old new calm FIRINGS UNITS CALLS (IsSummary seen size other its new) able result ends
+      statement_answered seen other its names before after old new calm FIRINGS UNITS CALLS false (IsSummary seen size other its new) able result ends

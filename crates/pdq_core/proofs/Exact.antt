@@ -1,5 +1,5 @@
 -- The status is exact where the texts are given and no run is longer than the firings.
-use Rattle.std.proofs.Common.{◌≡◌, ◌≢◌, ◌↔◌, ℕ, List, Option, refl, sym, subst}
+use Rattle.std.proofs.Common.{◌≡◌, ◌≢◌, ◌↔◌, ℕ, true, false, List, take, Option, refl, sym, subst}
 use Rattle.meaning.specs.declared.types.Plan.{Plan}
 use Rattle.meaning.specs.declared.types.Statement.{Statement}
 use Rattle.access_schema.specs.declared.schema.Schema.{Schema}
@@ -16,9 +16,11 @@ use Rattle.pdq_core.specs.Runs.{Runs}
 use Rattle.pdq_core.specs.Complete.{IsAnswered, QueryIsGiven, TextsAreGiven, CheckIsSupplied}
 use Rattle.pdq_core.specs.Complete.IsAnswered.{done, no, undecided, no_memory}
 use Rattle.pdq_core.specs.Statuses.{RunsOn, ReadAs, Says, IsWrong, FiresOn, ReadWith, SaysOfPlan, SaysOf}
-use Rattle.pdq_core.specs.Exact.{GivenAs, GivenWith, HasNoLongRun, HasNone}
+use Rattle.pdq_core.specs.Verified.{SaysVerified, SaysOfVerified}
+use Rattle.pdq_core.specs.Exact.{GivenAs, GivenWith, HasNoLongRun, DecidesAlone, HasNone}
 use Rattle.pdq_core.proofs.CompleteTexts.{same_schema, same_statement, same_plan}
 use Rattle.pdq_core.proofs.Statuses.{whole}
+use Rattle.pdq_core.proofs.VerifiedStatuses.{verified_whole}
 
 -- what is so of what was read is so of what is given
 of_given : (told : Option Contents) (name query : List ℕ) (P : Schema → Statement → Type 0) (texts : TextsAreGiven told name query) → ReadAs told name query P → P texts.schema texts.statement
@@ -65,39 +67,52 @@ module _ (told : Option Contents) (name query its : List ℕ) (firings : ℕ) wh
   wrong_found _ says undecided memory spent wrong = absurd (spent refl)
   wrong_found _ says no_memory memory spent wrong = absurd (memory refl)
 
+-- ---- `run` with the rules tested first
+
+decides_verified : {S : Type 0} (seen : S → Seen) (lanes : List (Lane S)) (told : Option Contents) (name query : List ℕ) (firings : ℕ) (status : Status) →
+    SaysVerified seen lanes status told name query firings → GivenAs told name query (λ schema statement. RunsOn firings schema statement → ⊥) → status ≢ ends_in.Undecided
+decides_verified seen lanes told name query firings status says given same =
+    given.so (of_given told name query (RunsOn firings) given.texts (subst (λ (s : Status). SaysVerified seen lanes s told name query firings) same says))
+
 -- ---- all of them
 
-never_spent : (command : Command) (told : Option Contents) (status : Status) → SaysOf command told status → HasNoLongRun command told → status ≢ ends_in.Undecided
-never_spent Help told status says short = absurd short
-never_spent (Print name) told status says short = absurd short
-never_spent (Explain name query firings search) told status says short = decides told name query firings status says short
-never_spent (Run name query firings search workers calls) told status says short = decides told name query firings status says short
-never_spent (Exec name plan workers calls) told status says short = absurd short
-never_spent (Check name query plan firings) told status says short = judges told name query plan firings status says short
-never_spent (Verify name) told status says short = absurd short
-never_spent (World size workers) told status says short = absurd short
+never_spent : {S : Type 0} (seen : S → Seen) (lanes : List (Lane S)) (command : Command) (told : Option Contents) (status : Status) → SaysOf command told status →
+    SaysOfVerified seen command told lanes status → HasNoLongRun command told → status ≢ ends_in.Undecided
+never_spent seen lanes Help told status says verified short = absurd short
+never_spent seen lanes (Print name) told status says verified short = absurd short
+never_spent seen lanes (Explain name query firings search) told status says verified short = decides told name query firings status says short
+never_spent seen lanes (Run name query firings search workers calls false) told status says verified short = decides told name query firings status says short
+never_spent seen lanes (Run name query firings search workers calls true) told status says verified short =
+    decides_verified seen (take workers lanes) told name query firings status verified short
+never_spent seen lanes (Exec name plan workers calls) told status says verified short = absurd short
+never_spent seen lanes (Check name query plan firings) told status says verified short = judges told name query plan firings status says short
+never_spent seen lanes (Verify name) told status says verified short = absurd short
+never_spent seen lanes (World size workers) told status says verified short = absurd short
 
-says_none : (command : Command) (told : Option Contents) (status : Status) → SaysOf command told status → IsAnswered status → status ≢ ends_in.Memory → HasNoLongRun command told → (status ≡ ends_in.No) ↔ HasNone command told
-says_none Help told status says answered memory short = absurd short
-says_none (Print name) told status says answered memory short = absurd short
-says_none (Explain name query firings search) told status says answered memory short =
+says_none : (command : Command) (told : Option Contents) (status : Status) → SaysOf command told status → IsAnswered status → status ≢ ends_in.Memory → HasNoLongRun command told →
+    DecidesAlone command → (status ≡ ends_in.No) ↔ HasNone command told
+says_none Help told status says answered memory short alone = absurd short
+says_none (Print name) told status says answered memory short alone = absurd short
+says_none (Explain name query firings search) told status says answered memory short alone =
     (finds_none told name query firings status says short.texts, none_found told name query firings status says answered memory (decides told name query firings status says short))
-says_none (Run name query firings search workers calls) told status says answered memory short =
+says_none (Run name query firings search workers calls false) told status says answered memory short alone =
     (finds_none told name query firings status says short.texts, none_found told name query firings status says answered memory (decides told name query firings status says short))
-says_none (Exec name plan workers calls) told status says answered memory short = absurd short
-says_none (Check name query plan firings) told status says answered memory short =
+says_none (Run name query firings search workers calls true) told status says answered memory short alone = absurd alone
+says_none (Exec name plan workers calls) told status says answered memory short alone = absurd short
+says_none (Check name query plan firings) told status says answered memory short alone =
     (finds_wrong told name query plan firings status says short.given, wrong_found told name query plan firings status says answered memory (judges told name query plan firings status says short))
-says_none (Verify name) told status says answered memory short = absurd short
-says_none (World size workers) told status says answered memory short = absurd short
+says_none (Verify name) told status says answered memory short alone = absurd short
+says_none (World size workers) told status says answered memory short alone = absurd short
 
 module _ {S : Type 0} (seen : S → Seen) (one : (words : List (List ℕ)) (command other : Command) → IsCommand words command → IsCommand words other → command ≡ other) where
   pub not_undecided : (words : List (List ℕ)) (command : Command) (before after : Moment) (old new : List (Lane S)) (status : Status) →
       Runs seen words before after old new status → IsCommand words command → HasNoLongRun command before.files → status ≢ ends_in.Undecided
   not_undecided words command before after old new status runs is short =
-      never_spent command before.files status (whole seen one words command before after old new status runs is) short
+      never_spent seen new command before.files status (whole seen one words command before after old new status runs is)
+      (verified_whole seen one words command before after old new status runs is) short
 
   pub exactly_none : (words : List (List ℕ)) (command : Command) (before after : Moment) (old new : List (Lane S)) (status : Status) →
       Runs seen words before after old new status → IsCommand words command → IsAnswered status → status ≢ ends_in.Memory → HasNoLongRun command before.files →
-      (status ≡ ends_in.No) ↔ HasNone command before.files
-  exactly_none words command before after old new status runs is answered memory short =
-      says_none command before.files status (whole seen one words command before after old new status runs is) answered memory short
+      DecidesAlone command → (status ≡ ends_in.No) ↔ HasNone command before.files
+  exactly_none words command before after old new status runs is answered memory short alone =
+      says_none command before.files status (whole seen one words command before after old new status runs is) answered memory short alone

@@ -3,7 +3,7 @@ use Rattle.std.proofs.Common.{◌≡◌, ◌≤◌, ◌++◌, ◌∙◌, ℕ, ze
 use Rattle.source_trait.specs.Asking.{Seen}
 use Rattle.source_trait.specs.Lanes.{LanesStay}
 use Rattle.source_trait.specs.declared.lanes.Lane.{Lane}
-use Rattle.source_trait.proofs.LaneSteps.{KindsStay-refl, LanesStay-refl}
+use Rattle.source_trait.proofs.LaneSteps.{LanesStay-refl}
 
 module _ {A : Type 0} where
   pub few_first : (n : ℕ) (xs : List A) → length (take n xs) ≤ n

@@ -9,10 +9,12 @@ pub mod CompleteRun
 pub mod CompleteExec
 pub mod CompleteCheck
 pub mod CompleteVerify
+pub mod CompleteVerified
 pub mod CompleteWorld
 pub mod Complete
 pub mod Refusals
 pub mod CheckStatuses
 pub mod Statuses
+pub mod VerifiedStatuses
 pub mod Exact
 pub mod CompleteOffers

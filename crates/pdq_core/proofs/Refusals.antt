@@ -1,14 +1,34 @@
--- No stop has the status of an answer.
-use Rattle.std.proofs.Common.{ℕ}
+-- No stop but that of a broken rule has the status of an answer.
+use Rattle.std.proofs.Common.{◌≡◌, ◌⊎◌, inl, inr, ℕ, List, Option, Err, refl, sym, subst}
+use Rattle.meaning.specs.declared.types.Plan.{Plan}
+use Rattle.access_schema.specs.declared.schema.Schema.{Schema}
+use Rattle.source_trait.specs.Asking.{Seen}
 use Rattle.source_trait.specs.declared.files.FileFault.TheVariants as file
+use Rattle.source_trait.specs.declared.lanes.Lane.{Lane}
 use Rattle.source_trait.specs.declared.source.AttachFault.{AttachFault}
 use Rattle.source_trait.specs.declared.source.AttachFault.TheVariants as attach
+use Rattle.middleware.specs.declared.fault.Run.{Run}
+use Rattle.middleware.specs.declared.fault.RunFault.{RunFault}
 use Rattle.middleware.specs.declared.fault.RunFault.TheVariants as fault
 use Rattle.command_io.specs.declared.exit_status.Status.{Status}
 use Rattle.command_io.specs.declared.exit_status.Status.TheVariants as is
+use Rattle.command_io.specs.declared.stop.Input.{Input}
 use Rattle.command_io.specs.declared.stop.Stop.{Stop}
 use Rattle.command_io.specs.declared.stop.Stop.TheVariants as stop
 use Rattle.command_io.specs.Status.{status_of}
+use Rattle.command_io.specs.Executing.{stop_of_run, ExecutesOrStops, Delivers}
+use Rattle.command_io.specs.Executing.Delivers.{no_rows, no_text, cut}
+use Rattle.command_io.specs.FaultLines.{Names}
+use Rattle.command_io.specs.Inputs.{Contents, FileStop, SchemaStop, QueryStop, PlanStop, TextsStop}
+use Rattle.command_io.specs.Inputs.FileStop.{no_memory as file_memory, not_read}
+use Rattle.command_io.specs.Inputs.SchemaStop.{no_memory as schema_memory, no_file as no_schema_file, no_schema}
+use Rattle.command_io.specs.Inputs.QueryStop.{no_memory as query_memory, no_file as no_query_file, no_statement}
+use Rattle.command_io.specs.Inputs.PlanStop.{no_memory as plan_memory, no_file as no_plan_file, no_plan}
+use Rattle.command_io.specs.Inputs.TextsStop.{no_schema as no_schema_of_both, no_statement as no_statement_of_both}
+use Rattle.command_io.specs.Moments.{ResultStop, DecisionStop}
+use Rattle.command_io.specs.Moments.ResultStop.{no_memory as result_memory, sink_failed as result_failed}
+use Rattle.command_io.specs.Moments.DecisionStop.{no_memory as decision_memory, sink_failed as decision_failed}
+use Rattle.command_io.specs.Telling.{StopsFor}
 
 -- The status is none of an answer.
 abbrev pub IsRefusal : Status → Type 0
@@ -16,6 +36,26 @@ IsRefusal is.Done = ⊥
 IsRefusal is.No = ⊥
 IsRefusal is.Undecided = ⊥
 IsRefusal _ = Unit {0}
+
+-- The stop is not that of a broken rule.
+abbrev pub IsPlain : Stop → Type 0
+IsPlain (stop.NotMet line) = ⊥
+IsPlain _ = Unit {0}
+
+-- It is, or it is plain.
+pub plain_or_not : (end : Stop) → IsPlain end ⊎ ((line : List ℕ) × (end ≡ stop.NotMet line))
+plain_or_not stop.Memory = inl tt
+plain_or_not stop.Words = inl tt
+plain_or_not (stop.File input why) = inl tt
+plain_or_not (stop.Schema why) = inl tt
+plain_or_not (stop.Query why) = inl tt
+plain_or_not (stop.Plan why) = inl tt
+plain_or_not stop.DecisionWrite = inl tt
+plain_or_not (stop.Illegal why) = inl tt
+plain_or_not (stop.Run why) = inl tt
+plain_or_not (stop.WholeFailed rel) = inl tt
+plain_or_not (stop.NotMet line) = inr (line, refl)
+plain_or_not stop.ResultWrite = inl tt
 
 attach_refuses : (rel : ℕ) (why : AttachFault) → IsRefusal (status_of (stop.Run (fault.Attach rel why)))
 attach_refuses rel attach.Missing = tt
@@ -26,23 +66,84 @@ attach_refuses rel (attach.NotUtf8 number) = tt
 attach_refuses rel attach.TooLarge = tt
 attach_refuses rel attach.NoMemory = tt
 
-pub refusal_is : (end : Stop) → IsRefusal (status_of end)
-refusal_is stop.Memory = tt
-refusal_is stop.Words = tt
-refusal_is (stop.File input file.Missing) = tt
-refusal_is (stop.File input file.TooLarge) = tt
-refusal_is (stop.File input file.Failed) = tt
-refusal_is (stop.File input file.NoMemory) = tt
-refusal_is (stop.Schema why) = tt
-refusal_is (stop.Query why) = tt
-refusal_is (stop.Plan why) = tt
-refusal_is stop.DecisionWrite = tt
-refusal_is (stop.Illegal why) = tt
-refusal_is (stop.Run fault.NoMemory) = tt
-refusal_is (stop.Run (fault.NoSource rel)) = tt
-refusal_is (stop.Run (fault.UnknownKind rel)) = tt
-refusal_is (stop.Run (fault.Attach rel why)) = attach_refuses rel why
-refusal_is (stop.Run (fault.CallFailed branch step)) = tt
-refusal_is (stop.Run (fault.OverCalls made wanted cap)) = tt
-refusal_is (stop.WholeFailed rel) = tt
-refusal_is stop.ResultWrite = tt
+pub refusal_is : (end : Stop) → IsPlain end → IsRefusal (status_of end)
+refusal_is stop.Memory plain = tt
+refusal_is stop.Words plain = tt
+refusal_is (stop.File input file.Missing) plain = tt
+refusal_is (stop.File input file.TooLarge) plain = tt
+refusal_is (stop.File input file.Failed) plain = tt
+refusal_is (stop.File input file.NoMemory) plain = tt
+refusal_is (stop.Schema why) plain = tt
+refusal_is (stop.Query why) plain = tt
+refusal_is (stop.Plan why) plain = tt
+refusal_is stop.DecisionWrite plain = tt
+refusal_is (stop.Illegal why) plain = tt
+refusal_is (stop.Run fault.NoMemory) plain = tt
+refusal_is (stop.Run (fault.NoSource rel)) plain = tt
+refusal_is (stop.Run (fault.UnknownKind rel)) plain = tt
+refusal_is (stop.Run (fault.Attach rel why)) plain = attach_refuses rel why
+refusal_is (stop.Run (fault.CallFailed branch step)) plain = tt
+refusal_is (stop.Run (fault.OverCalls made wanted cap)) plain = tt
+refusal_is (stop.WholeFailed rel) plain = tt
+refusal_is (stop.NotMet line) plain = absurd plain
+refusal_is stop.ResultWrite plain = tt
+
+-- ---- causes of plain stops
+
+pub memory_plain : (given : Stop) → given ≡ stop.Memory → IsPlain given
+memory_plain given e = subst IsPlain (sym e) tt
+
+pub run_plain : (why : RunFault) → IsPlain (stop_of_run why)
+run_plain fault.NoMemory = tt
+run_plain (fault.NoSource rel) = tt
+run_plain (fault.UnknownKind rel) = tt
+run_plain (fault.Attach rel why) = tt
+run_plain (fault.CallFailed branch step) = tt
+run_plain (fault.OverCalls made wanted cap) = tt
+
+pub result_plain : (rose : Type 0) (given : Stop) → ResultStop rose given → IsPlain given
+result_plain rose given result_memory = tt
+result_plain rose given (result_failed h) = tt
+
+pub decision_plain : (rose : Type 0) (given : Stop) → DecisionStop rose given → IsPlain given
+decision_plain rose given decision_memory = tt
+decision_plain rose given (decision_failed h) = tt
+
+module _ (told : Option Contents) (name : List ℕ) (rose : Type 0) where
+  file_plain : (limit : ℕ) (which : Input) (given : Stop) → FileStop told name limit rose which given → IsPlain given
+  file_plain limit which given file_memory = tt
+  file_plain limit which given (not_read why cause) = tt
+
+  schema_plain : (given : Stop) → SchemaStop told name rose given → IsPlain given
+  schema_plain given schema_memory = tt
+  schema_plain given (no_schema_file its why) = file_plain _ _ given why
+  schema_plain given (no_schema why apart is) = tt
+
+  query_plain : (schema : Schema) (given : Stop) → QueryStop told name schema rose given → IsPlain given
+  query_plain schema given query_memory = tt
+  query_plain schema given (no_query_file its why) = file_plain _ _ given why
+  query_plain schema given (no_statement why apart is) = tt
+
+  pub plan_plain : (given : Stop) → PlanStop told name rose given → IsPlain given
+  plan_plain given plan_memory = tt
+  plan_plain given (no_plan_file its why) = file_plain _ _ given why
+  plan_plain given (no_plan why apart is) = tt
+
+pub texts_plain : (told : Option Contents) (name query : List ℕ) (rose : Type 0) (given : Stop) → TextsStop told name query rose given → IsPlain given
+texts_plain told name query rose given (no_schema_of_both its why) = schema_plain told name rose given why
+texts_plain told name query rose given (no_statement_of_both schema its is why) = query_plain told query rose schema given why
+
+-- A command that stopped for a plain cause ends with a plain stop.
+pub plain_end : {Cause : Stop → Type 0} {names : Names} {old new : Option (List ℕ)} {rose : Type 0} (end : Stop) → ((given : Stop) → Cause given → IsPlain given) →
+    StopsFor Cause names old new rose end → IsPlain end
+plain_end end each why = elim why.tells [
+  | inl stays ↦ subst IsPlain (sym stays.0) (each why.given why.cause)
+  | inr wanted ↦ subst IsPlain (sym wanted.0) tt
+]
+
+-- An execution without tests of the rules is stopped by a plain stop.
+pub delivery_plain : {S : Type 0} (seen : S → Seen) (schema : Schema) (plan : Plan) (calls : ℕ) (old new : List (Lane S)) (IsText : Run → List ℕ → Type 0)
+    (out_old out_new : Option (List ℕ)) (rose : Type 0) (why : Stop) → Delivers (ExecutesOrStops seen schema plan calls old new) IsText out_old out_new rose (Err why) → IsPlain why
+delivery_plain seen schema plan calls old new IsText out_old out_new rose why (no_rows end (its, executes, e) same) = subst IsPlain (sym e) (run_plain its)
+delivery_plain seen schema plan calls old new IsText out_old out_new rose why (no_text run executes same) = tt
+delivery_plain seen schema plan calls old new IsText out_old out_new rose why (cut run text end executes given part cause) = result_plain rose end cause

@@ -1,5 +1,5 @@
 -- The status of a run says what was decided of the statement.
-use Rattle.std.proofs.Common.{◌≡◌, ◌++◌, ℕ, List, [], ◌∷◌, take, length-append, Option, Result, sym, subst, arith}
+use Rattle.std.proofs.Common.{◌≡◌, ◌++◌, ℕ, true, false, List, [], ◌∷◌, take, length-append, Option, Result, sym, subst, arith}
 use Rattle.lists.proofs.Members.{contains_got}
 use Rattle.meaning.specs.declared.types.Firing.{Firing}
 use Rattle.meaning.specs.declared.types.Plan.{Plan}
@@ -26,17 +26,17 @@ use Rattle.run_command.specs.Deciding.Shows.{plan as shows_plan, no_plan as show
 use Rattle.run_command.specs.Explained.{DecisionEnds}
 use Rattle.run_command.specs.Explained.DecisionEnds.{no_decision as nothing_shown, cut as shown_part, shown}
 use Rattle.run_command.specs.Explained.ExplainEnds.{refused as not_explained, read as explained}
-use Rattle.run_command.specs.Ends.{StatementEnds}
+use Rattle.run_command.specs.Ends.{carries_out, StatementEnds}
 use Rattle.run_command.specs.Ends.StatementEnds.{no_decision, untold, refuted, undecided, stopped, done}
 use Rattle.run_command.specs.Ends.RunEnds.{refused, read}
 use Rattle.pdq_core.specs.Runs.{Runs, ended}
 use Rattle.pdq_core.specs.Runs.Runs.{no_command, help, schema as print_schema, explain, run, exec, check, verify, world}
 use Rattle.pdq_core.specs.Statuses.{HasPlan, RunsOn, ReadAs, Says, SaysOf}
-use Rattle.pdq_core.proofs.Refusals.{IsRefusal, refusal_is}
+use Rattle.pdq_core.proofs.Refusals.{IsRefusal, IsPlain, refusal_is, memory_plain, result_plain, decision_plain, texts_plain, delivery_plain, plain_end}
 use Rattle.pdq_core.proofs.CheckStatuses.{checked_says}
 
 -- the spent firings can be gone on with
-longer : (schema : Schema) (statement : Statement) (firings select : ℕ) (log : List Firing) → IsUndecided schema statement firings select log → RunsOn firings schema statement
+pub longer : (schema : Schema) (statement : Statement) (firings select : ℕ) (log : List Firing) → IsUndecided schema statement firings select log → RunsOn firings schema statement
 longer schema statement firings select log is =
     let (firing, next, more) = is.goes_on in
     let count = is.count in
@@ -53,7 +53,7 @@ longer schema statement firings select log is =
       long = omega (arith, count, one_more);
     }
 
-has_plan : (schema : Schema) (statement : Statement) (firings search : ℕ) (plan : Plan) (entries : List Chosen) → IsPlanned schema statement firings search plan entries → HasPlan schema statement
+pub has_plan : (schema : Schema) (statement : Statement) (firings search : ℕ) (plan : Plan) (entries : List Chosen) → IsPlanned schema statement firings search plan entries → HasPlan schema statement
 has_plan schema statement firings search plan entries planned = (plan, planned.is.lawful, planned.is.equivalent)
 
 module _ (told : Option Contents) (name query : List ℕ) (firings : ℕ) where
@@ -68,9 +68,9 @@ module _ (told : Option Contents) (name query : List ℕ) (firings : ℕ) where
   refused_says ends_in.Cap is = tt
   refused_says ends_in.Memory is = tt
 
-  -- the status of a stop says nothing of the statement
-  stop_says : (end : Stop) → Says (status_of end) told name query firings
-  stop_says end = refused_says (status_of end) (refusal_is end)
+  -- the status of a plain stop says nothing of the statement
+  stop_says : (end : Stop) → IsPlain end → Says (status_of end) told name query firings
+  stop_says end plain = refused_says (status_of end) (refusal_is end plain)
 
   module _ (schema : Schema) (statement : Statement) (is : SchemaIsRead told name schema) (are : QueryIsRead told query schema statement) where
     read_as : (P : Schema → Statement → Type 0) → P schema statement → ReadAs told name query P
@@ -78,20 +78,21 @@ module _ (told : Option Contents) (name query : List ℕ) (firings : ℕ) where
 
     explained_says : (search : ℕ) (names : Names) (before after : Outputs) (result : Result Outcome Stop) → DecisionEnds schema statement firings search names before after result →
         Says (ended result) told name query firings
-    explained_says search names before after result (nothing_shown end why quiet) = stop_says end
-    explained_says search names before after result (shown_part decision end decided took why) = stop_says end
+    explained_says search names before after result (nothing_shown end why quiet) = stop_says end (plain_end end memory_plain why)
+    explained_says search names before after result (shown_part decision end decided took why) = stop_says end (plain_end end (result_plain _) why)
     explained_says search names before after result (shown text outcome (shows_plan plan entries planned text_is) took quiet) = read_as HasPlan (has_plan schema statement firings search plan entries planned)
     explained_says search names before after result (shown text outcome (shows_none refutes) took quiet) = read_as HasNoPlan refutes.refutes.none
     explained_says search names before after result (shown text outcome (shows_log select log spent text_is) took quiet) =
         read_as (RunsOn firings) (longer schema statement firings select log spent)
 
     run_says : {S : Type 0} (seen : S → Seen) (search calls : ℕ) (IsText : Plan → Run_of → List ℕ → Type 0) (names : Names) (before after : Outputs) (old new : List (Lane S)) (result : Result Outcome Stop) →
-        StatementEnds seen schema statement firings search calls IsText names before after old new result → Says (ended result) told name query firings
-    run_says seen search calls IsText names before after old new result (no_decision end why quiet same) = stop_says end
-    run_says seen search calls IsText names before after old new result (untold decision middle count end decided took why quiet same) = stop_says end
+        StatementEnds schema statement firings search (carries_out seen schema calls false old new) IsText names before after old new result → Says (ended result) told name query firings
+    run_says seen search calls IsText names before after old new result (no_decision end why quiet same) = stop_says end (plain_end end memory_plain why)
+    run_says seen search calls IsText names before after old new result (untold decision middle count end decided took why quiet same) = stop_says end (plain_end end (decision_plain _) why)
     run_says seen search calls IsText names before after old new result (refuted text refutes took quiet same) = read_as HasNoPlan refutes.refutes.none
     run_says seen search calls IsText names before after old new result (undecided select log spent took quiet same) = read_as (RunsOn firings) (longer schema statement firings select log spent)
-    run_says seen search calls IsText names before after old new result (stopped plan entries middle count why end planned took delivery line) = stop_says end
+    run_says seen search calls IsText names before after old new result (stopped plan entries middle count why end planned took delivery line) =
+        stop_says end (plain_end end (λ given e. subst IsPlain (sym e) (delivery_plain seen schema plan calls old new _ _ _ _ why delivery)) line)
     run_says seen search calls IsText names before after old new result (done plan entries planned took delivery) = read_as HasPlan (has_plan schema statement firings search plan entries planned)
 
 module _ {S : Type 0} (seen : S → Seen) (words : List (List ℕ)) (command : Command) (before after : Moment) (old new : List (Lane S)) (one : (other : Command) → IsCommand words command → IsCommand words other → command ≡ other) (is : IsCommand words command) where
@@ -102,13 +103,16 @@ module _ {S : Type 0} (seen : S → Seen) (words : List (List ℕ)) (command : C
   says status (no_command end none why quiet same) = absurd (none command is)
   says status (help result also ends same) = its Help (ended result) also tt
   says status (print_schema name result also ends same) = its (Print name) (ended result) also tt
-  says status (explain name query firings search result also (not_explained end why quiet) same) = its (Explain name query firings search) (status_of end) also (stop_says before.files name query firings end)
+  says status (explain name query firings search result also (not_explained end why quiet) same) =
+      its (Explain name query firings search) (status_of end) also (stop_says before.files name query firings end (plain_end end (texts_plain before.files name query _) why))
   says status (explain name query firings search result also (explained schema statement same_result schema_is statement_is ends) same) =
       its (Explain name query firings search) (ended result) also
       (explained_says before.files name query firings schema statement schema_is statement_is search (record { schema = name; query = query; plan = []; relations = schema.relations }) (outputs_of before) (outputs_of after) result ends)
-  says status (run name query firings search workers calls result also (refused end why quiet same) behind) = its (Run name query firings search workers calls) (status_of end) also (stop_says before.files name query firings end)
-  says status (run name query firings search workers calls result also (read schema statement same_result schema_is statement_is ends) behind) =
-      its (Run name query firings search workers calls) (ended result) also
+  says status (run name query firings search workers calls true result also ends behind) = its (Run name query firings search workers calls true) (ended result) also tt
+  says status (run name query firings search workers calls false result also (refused end why quiet same) behind) =
+      its (Run name query firings search workers calls false) (status_of end) also (stop_says before.files name query firings end (plain_end end (texts_plain before.files name query _) why))
+  says status (run name query firings search workers calls false result also (read schema statement same_result schema_is statement_is ends) behind) =
+      its (Run name query firings search workers calls false) (ended result) also
       (run_says before.files name query firings schema statement schema_is statement_is seen search calls _ (record { schema = name; query = query; plan = []; relations = schema.relations }) (outputs_of before) (outputs_of after) (take workers old) (take workers new) result ends)
   says status (exec name plan workers calls result also ends behind) = its (Exec name plan workers calls) (ended result) also tt
   says status (check name query plan firings result also ends same) = its (Check name query plan firings) (ended result) also (checked_says name query plan firings before after result ends)

@@ -1,10 +1,11 @@
 -- What the words of a command set.
-use Rattle.std.proofs.Common.{◌≤◌, ℕ, List, arith}
+use Rattle.std.proofs.Common.{◌≤◌, ℕ, Bool, List, arith}
 use Rattle.rule_pass.specs.declared.pass.TheConstants.{MOST_FIRINGS}
 use Rattle.proof_search.specs.declared.deciding.TheConstants.{MOST_UNITS}
 use Rattle.command_words.specs.Splits.{Item, IsSet}
 use Rattle.command_words.specs.Splits.IsSet.{Once, Absent}
 use Rattle.command_words.specs.declared.table.OptionName.TheVariants.{Firings, Search, Workers, Calls}
+use Rattle.run_command.specs.Ends.{AreWithin}
 use Rattle.command_words.specs.Words.{IsCommand}
 use Rattle.command_words.specs.Words.Command.{Explain, Run, Exec, Check, World}
 
@@ -31,20 +32,19 @@ calls_in_range items n (Absent none is) = omega (arith, is)
 pub few_explained : (words : List (List ℕ)) (schema query : List ℕ) (n units : ℕ) → IsCommand words (Explain schema query n units) → n ≤ MOST_FIRINGS
 few_explained words schema query n units is = in_range is.items n is.are_set.0
 
-pub few_run : (words : List (List ℕ)) (schema query : List ℕ) (n units workers calls : ℕ) → IsCommand words (Run schema query n units workers calls) → n ≤ MOST_FIRINGS
-few_run words schema query n units workers calls is = in_range is.items n is.are_set.0
-
 pub units_explained : (words : List (List ℕ)) (schema query : List ℕ) (n units : ℕ) → IsCommand words (Explain schema query n units) → units ≤ MOST_UNITS
 units_explained words schema query n units is = units_in_range is.items units is.are_set.1.0
 
-pub units_run : (words : List (List ℕ)) (schema query : List ℕ) (n units workers calls : ℕ) → IsCommand words (Run schema query n units workers calls) → units ≤ MOST_UNITS
-units_run words schema query n units workers calls is = units_in_range is.items units is.are_set.1.0
+module _ (words : List (List ℕ)) (schema query : List ℕ) (n units workers calls : ℕ) (verify : Bool) (is : IsCommand words (Run schema query n units workers calls verify)) where
+  pub settings_run : AreWithin (record { firings = n; search = units; calls = calls; verify = verify })
+  settings_run = record {
+    firings = in_range is.items n is.are_set.0;
+    search = units_in_range is.items units is.are_set.1.0;
+    calls = calls_in_range is.items calls is.are_set.1.1.1.0;
+  }
 
-pub workers_run : (words : List (List ℕ)) (schema query : List ℕ) (n units workers calls : ℕ) → IsCommand words (Run schema query n units workers calls) → workers ≤ 8
-workers_run words schema query n units workers calls is = workers_in_range is.items workers is.are_set.1.1.0
-
-pub calls_run : (words : List (List ℕ)) (schema query : List ℕ) (n units workers calls : ℕ) → IsCommand words (Run schema query n units workers calls) → calls ≤ 1000000
-calls_run words schema query n units workers calls is = calls_in_range is.items calls is.are_set.1.1.1.0
+  pub workers_run : workers ≤ 8
+  workers_run = workers_in_range is.items workers is.are_set.1.1.0
 
 pub workers_exec : (words : List (List ℕ)) (schema plan : List ℕ) (workers calls : ℕ) → IsCommand words (Exec schema plan workers calls) → workers ≤ 8
 workers_exec words schema plan workers calls is = workers_in_range is.items workers is.are_set.0

@@ -1,5 +1,5 @@
 -- What a run without faults is given, command by command, and the statuses with which it ends.
-use Rattle.std.specs.Prelude.{◌≡◌, ◌≤◌, ◌<◌, ◌+◌, ◌++◌, ℕ, List, [], ◌∷◌, take, Contains, false, Option, None, Some, IfSome, IsSome, IsOk, Ok, length, nat_eq, slice_get, if◌then◌else◌}
+use Rattle.std.specs.Prelude.{◌≡◌, ◌≤◌, ◌<◌, ◌+◌, ◌++◌, ℕ, Bool, List, [], ◌∷◌, take, Contains, true, false, Option, None, Some, IfSome, IsSome, IsOk, Ok, length, nat_eq, slice_get, if◌then◌else◌}
 use Rattle.std.specs.Cmp.Lexicographic.{pointwise}
 use Rattle.std.specs.List.{AllZip}
 use Rattle.meaning.specs.declared.types.Fact.{Fact}
@@ -39,8 +39,8 @@ use Rattle.world_source.specs.Texts.{schema_text, query_text}
 use Rattle.run_command.specs.Deciding.{IsPlanned}
 use Rattle.run_command.specs.declared.world.TheConstants.{FIRINGS, UNITS}
 use Rattle.exec_command.specs.Ends.{MayRun}
-use Rattle.verify_command.specs.RuleRelations.{RulesName}
-use Rattle.verify_command.specs.Verifying.{used}
+use Rattle.rule_rows.specs.RuleRelations.{RulesName, needed_verified}
+use Rattle.rule_rows.specs.Verifying.{Verifies, used}
 
 -- The command was answered, or memory was wanted.
 pub data IsAnswered : Status → Type 0 where
@@ -124,6 +124,24 @@ pub record CanExecute {S : Type 0} (seen : S → Seen) (schema : Schema) (plan :
   pub serve : OnLanes (Serve seen schema (IsAccessed schema plan)) old new
   pub within : OnLanes (AllAttached seen schema plan) old new → HoldWithin seen schema plan calls new
 
+-- it holds of the sources of the lane at each place, from before a command to after it
+abbrev pub AtPlaces : {S : Type 0} → (ℕ → List (Kind S) → List (Kind S) → Type 0) → List (Lane S) → List (Lane S) → Type 0
+AtPlaces {S} P old new = (place : ℕ) (before after : Lane S) → slice_get old place ≡ Some before → slice_get new place ≡ Some after →
+    P place before.kinds.items after.kinds.items
+
+-- Of the used lanes, where the rules are tested first: there is one where a relation is needed, the sources of each serve the relations that
+-- the lane at its place needs, and where the rules were tested and are all met, no round passes the cap of so many calls.
+pub record CanVerify {S : Type 0} (seen : S → Seen) (schema : Schema) (plan : Plan) (calls : ℕ) (old new : List (Lane S)) : Type 0 where
+  pub some : (rel : ℕ) → needed_verified schema plan 0 rel → 0 < length old
+  pub serve : AtPlaces (λ place. Serve seen schema (needed_verified schema plan place)) old new
+  pub within : (middle : List (Lane S)) → Verifies seen schema (needed_verified schema plan) old middle (Ok None) →
+      HoldWithin seen schema plan calls middle
+
+-- The plan can be carried out, with the rules tested first or not.
+abbrev pub CanCarryOut : {S : Type 0} → (S → Seen) → Schema → ℕ → Bool → List (Lane S) → List (Lane S) → Plan → Type 0
+CanCarryOut seen schema calls false old new plan = CanExecute seen schema plan calls old new
+CanCarryOut seen schema calls true old new plan = CanVerify seen schema plan calls old new
+
 -- ---- sources that tell
 
 -- A source tells what it holds, and its offer of the relation, which are just the rows of the instance.
@@ -172,12 +190,12 @@ pub record TextsAreGiven (told : Option Contents) (name query : List ℕ) : Type
   pub schema_given : SchemaIsGiven told name schema
   pub query_given : QueryIsGiven told query schema statement
 
--- For `run`: the texts are given, and the plan for the statement that was printed can be executed.
-pub record RunIsSupplied {S : Type 0} (seen : S → Seen) (name query : List ℕ) (firings search calls : ℕ)
+-- For `run`: the texts are given, and the plan for the statement that was printed can be carried out.
+pub record RunIsSupplied {S : Type 0} (seen : S → Seen) (name query : List ℕ) (firings search calls : ℕ) (verify : Bool)
     (before after : Moment) (old new : List (Lane S)) : Type 0 where
   pub texts : TextsAreGiven before.files name query
   pub execution : (plan : Plan) (entries : List Chosen) → IsPlanned texts.schema texts.statement firings search plan entries →
-      IsPrinted entries plan before after → CanExecute seen texts.schema plan calls old new
+      IsPrinted entries plan before after → CanCarryOut seen texts.schema calls verify old new plan
 
 -- For `exec`: the texts are given, and the plan is lawful and can be executed.
 pub record ExecIsSupplied {S : Type 0} (seen : S → Seen) (name its : List ℕ) (calls : ℕ)
@@ -215,8 +233,8 @@ abbrev pub IsSupplied : {S : Type 0} → (S → Seen) → Command → Moment →
 IsSupplied seen Help before after old new = Unit {0}
 IsSupplied seen (Print name) before after old new = (schema : Schema) × SchemaIsGiven before.files name schema
 IsSupplied seen (Explain name query firings search) before after old new = TextsAreGiven before.files name query
-IsSupplied seen (Run name query firings search workers calls) before after old new =
-    RunIsSupplied seen name query firings search calls before after (take workers old) (take workers new)
+IsSupplied seen (Run name query firings search workers calls verify) before after old new =
+    RunIsSupplied seen name query firings search calls verify before after (take workers old) (take workers new)
 IsSupplied seen (Exec name plan workers calls) before after old new = ExecIsSupplied seen name plan calls before.files
     (take workers old) (take workers new)
 IsSupplied seen (Check name query plan firings) before after old new = CheckIsSupplied before.files name query plan

@@ -1,5 +1,5 @@
 -- Where the status of a command that decides is exact, and what it then says.
-use Rattle.std.specs.Prelude.{ℕ, List, Option}
+use Rattle.std.specs.Prelude.{ℕ, true, List, Option}
 use Rattle.meaning.specs.declared.types.Plan.{Plan}
 use Rattle.meaning.specs.declared.types.Statement.{Statement}
 use Rattle.access_schema.specs.declared.schema.Schema.{Schema}
@@ -24,14 +24,19 @@ pub record GivenWith (told : Option Contents) (name query its : List ℕ) (P : S
 -- one that judges a plan no base run from a frozen select or branch. It is said of no other command.
 abbrev pub HasNoLongRun : Command → Option Contents → Type 0
 HasNoLongRun (Explain name query firings search) told = GivenAs told name query (λ schema statement. RunsOn firings schema statement → ⊥)
-HasNoLongRun (Run name query firings search workers calls) told = GivenAs told name query
+HasNoLongRun (Run name query firings search workers calls verify) told = GivenAs told name query
     (λ schema statement. RunsOn firings schema statement → ⊥)
 HasNoLongRun (Check name query plan firings) told = GivenWith told name query plan (λ schema statement its. FiresOn firings schema statement its → ⊥)
 HasNoLongRun _ told = ⊥
 
+-- The command answers no for no other cause than that: it is not `run` with the rules tested first.
+abbrev pub DecidesAlone : Command → Type 0
+DecidesAlone (Run name query firings search workers calls true) = ⊥
+DecidesAlone _ = Unit {0}
+
 -- No lawful plan is equivalent to the statement that is given; or the plan that is given is not lawful, or not equivalent to it.
 abbrev pub HasNone : Command → Option Contents → Type 0
 HasNone (Explain name query firings search) told = GivenAs told name query HasNoPlan
-HasNone (Run name query firings search workers calls) told = GivenAs told name query HasNoPlan
+HasNone (Run name query firings search workers calls verify) told = GivenAs told name query HasNoPlan
 HasNone (Check name query plan firings) told = GivenWith told name query plan IsWrong
 HasNone _ told = ⊥

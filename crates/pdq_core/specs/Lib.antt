@@ -2,5 +2,6 @@ pub mod Help
 pub mod Runs
 pub mod Complete
 pub mod Statuses
+pub mod Verified
 pub mod Exact
 pub mod Generators

@@ -1,5 +1,5 @@
 -- What a run of the program does: the ways in which it ends, with the exit status of each.
-use Rattle.std.specs.Prelude.{◌≡◌, ℕ, List, [], take, drop, Result, Ok, Err}
+use Rattle.std.specs.Prelude.{◌≡◌, ℕ, Bool, List, [], take, drop, Result, Ok, Err}
 use Rattle.source_trait.specs.Asking.{Seen}
 use Rattle.source_trait.specs.Causes.{Rose}
 use Rattle.source_trait.specs.declared.lanes.Lane.{Lane}
@@ -46,10 +46,12 @@ pub data Runs {S : Type 0} (seen : S → Seen) (words : List (List ℕ)) (before
   -- the words are `explain SCHEMA QUERY`, with a number of firings and one of search units
   explain : (name query : List ℕ) (firings search : ℕ) (result : Result Outcome Stop) → IsCommand words (Explain name query firings search) →
       ExplainEnds name query firings search before after result → new ≡ old → Runs seen words before after old new (ended result)
-  -- the words are `run SCHEMA QUERY`, with a number of firings, one of search units, one of workers and one of calls
-  run : (name query : List ℕ) (firings search workers calls : ℕ) (result : Result Outcome Stop) →
-      IsCommand words (Run name query firings search workers calls) →
-      RunEnds seen name query firings search calls before after (take workers old) (take workers new) result →
+  -- the words are `run SCHEMA QUERY`, with a number of firings, one of search units, one of workers and one of calls, and with the flag that
+  -- has the rules tested first, or not
+  run : (name query : List ℕ) (firings search workers calls : ℕ) (verify : Bool) (result : Result Outcome Stop) →
+      IsCommand words (Run name query firings search workers calls verify) →
+      RunEnds seen name query (record { firings = firings; search = search; calls = calls; verify = verify }) before after
+      (take workers old) (take workers new) result →
       drop workers new ≡ drop workers old → Runs seen words before after old new (ended result)
   -- the words are `exec SCHEMA PLAN`, with a number of workers and one of calls
   exec : (name plan : List ℕ) (workers calls : ℕ) (result : Result Outcome Stop) → IsCommand words (Exec name plan workers calls) →

@@ -1,5 +1,5 @@
 -- What the status of a run of `explain` or `run` says of the statement, and that of `check` of the plan.
-use Rattle.std.specs.Prelude.{◌⊎◌, ◌<◌, ℕ, List, Contains, Option, length}
+use Rattle.std.specs.Prelude.{◌⊎◌, ◌<◌, ℕ, false, List, Contains, Option, length}
 use Rattle.meaning.specs.declared.types.Firing.{Firing}
 use Rattle.meaning.specs.declared.types.Branch.{Branch}
 use Rattle.meaning.specs.declared.types.Plan.{Plan}
@@ -97,9 +97,10 @@ SaysOfPlan is.No told name query its firings = ReadWith told name query its IsWr
 SaysOfPlan is.Undecided told name query its firings = ReadWith told name query its (FiresOn firings)
 SaysOfPlan _ told name query its firings = Unit {0}
 
--- That is so of the commands that decide a statement, and of the one that judges a plan.
+-- That is so of the commands that decide a statement, and of the one that judges a plan; what is so of `run` with the rules tested first
+-- stands in `Verified`.
 abbrev pub SaysOf : Command → Option Contents → Status → Type 0
 SaysOf (Explain name query firings search) told status = Says status told name query firings
-SaysOf (Run name query firings search workers calls) told status = Says status told name query firings
+SaysOf (Run name query firings search workers calls false) told status = Says status told name query firings
 SaysOf (Check name query plan firings) told status = SaysOfPlan status told name query plan firings
 SaysOf _ told status = Unit {0}

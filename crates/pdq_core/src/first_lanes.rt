@@ -2,17 +2,15 @@
 ghost use Rattle.std.specs.Prelude.{◌≡◌, ◌≤◌, ◌++◌, take, drop};
 ghost use Rattle.std.specs.Borrow.{sem, LendsBoth, Array};
 ghost use Rattle.source_trait.specs.Lanes.{LanesStay};
-ghost use Rattle.rule_pass.specs.declared.pass.TheConstants.{MOST_FIRINGS};
-ghost use Rattle.proof_search.specs.declared.deciding.TheConstants.{MOST_UNITS};
 ghost use Rattle.command_io.specs.Moments.{Stays};
-ghost use Rattle.run_command.specs.Ends.{RunEnds};
+ghost use Rattle.run_command.specs.Ends.{AreWithin, RunEnds};
 ghost use Rattle.run_command.specs.World.{WorldEnds};
 ghost use Rattle.exec_command.specs.Ends.{ExecEnds};
 
 use command_io::{Outcome, Outputs, Outside, Stop};
 use exec_command::exec_plan;
 use lists::Text;
-use run_command::{run_query, run_world};
+use run_command::{Settings, run_query, run_world};
 use source_trait::{Files, Lane, Sink, Source};
 use std::alloc::Global;
 use std::thread::Threads;
@@ -23,27 +21,21 @@ pub fn run_on_first<R: Threads + Sync, F: Files, S: Source + Send + Drop, O: Sin
     alloc: Global,
     schema: &Text,
     query: &Text,
-    firings: u32,
-    search: u32,
+    settings: Settings,
     workers: u32,
-    calls: u32,
     outside: &mut Outside<F, O, E>,
     lanes: &mut Vec<Lane<S>>,
 ) -> Result<Outcome, Stop>
-    requires budget { firings ≤ MOST_FIRINGS }
-    requires units { search ≤ MOST_UNITS }
+    requires within { AreWithin settings }
     requires workers { workers ≤ 8 }
-    requires calls { calls ≤ 1_000_000 }
-    ensures ends { RunEnds S.seen schema.now query.now firings search calls outside.old outside.new
+    ensures ends { RunEnds S.seen schema.now query.now settings outside.old outside.new
         (take workers lanes.old.items) (take workers lanes.new.items) result }
     ensures behind { drop workers lanes.new.items ≡ drop workers lanes.old.items }
     ensures stays { Stays outside.old outside.new }
     ensures lanes { LanesStay S.seen lanes.old.items lanes.new.items }
 {
     let (used, _behind) = first_and_behind(lanes.as_mut_slice(), workers as usize);
-    run_query(
-        rt, alloc, schema, query, firings, search, calls, outside, used,
-    )
+    run_query(rt, alloc, schema, query, settings, outside, used)
 }
 
 /// `exec` on the first lanes. Those behind stay.

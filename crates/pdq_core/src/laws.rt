@@ -14,18 +14,19 @@ ghost use Rattle.command_io.specs.declared.exit_status.Status.{Status};
 ghost use Rattle.command_io.specs.declared.exit_status.Status.TheVariants as ends_in;
 ghost use Rattle.command_io.specs.Moments.{Moment};
 ghost use Rattle.command_words.specs.Words.{Command, IsCommand};
-ghost use Rattle.verify_command.specs.RuleRelations.{RulesName};
-ghost use Rattle.verify_command.specs.Verifying.{used};
+ghost use Rattle.rule_rows.specs.RuleRelations.{RulesName};
+ghost use Rattle.rule_rows.specs.Verifying.{used};
 ghost use Rattle.pdq_core.specs.Runs.{Runs};
 ghost use Rattle.pdq_core.specs.Complete.{NoneRose, OnLanes, NoSourceRose, OfferInstance, OfferUntold, KeepsCap, Serve, CanExecute, IsSupplied, IsAnswered};
 ghost use Rattle.pdq_core.specs.Statuses.{SaysOf};
-ghost use Rattle.pdq_core.specs.Exact.{HasNoLongRun, HasNone};
+ghost use Rattle.pdq_core.specs.Exact.{HasNoLongRun, DecidesAlone, HasNone};
+ghost use Rattle.pdq_core.specs.Verified.{SaysOfVerified};
 
 use command_words::words_are_one_command;
 use source_trait::Source;
 
 /// A run without faults is answered. Where the words are a command, what it needs is supplied and no count of faults of the
-/// files and the outputs rose, the status is `Done`, `No` or `Undecided`, or memory was wanted.
+/// files and the outputs rose, the status is `Done`, `No` or `Undecided`, or memory was wanted. A rule that is not met is an answer.
 pub fn runs_without_faults_are_answered<S: Source>()
     ensures { (words : List (List ℕ)) (command : Command) (before after : Moment) (old new : List (Lane S)) (status : Status) →
         Runs S.seen words before after old new status → IsCommand words command → NoneRose before after →
@@ -57,7 +58,7 @@ pub fn sources_that_do_not_tell_serve<S: Source>()
         Serve S.seen schema (RulesName schema) (used old) (used new) }
 {}
 
-/// The status of `explain` and of `run` is right. `Done` says that some lawful plan is equivalent to the statement, `No` that
+/// The status of `explain` and of `run` with no rules tested first is right. `Done` says that some lawful plan is equivalent to the statement, `No` that
 /// none is, and `Undecided` that there is a longer ordered run than the firings given. That of `check` is right too: `Done` says that the
 /// plan is lawful and equivalent to the statement, `No` that it is not, and `Undecided` that a base run from a frozen select or branch is
 /// longer than the firings given.
@@ -68,16 +69,26 @@ pub fn statuses_are_right<S: Source>()
     words_are_one_command();
 }
 
+/// The status of `run` with the rules tested first is right. `Done` says that some lawful plan is equivalent to the statement, and that
+/// whatever instance the first lane holds meets the rules; `No` that no plan is, or that no such instance meets them; and `Undecided` that
+/// there is a longer ordered run than the firings given.
+pub fn verified_statuses_are_right<S: Source>()
+    ensures { (words : List (List ℕ)) (command : Command) (before after : Moment) (old new : List (Lane S)) (status : Status) →
+        Runs S.seen words before after old new status → IsCommand words command → SaysOfVerified S.seen command before.files new status }
+{
+    words_are_one_command();
+}
+
 /// The status of `explain`, `run` and `check` is exact where the texts of their files are given and no run is longer than the firings
 /// given: no ordered run from a select, and for `check` no base run from a frozen select or branch. Then it is never `Undecided`; and
-/// where the command is answered and memory was found, it is `No` exactly where no lawful plan is equivalent to the statement, and for
-/// `check` exactly where the plan is not lawful or not equivalent to it.
+/// where the command is answered, memory was found and no rules are tested first, it is `No` exactly where no lawful plan is equivalent to
+/// the statement, and for `check` exactly where the plan is not lawful or not equivalent to it.
 pub fn statuses_are_exact<S: Source>()
     ensures undecided { (words : List (List ℕ)) (command : Command) (before after : Moment) (old new : List (Lane S)) (status : Status) →
         Runs S.seen words before after old new status → IsCommand words command → HasNoLongRun command before.files → status ≢ ends_in.Undecided }
     ensures none { (words : List (List ℕ)) (command : Command) (before after : Moment) (old new : List (Lane S)) (status : Status) →
         Runs S.seen words before after old new status → IsCommand words command → IsAnswered status → status ≢ ends_in.Memory →
-        HasNoLongRun command before.files → (status ≡ ends_in.No) ↔ HasNone command before.files }
+        HasNoLongRun command before.files → DecidesAlone command → (status ≡ ends_in.No) ↔ HasNone command before.files }
 {
     words_are_one_command();
 }

@@ -10,7 +10,7 @@ use check_command::check_plan;
 use command_io::{Outcome, Outside, Status, Stop, say, status};
 use command_words::{Command, read_words};
 use lists::Text;
-use run_command::explain_query;
+use run_command::{Settings, explain_query};
 use schema_command::print_schema;
 use source_trait::{Files, Lane, Sink, Source};
 use std::alloc::Global;
@@ -61,10 +61,17 @@ pub fn run_words<R: Threads + Sync, F: Files, S: Source + Send + Drop, O: Sink, 
                 search,
                 workers,
                 calls,
+                verify,
             },
-        ) => ended(run_on_first(
-            rt, alloc, schema, query, firings, search, workers, calls, outside, lanes,
-        )),
+        ) => {
+            let settings = Settings {
+                firings,
+                search,
+                calls,
+                verify,
+            };
+            ended(run_on_first(rt, alloc, schema, query, settings, workers, outside, lanes))
+        }
         Some(
             Command::Exec {
                 schema,

@@ -23,6 +23,7 @@ use Rattle.command_io.specs.declared.stop.Stop.{Stop}
 use Rattle.command_io.specs.declared.stop.Stop.TheVariants as stop
 use Rattle.command_io.specs.declared.outcome.Outcome.{Outcome}
 use Rattle.command_io.specs.declared.delivery.TheConstants.{CALLS}
+use Rattle.command_io.specs.Executing.{ExecutesOrStops}
 use Rattle.command_io.specs.Moments.{Outputs}
 use Rattle.command_io.specs.Telling.{StopsFor}
 use Rattle.command_io.specs.Reports.{summary}
@@ -55,6 +56,6 @@ pub data WorldEnds {S : Type 0} (seen : S → Seen) (size : ℕ) (before after :
   refused : (end : Stop) → StopsFor (WorldStop size) (record { schema = []; query = []; plan = []; relations = [] }) before.err after.err (Rose before.err_faults after.err_faults) end →
       after.out ≡ before.out → new ≡ old → WorldEnds seen size before after old new (Err end)
   read : (schema : Schema) (statement : Statement) (result : Result Outcome Stop) → IsSchemaText (schema_text size) schema → IsStatementText schema query_text statement →
-      StatementEnds seen schema statement FIRINGS UNITS CALLS (IsSummary seen size schema statement new)
+      StatementEnds schema statement FIRINGS UNITS (λ plan. ExecutesOrStops seen schema plan CALLS old new) (IsSummary seen size schema statement new)
       (record { schema = []; query = []; plan = []; relations = schema.relations }) before after old new result →
       WorldEnds seen size before after old new result

@@ -8,8 +8,10 @@
 mod deciding;
 mod explaining;
 mod run;
+mod settings;
 mod world;
 
 pub use explaining::explain_query;
 pub use run::run_query;
+pub use settings::Settings;
 pub use world::run_world;

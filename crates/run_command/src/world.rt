@@ -7,6 +7,7 @@ ghost use Rattle.world_source.specs.Texts.{query_text, schema_text};
 ghost use Rattle.run_command.specs.World.{WorldEnds, WorldStop};
 
 use crate::run::answer;
+use crate::settings::Settings;
 use access_schema::Schema;
 use command_io::{CALLS, FileNames, Outcome, Outputs, Report, Stop, tell};
 use lists::Text;
@@ -23,6 +24,14 @@ pub const FIRINGS: u32 = 10_000;
 
 /// How many units the search for a cheaper branch may take there.
 pub const UNITS: u32 = 10_000;
+
+// How far its query is taken.
+const SETTINGS: Settings = Settings {
+    firings: FIRINGS,
+    search: UNITS,
+    calls: CALLS,
+    verify: false,
+};
 
 /// Answers the query of the world of a size, and says why it stopped.
 ///
@@ -54,10 +63,8 @@ pub fn run_world<R: Threads + Sync, S: Source + Send + Drop, O: Sink, E: Sink>(
             names,
             &schema,
             &statement,
-            FIRINGS,
-            UNITS,
+            SETTINGS,
             Report::Summary(size),
-            CALLS,
             outputs,
             lanes,
         ),

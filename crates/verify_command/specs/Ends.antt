@@ -13,7 +13,16 @@ use Rattle.command_io.specs.Inputs.{SchemaIsRead, SchemaStop}
 use Rattle.command_io.specs.Moments.{Moment, ResultStop}
 use Rattle.command_io.specs.Writing.{TookAll, TookPart}
 use Rattle.command_io.specs.Telling.{StopsFor}
-use Rattle.verify_command.specs.Verifying.{Verifies, others}
+use Rattle.command_io.specs.Verified.{stop_of_verify}
+use Rattle.rule_rows.specs.RuleRelations.{needed_first}
+use Rattle.rule_rows.specs.Verifying.{Verifies, others}
+use Rattle.rule_rows.specs.declared.fault.VerifyFault.{VerifyFault}
+
+-- What testing the rules gave, as a command sees it: why they were not tested is a stop.
+abbrev pub TestsOrStops : {S : Type 0} → (S → Seen) → Schema → List (Lane S) → List (Lane S) → Result (Option Broken) Stop → Type 0
+TestsOrStops seen schema old new (Ok found) = Verifies seen schema (needed_first schema) old new (Ok found)
+TestsOrStops seen schema old new (Err end) =
+    (why : VerifyFault) × Verifies seen schema (needed_first schema) old new (Err why) × (end ≡ stop_of_verify why)
 
 -- The outcome is done where no rule is broken, and no where one is.
 abbrev pub outcome_of : Option Broken → Outcome
@@ -28,16 +37,16 @@ pub data VerifyEnds {S : Type 0} (seen : S → Seen) (name : List ℕ) (before a
       (record { schema = name; query = []; plan = []; relations = [] }) before.err after.err (Rose before.err_faults after.err_faults) end →
       after.out ≡ before.out → new ≡ old → VerifyEnds seen name before after old new (Err end)
   stopped : (schema : Schema) (why end : Stop) → SchemaIsRead before.files name schema →
-      Verifies seen schema old new (Err why) → others new ≡ others old →
+      TestsOrStops seen schema old new (Err why) → others new ≡ others old →
       StopsFor (λ given. given ≡ why)
       (record { schema = name; query = []; plan = []; relations = schema.relations }) before.err after.err (Rose before.err_faults after.err_faults) end →
       after.out ≡ before.out → VerifyEnds seen name before after old new (Err end)
   cut : (schema : Schema) (found : Option Broken) (end : Stop) → SchemaIsRead before.files name schema →
-      Verifies seen schema old new (Ok found) → others new ≡ others old →
+      TestsOrStops seen schema old new (Ok found) → others new ≡ others old →
       (after.out ≡ before.out) ⊎ TookPart before.out after.out (verification_text schema found) →
       StopsFor (ResultStop (Rose before.out_faults after.out_faults))
       (record { schema = name; query = []; plan = []; relations = schema.relations }) before.err after.err (Rose before.err_faults after.err_faults) end →
       VerifyEnds seen name before after old new (Err end)
   done : (schema : Schema) (found : Option Broken) → SchemaIsRead before.files name schema →
-      Verifies seen schema old new (Ok found) → others new ≡ others old → TookAll before.out after.out (verification_text schema found) →
+      TestsOrStops seen schema old new (Ok found) → others new ≡ others old → TookAll before.out after.out (verification_text schema found) →
       after.err ≡ before.err → VerifyEnds seen name before after old new (Ok (outcome_of found))

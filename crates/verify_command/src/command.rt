@@ -5,13 +5,14 @@ ghost use Rattle.source_trait.specs.Lanes.{LanesStay};
 ghost use Rattle.data_verify.specs.Telling.{verification_text as text_of};
 ghost use Rattle.command_io.specs.Moments.{Stays, ResultStop};
 ghost use Rattle.command_io.specs.Writing.{TookAll, TookPart};
-ghost use Rattle.verify_command.specs.Ends.{VerifyEnds, outcome_of};
+ghost use Rattle.rule_rows.specs.Verifying.{others};
+ghost use Rattle.verify_command.specs.Ends.{TestsOrStops, VerifyEnds, outcome_of};
 
-use crate::verifying::first_broken;
 use access_schema::Schema;
-use command_io::{FileNames, Outcome, Outside, Stop, print, schema_of, tell};
+use command_io::{FileNames, Outcome, Outside, Stop, print, schema_of, stop_of_verify, tell};
 use data_verify::{Broken, verification_text};
 use lists::Text;
+use rule_rows::verify_rows;
 use source_trait::{Files, Lane, Sink, Source};
 use std::alloc::Global;
 
@@ -47,6 +48,22 @@ pub fn verify_rules<F: Files, S: Source + Send + Drop, O: Sink, E: Sink>(
     match write_found(alloc, &schema, &found, &mut outside.outputs.out) {
         Ok(()) => Ok(outcome(&found)),
         Err(stop) => Err(tell(alloc, &mut outside.outputs.err, stop, names, relations)),
+    }
+}
+
+// The first rule that the rows on the first lane do not meet, or the stop that says why that is not known.
+fn first_broken<S: Source + Send + Drop>(
+    alloc: Global,
+    schema: &Schema,
+    lanes: &mut Vec<Lane<S>>,
+) -> Result<Option<Broken>, Stop>
+    ensures verifies { TestsOrStops S.seen schema.now lanes.old.items lanes.new.items result }
+    ensures others { others lanes.new.items ≡ others lanes.old.items }
+    ensures lanes { LanesStay S.seen lanes.old.items lanes.new.items }
+{
+    match verify_rows(alloc, schema, lanes.as_mut_slice()) {
+        Ok(found) => Ok(found),
+        Err(fault) => Err(stop_of_verify(fault)),
     }
 }
 

@@ -4,9 +4,6 @@
 //! Begin at `specs/Ends.antt`, which says how the command ends.
 #![tactic(auto)]
 
-mod ask;
 mod command;
-mod relations;
-mod verifying;
 
 pub use command::verify_rules;

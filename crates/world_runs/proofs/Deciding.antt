@@ -126,7 +126,7 @@ module _ (n : ℕ) (schema : Schema) (is : IsWorldSchema n schema) where
       (omega (arith, most, least), refl)
   said_least branch (SearchSpent units) cost rival costs (spent, of_form) =
       let form = subst (λ (s : SchemaParts). IsConjunctive s world_select of_form.query) meant of_form.form in
-      let so : NoneIsEnough world [] FIRINGS UNITS of_form.query = subst (λ (cs : List Value). NoneIsEnough world cs FIRINGS UNITS of_form.query) known (subst (λ (s : SchemaParts). NoneIsEnough s (known_of schema world_statement) FIRINGS UNITS of_form.query) meant of_form.so) in
+      let so : NoneIsEnough world [] FIRINGS UNITS of_form.query = subst (λ (cs : List Value). NoneIsEnough world cs FIRINGS UNITS of_form.query) known (subst (λ (s : SchemaParts). NoneIsEnough s (known_of schema world_statement) FIRINGS UNITS of_form.query) meant of_form.so.none_enough) in
       absurd (so 8 8 (enough of_form.query form))
   said_least branch (FiringsSpent firings) cost rival costs (spent, of_form) =
       let form = subst (λ (s : SchemaParts). IsConjunctive s world_select of_form.query) meant of_form.form in

@@ -42,7 +42,7 @@ use Rattle.command_io.specs.FaultLines.{Names}
 use Rattle.command_io.specs.Telling.{StopsFor}
 use Rattle.command_io.specs.Reports.{summary}
 use Rattle.command_io.specs.Writing.{TookAll}
-use Rattle.command_io.specs.Executing.{Delivers}
+use Rattle.command_io.specs.Executing.{ExecutesOrStops, Delivers}
 use Rattle.command_io.specs.Executing.Delivers.{done as delivered, no_rows, no_text, cut}
 use Rattle.command_io.proofs.Later.{rose_between}
 use Rattle.run_command.specs.Deciding.{IsPlanned, plan}
@@ -120,8 +120,9 @@ module _ {S : Type 0} (seen : S → Seen) (size : ℕ) (some : 1 ≤ size) (few 
         (on_lanes (NoRiseOf seen (codes "world")) (NoSourceRose seen schema (IsAccessed schema its)) (world_calm size some few schema is seen its) old new (lanes_calm seen old new stay lanes))
         (keeps_cap size some few schema is its one)
 
-    stops : (IsText : Run → List ℕ → Type 0) (why : Stop) → Delivers seen schema its CALLS IsText old new before.out after.out (Rose before.out_faults after.out_faults) (Err why) → IsOver why
-    stops IsText _ (no_rows fault executes same) = subst IsOver (sym (execution_stop seen schema its CALLS old new can fault executes)) no_memory
+    stops : (IsText : Run → List ℕ → Type 0) (why : Stop) → Delivers (ExecutesOrStops seen schema its CALLS old new) IsText before.out after.out (Rose before.out_faults after.out_faults) (Err why) → IsOver why
+    stops IsText _ (no_rows end (fault, executes, is_end) same) =
+        subst IsOver (sym (is_end ∙ execution_stop seen schema its CALLS old new can fault executes)) no_memory
     stops IsText _ (no_text run executes same) = no_memory
     stops IsText _ (cut run text end executes is_text part cause) = result_stop end cause
 
@@ -130,7 +131,7 @@ module _ {S : Type 0} (seen : S → Seen) (size : ℕ) (some : 1 ≤ size) (few 
         lanes_hold seen schema its (world_facts size) old new offers
         (all_attached seen schema its old middle new each (each_asked seen schema rounds.list (map started middle) new rounds.asks))
 
-    over : Delivers seen schema its CALLS (IsSummary seen size schema world_statement new its) old new before.out after.out (Rose before.out_faults after.out_faults) (Ok tt) → WorldIsOver size before after (Ok outcome.Done)
+    over : Delivers (ExecutesOrStops seen schema its CALLS old new) (IsSummary seen size schema world_statement new its) before.out after.out (Rose before.out_faults after.out_faults) (Ok tt) → WorldIsOver size before after (Ok outcome.Done)
     over (delivered run text executes is_text took) =
         let meant = world_meaning size schema is in
         let hold = held run executes.does in
@@ -145,7 +146,7 @@ module _ {S : Type 0} (seen : S → Seen) (size : ℕ) (some : 1 ≤ size) (few 
         done run.rows count (subst (TookAll before.out after.out) (is_text.given ∙ ap (λ made. summary size made run.rows) made) took)
 
   statement_over : (schema : Schema) → IsWorldSchema size schema → (names : Names) (result : Result Outcome Stop) →
-      StatementEnds seen schema world_statement FIRINGS UNITS CALLS (IsSummary seen size schema world_statement new) names before after old new result → WorldIsOver size before after result
+      StatementEnds schema world_statement FIRINGS UNITS (λ plan. ExecutesOrStops seen schema plan CALLS old new) (IsSummary seen size schema world_statement new) names before after old new result → WorldIsOver size before after result
   statement_over schema is names _ (no_decision end why quiet same) = stops_with IsOver end no_memory (λ given memory. subst IsOver (sym memory) no_memory) why
   statement_over schema is names _ (untold decision middle count end of took why quiet same) = stops_with IsOver end no_memory (λ given cause. decision_stop count.faults count.begun count.ended given cause) why
   statement_over schema is names _ (refuted text pair took quiet same) = absurd (never_refuted size schema is pair.pair pair.refutes)
@@ -161,4 +162,4 @@ module _ {S : Type 0} (seen : S → Seen) (size : ℕ) (some : 1 ≤ size) (few 
       let same = statement_alone size schema statement own are in
       let names : Names = record { schema = []; query = []; plan = []; relations = schema.relations } in
       statement_over schema own names result
-      (subst (λ (t : Statement). StatementEnds seen schema t FIRINGS UNITS CALLS (IsSummary seen size schema t new) names before after old new result) same ends)
+      (subst (λ (t : Statement). StatementEnds schema t FIRINGS UNITS (λ plan. ExecutesOrStops seen schema plan CALLS old new) (IsSummary seen size schema t new) names before after old new result) same ends)

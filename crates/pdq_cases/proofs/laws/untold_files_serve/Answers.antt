@@ -1,6 +1,6 @@
 use Rattle.middleware.specs.PlanSources.{IsAccessed}
-use Rattle.verify_command.specs.RuleRelations.{RulesName}
-use Rattle.verify_command.specs.Verifying.{used}
+use Rattle.rule_rows.specs.RuleRelations.{RulesName}
+use Rattle.rule_rows.specs.Verifying.{used}
 use Rattle.pdq_cases.proofs.Folders.{untold_offer}
 use Rattle.pdq_cases.proofs.laws.untold_files_serve.Goals as goal
 

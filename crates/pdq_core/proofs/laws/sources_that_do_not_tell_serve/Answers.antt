@@ -1,5 +1,5 @@
-use Rattle.verify_command.specs.RuleRelations.{RulesName}
-use Rattle.verify_command.specs.Verifying.{used}
+use Rattle.rule_rows.specs.RuleRelations.{RulesName}
+use Rattle.rule_rows.specs.Verifying.{used}
 use Rattle.pdq_core.proofs.CompleteOffers.{untold_serve, lanes_untold}
 use Rattle.pdq_core.proofs.laws.sources_that_do_not_tell_serve.Goals as goal
 

@@ -1,5 +1,5 @@
-use Rattle.verify_command.specs.RuleRelations.{RulesName}
-use Rattle.verify_command.specs.Verifying.{used}
+use Rattle.rule_rows.specs.RuleRelations.{RulesName}
+use Rattle.rule_rows.specs.Verifying.{used}
 use Rattle.pdq_core.proofs.CompleteOffers.{offers_serve, offers_execute}
 use Rattle.pdq_core.proofs.laws.sources_that_tell_serve.Goals as goal
 

@@ -6,7 +6,7 @@ use Rattle.command_io.proofs.Lines.{said_tells}
 use Rattle.command_words.specs.Words.{IsCommand}
 use Rattle.command_words.specs.Words.Command.{Help, Schema, Explain, Run, Exec, Check, Verify, World}
 use Rattle.pdq_core.specs.Runs.Runs.{no_command, help, schema, explain, run, exec, check, verify, world}
-use Rattle.pdq_core.proofs.Ways.{few_explained, few_run, few_checked, units_explained, units_run, workers_run, workers_exec, calls_run, calls_exec, workers_world, small_world}
+use Rattle.pdq_core.proofs.Ways.{few_explained, settings_run, few_checked, units_explained, workers_run, workers_exec, calls_exec, workers_world, small_world}
 use Rattle.pdq_core.proofs.top.run_words.Goals as goal
 
 pub returns-in-None-clause-run : goal.returns-in-None-clause-run
@@ -62,8 +62,9 @@ explain_query-requires-clause-units g c =
 
 pub returns-in-Some-Run-clause-run : goal.returns-in-Some-Run-clause-run
 returns-in-Some-Run-clause-run g c =
-    let is : IsCommand c.args.words.now (Run c.in-Some-Run.schema.now c.in-Some-Run.query.now c.in-Some-Run.firings c.in-Some-Run.search c.in-Some-Run.workers c.in-Some-Run.calls) = rw c.in-Some-Run.field-0-is at c.in-Some-Run.ensures.some in
-    rw c.ended-in-Some-Run.ensures (run c.in-Some-Run.schema.now c.in-Some-Run.query.now c.in-Some-Run.firings c.in-Some-Run.search c.in-Some-Run.workers c.in-Some-Run.calls c.run_on_first.result is c.run_on_first.ensures.ends c.run_on_first.ensures.behind)
+    let is : IsCommand c.args.words.now (Run c.in-Some-Run.schema.now c.in-Some-Run.query.now c.in-Some-Run.firings c.in-Some-Run.search c.in-Some-Run.workers c.in-Some-Run.calls c.in-Some-Run.verify) = rw c.in-Some-Run.field-0-is at c.in-Some-Run.ensures.some in
+    rw c.ended-in-Some-Run.ensures (run c.in-Some-Run.schema.now c.in-Some-Run.query.now c.in-Some-Run.firings c.in-Some-Run.search c.in-Some-Run.workers c.in-Some-Run.calls c.in-Some-Run.verify c.run_on_first.result is
+    c.run_on_first.ensures.ends c.run_on_first.ensures.behind)
 
 pub returns-in-Some-Run-clause-stays : goal.returns-in-Some-Run-clause-stays
 returns-in-Some-Run-clause-stays g c = c.run_on_first.ensures.stays
@@ -71,18 +72,14 @@ returns-in-Some-Run-clause-stays g c = c.run_on_first.ensures.stays
 pub returns-in-Some-Run-clause-lanes : goal.returns-in-Some-Run-clause-lanes
 returns-in-Some-Run-clause-lanes g c = c.run_on_first.ensures.lanes
 
-pub run_on_first-requires-clause-budget : goal.run_on_first-requires-clause-budget
-run_on_first-requires-clause-budget g c κs within = few_run c.args.words.now c.in-Some-Run.schema.now c.in-Some-Run.query.now c.in-Some-Run.firings c.in-Some-Run.search c.in-Some-Run.workers c.in-Some-Run.calls (rw c.in-Some-Run.field-0-is at c.in-Some-Run.ensures.some)
-
-pub run_on_first-requires-clause-units : goal.run_on_first-requires-clause-units
-run_on_first-requires-clause-units g c κs within = units_run c.args.words.now c.in-Some-Run.schema.now c.in-Some-Run.query.now c.in-Some-Run.firings c.in-Some-Run.search c.in-Some-Run.workers c.in-Some-Run.calls (rw c.in-Some-Run.field-0-is at c.in-Some-Run.ensures.some)
+pub run_on_first-requires-clause-within : goal.run_on_first-requires-clause-within
+run_on_first-requires-clause-within g c κs within =
+    settings_run c.args.words.now c.in-Some-Run.schema.now c.in-Some-Run.query.now c.in-Some-Run.firings c.in-Some-Run.search c.in-Some-Run.workers c.in-Some-Run.calls c.in-Some-Run.verify
+    (rw c.in-Some-Run.field-0-is at c.in-Some-Run.ensures.some)
 
 pub run_on_first-requires-clause-workers : goal.run_on_first-requires-clause-workers
-run_on_first-requires-clause-workers g c κs within = workers_run c.args.words.now c.in-Some-Run.schema.now c.in-Some-Run.query.now c.in-Some-Run.firings c.in-Some-Run.search c.in-Some-Run.workers c.in-Some-Run.calls (rw c.in-Some-Run.field-0-is at c.in-Some-Run.ensures.some)
-
-pub run_on_first-requires-clause-calls : goal.run_on_first-requires-clause-calls
-run_on_first-requires-clause-calls g c κs within =
-    calls_run c.args.words.now c.in-Some-Run.schema.now c.in-Some-Run.query.now c.in-Some-Run.firings c.in-Some-Run.search c.in-Some-Run.workers c.in-Some-Run.calls
+run_on_first-requires-clause-workers g c κs within =
+    workers_run c.args.words.now c.in-Some-Run.schema.now c.in-Some-Run.query.now c.in-Some-Run.firings c.in-Some-Run.search c.in-Some-Run.workers c.in-Some-Run.calls c.in-Some-Run.verify
     (rw c.in-Some-Run.field-0-is at c.in-Some-Run.ensures.some)
 
 pub returns-in-Some-Exec-clause-run : goal.returns-in-Some-Exec-clause-run

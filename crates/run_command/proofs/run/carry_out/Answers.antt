@@ -23,7 +23,7 @@ returns-in-Err-clause-lanes g c = LanesStay-refl g.S.Source.seen c.args.lanes.no
 
 pub returns-in-NoPlan-clause-ends : goal.returns-in-NoPlan-clause-ends
 returns-in-NoPlan-clause-ends g c statement firings search fits decided =
-    rw (← c.outputs.view_is) (none_told g.S.Source.seen c.args.schema.now statement firings search c.args.decision.now decided fits c.args.calls
+    rw (← c.outputs.view_is) (none_told c.args.schema.now statement firings search c.args.decision.now decided fits _
     _ _ _ _ _ _ refl refl c.in-NoPlan.field-0 c.in-NoPlan.is c.in-Ok.ensures.whole)
 
 pub returns-in-NoPlan-clause-lanes : goal.returns-in-NoPlan-clause-lanes
@@ -31,36 +31,36 @@ returns-in-NoPlan-clause-lanes g c = LanesStay-refl g.S.Source.seen c.args.lanes
 
 pub returns-in-Undecided-clause-ends : goal.returns-in-Undecided-clause-ends
 returns-in-Undecided-clause-ends g c statement firings search fits decided =
-    rw (← c.outputs.view_is) (log_told g.S.Source.seen c.args.schema.now statement firings search c.args.decision.now decided fits c.args.calls
+    rw (← c.outputs.view_is) (log_told c.args.schema.now statement firings search c.args.decision.now decided fits _
     _ _ _ _ _ _ refl refl c.in-Undecided.select c.in-Undecided.log c.in-Undecided.is c.in-Ok.ensures.whole)
 
 pub returns-in-Undecided-clause-lanes : goal.returns-in-Undecided-clause-lanes
 returns-in-Undecided-clause-lanes g c = LanesStay-refl g.S.Source.seen c.args.lanes.now
 
-pub deliver-requires-clause-lawful : goal.deliver-requires-clause-lawful
-deliver-requires-clause-lawful g c κs within =
+pub deliver_as-requires-clause-lawful : goal.deliver_as-requires-clause-lawful
+deliver_as-requires-clause-lawful g c κs within =
     let (statement, firings, search, decided) = c.requires.decided in
-    let is = plan_of g.S.Source.seen c.args.schema.now statement firings search c.args.decision.now decided c.in-Plan.plan c.in-Plan.selects c.in-Plan.is in
+    let is = plan_of c.args.schema.now statement firings search c.args.decision.now decided c.in-Plan.plan c.in-Plan.selects c.in-Plan.is in
     (known_of c.args.schema.now statement, is.0.lawful)
 
-pub deliver-requires-clause-short : goal.deliver-requires-clause-short
-deliver-requires-clause-short g c κs within =
+pub deliver_as-requires-clause-short : goal.deliver_as-requires-clause-short
+deliver_as-requires-clause-short g c κs within =
     let (statement, firings, search, decided) = c.requires.decided in
-    let is = plan_of g.S.Source.seen c.args.schema.now statement firings search c.args.decision.now decided c.in-Plan.plan c.in-Plan.selects c.in-Plan.is in
+    let is = plan_of c.args.schema.now statement firings search c.args.decision.now decided c.in-Plan.plan c.in-Plan.selects c.in-Plan.is in
     short c.in-Plan.plan is.1.few
 
-pub returns-in-Ok-deliver-clause-ends : goal.returns-in-Ok-deliver-clause-ends
-returns-in-Ok-deliver-clause-ends g c statement firings search fits decided =
-    let told = plan_told g.S.Source.seen c.args.schema.now statement firings search c.args.decision.now decided c.in-Plan.plan c.in-Plan.selects _ _ c.in-Plan.is c.in-Ok.ensures.whole in
-    rw (← c.outputs.view_is) (done c.in-Plan.plan c.in-Plan.selects told.0 told.1 c.in-Ok-deliver.ensures.delivers)
+pub returns-in-Ok-deliver_as-clause-ends : goal.returns-in-Ok-deliver_as-clause-ends
+returns-in-Ok-deliver_as-clause-ends g c statement firings search fits decided =
+    let told = plan_told c.args.schema.now statement firings search c.args.decision.now decided c.in-Plan.plan c.in-Plan.selects _ _ c.in-Plan.is c.in-Ok.ensures.whole in
+    rw (← c.outputs.view_is) (done c.in-Plan.plan c.in-Plan.selects told.0 told.1 c.in-Ok-deliver_as.ensures.delivers)
 
-pub returns-in-Err-deliver-clause-ends : goal.returns-in-Err-deliver-clause-ends
-returns-in-Err-deliver-clause-ends g c statement firings search fits decided =
-    let told = plan_told g.S.Source.seen c.args.schema.now statement firings search c.args.decision.now decided c.in-Plan.plan c.in-Plan.selects _ _ c.in-Plan.is c.in-Ok.ensures.whole in
+pub returns-in-Err-deliver_as-clause-ends : goal.returns-in-Err-deliver_as-clause-ends
+returns-in-Err-deliver_as-clause-ends g c statement firings search fits decided =
+    let told = plan_told c.args.schema.now statement firings search c.args.decision.now decided c.in-Plan.plan c.in-Plan.selects _ _ c.in-Plan.is c.in-Ok.ensures.whole in
     rw (← c.outputs.view_is) (stopped c.in-Plan.plan c.in-Plan.selects (g.E.Sink.taken c.write_decision.new.sink)
-    (record { faults = g.E.Sink.faults c.write_decision.new.sink; begun = c.write_decision.ensures.later; ended = c.tell-in-Err-deliver.ensures.later })
-    c.in-Err-deliver.stop c.tell-in-Err-deliver.result told.0 told.1 c.in-Err-deliver.ensures.delivers (record {
-      given = c.in-Err-deliver.stop;
+    (record { faults = g.E.Sink.faults c.write_decision.new.sink; begun = c.write_decision.ensures.later; ended = c.tell-in-Err-deliver_as.ensures.later })
+    c.in-Err-deliver_as.stop c.tell-in-Err-deliver_as.result told.0 told.1 c.in-Err-deliver_as.ensures.delivers (record {
+      given = c.in-Err-deliver_as.stop;
       cause = refl;
-      tells = rw c.as_slice-relations.ensures at c.tell-in-Err-deliver.ensures.tells;
+      tells = rw c.as_slice-relations.ensures at c.tell-in-Err-deliver_as.ensures.tells;
     }))

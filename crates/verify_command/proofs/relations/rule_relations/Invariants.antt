@@ -1,6 +1,0 @@
-use Rattle.std.proofs.Common.{◌≡◌, take}
-use Rattle.verify_command.specs.Listing.{relations_in}
-use Rattle.verify_command.proofs.relations.rule_relations.Given as goal
-
-abbrev pub invariant-loop-rule : goal.invariant-loop-rule
-invariant-loop-rule l = l.rels.items ≡ relations_in (take l.rule-index l.rule-items)
