@@ -1,0 +1,1 @@
+SELECT DISTINCT one.a FROM staff AS one, staff AS two
