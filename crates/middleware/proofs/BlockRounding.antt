@@ -41,7 +41,7 @@ use Rattle.middleware.proofs.LaneShares.{each_some}
 
 -- ---- places and live columns
 
-named_at : (places : List Place) (p k : ℕ) → slice_get places p ≡ Some (Col k) → is_named places k ≡ true
+pub named_at : (places : List Place) (p k : ℕ) → slice_get places p ≡ Some (Col k) → is_named places k ≡ true
 named_at [] p k e = absurd (cc)
 named_at (Const c ∷ places) zero k e = absurd (cc)
 named_at (Const c ∷ places) (suc p) k e = named_at places p k e
@@ -54,7 +54,7 @@ named_at (New ∷ places) zero k e = absurd (cc)
 named_at (New ∷ places) (suc p) k e = named_at places p k e
 
 -- each column that a place names, of those before the step, is live
-places_live : (n m : ℕ) → n ≤ m → (P : ℕ → Type 0) (places : List Place) → ((k : ℕ) → is_named places k ≡ true → P k) → OfNames (λ k. k < n → P k) m places
+pub places_live : (n m : ℕ) → n ≤ m → (P : ℕ → Type 0) (places : List Place) → ((k : ℕ) → is_named places k ≡ true → P k) → OfNames (λ k. k < n → P k) m places
 places_live n m more P [] are = tt
 places_live n m more P (Const c ∷ places) are = places_live n m more P places are
 places_live n m more P (Col j ∷ places) are = (
@@ -84,7 +84,7 @@ local_constant row columns n (New ∷ places) (Col b ∷ locals) after p began i
 local_constant row columns n (New ∷ places) (New ∷ locals) after zero began i h = absurd h
 local_constant row columns n (New ∷ places) (New ∷ locals) after (suc p) began i h = local_constant row (columns ++ n ∷ []) (n + 1) places locals after p began i h
 
-constants_of : (row : List (List ℕ)) (columns : List ℕ) (n : ℕ) (places locals : List Place) (after : List ℕ) (began : ℕ) (inputs : List ℕ) → IsLocal columns n places locals after
+pub constants_of : (row : List (List ℕ)) (columns : List ℕ) (n : ℕ) (places locals : List Place) (after : List ℕ) (began : ℕ) (inputs : List ℕ) → IsLocal columns n places locals after
     → ((p : ℕ) → Contains inputs p → IsInput began (slice_get places p)) → AllZip (λ p value. HasConstant (slice_get places p) value) inputs (input_row_of locals inputs row)
 constants_of row columns n places locals after began [] i are = tt
 constants_of row columns n places locals after began (p ∷ inputs) i are =
@@ -120,7 +120,7 @@ module _ {S : Type 0} (seen : S → Seen) (schema : Schema) (well : IsWellFormed
       at_table : IsWanted asking.step.places method.inputs a.table.rows list
       at_table = subst (λ (r : RowList). IsWanted asking.step.places method.inputs r list) a.rows_are wanted
 
-      wants : WantsOf seen schema step steps outs n blocks method list
+      pub wants : WantsOf seen schema step steps outs n blocks method list
       wants partial m = record {
         ascends = wanted.ascends;
         same = λ values.
@@ -131,7 +131,7 @@ module _ {S : Type 0} (seen : S → Seen) (schema : Schema) (well : IsWellFormed
             );
       }
 
-      of_step : AreOfStep seen schema step steps outs n blocks method list
+      pub of_step : AreOfStep seen schema step steps outs n blocks method list
       of_step request c =
           let (values, among, is) = contains_mapped (λ v. record { rel = method.rel; positions = method.inputs; values = v }) list request c in
           let (row, of, e) = contains_mapped (input_row_of asking.step.places method.inputs) a.table.rows values ((at_table.same values).0 among) in

@@ -18,7 +18,7 @@ use Rattle.middleware.proofs.LaneNumbers.{moved, behind, AllBelow, all_below, be
 
 -- ---- requests at numbers
 
-got_behind : (xs ys : List Request) (k : ℕ) → slice_get (xs ++ ys) (length xs + k) ≡ slice_get ys k
+pub got_behind : (xs ys : List Request) (k : ℕ) → slice_get (xs ++ ys) (length xs + k) ≡ slice_get ys k
 got_behind [] ys k = ap (slice_get ys) (omega arith)
 got_behind (x ∷ xs) ys k = let e : length (x ∷ xs) + k ≡ suc (length xs + k) = omega arith in ap (slice_get (x ∷ (xs ++ ys))) e ∙ got_behind xs ys k
 

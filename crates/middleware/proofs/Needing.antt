@@ -62,10 +62,6 @@ any_of q (k ∷ ks) c = elim (contains_cases k ks q c) [
     either true b e = refl
     either false b e = e
 
-pub is_off : (b : Bool) → not b ≡ true → b ≡ false
-is_off true e = absurd (cc)
-is_off false e = refl
-
 -- one relation more
 pub rel_more : (P : ℕ → Type 0) (rels : List ℕ) (i rel : ℕ) → slice_get rels i ≡ Some rel
     → ((k other : ℕ) → k < i → slice_get rels k ≡ Some other → P other) → P rel

@@ -4,16 +4,13 @@ use Rattle.std.specs.Prelude.{slice_get}
 use Rattle.std.proofs.lemmas.Bool.{cases_lt}
 use Rattle.std.proofs.lemmas.List.{append-nil}
 use Rattle.lists.proofs.Members.{got_before, some_injective}
+use Rattle.lists.proofs.Places.{got_after}
 use Rattle.meaning.specs.declared.types.Step.{Step}
 use Rattle.meaning.specs.declared.types.Branch.{Branch}
 use Rattle.meaning.specs.declared.types.Plan.{Plan}
 use Rattle.shared_rounds.specs.SharedRounds.{Turn, turns_from, turns_in, turns_of, steps_in, IsNth}
 
-got_behind : {X : Type 0} (xs ys : List X) (k : ℕ) → slice_get (xs ++ ys) (length xs + k) ≡ slice_get ys k
-got_behind [] ys k = ap (slice_get ys) (omega arith)
-got_behind (x ∷ xs) ys k = let e : length (x ∷ xs) + k ≡ suc (length xs + k) = omega arith in ap (slice_get (x ∷ (xs ++ ys))) e ∙ got_behind xs ys k
-
-turns_long : (branch n : ℕ) (before steps : List Step) → length (turns_from branch n before steps) ≡ length steps
+pub turns_long : (branch n : ℕ) (before steps : List Step) → length (turns_from branch n before steps) ≡ length steps
 turns_long branch n before [] = refl
 turns_long branch n before (step ∷ steps) = ap suc (turns_long branch (n + 1) (before ++ step ∷ []) steps)
 
@@ -80,7 +77,7 @@ in_branches m (branch ∷ branches) n turn got = ⊎_elim here (there (λ k at. 
     there later over =
         let e : length (turns_from m 0 [] branch.steps) + (n - length (turns_from m 0 [] branch.steps)) ≡ n = omega (arith, over) in
         let r = later (n - length (turns_from m 0 [] branch.steps))
-        (sym (got_behind (turns_from m 0 [] branch.steps) (turns_in (m + 1) branches) (n - length (turns_from m 0 [] branch.steps)))
+        (sym (got_after (turns_from m 0 [] branch.steps) (turns_in (m + 1) branches) (n - length (turns_from m 0 [] branch.steps)))
         ∙ ap (slice_get (turns_from m 0 [] branch.steps ++ turns_in (m + 1) branches)) e ∙ got) in record {
           place = suc r.place;
           its = r.its;

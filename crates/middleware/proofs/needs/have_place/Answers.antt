@@ -1,7 +1,8 @@
 use Rattle.std.proofs.Common.{◌≡◌, ◌<◌, inr, false, true, length, refl, sym, ◌∙◌, rules, arith}
 use Rattle.std.proofs.lemmas.Option.{slice_get_read}
 use Rattle.middleware.specs.Sources.{needs_at}
-use Rattle.middleware.proofs.Needing.{placed_more, placed_all, needs_next, is_off}
+use Rattle.lists.proofs.Booleans.{not_true}
+use Rattle.middleware.proofs.Needing.{placed_more, placed_all, needs_next}
 use Rattle.middleware.proofs.needs.have_place.Goals.{else-needs-via-then-needs+else-not-there, else-needs-via-else-needs}
 use Rattle.middleware.proofs.needs.have_place.Goals as goal
 
@@ -36,7 +37,7 @@ loop-lane-preserved g c = record {
 
 pub returns-clause-all : goal.returns-clause-all
 returns-clause-all g c = λ e.
-    let off : c.is_empty.result ≡ false = is_off c.is_empty.result e in
+    let off : c.is_empty.result ≡ false = not_true c.is_empty.result e in
     let some : 0 < length c.args.lanes.now = search rules in
     placed_all c.args.lanes.now c.args.lines.now c.args.rel (λ place. needs_at c.args.by_others place ≡ true) c.loop-lane.lane-index (omega arith) some
     c.loop-lane.invariant.each
