@@ -8,7 +8,7 @@ use Rattle.std.proofs.lemmas.Bool.{and_parts, le-leb, leb-true}
 use Rattle.std.proofs.lemmas.Fmt.{decimal_injective, decimal_is_IsNumeral}
 use Rattle.command_words.specs.Table.{command_word, takes, takes_flag, least, limit, InRange, default_number}
 use Rattle.command_words.specs.Splits.{Item, Splits, positionals_of, times_raised, IsSet, Once, Absent, IsRaised}
-use Rattle.command_words.specs.Words.{Command, Help, Schema, Explain, Run, Exec, Check, Verify, World, Setting, Flag, Asks, firings, firings_and_search, workers, workers_and_calls, IsCommand, seen_as}
+use Rattle.command_words.specs.Words.{Command, Help, Schema, Explain, Run, Batch, Exec, Check, Verify, Crawl, Reach, World, Setting, Flag, Asks, firings, firings_and_search, workers, workers_and_calls, IsCommand, seen_as}
 use Rattle.command_words.specs.Arguments.{words_of, given_number, number_of, size_of, IsGiven, AreArguments, MayBe, made}
 use Rattle.command_words.specs.declared.command.Command.{Command as Coded}
 use Rattle.command_words.specs.declared.table.CommandName.{CommandName}
@@ -25,8 +25,9 @@ named_by : List ℕ → CommandName
 named_by word =
     if pointwise nat_eq word (codes "help") then name.Help else (if pointwise nat_eq word (codes "schema") then name.Schema else
     (if pointwise nat_eq word (codes "explain") then name.Explain else (if pointwise nat_eq word (codes "run") then name.Run else
-    (if pointwise nat_eq word (codes "exec") then name.Exec else (if pointwise nat_eq word (codes "check") then name.Check else
-    (if pointwise nat_eq word (codes "verify") then name.Verify else name.World))))))
+    (if pointwise nat_eq word (codes "batch") then name.Batch else (if pointwise nat_eq word (codes "exec") then name.Exec else
+    (if pointwise nat_eq word (codes "check") then name.Check else (if pointwise nat_eq word (codes "verify") then name.Verify else
+    (if pointwise nat_eq word (codes "crawl") then name.Crawl else (if pointwise nat_eq word (codes "reach") then name.Reach else name.World)))))))))
 
 its_own : (which : CommandName) → named_by (command_word which) ≡ which
 unfolding named_by
@@ -34,9 +35,12 @@ its_own name.Help = refl
 its_own name.Schema = refl
 its_own name.Explain = refl
 its_own name.Run = refl
+its_own name.Batch = refl
 its_own name.Exec = refl
 its_own name.Check = refl
 its_own name.Verify = refl
+its_own name.Crawl = refl
+its_own name.Reach = refl
 its_own name.World = refl
 
 same_command : (one other : CommandName) → command_word one ≡ command_word other → one ≡ other
@@ -144,6 +148,15 @@ unset words which positionals command off without alone uncapped down is asks =
     made_of words which positionals [] 10000 10000 1 100000 false command asks (untaken words which positionals [] Firings asks off) (untaken words which positionals [] Search asks without)
     (untaken words which positionals [] Workers asks alone) (untaken words which positionals [] Calls asks uncapped) (unflagged words which positionals [] asks down) is
 
+-- a command that makes calls and decides nothing
+delivering : (words : List (List ℕ)) (which : CommandName) (positionals : List (List ℕ)) (lanes calls : ℕ) (command : Command) →
+    takes which Firings ≡ false → takes which Search ≡ false → takes_flag which flag.Verify ≡ false →
+    made which positionals 10000 10000 lanes calls false ≡ Some command → Asks words which positionals (workers_and_calls lanes calls) → Makes words command
+delivering words which positionals lanes calls command off without down is asks =
+    let settings = workers_and_calls lanes calls in
+    made_of words which positionals settings 10000 10000 lanes calls false command asks
+    (untaken words which positionals settings Firings asks off) (untaken words which positionals settings Search asks without) asks.are_set.0 asks.are_set.1.0 (unflagged words which positionals settings asks down) is
+
 makes : (words : List (List ℕ)) (command : Command) → IsCommand words command → Makes words command
 makes words Help asks = unset words name.Help [] Help refl refl refl refl refl refl asks
 makes words (Schema schema) asks = unset words name.Schema (schema ∷ []) (Schema schema) refl refl refl refl refl refl asks
@@ -155,17 +168,20 @@ makes words (Explain schema query n units) asks =
 makes words (Run schema query n units lanes calls verify) asks =
     made_of words name.Run (schema ∷ query ∷ []) (firings_and_search n units ++ workers_and_calls lanes calls ++ Flag flag.Verify verify ∷ []) n units lanes calls verify (Run schema query n units lanes calls verify) asks
     asks.are_set.0 asks.are_set.1.0 asks.are_set.1.1.0 asks.are_set.1.1.1.0 asks.are_set.1.1.1.1.0 refl
-makes words (Exec schema plan lanes calls) asks =
-    let these = schema ∷ plan ∷ [] in
-    let settings = workers_and_calls lanes calls in
-    made_of words name.Exec these settings 10000 10000 lanes calls false (Exec schema plan lanes calls) asks
-    (untaken words name.Exec these settings Firings asks refl) (untaken words name.Exec these settings Search asks refl) asks.are_set.0 asks.are_set.1.0 (unflagged words name.Exec these settings asks refl) refl
+makes words (Batch schema queries n units lanes calls) asks =
+    let these = schema ∷ queries ∷ [] in
+    let settings = firings_and_search n units ++ workers_and_calls lanes calls in
+    made_of words name.Batch these settings n units lanes calls false (Batch schema queries n units lanes calls) asks
+    asks.are_set.0 asks.are_set.1.0 asks.are_set.1.1.0 asks.are_set.1.1.1.0 (unflagged words name.Batch these settings asks refl) refl
+makes words (Exec schema plan lanes calls) asks = delivering words name.Exec (schema ∷ plan ∷ []) lanes calls (Exec schema plan lanes calls) refl refl refl refl asks
 makes words (Check schema query plan n) asks =
     let these = schema ∷ query ∷ plan ∷ [] in
     let settings = firings n in
     made_of words name.Check these settings n 10000 1 100000 false (Check schema query plan n) asks asks.are_set.0
     (untaken words name.Check these settings Search asks refl) (untaken words name.Check these settings Workers asks refl) (untaken words name.Check these settings Calls asks refl) (unflagged words name.Check these settings asks refl) refl
 makes words (Verify schema) asks = unset words name.Verify (schema ∷ []) (Verify schema) refl refl refl refl refl refl asks
+makes words (Crawl schema lanes calls) asks = delivering words name.Crawl (schema ∷ []) lanes calls (Crawl schema lanes calls) refl refl refl refl asks
+makes words (Reach schema query lanes calls) asks = delivering words name.Reach (schema ∷ query ∷ []) lanes calls (Reach schema query lanes calls) refl refl refl refl asks
 makes words (World size lanes) (asks, low, high) =
     let these = decimal size ∷ [] in
     let settings = workers lanes in
@@ -196,6 +212,10 @@ asked words behind which items n units lanes calls verify positionals command fi
     go name.Run (a ∷ []) first splits order is = absurd cc
     go name.Run (a ∷ b ∷ []) first splits order is = named (Run a b n units lanes calls verify) (cc) (record { behind = behind; items = items; first = first; splits = splits; in_order = order; are_set = (set, (searched, (worked, (capped, (flagged, tt))))) })
     go name.Run (a ∷ b ∷ c ∷ ps) first splits order is = absurd cc
+    go name.Batch [] first splits order is = absurd cc
+    go name.Batch (a ∷ []) first splits order is = absurd cc
+    go name.Batch (a ∷ b ∷ []) first splits order is = named (Batch a b n units lanes calls) (cc) (record { behind = behind; items = items; first = first; splits = splits; in_order = order; are_set = (set, (searched, (worked, (capped, tt)))) })
+    go name.Batch (a ∷ b ∷ c ∷ ps) first splits order is = absurd cc
     go name.Exec [] first splits order is = absurd cc
     go name.Exec (a ∷ []) first splits order is = absurd cc
     go name.Exec (a ∷ b ∷ []) first splits order is = named (Exec a b lanes calls) (cc) (record { behind = behind; items = items; first = first; splits = splits; in_order = order; are_set = (worked, (capped, tt)) })
@@ -208,6 +228,13 @@ asked words behind which items n units lanes calls verify positionals command fi
     go name.Verify [] first splits order is = absurd cc
     go name.Verify (a ∷ []) first splits order is = named (Verify a) (cc) (record { behind = behind; items = items; first = first; splits = splits; in_order = order; are_set = tt })
     go name.Verify (a ∷ b ∷ ps) first splits order is = absurd cc
+    go name.Crawl [] first splits order is = absurd cc
+    go name.Crawl (a ∷ []) first splits order is = named (Crawl a lanes calls) (cc) (record { behind = behind; items = items; first = first; splits = splits; in_order = order; are_set = (worked, (capped, tt)) })
+    go name.Crawl (a ∷ b ∷ ps) first splits order is = absurd cc
+    go name.Reach [] first splits order is = absurd cc
+    go name.Reach (a ∷ []) first splits order is = absurd cc
+    go name.Reach (a ∷ b ∷ []) first splits order is = named (Reach a b lanes calls) (cc) (record { behind = behind; items = items; first = first; splits = splits; in_order = order; are_set = (worked, (capped, tt)) })
+    go name.Reach (a ∷ b ∷ c ∷ ps) first splits order is = absurd cc
     go name.World [] first splits order is = absurd cc
     go name.World (a ∷ []) first splits order is =
         let size = made_size a lanes command is in
@@ -296,9 +323,12 @@ few_positionals name.Help (a ∷ b ∷ c ∷ d ∷ ps) n units lanes calls verif
 few_positionals name.Schema (a ∷ b ∷ c ∷ d ∷ ps) n units lanes calls verify command is = absurd cc
 few_positionals name.Explain (a ∷ b ∷ c ∷ d ∷ ps) n units lanes calls verify command is = absurd cc
 few_positionals name.Run (a ∷ b ∷ c ∷ d ∷ ps) n units lanes calls verify command is = absurd cc
+few_positionals name.Batch (a ∷ b ∷ c ∷ d ∷ ps) n units lanes calls verify command is = absurd cc
 few_positionals name.Exec (a ∷ b ∷ c ∷ d ∷ ps) n units lanes calls verify command is = absurd cc
 few_positionals name.Check (a ∷ b ∷ c ∷ d ∷ ps) n units lanes calls verify command is = absurd cc
 few_positionals name.Verify (a ∷ b ∷ c ∷ d ∷ ps) n units lanes calls verify command is = absurd cc
+few_positionals name.Crawl (a ∷ b ∷ c ∷ d ∷ ps) n units lanes calls verify command is = absurd cc
+few_positionals name.Reach (a ∷ b ∷ c ∷ d ∷ ps) n units lanes calls verify command is = absurd cc
 few_positionals name.World (a ∷ b ∷ c ∷ d ∷ ps) n units lanes calls verify command is = absurd cc
 
 -- the command's word says which command it is

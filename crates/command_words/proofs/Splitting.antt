@@ -183,6 +183,14 @@ named name dashed behind item rest no_flag begins = go (begun name ((45 ∷ 45 �
     go (flag_front which is same taken) = absurd (no_flag which (cc))
     go (option_front option value same taken opens) = opened option value same taken opens
 
+-- an option that the command does not take begins no words
+pub refused_option : (name : CommandName) (option : OptionName) (dashed word : List ℕ) (behind : List (List ℕ)) → ((which : FlagName) → dashed ≡ flag_word which → ⊥) → word ≡ before_equals dashed → word ≡ option_word option → false ≡ takes name option → (item : Item) (rest : List (List ℕ)) → Begins name ((45 ∷ 45 ∷ dashed) ∷ behind) item rest → ⊥
+refused_option name option dashed word behind no_flag before is off item rest begins =
+    let n = named name dashed behind item rest no_flag begins in
+    let which : option ≡ n.option = same_word option n.option (sym is ∙ before ∙ n.word) in
+    let on : takes name option ≡ true = ap (takes name) which ∙ n.taken in
+    absurd cc
+
 -- ---- where an item begins words
 
 pub begins_two : (name : CommandName) (option : OptionName) (dashed value : List ℕ) (rest : List (List ℕ)) → before_equals dashed ≡ option_word option → behind_equals dashed ≡ None → takes name option ≡ true → Begins name ((45 ∷ 45 ∷ dashed) ∷ value ∷ rest) (Given option value) rest

@@ -5,7 +5,7 @@ use Rattle.std.specs.Fmt.{decimal}
 use Rattle.std.specs.Str.Parse.{digits_value}
 use Rattle.command_words.specs.Table.{InRange, default_number}
 use Rattle.command_words.specs.Splits.{Item, Splits, positionals_of, texts_of, IsSet, times_raised, IsRaised}
-use Rattle.command_words.specs.Words.{Command, Help, Schema, Explain, Run, Exec, Check, Verify, World}
+use Rattle.command_words.specs.Words.{Command, Help, Schema, Explain, Run, Batch, Exec, Check, Verify, Crawl, Reach, World}
 use Rattle.command_words.specs.declared.table.CommandName.{CommandName}
 use Rattle.command_words.specs.declared.table.CommandName.TheVariants as name
 use Rattle.command_words.specs.declared.table.OptionName.{OptionName}
@@ -70,8 +70,11 @@ made name.Help [] n units lanes calls verify = Some Help
 made name.Schema (schema ∷ []) n units lanes calls verify = Some (Schema schema)
 made name.Explain (schema ∷ query ∷ []) n units lanes calls verify = Some (Explain schema query n units)
 made name.Run (schema ∷ query ∷ []) n units lanes calls verify = Some (Run schema query n units lanes calls verify)
+made name.Batch (schema ∷ queries ∷ []) n units lanes calls verify = Some (Batch schema queries n units lanes calls)
 made name.Exec (schema ∷ plan ∷ []) n units lanes calls verify = Some (Exec schema plan lanes calls)
 made name.Check (schema ∷ query ∷ plan ∷ []) n units lanes calls verify = Some (Check schema query plan n)
 made name.Verify (schema ∷ []) n units lanes calls verify = Some (Verify schema)
+made name.Crawl (schema ∷ []) n units lanes calls verify = Some (Crawl schema lanes calls)
+made name.Reach (schema ∷ query ∷ []) n units lanes calls verify = Some (Reach schema query lanes calls)
 made name.World (text ∷ []) n units lanes calls verify = option_map (λ size. World size lanes) (size_of text)
 made _ _ _ _ _ _ _ = None

@@ -1,7 +1,7 @@
 -- The commands, the options and the flags: one case a row.
-use Rattle.std.specs.Prelude.{◌≤◌, ℕ, Bool, true, false, List, [], ◌∷◌, codes}
+use Rattle.std.specs.Prelude.{◌≤◌, ℕ, Bool, true, false, List, [], ◌∷◌, codes, if◌then◌else◌}
 use Rattle.command_words.specs.declared.table.CommandName.{CommandName}
-use Rattle.command_words.specs.declared.table.CommandName.TheVariants.{Help, Schema, Explain, Run, Exec, Check, Verify, World}
+use Rattle.command_words.specs.declared.table.CommandName.TheVariants.{Help, Schema, Explain, Run, Batch, Exec, Check, Verify, Crawl, Reach, World}
 use Rattle.command_words.specs.declared.table.OptionName.{OptionName}
 use Rattle.command_words.specs.declared.table.OptionName.TheVariants.{Firings, Search, Workers, Calls}
 use Rattle.command_words.specs.declared.table.FlagName.{FlagName}
@@ -13,9 +13,12 @@ command_word Help = codes "help"
 command_word Schema = codes "schema"
 command_word Explain = codes "explain"
 command_word Run = codes "run"
+command_word Batch = codes "batch"
 command_word Exec = codes "exec"
 command_word Check = codes "check"
 command_word Verify = codes "verify"
+command_word Crawl = codes "crawl"
+command_word Reach = codes "reach"
 command_word World = codes "world"
 
 -- what a command's positionals are called in the text that `help` prints
@@ -24,17 +27,17 @@ positional_names Help = []
 positional_names Schema = codes "SCHEMA" ∷ []
 positional_names Explain = codes "SCHEMA" ∷ codes "QUERY" ∷ []
 positional_names Run = codes "SCHEMA" ∷ codes "QUERY" ∷ []
+positional_names Batch = codes "SCHEMA" ∷ codes "QUERIES" ∷ []
 positional_names Exec = codes "SCHEMA" ∷ codes "PLAN" ∷ []
 positional_names Check = codes "SCHEMA" ∷ codes "QUERY" ∷ codes "PLAN" ∷ []
 positional_names Verify = codes "SCHEMA" ∷ []
+positional_names Crawl = codes "SCHEMA" ∷ []
+positional_names Reach = codes "SCHEMA" ∷ codes "QUERY" ∷ []
 positional_names World = codes "N" ∷ []
 
 -- the commands in the order in which `help` prints them
 abbrev pub commands : List CommandName
-commands = Help ∷ Schema ∷ Explain ∷ Run ∷ Exec ∷ Check ∷ Verify ∷ World ∷ []
-
-abbrev pub options : List OptionName
-options = Firings ∷ Search ∷ Workers ∷ Calls ∷ []
+commands = Help ∷ Schema ∷ Explain ∷ Run ∷ Batch ∷ Exec ∷ Check ∷ Verify ∷ Crawl ∷ Reach ∷ World ∷ []
 
 -- the word that names an option, behind two dashes
 abbrev pub option_word : OptionName → List ℕ
@@ -50,19 +53,28 @@ same_option Workers Workers = true
 same_option Calls Calls = true
 same_option _ _ = false
 
--- the options that a command takes
+-- the options that a command takes, in the order in which `help` prints them
+abbrev pub options_of : CommandName → List OptionName
+options_of Help = []
+options_of Schema = []
+options_of Explain = Firings ∷ Search ∷ []
+options_of Run = Firings ∷ Search ∷ Workers ∷ Calls ∷ []
+options_of Batch = Firings ∷ Search ∷ Workers ∷ Calls ∷ []
+options_of Exec = Workers ∷ Calls ∷ []
+options_of Check = Firings ∷ []
+options_of Verify = []
+options_of Crawl = Workers ∷ Calls ∷ []
+options_of Reach = Workers ∷ Calls ∷ []
+options_of World = Workers ∷ []
+
+-- the option is one of these
+abbrev pub is_among : OptionName → List OptionName → Bool
+is_among option [] = false
+is_among option (other ∷ others) = if same_option option other then true else is_among option others
+
+-- a command takes the option
 abbrev pub takes : CommandName → OptionName → Bool
-takes Explain Firings = true
-takes Run Firings = true
-takes Check Firings = true
-takes Explain Search = true
-takes Run Search = true
-takes Run Workers = true
-takes Exec Workers = true
-takes World Workers = true
-takes Run Calls = true
-takes Exec Calls = true
-takes _ _ = false
+takes name option = is_among option (options_of name)
 
 -- the least number that an option takes
 abbrev pub least : OptionName → ℕ

@@ -18,9 +18,12 @@ pub data Command : Type 0 where
   Schema : List ℕ → Command
   Explain : List ℕ → List ℕ → ℕ → ℕ → Command
   Run : List ℕ → List ℕ → ℕ → ℕ → ℕ → ℕ → Bool → Command
+  Batch : List ℕ → List ℕ → ℕ → ℕ → ℕ → ℕ → Command
   Exec : List ℕ → List ℕ → ℕ → ℕ → Command
   Check : List ℕ → List ℕ → List ℕ → ℕ → Command
   Verify : List ℕ → Command
+  Crawl : List ℕ → ℕ → ℕ → Command
+  Reach : List ℕ → List ℕ → ℕ → ℕ → Command
   World : ℕ → ℕ → Command
 
 -- an option with its number, or a flag with whether it is raised
@@ -67,9 +70,13 @@ IsCommand words (Schema schema) = Asks words name.Schema (schema ∷ []) []
 IsCommand words (Explain schema query n units) = Asks words name.Explain (schema ∷ query ∷ []) (firings_and_search n units)
 IsCommand words (Run schema query n units lanes calls verify) =
     Asks words name.Run (schema ∷ query ∷ []) (firings_and_search n units ++ workers_and_calls lanes calls ++ Flag flag.Verify verify ∷ [])
+IsCommand words (Batch schema queries n units lanes calls) =
+    Asks words name.Batch (schema ∷ queries ∷ []) (firings_and_search n units ++ workers_and_calls lanes calls)
 IsCommand words (Exec schema plan lanes calls) = Asks words name.Exec (schema ∷ plan ∷ []) (workers_and_calls lanes calls)
 IsCommand words (Check schema query plan n) = Asks words name.Check (schema ∷ query ∷ plan ∷ []) (firings n)
 IsCommand words (Verify schema) = Asks words name.Verify (schema ∷ []) []
+IsCommand words (Crawl schema lanes calls) = Asks words name.Crawl (schema ∷ []) (workers_and_calls lanes calls)
+IsCommand words (Reach schema query lanes calls) = Asks words name.Reach (schema ∷ query ∷ []) (workers_and_calls lanes calls)
 IsCommand words (World size lanes) = Asks words name.World (decimal size ∷ []) (workers lanes) × (1 ≤ size) × (size ≤ 10000)
 
 abbrev pub seen_as : Coded → Command
@@ -77,7 +84,10 @@ seen_as code.Help = Help
 seen_as (code.Schema schema) = Schema schema.now
 seen_as (code.Explain schema query n units) = Explain schema.now query.now n units
 seen_as (code.Run schema query n units lanes calls verify) = Run schema.now query.now n units lanes calls verify
+seen_as (code.Batch schema queries n units lanes calls) = Batch schema.now queries.now n units lanes calls
 seen_as (code.Exec schema plan lanes calls) = Exec schema.now plan.now lanes calls
 seen_as (code.Check schema query plan n) = Check schema.now query.now plan.now n
 seen_as (code.Verify schema) = Verify schema.now
+seen_as (code.Crawl schema lanes calls) = Crawl schema.now lanes calls
+seen_as (code.Reach schema query lanes calls) = Reach schema.now query.now lanes calls
 seen_as (code.World size lanes) = World size lanes

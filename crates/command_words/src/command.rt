@@ -32,6 +32,14 @@ pub enum Command<'a> {
         calls: u32,
         verify: bool,
     },
+    Batch {
+        schema: &'a Text,
+        queries: &'a Text,
+        firings: u32,
+        search: u32,
+        workers: u32,
+        calls: u32,
+    },
     Exec {
         schema: &'a Text,
         plan: &'a Text,
@@ -46,6 +54,17 @@ pub enum Command<'a> {
     },
     Verify {
         schema: &'a Text,
+    },
+    Crawl {
+        schema: &'a Text,
+        workers: u32,
+        calls: u32,
+    },
+    Reach {
+        schema: &'a Text,
+        query: &'a Text,
+        workers: u32,
+        calls: u32,
     },
     World {
         size: u32,
@@ -94,6 +113,14 @@ fn command_with<'a>(name: CommandName, arguments: Arguments<'a>) -> Option<Comma
             calls,
             verify: arguments.verify,
         }),
+        (CommandName::Batch, Positionals::Two(schema, queries)) => Some(Command::Batch {
+            schema,
+            queries,
+            firings,
+            search,
+            workers,
+            calls,
+        }),
         (CommandName::Exec, Positionals::Two(schema, plan)) => Some(Command::Exec {
             schema,
             plan,
@@ -107,6 +134,17 @@ fn command_with<'a>(name: CommandName, arguments: Arguments<'a>) -> Option<Comma
             firings,
         }),
         (CommandName::Verify, Positionals::One(schema)) => Some(Command::Verify { schema }),
+        (CommandName::Crawl, Positionals::One(schema)) => Some(Command::Crawl {
+            schema,
+            workers,
+            calls,
+        }),
+        (CommandName::Reach, Positionals::Two(schema, query)) => Some(Command::Reach {
+            schema,
+            query,
+            workers,
+            calls,
+        }),
         (CommandName::World, Positionals::One(number)) => match size_of(number) {
             Some(size) => Some(Command::World { size, workers }),
             None => None,

@@ -12,9 +12,12 @@ pub enum CommandName {
     Schema,
     Explain,
     Run,
+    Batch,
     Exec,
     Check,
     Verify,
+    Crawl,
+    Reach,
     World,
 }
 
@@ -42,9 +45,12 @@ pub fn command_named(word: &str) -> Option<CommandName>
         "schema" => Some(CommandName::Schema),
         "explain" => Some(CommandName::Explain),
         "run" => Some(CommandName::Run),
+        "batch" => Some(CommandName::Batch),
         "exec" => Some(CommandName::Exec),
         "check" => Some(CommandName::Check),
         "verify" => Some(CommandName::Verify),
+        "crawl" => Some(CommandName::Crawl),
+        "reach" => Some(CommandName::Reach),
         "world" => Some(CommandName::World),
         _ => None,
     }
@@ -78,14 +84,15 @@ impl CommandName {
     pub fn takes(self, option: OptionName) -> bool
         ensures { result ≡ takes self option }
     {
-        match (self, option) {
-            (CommandName::Explain | CommandName::Run | CommandName::Check, OptionName::Firings) =>
-                true,
-            (CommandName::Explain | CommandName::Run, OptionName::Search) => true,
-            (CommandName::Run | CommandName::Exec | CommandName::World, OptionName::Workers) =>
-                true,
-            (CommandName::Run | CommandName::Exec, OptionName::Calls) => true,
-            _ => false,
+        match self {
+            CommandName::Help | CommandName::Schema | CommandName::Verify => false,
+            CommandName::Explain => matches!(option, OptionName::Firings | OptionName::Search),
+            CommandName::Run | CommandName::Batch => true,
+            CommandName::Exec => matches!(option, OptionName::Workers | OptionName::Calls),
+            CommandName::Check => matches!(option, OptionName::Firings),
+            CommandName::Crawl => matches!(option, OptionName::Workers | OptionName::Calls),
+            CommandName::Reach => matches!(option, OptionName::Workers | OptionName::Calls),
+            CommandName::World => matches!(option, OptionName::Workers),
         }
     }
 
