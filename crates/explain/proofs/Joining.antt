@@ -1,30 +1,14 @@
 -- Texts that are written one behind another.
 use Rattle.std.proofs.Common.{◌≡◌, ℕ, ◌+◌, ◌<◌, List, [], ◌∷◌, ◌++◌, length, map, take, refl, sym, ap, ◌∙◌, slice_index_or}
 use Rattle.std.specs.Prelude.{flat_map}
-use Rattle.std.proofs.lemmas.List.{take_more, map-append, append-nil}
-use Rattle.std.proofs.lemmas.Grind.{flat_map-append}
+use Rattle.std.proofs.lemmas.List.{take_more}
 use Rattle.std.proofs.lemmas.List.FromFn.{map-range_with_len_more}
 use Rattle.std.specs.List.{range_with_len}
-use Rattle.lists.proofs.Members.{joined_twice}
-
--- what is written behind something else
-flat_more : {X : Type 0} (f : X → List ℕ) (xs : List X) (x : X) → flat_map f (xs ++ x ∷ []) ≡ flat_map f xs ++ f x
-flat_more f xs x = flat_map-append f xs (x ∷ []) ∙ ap (λ (r : List ℕ). flat_map f xs ++ r) (append-nil (f x))
-
--- the text of members that are lent, with one more
-pub lent_more : {X Y : Type 0} (f : Y → List ℕ) (g : X → Y) (xs : List X) (i : ℕ) (x : X) → i < length xs → x ≡ slice_index_or xs i x →
-    flat_map f (map g (take (i + 1) xs)) ≡ flat_map f (map g (take i xs)) ++ f (g x)
-lent_more f g xs i x l e =
-    ap (λ (ys : List _). flat_map f (map g ys)) (take_more xs i x l ∙ ap (λ y. take i xs ++ y ∷ []) (sym e))
-    ∙ ap (flat_map f) (map-append g (take i xs) (x ∷ [])) ∙ flat_more f (map g (take i xs)) (g x)
+use Rattle.fact_lines.proofs.Joining.{flat_more}
 
 -- the text of numbers in order, with one more
 pub range_more : {Y : Type 0} (f : Y → List ℕ) (g : ℕ → Y) (from n : ℕ) → flat_map f (map g (range_with_len from (n + 1))) ≡ flat_map f (map g (range_with_len from n)) ++ f (g (from + n))
 range_more f g from n = ap (flat_map f) (map-range_with_len_more g from n (from + n) refl) ∙ flat_more f (map g (range_with_len from n)) (g (from + n))
-
--- a loop's text with one member more
-pub grown : (old mid new front more whole : List ℕ) → mid ≡ old ++ front → new ≡ mid ++ more → whole ≡ front ++ more → new ≡ old ++ whole
-grown old mid new front more whole one two is = joined_twice old mid new front more one two ∙ ap (λ (r : List ℕ). old ++ r) (sym is)
 
 -- the text of members, with one more
 pub members_more : {X : Type 0} (f : X → List ℕ) (xs : List X) (i : ℕ) (x : X) → i < length xs → x ≡ slice_index_or xs i x → flat_map f (take (i + 1) xs) ≡ flat_map f (take i xs) ++ f x

@@ -1,5 +1,4 @@
 pub mod Illegal
-pub mod Ordering
 pub mod Limits
 pub mod Joining
 pub mod Labels

@@ -1,16 +1,12 @@
 -- How what is decided of a statement is printed.
-use Rattle.std.specs.Prelude.{◌≡◌, ◌↔◌, ◌++◌, ◌+◌, ◌-◌, ℕ, List, [], ◌∷◌, Option, None, Some, Contains, map, length, flat_map, slice_get, codes}
+use Rattle.std.specs.Prelude.{◌≡◌, ◌++◌, ◌+◌, ◌-◌, ℕ, List, [], ◌∷◌, Option, None, Some, map, length, flat_map, slice_get, codes}
 use Rattle.std.specs.List.{range_with_len}
-use Rattle.std.specs.List.Sorted.{IsStrictlySortedBy}
 use Rattle.std.specs.Fmt.{decimal}
-use Rattle.std.specs.Ordering.{nat_cmp, ordering_then}
-use Rattle.std.specs.declared.cmp.Ordering.{Ordering}
 use Rattle.pq_text.specs.Printing.{printed_name, printed_value}
 use Rattle.pq_text.specs.Listed.{listed}
 use Rattle.meaning.specs.declared.types.Relation.{Relation}
 use Rattle.meaning.specs.declared.types.Method.{Method}
 use Rattle.meaning.specs.declared.types.Rule.{Rule}
-use Rattle.meaning.specs.declared.types.Fact.{Fact}
 use Rattle.meaning.specs.declared.types.Plan.{Plan as PlanOf}
 use Rattle.meaning.specs.declared.types.Val.{Val}
 use Rattle.meaning.specs.declared.types.Val.TheVariants.{Const, Label}
@@ -18,8 +14,8 @@ use Rattle.meaning.specs.declared.types.Ground.{Ground}
 use Rattle.meaning.specs.declared.types.Trigger.{Trigger}
 use Rattle.meaning.specs.declared.types.Firing.{Firing}
 use Rattle.meaning.specs.declared.types.Firing.TheVariants.{Base, Copy, Expose}
-use Rattle.meaning.specs.Requests.{rows_cmp}
 use Rattle.meaning.specs.Triggers.{bound}
+use Rattle.fact_lines.specs.Lines.{fact_text, IsListing}
 use Rattle.access_schema.specs.declared.schema.Schema.{Schema}
 use Rattle.plan_form.specs.Printing.{plan_text}
 use Rattle.no_plan_witness.specs.declared.refutation.Witness.{Witness}
@@ -32,29 +28,11 @@ use Rattle.no_plan_witness.specs.declared.decision.Decision.TheVariants.{Plan, N
 
 -- ---- refutations
 
--- the printed name of a relation, and nothing for a relation that is not there
-abbrev pub relation_text : Option Relation → List ℕ
-relation_text None = []
-relation_text (Some relation) = printed_name relation.name
-
--- NAME(VALUE, ..)
-abbrev pub fact_text : List Relation → Fact → List ℕ
-fact_text relations fact = relation_text (slice_get relations fact.rel) ++ codes "(" ++ listed printed_value fact.row ++ codes ")\n"
-
 -- the text of a pair: the answer, and the facts of both instances as they stand
 abbrev pub pair_text : List Relation → Witness → List ℕ
 pair_text relations pair =
     codes "no plan\nanswer " ++ listed printed_value pair.answer ++ codes "\nfirst\n" ++ flat_map (fact_text relations) pair.first
     ++ codes "second\n" ++ flat_map (fact_text relations) pair.second ++ codes "end\n"
-
--- by the relations' numbers, and within a relation by the rows
-abbrev pub fact_cmp : Fact → Fact → Ordering
-fact_cmp x y = ordering_then (nat_cmp x.rel y.rel) (rows_cmp x.row y.row)
-
--- The facts of the instance, each once and in ascending order.
-pub record IsListing (instance listing : List Fact) : Type 0 where
-  pub ascends : IsStrictlySortedBy fact_cmp listing
-  pub same : (fact : Fact) → Contains listing fact ↔ Contains instance fact
 
 -- The pair with its facts each once and in ascending order.
 pub record IsOrdered (pair ordered : Witness) : Type 0 where

@@ -13,7 +13,8 @@ use Rattle.plan_check.specs.declared.verdict.Side.{Side}
 use Rattle.plan_check.specs.declared.verdict.Side.TheVariants as side
 use Rattle.plan_check.specs.declared.verdict.Verdict.{Verdict}
 use Rattle.plan_check.specs.declared.verdict.Verdict.TheVariants as verdict
-use Rattle.explain.specs.Printing.{fact_text, trigger_text, IsListing}
+use Rattle.fact_lines.specs.Lines.{fact_text, IsListing}
+use Rattle.explain.specs.Printing.{trigger_text}
 
 -- a word and a row, and the facts of an instance as they stand
 abbrev pub separation_text : List Relation → List ℕ → List (List ℕ) → List Fact → List ℕ

@@ -5,8 +5,9 @@ ghost use Rattle.pq_text.specs.Utf8.{KeepsUtf8};
 ghost use Rattle.plan_form.specs.Printing.{plan_text};
 ghost use Rattle.explain.specs.Printing.{entry_line, entry_lines, entry_text, least_text, planned_text};
 
-use crate::push::{push_number, push_str};
+use crate::push::push_number;
 use access_cost::Least;
+use fact_lines::push_str;
 use lists::{Bytes, NoMemory};
 use meaning::types::Plan;
 use no_plan_witness::{Chosen, ChosenList};

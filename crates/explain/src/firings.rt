@@ -7,8 +7,9 @@ ghost use Rattle.pq_text.specs.Listed.{listed};
 ghost use Rattle.meaning.specs.declared.types.Val.TheVariants.{Label};
 ghost use Rattle.explain.specs.Printing.{val_text, existentials, arrow_text, trigger_text, method_text, exposure_text, firing_text, opening_text, undecided_text};
 
-use crate::push::{push_number, push_str};
+use crate::push::push_number;
 use access_schema::{MOST_VARIABLES, Schema};
+use fact_lines::push_str;
 use homomorphism::variables_width;
 use lists::{Bytes, NoMemory};
 use meaning::types::{Firing, Firings, Ground, Trigger, Val};

@@ -9,7 +9,6 @@ mod decision;
 mod fault;
 mod firings;
 mod laws;
-mod listing;
 mod progress;
 mod push;
 mod read;

@@ -1,17 +1,15 @@
 // The text of a refutation.
-ghost use Rattle.std.specs.Prelude.{◌≡◌, ◌++◌, OnOk, IfOk, map, flat_map, slice_get};
+ghost use Rattle.std.specs.Prelude.{◌≡◌, ◌++◌, OnOk, IfOk};
 ghost use Rattle.std.specs.Str.{IsUtf8};
 ghost use Rattle.pq_text.specs.Utf8.{KeepsUtf8};
 ghost use Rattle.explain.specs.Grammar.{FitsSchema, IsReadAs};
-ghost use Rattle.explain.specs.Lent.{lent_fact, lent_pair};
-ghost use Rattle.explain.specs.Printing.{relation_text, fact_text, pair_text, IsPrintedWitness};
+ghost use Rattle.explain.specs.Lent.{lent_pair};
+ghost use Rattle.explain.specs.Printing.{pair_text, IsPrintedWitness};
 
-use crate::listing::ascending;
-use crate::push::{push_str, push_values};
 use access_schema::Schema;
+use fact_lines::{ascending, push_facts, push_str, push_values};
 use lists::{Bytes, NoMemory, Row, Text};
 use no_plan_witness::Witness;
-use pq_text::print_name;
 use std::alloc::Global;
 
 /// The text of a refutation: the answer, and the facts of both instances, each once and in ascending order.
@@ -54,37 +52,4 @@ fn push_refutation(
     push_str(out, "second\n")?;
     push_facts(out, schema, second)?;
     push_str(out, "end\n")
-}
-
-/// Appends a line for each fact.
-pub fn push_facts(out: &mut Vec<u8>, schema: &Schema, facts: &[(u32, &Row)]) -> Result<(), NoMemory>
-    ensures text { OnOk result (out.new.items ≡ out.old.items ++ flat_map (fact_text schema.now.relations) (map lent_fact facts.now)) }
-    ensures utf8 { OnOk result (KeepsUtf8 out.old.items out.new.items) }
-{
-    for (rel, row) in facts {
-        push_fact(out, schema, *rel, row)?;
-    }
-    Ok(())
-}
-
-// Appends the line of a fact.
-fn push_fact(out: &mut Vec<u8>, schema: &Schema, rel: u32, row: &Row) -> Result<(), NoMemory>
-    ensures text { OnOk result (out.new.items ≡ out.old.items ++ fact_text schema.now.relations (record { rel = rel; row = row.now })) }
-    ensures utf8 { OnOk result (KeepsUtf8 out.old.items out.new.items) }
-{
-    push_relation(out, schema, rel)?;
-    push_str(out, "(")?;
-    push_values(out, row.as_slice())?;
-    push_str(out, ")\n")
-}
-
-// Appends the name of a relation.
-fn push_relation(out: &mut Vec<u8>, schema: &Schema, rel: u32) -> Result<(), NoMemory>
-    ensures text { OnOk result (out.new.items ≡ out.old.items ++ relation_text (slice_get schema.now.relations rel)) }
-    ensures utf8 { OnOk result (KeepsUtf8 out.old.items out.new.items) }
-{
-    match schema.relations.get(rel as usize) {
-        Some(relation) => print_name(out, &relation.name),
-        None => Ok(()),
-    }
 }

@@ -4,14 +4,13 @@ ghost use Rattle.std.specs.Fmt.{decimal};
 ghost use Rattle.std.specs.Str.{IsUtf8};
 ghost use Rattle.pq_text.specs.Utf8.{KeepsUtf8};
 ghost use Rattle.plan_form.specs.Printing.{illegal_text};
-ghost use Rattle.explain.specs.Lent.{lent_fact};
+ghost use Rattle.fact_lines.specs.Lent.{lent_fact};
 ghost use Rattle.explain.specs.Verdicts.{separation_text, IsPrintedSeparation, side_text, base_text, count_text, spent_text, IsVerdictText};
 
 use crate::firings::push_trigger;
-use crate::listing::ascending;
-use crate::push::{push_number, push_str, push_values};
-use crate::refutation::push_facts;
+use crate::push::push_number;
 use access_schema::Schema;
+use fact_lines::{ascending, push_facts, push_str, push_values};
 use lists::{Bytes, NoMemory, Row, Text};
 use meaning::types::{Instance, Trigger, Triggers};
 use plan_check::{Side, Verdict};

@@ -1,6 +1,7 @@
 use Rattle.std.specs.Prelude.{flat_map, take}
 use Rattle.explain.specs.Printing.{firing_text}
-use Rattle.explain.proofs.Joining.{members_more, grown}
+use Rattle.fact_lines.proofs.Joining.{grown}
+use Rattle.explain.proofs.Joining.{members_more}
 use Rattle.explain.proofs.firings.push_firings.Goals as goal
 
 pub loop-firing-preserved : goal.loop-firing-preserved

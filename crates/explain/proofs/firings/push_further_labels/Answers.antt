@@ -4,7 +4,8 @@ use Rattle.lists.proofs.Members.{joined_twice}
 use Rattle.meaning.specs.declared.types.Val.{Val}
 use Rattle.meaning.specs.declared.types.Val.TheVariants.{Label}
 use Rattle.explain.specs.Printing.{val_text}
-use Rattle.explain.proofs.Joining.{range_more, grown}
+use Rattle.fact_lines.proofs.Joining.{grown}
+use Rattle.explain.proofs.Joining.{range_more}
 use Rattle.explain.proofs.firings.push_further_labels.Goals as goal
 
 pub loop-place-preserved : goal.loop-place-preserved

@@ -1,8 +1,8 @@
 use Rattle.std.specs.Prelude.{◌++◌, codes, map, flat_map}
 use Rattle.pq_text.specs.Listed.{listed}
 use Rattle.pq_text.specs.Printing.{printed_value}
-use Rattle.explain.specs.Lent.{lent_fact}
-use Rattle.explain.specs.Printing.{fact_text}
+use Rattle.fact_lines.specs.Lent.{lent_fact}
+use Rattle.fact_lines.specs.Lines.{fact_text}
 use Rattle.std.proofs.lemmas.Result.{on_ok_weaker}
 use Rattle.lists.proofs.Members.{joined_twice}
 use Rattle.pq_text.specs.Utf8.{KeepsUtf8}

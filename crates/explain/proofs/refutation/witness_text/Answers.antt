@@ -3,8 +3,10 @@ use Rattle.std.specs.Str.{IsUtf8}
 use Rattle.std.proofs.lemmas.Str.{IsUtf8-nil}
 use Rattle.meaning.specs.declared.types.Fact.{Fact}
 use Rattle.no_plan_witness.specs.declared.refutation.Witness.{Witness}
-use Rattle.explain.specs.Lent.{lent_fact, lent_pair}
-use Rattle.explain.specs.Printing.{pair_text, IsListing}
+use Rattle.fact_lines.specs.Lent.{lent_fact}
+use Rattle.fact_lines.specs.Lines.{IsListing}
+use Rattle.explain.specs.Lent.{lent_pair}
+use Rattle.explain.specs.Printing.{pair_text}
 use Rattle.explain.proofs.PrintLaws.{printed_again}
 use Rattle.explain.proofs.refutation.witness_text.Goals as goal
 

@@ -1,6 +1,7 @@
 use Rattle.std.specs.Prelude.{flat_map, take}
 use Rattle.explain.specs.Verdicts.{base_text}
-use Rattle.explain.proofs.Joining.{members_more, grown}
+use Rattle.fact_lines.proofs.Joining.{grown}
+use Rattle.explain.proofs.Joining.{members_more}
 use Rattle.explain.proofs.verdict.push_triggers.Goals as goal
 
 pub loop-trigger-preserved : goal.loop-trigger-preserved

@@ -1,7 +1,7 @@
 use Rattle.std.proofs.lemmas.List.Filters.{dedup_is}
-use Rattle.explain.specs.Lent.{lent_fact}
-use Rattle.explain.proofs.Ordering.{listing_of}
-use Rattle.explain.proofs.listing.ascending.Goals as goal
+use Rattle.fact_lines.specs.Lent.{lent_fact}
+use Rattle.fact_lines.proofs.Ordering.{listing_of}
+use Rattle.fact_lines.proofs.listing.ascending.Goals as goal
 
 pub returns : goal.returns
 returns c =

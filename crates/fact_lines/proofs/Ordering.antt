@@ -14,7 +14,7 @@ use Rattle.std.proofs.lemmas.List.Sorted.{Contains-permutation, IsPermutation-sy
 use Rattle.lists.proofs.Members.{contains_map, contains_mapped}
 use Rattle.lists.proofs.Orders.{rows_equiv, rows_same_equal, rows_ties, rows_total}
 use Rattle.meaning.specs.declared.types.Fact.{Fact}
-use Rattle.explain.specs.Printing.{fact_cmp, IsListing}
+use Rattle.fact_lines.specs.Lines.{fact_cmp, IsListing}
 
 abbrev fact_same : Fact → Fact → Bool
 fact_same x y = nat_eq x.rel y.rel && pointwise (pointwise nat_eq) x.row y.row

@@ -1,6 +1,6 @@
 use Rattle.std.proofs.lemmas.Result.{on_ok_weaker}
 use Rattle.pq_text.specs.Utf8.{KeepsUtf8}
-use Rattle.explain.proofs.refutation.push_fact.Goals as goal
+use Rattle.fact_lines.proofs.lines.push_fact.Goals as goal
 
 pub returns-clause-utf8 : goal.returns-clause-utf8
 returns-clause-utf8 c =

@@ -1,9 +1,9 @@
 use Rattle.std.proofs.Common.{◌≡◌, ◌++◌, take, map}
 use Rattle.std.specs.Prelude.{flat_map}
 use Rattle.pq_text.specs.Utf8.{KeepsUtf8}
-use Rattle.explain.specs.Lent.{lent_fact}
-use Rattle.explain.specs.Printing.{fact_text}
-use Rattle.explain.proofs.refutation.push_facts.Given as goal
+use Rattle.fact_lines.specs.Lent.{lent_fact}
+use Rattle.fact_lines.specs.Lines.{fact_text}
+use Rattle.fact_lines.proofs.lines.push_facts.Given as goal
 
 abbrev pub invariant-loop-rel : goal.invariant-loop-rel
 invariant-loop-rel l = record {

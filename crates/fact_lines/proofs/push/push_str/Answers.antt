@@ -1,6 +1,6 @@
 use Rattle.std.proofs.Common.{ℕ, List, ◌++◌, ap, ◌∙◌}
 use Rattle.pq_text.proofs.PrintedTexts.{appended_utf8}
-use Rattle.explain.proofs.push.push_str.Goals as goal
+use Rattle.fact_lines.proofs.push.push_str.Goals as goal
 
 pub returns-clause-utf8 : goal.returns-clause-utf8
 returns-clause-utf8 c =

@@ -1,7 +1,7 @@
 // The facts of an instance in order.
 ghost use Rattle.std.specs.Prelude.{◌≡◌, map, IfOk};
-ghost use Rattle.explain.specs.Printing.{IsListing};
-ghost use Rattle.explain.specs.Lent.{lent_fact};
+ghost use Rattle.fact_lines.specs.Lines.{IsListing};
+ghost use Rattle.fact_lines.specs.Lent.{lent_fact};
 
 use lists::{NoMemory, Row};
 use meaning::types::Fact;

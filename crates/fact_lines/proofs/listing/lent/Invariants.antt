@@ -1,6 +1,6 @@
 use Rattle.std.proofs.Common.{◌≡◌, map, take}
-use Rattle.explain.specs.Lent.{lent_fact}
-use Rattle.explain.proofs.listing.lent.Given as goal
+use Rattle.fact_lines.specs.Lent.{lent_fact}
+use Rattle.fact_lines.proofs.listing.lent.Given as goal
 
 -- the listing is the facts so far
 abbrev pub invariant-loop-fact : goal.invariant-loop-fact

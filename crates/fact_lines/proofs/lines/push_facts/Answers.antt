@@ -1,8 +1,8 @@
 use Rattle.std.specs.Prelude.{flat_map, map, take}
-use Rattle.explain.specs.Lent.{lent_fact}
-use Rattle.explain.specs.Printing.{fact_text}
-use Rattle.explain.proofs.Joining.{lent_more, grown}
-use Rattle.explain.proofs.refutation.push_facts.Goals as goal
+use Rattle.fact_lines.specs.Lent.{lent_fact}
+use Rattle.fact_lines.specs.Lines.{fact_text}
+use Rattle.fact_lines.proofs.Joining.{lent_more, grown}
+use Rattle.fact_lines.proofs.lines.push_facts.Goals as goal
 
 pub loop-rel-preserved : goal.loop-rel-preserved
 loop-rel-preserved c =
