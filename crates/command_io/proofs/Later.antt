@@ -7,9 +7,10 @@ use Rattle.access_schema.specs.declared.schema.Schema.{Schema}
 use Rattle.command_io.specs.declared.stop.Stop.{Stop}
 use Rattle.command_io.specs.declared.stop.Stop.TheVariants as stop
 use Rattle.command_io.specs.declared.stop.Input.{Input}
-use Rattle.command_io.specs.Inputs.{Contents, FileCause, FileStop, QueryStop, PlanStop}
+use Rattle.command_io.specs.Inputs.{Contents, FileCause, FileStop, QueryStop, BatchStop, PlanStop}
 use Rattle.command_io.specs.Inputs.FileStop.{no_memory as file_memory, not_read}
 use Rattle.command_io.specs.Inputs.QueryStop.{no_memory as query_memory, no_file as no_query_file, no_statement}
+use Rattle.command_io.specs.Inputs.BatchStop.{no_memory as batch_memory, no_file as no_batch_file, no_batch}
 use Rattle.command_io.specs.Inputs.PlanStop.{no_memory as plan_memory, no_file as no_plan_file, no_plan}
 use Rattle.command_io.specs.Moments.{DecisionStop}
 use Rattle.command_io.specs.Moments.DecisionStop.{no_memory as decision_memory, sink_failed as decision_failed}
@@ -41,6 +42,12 @@ pub query_later : (told : Option Contents) (name : List ℕ) (schema : Schema) (
 query_later told name schema rose more end then query_memory = query_memory
 query_later told name schema rose more end then (no_query_file its cause) = no_query_file its (file_later told name _ rose more _ its then cause)
 query_later told name schema rose more end then (no_statement fault other cause) = no_statement fault other cause
+
+pub batch_later : (told : Option Contents) (name : List ℕ) (schema : Schema) (rose more : Type 0) (end : Stop) → (rose → more) →
+    BatchStop told name schema rose end → BatchStop told name schema more end
+batch_later told name schema rose more end then batch_memory = batch_memory
+batch_later told name schema rose more end then (no_batch_file its cause) = no_batch_file its (file_later told name _ rose more _ its then cause)
+batch_later told name schema rose more end then (no_batch fault other cause) = no_batch fault other cause
 
 pub plan_later : (told : Option Contents) (name : List ℕ) (rose more : Type 0) (end : Stop) → (rose → more) →
     PlanStop told name rose end → PlanStop told name more end

@@ -134,16 +134,27 @@ attach_line relation (attach.NotUtf8 number) = codes ": not UTF-8 in row " ++ de
 attach_line relation attach.TooLarge = codes ": too large\n"
 attach_line relation attach.NoMemory = memory_line
 
--- The line of a fault of the execution; branches, steps and rows count from 1 in print.
+-- A failed call; branches and steps count from 1 in print.
+abbrev pub call_text : ℕ → ℕ → List ℕ
+call_text branch step = codes "call failed in branch " ++ decimal (branch + 1) ++ codes " step " ++ decimal (step + 1) ++ codes "\n"
+
+-- The line of a fault of the execution; rows count from 1 in print.
 abbrev pub run_line : List Relation → RunFault → List ℕ
 run_line relations run.NoMemory = memory_line
 run_line relations (run.NoSource rel) = codes "source " ++ relation_name relations rel ++ codes ": no source line\n"
 run_line relations (run.UnknownKind rel) = codes "source " ++ relation_name relations rel ++ codes ": unknown kind\n"
 run_line relations (run.Attach rel fault) = codes "source " ++ relation_name relations rel ++ attach_line (slice_get relations rel) fault
-run_line relations (run.CallFailed branch step) =
-    codes "call failed in branch " ++ decimal (branch + 1) ++ codes " step " ++ decimal (step + 1) ++ codes "\n"
+run_line relations (run.CallFailed branch step) = call_text branch step
 run_line relations (run.OverCalls made wanted cap) =
     codes "call cap: " ++ decimal made ++ codes " made, " ++ decimal wanted ++ codes " wanted, cap " ++ decimal cap ++ codes "\n"
+
+-- The line of a failed call of a round; rounds count from 1 in print.
+abbrev pub round_line : ℕ → List ℕ
+round_line round = codes "call failed in round " ++ decimal (round + 1) ++ codes "\n"
+
+-- The line of a failed call of a query of a batch; queries count from 1 in print too.
+abbrev pub query_call_line : ℕ → ℕ → ℕ → List ℕ
+query_call_line query branch step = codes "query " ++ decimal (query + 1) ++ codes ": " ++ call_text branch step
 
 -- The line of a stop.
 abbrev pub fault_line : Names → Stop → List ℕ
@@ -156,6 +167,8 @@ fault_line names (stop.Plan fault) = plan_line fault
 fault_line names stop.DecisionWrite = write_line
 fault_line names (stop.Illegal fault) = illegal_text fault
 fault_line names (stop.Run fault) = run_line names.relations fault
+fault_line names (stop.RoundFailed round) = round_line round
+fault_line names (stop.QueryCall query branch step) = query_call_line query branch step
 fault_line names (stop.WholeFailed rel) = codes "call failed on " ++ relation_name names.relations rel ++ codes "\n"
 fault_line names (stop.NotMet line) = line
 fault_line names stop.ResultWrite = write_line

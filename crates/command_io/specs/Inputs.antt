@@ -9,6 +9,7 @@ use Rattle.tgd_reader.specs.declared.fault.ReadFault.TheVariants as schema_fault
 use Rattle.sql_select.specs.Statements.{IsStatementText, IsSqlFault}
 use Rattle.sql_select.specs.declared.fault.SqlFault.{SqlFault}
 use Rattle.sql_select.specs.declared.fault.SqlFault.TheVariants as query_fault
+use Rattle.sql_batch.specs.Batches.{IsBatchText, IsBatchFault}
 use Rattle.plan_form.specs.Grammar.{IsPlanText, IsPlanReadFault}
 use Rattle.plan_form.specs.declared.fault.PlanReadFault.{PlanReadFault}
 use Rattle.plan_form.specs.declared.fault.PlanReadFault.TheVariants as plan_fault
@@ -49,6 +50,10 @@ SchemaIsRead told name schema = IsText told name SCHEMA_LIMIT (λ text. IsSchema
 abbrev pub QueryIsRead : Option Contents → List ℕ → Schema → Statement → Type 0
 QueryIsRead told name schema statement = IsText told name QUERY_LIMIT (λ text. IsStatementText schema text statement)
 
+-- The query file's text is that of a batch of these statements over the schema.
+abbrev pub BatchIsRead : Option Contents → List ℕ → Schema → List Statement → Type 0
+BatchIsRead told name schema statements = IsText told name QUERY_LIMIT (λ text. IsBatchText schema text statements)
+
 -- The plan file's text is that of the plan.
 abbrev pub PlanIsRead : Option Contents → List ℕ → Plan → Type 0
 PlanIsRead told name plan = IsText told name PLAN_LIMIT (λ text. IsPlanText text plan)
@@ -77,6 +82,12 @@ pub data QueryStop (told : Option Contents) (name : List ℕ) (schema : Schema) 
   no_memory : QueryStop told name schema rose stop.Memory
   no_file : (end : Stop) → FileStop told name QUERY_LIMIT rose input.Query end → QueryStop told name schema rose end
   no_statement : (fault : SqlFault) → fault ≢ query_fault.NoMemory → IsText told name QUERY_LIMIT (λ text. IsSqlFault schema text fault) → QueryStop told name schema rose (stop.Query fault)
+
+-- Why no batch over the schema is read from the file of this name, likewise.
+pub data BatchStop (told : Option Contents) (name : List ℕ) (schema : Schema) (rose : Type 0) : Stop → Type 0 where
+  no_memory : BatchStop told name schema rose stop.Memory
+  no_file : (end : Stop) → FileStop told name QUERY_LIMIT rose input.Query end → BatchStop told name schema rose end
+  no_batch : (fault : SqlFault) → fault ≢ query_fault.NoMemory → IsText told name QUERY_LIMIT (λ text. IsBatchFault schema text fault) → BatchStop told name schema rose (stop.Query fault)
 
 -- Why no plan is read from the file of this name, likewise.
 pub data PlanStop (told : Option Contents) (name : List ℕ) (rose : Type 0) : Stop → Type 0 where

@@ -4,7 +4,7 @@ ghost use Rattle.meaning.specs.Plans.{IsLawful};
 ghost use Rattle.access_schema.specs.Meaning.{meaning_of};
 ghost use Rattle.source_trait.specs.Causes.{Rose};
 ghost use Rattle.source_trait.specs.Lanes.{LanesStay};
-ghost use Rattle.command_io.specs.Executing.{IsShort, Delivers, ExecutesOrStops, stop_of_run as stop_for};
+ghost use Rattle.command_io.specs.Executing.{IsShort, Delivers, ExecutesOrStops, stop_of_run as stop_for, stop_of_crawl as crawl_stop_for, stop_of_batch as batch_stop_for};
 ghost use Rattle.command_io.specs.Reports.{IsReport};
 
 use crate::stop::Stop;
@@ -98,5 +98,45 @@ pub fn stop_of_run(fault: RunFault) -> Stop
             wanted: _,
             cap: _,
         } => Stop::Run(fault),
+    }
+}
+
+/// How a fault of a crawl stops a command: a failed call is told by its round.
+pub fn stop_of_crawl(fault: RunFault) -> Stop
+    ensures { result ≡ crawl_stop_for fault }
+{
+    match fault {
+        RunFault::NoMemory => stop_of_run(fault),
+        RunFault::NoSource { rel: _ } => stop_of_run(fault),
+        RunFault::UnknownKind { rel: _ } => stop_of_run(fault),
+        RunFault::Attach { rel: _, fault: _ } => stop_of_run(fault),
+        RunFault::CallFailed { branch: _, step } => Stop::RoundFailed { round: step },
+        RunFault::OverCalls {
+            made: _,
+            wanted: _,
+            cap: _,
+        } => stop_of_run(fault),
+    }
+}
+
+/// How a fault of an execution of the query of this number stops a batch, where queries count from 0: a failed call is told by its query.
+pub fn stop_of_batch(number: u32, fault: RunFault) -> Stop
+    ensures { result ≡ batch_stop_for number fault }
+{
+    match fault {
+        RunFault::NoMemory => stop_of_run(fault),
+        RunFault::NoSource { rel: _ } => stop_of_run(fault),
+        RunFault::UnknownKind { rel: _ } => stop_of_run(fault),
+        RunFault::Attach { rel: _, fault: _ } => stop_of_run(fault),
+        RunFault::CallFailed { branch, step } => Stop::QueryCall {
+            query: number,
+            branch,
+            step,
+        },
+        RunFault::OverCalls {
+            made: _,
+            wanted: _,
+            cap: _,
+        } => stop_of_run(fault),
     }
 }

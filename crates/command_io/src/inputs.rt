@@ -2,16 +2,18 @@
 ghost use Rattle.std.specs.Prelude.{◌≡◌, ◌≤◌, Some, IfOk, IfErr, IfSome, length};
 ghost use Rattle.source_trait.specs.Causes.{Rose};
 ghost use Rattle.source_trait.specs.Outside.{bytes_of};
-ghost use Rattle.command_io.specs.Inputs.{has_mark, without_mark as text_behind, SchemaIsRead, QueryIsRead, PlanIsRead, SchemaStop, QueryStop, PlanStop, TextsStop, FileStop};
+ghost use Rattle.command_io.specs.Inputs.{has_mark, without_mark as text_behind, SchemaIsRead, QueryIsRead, BatchIsRead, PlanIsRead, SchemaStop, QueryStop, BatchStop, PlanStop, TextsStop, FileStop};
 ghost use Rattle.sql_select.specs.Statements.{StatementFits};
+ghost use Rattle.sql_batch.specs.Batches.{AllFit};
 ghost use Rattle.plan_form.specs.Fitting.{PlanFits};
 
 use crate::stop::{Input, Stop};
 use access_schema::Schema;
-use lists::{Bytes, Text};
+use lists::{Bytes, Seq, Text};
 use meaning::types::{Plan, Statement};
 use plan_form::{PlanReadFault, read_plan};
 use source_trait::{FileFault, Files};
+use sql_batch::{MOST_STATEMENTS, read_batch};
 use sql_select::{SqlFault, read_select};
 use std::alloc::Global;
 use tgd_reader::{ReadFault, read_schema};
@@ -81,6 +83,33 @@ pub fn statement_of<F: Files>(
     };
     match read_select(alloc, without_mark(bytes.as_slice()), schema) {
         Ok(statement) => Ok(statement),
+        Err(fault) => match fault {
+            SqlFault::NoMemory => Err(Stop::Memory),
+            other => Err(Stop::Query(other)),
+        },
+    }
+}
+
+/// The statements that the file's text is over the schema, one to 64 of them.
+pub fn statements_of<F: Files>(
+    alloc: Global,
+    files: &mut F,
+    name: &Text,
+    schema: &Schema,
+) -> Result<Seq<Statement>, Stop>
+    ensures read { IfOk result (BatchIsRead (F.contents files.old) name.now schema.now) }
+    ensures fits { IfOk result (AllFit schema.now) }
+    ensures some { IfOk result (λ statements. (1 ≤ length statements) × (length statements ≤ MOST_STATEMENTS)) }
+    ensures cause { IfErr result (BatchStop (F.contents files.old) name.now schema.now (Rose (F.faults files.old) (F.faults files.new))) }
+    ensures later { F.faults files.old ≤ F.faults files.new }
+    ensures same { F.contents files.new ≡ F.contents files.old }
+{
+    let bytes = match read_file(alloc, files, name, QUERY_LIMIT, Input::Query) {
+        Ok(bytes) => bytes,
+        Err(stop) => return Err(stop),
+    };
+    match read_batch(alloc, without_mark(bytes.as_slice()), schema) {
+        Ok(statements) => Ok(statements),
         Err(fault) => match fault {
             SqlFault::NoMemory => Err(Stop::Memory),
             other => Err(Stop::Query(other)),

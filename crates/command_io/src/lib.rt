@@ -20,10 +20,13 @@ mod telling;
 mod verified;
 mod write;
 
-pub use delivery::{CALLS, Report, deliver, stop_of_run, write_report};
+pub use delivery::{
+    CALLS, Report, deliver, stop_of_batch, stop_of_crawl, stop_of_run, write_report,
+};
 pub use exit_status::Status;
 pub use inputs::{
     PLAN_LIMIT, QUERY_LIMIT, SCHEMA_LIMIT, plan_of_file, read_texts, schema_of, statement_of,
+    statements_of,
 };
 pub use line::{FileNames, line_of};
 pub use outcome::Outcome;

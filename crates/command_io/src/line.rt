@@ -4,7 +4,7 @@ ghost use Rattle.command_io.specs.FaultLines.{fault_line, file_line as line_of_f
 
 use crate::query_lines::query_line;
 use crate::schema_lines::{plan_line, schema_line};
-use crate::source_lines::{relation_line, run_line};
+use crate::source_lines::{query_call_line, relation_line, round_line, run_line};
 use crate::stop::{Input, Stop};
 use meaning::types::Relation;
 use plan_form::illegal_text;
@@ -38,6 +38,12 @@ pub fn line_of(
         Stop::DecisionWrite => plain(alloc, b"write failed\n"),
         Stop::Illegal(fault) => Ok(illegal_text(alloc, fault)?.into_vec()),
         Stop::Run(fault) => run_line(alloc, *fault, relations),
+        Stop::RoundFailed { round } => round_line(alloc, *round),
+        Stop::QueryCall {
+            query,
+            branch,
+            step,
+        } => query_call_line(alloc, *query, *branch, *step),
         Stop::WholeFailed { rel } => relation_line(
             alloc,
             b"call failed on ",

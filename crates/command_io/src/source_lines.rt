@@ -1,7 +1,7 @@
 // The lines of sources and of rounds of requests.
 ghost use Rattle.std.specs.Prelude.{◌≡◌, ◌++◌, ◌+◌, OnOk, IfOk, slice_get, codes, option_copied};
 ghost use Rattle.std.specs.Fmt.{decimal};
-ghost use Rattle.command_io.specs.FaultLines.{run_line as line_of_run, attach_line as line_of_attach, name_in, relation_name, column_in};
+ghost use Rattle.command_io.specs.FaultLines.{run_line as line_of_run, round_line as line_of_round, query_call_line as line_of_query_call, call_text, attach_line as line_of_attach, name_in, relation_name, column_in};
 
 use crate::line::plain;
 use lists::{Text, Texts};
@@ -146,14 +146,49 @@ fn column_name(columns: &Texts, column: u32) -> Option<&Text>
     columns.get(column as usize)
 }
 
-fn call_line(alloc: Global, branch: u32, step: u32) -> Result<Vec<u8>, AllocError>
-    ensures { IfOk result (λ line. line.items ≡ codes "call failed in branch " ++ decimal (branch + 1) ++ codes " step " ++ decimal (step + 1) ++ codes "\n") }
+// A failed call, and the line feed.
+fn push_call(line: &mut Vec<u8>, branch: u32, step: u32) -> Result<(), AllocError>
+    ensures { OnOk result (line.new.items ≡ line.old.items ++ call_text branch step) }
 {
-    let mut line = plain(alloc, b"call failed in branch ")?;
-    print_number(&mut line, branch as u64 + 1)?;
+    line.extend_from_slice(b"call failed in branch ")?;
+    print_number(line, branch as u64 + 1)?;
     line.extend_from_slice(b" step ")?;
-    print_number(&mut line, step as u64 + 1)?;
+    print_number(line, step as u64 + 1)?;
     line.extend_from_slice(b"\n")?;
+    Ok(())
+}
+
+fn call_line(alloc: Global, branch: u32, step: u32) -> Result<Vec<u8>, AllocError>
+    ensures { IfOk result (λ line. line.items ≡ call_text branch step) }
+{
+    let mut line = Vec::new(alloc);
+    push_call(&mut line, branch, step)?;
+    Ok(line)
+}
+
+/// The line of a failed call of a round.
+pub fn round_line(alloc: Global, round: u32) -> Result<Vec<u8>, AllocError>
+    ensures { IfOk result (λ line. line.items ≡ line_of_round round) }
+{
+    let mut line = plain(alloc, b"call failed in round ")?;
+    print_number(&mut line, round as u64 + 1)?;
+    line.extend_from_slice(b"\n")?;
+    Ok(line)
+}
+
+/// The line of a failed call of a query of a batch.
+pub fn query_call_line(
+    alloc: Global,
+    query: u32,
+    branch: u32,
+    step: u32,
+) -> Result<Vec<u8>, AllocError>
+    ensures { IfOk result (λ line. line.items ≡ line_of_query_call query branch step) }
+{
+    let mut line = plain(alloc, b"query ")?;
+    print_number(&mut line, query as u64 + 1)?;
+    line.extend_from_slice(b": ")?;
+    push_call(&mut line, branch, step)?;
     Ok(line)
 }
 

@@ -18,7 +18,7 @@ pub enum Input {
     Plan,
 }
 
-/// Why a command stops, in the order in which it is looked for. Relations, branches and steps count from 0.
+/// Why a command stops, in the order in which it is looked for. Relations, queries, branches, steps and rounds count from 0.
 #[derive(Drop)]
 pub enum Stop {
     /// Memory was refused, anywhere.
@@ -39,6 +39,10 @@ pub enum Stop {
     Illegal(PlanFault),
     /// A source, or a round of requests, stopped the execution.
     Run(RunFault),
+    /// A request of a round of a crawl failed.
+    RoundFailed { round: u32 },
+    /// A request of a query of a batch failed.
+    QueryCall { query: u32, branch: u32, step: u32 },
     /// A request for a whole relation failed.
     WholeFailed { rel: u32 },
     /// A rule is not met, as this line says.
@@ -61,6 +65,12 @@ pub fn status(stop: &Stop) -> Status
         Stop::DecisionWrite => Status::Write,
         Stop::Illegal(_) => Status::Text,
         Stop::Run(fault) => run_status(*fault),
+        Stop::RoundFailed { round: _ } => Status::Fault,
+        Stop::QueryCall {
+            query: _,
+            branch: _,
+            step: _,
+        } => Status::Fault,
         Stop::WholeFailed { rel: _ } => Status::Fault,
         Stop::NotMet { line: _ } => Status::No,
         Stop::ResultWrite => Status::Write,

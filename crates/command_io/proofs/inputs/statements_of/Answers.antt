@@ -1,0 +1,24 @@
+-- A file that is not read stops the command by its fault, and a text by its own.
+use Rattle.std.proofs.Common.{ℕ, List}
+use Rattle.sql_batch.specs.Batches.{IsBatchFault}
+use Rattle.command_io.specs.Inputs.BatchStop.{no_memory, no_file, no_batch}
+use Rattle.command_io.specs.declared.inputs.TheConstants.{QUERY_LIMIT}
+use Rattle.command_io.proofs.FileTexts.{is_text}
+use Rattle.command_io.proofs.inputs.statements_of.Goals as goal
+
+pub returns-in-Err-clause-cause : goal.returns-in-Err-clause-cause
+returns-in-Err-clause-cause g c = no_file c.in-Err.stop c.in-Err.ensures.cause
+
+pub returns-in-NoMemory-clause-cause : goal.returns-in-NoMemory-clause-cause
+returns-in-NoMemory-clause-cause g c = no_memory
+
+pub returns : goal.returns
+returns g c = record {
+  read = tt;
+  fits = tt;
+  some = tt;
+  cause = no_batch c.in-Err-read_batch.fault c.in_default.not-NoMemory (is_text (g.F.Files.contents c.args.files.now) c.args.name.now c.in-Ok.bytes c.without_mark.result.now QUERY_LIMIT
+      (λ (text : List ℕ). IsBatchFault c.args.schema.now text c.in-Err-read_batch.fault) c.in-Ok.ensures.size c.in-Ok.ensures.bytes (rw c.as_slice.ensures at c.without_mark.ensures) c.in-Err-read_batch.ensures.fault);
+  later = c.read_file.ensures.later;
+  same = c.read_file.ensures.same;
+}
