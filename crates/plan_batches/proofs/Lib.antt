@@ -1,0 +1,16 @@
+pub mod Beginning
+pub mod Going
+pub mod Taking
+pub mod Listing
+pub mod Pairing
+pub mod Numbering
+pub mod Answering
+pub mod Holding
+pub mod Wanting
+pub mod Noting
+pub mod Readying
+pub mod Standing
+pub mod Stopping
+pub mod Coming
+pub mod Ending
+pub mod Attaching

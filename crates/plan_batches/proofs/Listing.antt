@@ -1,0 +1,181 @@
+-- Numbers in lists, and members that are gone through one by one.
+use Rattle.std.proofs.Common.{◌≡◌, ◌↔◌, ⊎_elim, inl, inr, ℕ, ◌+◌, ◌*◌, ◌-◌, ◌<◌, ◌≤◌, ◌^◌, max, Bool, true, false, ◌||◌, nat_eq, List, [], ◌∷◌, ◌++◌, length, take, get_or, Some, refl, sym, ◌∙◌, ap, subst, arith}
+use Rattle.std.specs.Prelude.{Contains, slice_get}
+use Rattle.std.specs.List.{AllByRecursion, list_any}
+use Rattle.std.specs.List.Sorted.{IsStrictlyIncreasing}
+use Rattle.std.proofs.lemmas.Bool.{both_ways, cases_lt}
+use Rattle.std.proofs.lemmas.Bool.Decides.{nat_tests}
+use Rattle.std.proofs.lemmas.List.{length-take, take_all}
+use Rattle.std.proofs.lemmas.Option.{slice_get_within}
+use Rattle.lists.proofs.Members.{contains_here, contains_there, contains_cases, contains_got, contains_none, contains_one, contains_take, some_injective}
+use Rattle.lists.proofs.Places.{got_indexed, got_member, take_indexed}
+use Rattle.meaning.specs.declared.types.Branch.{Branch}
+use Rattle.meaning.specs.declared.types.Plan.{Plan}
+use Rattle.meaning.specs.Search.{AreDistinct}
+use Rattle.source_trait.specs.Asking.{Rises}
+use Rattle.middleware.proofs.Lacking.{above, rises_strictly}
+use Rattle.shared_rounds.specs.SharedRounds.{steps_in, turns_of}
+use Rattle.shared_rounds.proofs.Counting.{all_long}
+use Rattle.shared_rounds.proofs.Turning.{append_first, append_second, in_append}
+use Rattle.plan_batches.specs.Batching.{CanNumber, most_steps}
+use Rattle.plan_batches.specs.Naming.{IsFirstGoing, WantsNumber}
+use Rattle.plan_batches.specs.Needing.{StandsIn, IsFirstIn}
+use Rattle.plan_batches.specs.declared.member.Going.{Going}
+use Rattle.plan_batches.specs.declared.needs.Accessed.{Accessed}
+
+-- ---- whether a number is in a list
+
+any_in : (q : ℕ) (ks : List ℕ) → list_any (λ y. nat_eq y q) ks ≡ true → Contains ks q
+any_in q [] e = absurd (cc)
+any_in q (k ∷ ks) e = go (nat_eq k q) refl e (any_in q ks)
+  where
+    go : (b : Bool) → nat_eq k q ≡ b → (b || list_any (λ y. nat_eq y q) ks) ≡ true → (list_any (λ y. nat_eq y q) ks ≡ true → Contains ks q)
+        → Contains (k ∷ ks) q
+    go true test h later = let same : k ≡ q = grind (arith, nat_tests, test) in subst (λ n. Contains (k ∷ ks) n) same (contains_here k ks)
+    go false test h later = contains_there k ks q (later h)
+
+in_any : (q : ℕ) (ks : List ℕ) → Contains ks q → list_any (λ y. nat_eq y q) ks ≡ true
+in_any q [] c = absurd (contains_none q c)
+in_any q (k ∷ ks) c = ⊎_elim
+    (λ same. let test : nat_eq k q ≡ true = grind (arith, nat_tests, same) in ap (λ b. b || list_any (λ y. nat_eq y q) ks) test)
+    (λ more. either (nat_eq k q) (list_any (λ y. nat_eq y q) ks) (in_any q ks more))
+    (contains_cases k ks q c)
+  where
+    either : (a b : Bool) → b ≡ true → (a || b) ≡ true
+    either true b e = refl
+    either false b e = e
+
+-- the answer of a search in a list that is lent
+pub found_in : (q : ℕ) (ks lent : List ℕ) (b : Bool) → lent ≡ ks → b ≡ list_any (λ y. nat_eq y q) lent → b ≡ true → Contains ks q
+found_in q ks lent b same is test = subst (λ (l : List ℕ). Contains l q) same (any_in q lent (sym is ∙ test))
+
+pub not_found_in : (q : ℕ) (ks lent : List ℕ) (b : Bool) → lent ≡ ks → b ≡ list_any (λ y. nat_eq y q) lent → b ≡ false → Contains ks q → ⊥
+not_found_in q ks lent b same is test c = both_ways b test (is ∙ in_any q lent (subst (λ (l : List ℕ). Contains l q) (sym same) c))
+
+-- ---- one member more, of which it does not hold
+
+module _ {X : Type 0} (P : X → Type 0) (xs : List X) where
+  abbrev pub NoneBefore : ℕ → Type 0
+  NoneBefore n = (k : ℕ) (other : X) → k < n → slice_get xs k ≡ Some other → P other → ⊥
+
+  pub none_more : (n : ℕ) (x : X) → n < length xs → x ≡ get_or xs n x → NoneBefore n → (P x → ⊥) → NoneBefore (n + 1)
+  none_more n x under at before not k other less got holds = ⊎_elim
+      (λ l. before k other l got holds)
+      (λ l.
+      let e : k ≡ n = omega (arith, l, less) in
+      let same : x ≡ other = some_injective x other (sym (got_indexed xs n x under at) ∙ ap (slice_get xs) (sym e) ∙ got) in
+      not (subst P (sym same) holds))
+      (cases_lt k n)
+
+  pub none_at_all : (n : ℕ) → length xs ≤ n → NoneBefore n → (x : X) → Contains xs x → P x → ⊥
+  none_at_all n over before x c holds =
+      let (k, at) = got_member xs x c in
+      let within = slice_get_within xs k x at in
+      before k x (omega (arith, within, over)) at holds
+
+-- ---- the first that has a number
+
+pub first_accessed : (each : List Accessed) (i number rel : ℕ) (one : Accessed) → i < length each → one ≡ get_or each i one → number ≡ i
+    → Contains one.rels.items rel → NoneBefore (λ (a : Accessed). Contains a.rels.items rel) each i → IsFirstIn each number rel
+first_accessed each i number rel one under at same c before = record {
+  one = one;
+  at = ap (slice_get each) same ∙ got_indexed each i one under at;
+  among = c;
+  before = λ k other less got h. before k other (omega (arith, less, same)) got h;
+}
+
+pub first_going : (goings : List Going) (i plan number : ℕ) (going : Going) → i < length goings → going ≡ get_or goings i going → plan ≡ i
+    → Contains going.numbers.items number → NoneBefore (λ (g : Going). Contains g.numbers.items number) goings i → IsFirstGoing goings plan number
+first_going goings i plan number going under at same c before = record {
+  going = going;
+  at = ap (slice_get goings) same ∙ got_indexed goings i going under at;
+  among = c;
+  before = λ k other less got h. before k other (omega (arith, less, same)) got h;
+}
+
+-- ---- lists that are joined
+
+pub stands_none : (rel : ℕ) → Contains [] rel ↔ StandsIn [] rel
+stands_none rel = ((λ c. absurd (contains_none rel c)), (λ (one, among, c). absurd (contains_none one among)))
+
+pub stands_more : (each : List Accessed) (i : ℕ) (one : Accessed) → i < length each → one ≡ get_or each i one → (rels next : List ℕ)
+    → next ≡ rels ++ one.rels.items → ((rel : ℕ) → Contains rels rel ↔ StandsIn (take i each) rel)
+    → (rel : ℕ) → Contains next rel ↔ StandsIn (take (i + 1) each) rel
+stands_more each i one under at rels next is before rel =
+    subst (λ (l : List Accessed). Contains next rel ↔ StandsIn l rel) (sym (take_indexed each i one under at)) (
+      (λ c. ⊎_elim
+          (λ l. let (a, among, h) = (before rel).0 l in (a, append_first (take i each) (one ∷ []) a among, h))
+          (λ l. (one, append_second (take i each) (one ∷ []) one (contains_here one []), l))
+          (in_append rels one.rels.items rel (subst (λ (l : List ℕ). Contains l rel) is c))),
+      (λ (a, among, h). subst (λ (l : List ℕ). Contains l rel) (sym is) (⊎_elim
+          (λ l. append_first rels one.rels.items rel ((before rel).1 (a, l, h)))
+          (λ l. append_second rels one.rels.items rel (subst (λ (x : Accessed). Contains x.rels.items rel) (sym (contains_one one a l)) h))
+          (in_append (take i each) (one ∷ []) a among))),
+    )
+
+pub stands_all : (each : List Accessed) (i : ℕ) → length each ≤ i → (rels : List ℕ) → ((rel : ℕ) → Contains rels rel ↔ StandsIn (take i each) rel)
+    → (rel : ℕ) → Contains rels rel ↔ StandsIn each rel
+stands_all each i over rels are rel = subst (λ (l : List Accessed). Contains rels rel ↔ StandsIn l rel) (take_all i each over) (are rel)
+
+-- ---- rising numbers
+
+rises_distinct : (xs : List ℕ) → Rises xs → AreDistinct xs
+rises_distinct [] up = tt
+rises_distinct (x ∷ xs) up = ((λ c. let less = above x xs x up.0 c in omega (arith, less)), rises_distinct xs up.1)
+
+rises_short : (xs : List ℕ) (low most : ℕ) → Rises xs → ((x : ℕ) → Contains xs x → low ≤ x) → ((x : ℕ) → Contains xs x → x < most) → low ≤ most
+    → length xs + low ≤ most
+rises_short [] low most up over under fits = omega (arith, fits)
+rises_short (x ∷ xs) low most up over under fits =
+    let first = over x (contains_here x xs) in
+    let last = under x (contains_here x xs) in
+    let rest = rises_short xs (x + 1) most up.1 (λ y c. let h = above x xs y up.0 c in omega (arith, h)) (λ y c. under y (contains_there x xs y c)) (omega (arith, last)) in
+    omega (arith, first, rest)
+
+pub distinct_numbers : (xs : List ℕ) → IsStrictlyIncreasing xs → AreDistinct xs
+distinct_numbers xs up = rises_distinct xs (rises_strictly xs up)
+
+pub few_numbers : (xs : List ℕ) (most : ℕ) → IsStrictlyIncreasing xs → ((x : ℕ) → Contains xs x → x < most) → length xs ≤ most
+few_numbers xs most up under =
+    let h = rises_short xs 0 most (rises_strictly xs up) (λ x c. omega arith) under (omega arith) in omega (arith, h)
+
+-- ---- how many steps
+
+steps_push : (branches : List Branch) (its : Branch) → steps_in (branches ++ its ∷ []) ≡ steps_in branches + length its.steps
+steps_push [] its = omega arith
+steps_push (b ∷ branches) its = let h = steps_push branches its in omega (arith, h)
+
+pub steps_more : (branches : List Branch) (i : ℕ) (its : Branch) → i < length branches → its ≡ get_or branches i its → (count : ℕ)
+    → count ≡ steps_in (take i branches) → count + length its.steps ≡ steps_in (take (i + 1) branches)
+steps_more branches i its under at count is =
+    let more = ap steps_in (take_indexed branches i its under at) in
+    let push = steps_push (take i branches) its in
+    omega (arith, more, push, is)
+
+steps_few : (branches : List Branch) → ((its : Branch) → Contains branches its → length its.steps < 2 ^ 32) → steps_in branches ≤ length branches * 4294967295
+steps_few [] short = omega arith
+steps_few (b ∷ branches) short =
+    let here = short b (contains_here b branches) in
+    let rest = steps_few branches (λ its c. short its (contains_there b branches its c)) in
+    omega (arith, here, rest)
+
+pub steps_fit : (plan : Plan) → CanNumber plan → (i : ℕ) → steps_in (take i plan.branches) < 2 ^ 64
+steps_fit plan can i =
+    let few = steps_few (take i plan.branches) (λ its c. can.1 its (contains_take i plan.branches its c)) in
+    let long = length-take i plan.branches in
+    let short = can.0 in
+    omega (arith, few, long, short)
+
+pub all_steps : (plan : Plan) (i : ℕ) → length plan.branches ≤ i → (count : ℕ) → count ≡ steps_in (take i plan.branches) → count ≡ length (turns_of plan)
+all_steps plan i over count is = is ∙ ap steps_in (take_all i plan.branches over) ∙ sym (all_long 0 plan.branches)
+
+most_push : (plans : List Plan) (plan : Plan) → most_steps (plans ++ plan ∷ []) ≡ max (most_steps plans) (length (turns_of plan))
+most_push [] plan = omega arith
+most_push (p ∷ plans) plan = let h = most_push plans plan in omega (arith, h)
+
+pub most_more : (plans : List Plan) (i : ℕ) (plan : Plan) → i < length plans → plan ≡ get_or plans i plan → (most steps : ℕ)
+    → most ≡ most_steps (take i plans) → steps ≡ length (turns_of plan) → max most steps ≡ most_steps (take (i + 1) plans)
+most_more plans i plan under at most steps is its =
+    let more = ap most_steps (take_indexed plans i plan under at) in
+    let push = most_push (take i plans) plan in
+    omega (arith, more, push, is, its)

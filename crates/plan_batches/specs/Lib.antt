@@ -1,0 +1,9 @@
+pub mod Batching
+pub mod Each
+pub mod Needing
+pub mod Kept
+pub mod Members
+pub mod Naming
+pub mod Rounding
+pub mod Asking
+pub mod Coming

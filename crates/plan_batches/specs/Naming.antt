@@ -1,0 +1,38 @@
+-- Which plan a fault of a round concerns.
+use Rattle.std.specs.Prelude.{◌≡◌, ◌<◌, ◌^◌, ℕ, List, [], Contains, Some, slice_get}
+use Rattle.middleware.specs.declared.fault.RunFault.TheVariants as fault
+use Rattle.plan_course.specs.declared.turns.Next.{Next}
+use Rattle.plan_course.specs.declared.turns.Next.TheVariants as next
+use Rattle.plan_course.specs.declared.turns.Pending.{Pending}
+use Rattle.plan_batches.specs.declared.fault.BatchFault.{BatchFault}
+use Rattle.plan_batches.specs.declared.member.Going.{Going}
+
+-- one of the plans wants the request of this number
+abbrev pub WantsNumber : List Going → ℕ → Type 0
+WantsNumber goings number = (going : Going) × Contains goings going × Contains going.numbers.items number
+
+-- each request that the plans want has a number below this one
+abbrev pub NumbersBelow : ℕ → List Going → Type 0
+NumbersBelow most goings = (going : Going) (number : ℕ) → Contains goings going → Contains going.numbers.items number → number < most
+
+-- branch and step can be numbered, or nothing is wanted
+abbrev pub CanNameBy : Next → List ℕ → Type 0
+CanNameBy (next.Wants pending) numbers = (pending.branch < 2 ^ 32) × (pending.step < 2 ^ 32)
+CanNameBy (next.Done course) numbers = numbers ≡ []
+
+abbrev pub CanName : Going → Type 0
+CanName going = CanNameBy going.next going.numbers.items
+
+-- the plan of this number is the first that wants the request of a number
+pub record IsFirstGoing (goings : List Going) (plan number : ℕ) : Type 0 where
+  pub going : Going
+  pub at : slice_get goings plan ≡ Some going
+  pub among : Contains going.numbers.items number
+  pub before : (k : ℕ) (other : Going) → k < plan → slice_get goings k ≡ Some other → Contains other.numbers.items number → ⊥
+
+-- the failed call of the request of a number, by the first plan that wants it and the step that this is at
+pub record FailsFirst (goings : List Going) (number : ℕ) (why : BatchFault) : Type 0 where
+  pub first : IsFirstGoing goings why.plan number
+  pub pending : Pending
+  pub wants : first.going.next ≡ next.Wants pending
+  pub fault_is : why.fault ≡ fault.CallFailed pending.branch pending.step

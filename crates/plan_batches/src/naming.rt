@@ -1,0 +1,74 @@
+// Which plan a fault of a round concerns.
+ghost use Rattle.std.specs.Prelude.{◌≡◌, ◌-◌, ◌<◌, ◌^◌, min, Contains, length};
+ghost use Rattle.middleware.specs.declared.fault.RunFault.TheVariants as fault;
+ghost use Rattle.plan_batches.specs.Naming.{CanName, IsFirstGoing, FailsFirst, WantsNumber};
+ghost use Rattle.plan_batches.specs.declared.member.Going.{Going};
+
+use crate::fault::BatchFault;
+use crate::member::Going;
+use middleware::RunFault;
+use plan_course::Next;
+
+/// Where there is no memory.
+pub fn no_memory() -> BatchFault
+    ensures { result ≡ record { plan = 0; fault = fault.NoMemory } }
+{
+    BatchFault {
+        plan: 0,
+        fault: RunFault::NoMemory,
+    }
+}
+
+/// Where the call of the request of a number failed.
+pub fn call_failed(goings: &[Going], number: usize) -> BatchFault
+    requires wanted { WantsNumber goings.now number }
+    requires few { length goings.now < 2 ^ 32 }
+    requires names { (going : Going) → Contains goings.now going → CanName going }
+    ensures { FailsFirst goings.now number result }
+{
+    let plan = first_with(goings, number);
+    match &goings[plan].next {
+        Next::Wants(pending) => BatchFault {
+            plan: plan as u32,
+            fault: RunFault::CallFailed {
+                branch: pending.branch as u32,
+                step: pending.step as u32,
+            },
+        },
+        Next::Done(_) => unreachable!(),
+    }
+}
+
+/// Where a round would pass the cap, before which so many requests were made, and with which there would be so many in all.
+pub fn over_calls(goings: &[Going], made: usize, total: usize, cap: u32) -> BatchFault
+    requires wanted { WantsNumber goings.now made }
+    requires few { length goings.now < 2 ^ 32 }
+    requires counts { (made < total) × (made < 2 ^ 32) }
+    ensures plan { IsFirstGoing goings.now result.plan made }
+    ensures fault { result.fault ≡ fault.OverCalls made (min (total - made) (2 ^ 32 - 1)) cap }
+{
+    let wanted = (total - made).min(u32::MAX as usize);
+    BatchFault {
+        plan: first_with(goings, made) as u32,
+        fault: RunFault::OverCalls {
+            made: made as u32,
+            wanted: wanted as u32,
+            cap,
+        },
+    }
+}
+
+// The number of the first plan that wants the request of a number.
+fn first_with(goings: &[Going], number: usize) -> usize
+    requires { WantsNumber goings.now number }
+    ensures { IsFirstGoing goings.now result number }
+{
+    let mut plan: usize = 0;
+    for going in goings {
+        if going.numbers.as_slice().contains(&number) {
+            return plan;
+        }
+        plan += 1;
+    }
+    unreachable!()
+}

@@ -1,0 +1,111 @@
+// All rounds of a batch.
+ghost use Rattle.std.specs.Prelude.{◌≡◌, ◌<◌, ◌≤◌, ◌^◌, ℕ, Contains, IfOk, IfErr, OnOk, length};
+ghost use Rattle.meaning.specs.declared.types.Plan.{Plan};
+ghost use Rattle.middleware.specs.LaneBranches.{OnEach};
+ghost use Rattle.middleware.specs.LaneRounds.{NoneStopped};
+ghost use Rattle.middleware.specs.LaneRunning.{IsAttachedTo};
+ghost use Rattle.plan_course.specs.Courses.{HaveOutputs};
+ghost use Rattle.shared_rounds.specs.SharedRounds.{turns_of};
+ghost use Rattle.plan_batches.specs.Batching.{CanNumber, NeedsOf, RoundsHalt, most_steps};
+ghost use Rattle.plan_batches.specs.Coming.{HasCome};
+ghost use Rattle.plan_batches.specs.Each.{Both};
+ghost use Rattle.plan_batches.specs.Members.{Begins, Ends};
+ghost use Rattle.plan_batches.specs.Rounding.{AreReadyPlans};
+ghost use Rattle.plan_batches.specs.declared.member.Member.{Member};
+
+use crate::fault::BatchFault;
+use crate::member::{Member, begin, end};
+use crate::naming::no_memory;
+use crate::round::{Progress, next_round};
+use access_schema::Schema;
+use lists::NoMemory;
+use meaning::types::Plan;
+use middleware::{Answers, Run};
+use shared_rounds::Book;
+use source_trait::{Lane, Source};
+use std::alloc::Global;
+use std::thread::Threads;
+
+/// Asks so many rounds of the lanes, none of which is stopped.
+pub fn all_rounds<R: Threads + Sync, S: Source + Send + Drop>(
+    rt: &R,
+    alloc: Global,
+    schema: &Schema,
+    plans: &[Plan],
+    lanes: &mut [Lane<S>],
+    most: usize,
+    cap: u32,
+) -> Result<Progress, BatchFault>
+    requires few { length lanes.old ≤ 8 }
+    requires some { 0 < most → 0 < length lanes.old }
+    requires going { 0 < most → NoneStopped lanes.old }
+    requires plans { AreReadyPlans schema.now plans.now × (length plans.now < 2 ^ 32) }
+    requires attached { (rel : ℕ) → NeedsOf schema.now plans.now rel → OnEach lanes.old (IsAttachedTo S.seen schema.now rel) }
+    requires cap { cap ≤ 1_000_000 }
+    ensures come { IfOk result (λ progress. HasCome S.seen schema.now plans.now lanes.old cap most progress lanes.new) }
+    ensures going { OnOk result (0 < most → NoneStopped lanes.new) }
+    ensures idle { most ≡ 0 → lanes.new ≡ lanes.old }
+    ensures stops { IfErr result (λ why. RoundsHalt S.seen schema.now plans.now cap why lanes.old lanes.new) }
+{
+    let Ok(members) = begin_all(alloc, plans) else {
+        return Err(no_memory());
+    };
+    let mut progress = Progress {
+        members,
+        book: Book::new(alloc),
+        kept: Answers::new(alloc),
+    };
+    for _ in 0..most {
+        progress = match next_round(rt, alloc, schema, plans, lanes, progress, cap) {
+            Ok(next) => next,
+            Err(fault) => return Err(fault),
+        };
+    }
+    Ok(progress)
+}
+
+fn begin_all(alloc: Global, plans: &[Plan]) -> Result<Vec<Member>, NoMemory>
+    requires { (plan : Plan) → Contains plans.now plan → HaveOutputs plan }
+    ensures { IfOk result (λ members. Both Begins plans.now members.items) }
+{
+    let mut members = Vec::with_capacity(alloc, plans.len())?;
+    for plan in plans {
+        members.push(begin(alloc, plan)?)?;
+    }
+    Ok(members)
+}
+
+/// The runs of plans that have no step left.
+pub fn end_all(alloc: Global, members: Vec<Member>) -> Result<Vec<Run>, NoMemory>
+    requires { (member : Member) (number : ℕ) → Contains members.items member → Contains member.wanted.items number → number < 1_000_000 }
+    ensures { IfOk result (λ runs. Both Ends members.items runs.items) }
+{
+    let mut runs = Vec::with_capacity(alloc, members.len())?;
+    for member in members {
+        runs.push(end(alloc, member)?)?;
+    }
+    Ok(runs)
+}
+
+/// How many steps the longest of the plans has.
+pub fn most_steps(plans: &[Plan]) -> usize
+    requires { (plan : Plan) → Contains plans.now plan → CanNumber plan }
+    ensures { result ≡ most_steps plans.now }
+{
+    let mut most: usize = 0;
+    for plan in plans {
+        most = most.max(count_steps(plan));
+    }
+    most
+}
+
+fn count_steps(plan: &Plan) -> usize
+    requires { CanNumber plan.now }
+    ensures { result ≡ length (turns_of plan.now) }
+{
+    let mut count: usize = 0;
+    for branch in plan.branches.as_slice() {
+        count += branch.steps.as_slice().len();
+    }
+    count
+}
