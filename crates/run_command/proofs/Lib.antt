@@ -1,4 +1,4 @@
 pub mod Fits
-pub mod Decided
+pub mod RightDecisions
 pub mod Writing
 pub mod Results

@@ -39,7 +39,7 @@ use Rattle.no_plan_witness.specs.declared.decision.Decision.TheVariants.{Plan as
 use Rattle.proof_search.specs.Plans.{IsPlanFor}
 use Rattle.run_command.specs.Deciding.{IsPlanned, IsDecided, Written}
 use Rattle.run_command.specs.Deciding.IsDecided.{plan as right_plan, no_plan as right_pair, undecided as right_log}
-use Rattle.run_command.proofs.Decided.{planned, refuted as refutation_told}
+use Rattle.run_command.proofs.RightDecisions.{planned, refuted as refutation_told}
 use Rattle.run_command.specs.Ends.{IsResult, carries_out, StatementEnds}
 use Rattle.run_command.specs.World.{IsSummary}
 use Rattle.run_command.specs.Ends.StatementEnds.{no_decision, untold, refuted, undecided, stopped, done}

@@ -11,6 +11,7 @@ mod run;
 mod settings;
 mod world;
 
+pub use deciding::decided;
 pub use explaining::explain_query;
 pub use run::run_query;
 pub use settings::Settings;

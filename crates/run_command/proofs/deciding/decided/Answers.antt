@@ -1,5 +1,5 @@
 -- What the search decides is right.
-use Rattle.run_command.proofs.Decided.{decided_right}
+use Rattle.run_command.proofs.RightDecisions.{decided_right}
 use Rattle.run_command.proofs.deciding.decided.Goals as goal
 
 pub returns-in-Ok-clause-decided : goal.returns-in-Ok-clause-decided

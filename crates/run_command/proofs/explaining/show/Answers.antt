@@ -3,7 +3,7 @@ use Rattle.std.proofs.Common.{refl}
 use Rattle.command_io.proofs.Delivering.{result_stop}
 use Rattle.run_command.specs.Deciding.{outcome_of}
 use Rattle.run_command.specs.Explained.DecisionEnds.{no_decision, cut, shown}
-use Rattle.run_command.proofs.Decided.{shown as shows}
+use Rattle.run_command.proofs.RightDecisions.{shown as shows}
 use Rattle.run_command.proofs.explaining.show.Goals as goal
 
 pub returns-in-Err-clause-ends : goal.returns-in-Err-clause-ends

@@ -19,7 +19,8 @@ use Rattle.no_plan_witness.specs.declared.refutation.Witness.{Witness}
 use Rattle.no_plan_witness.specs.declared.decision.Chosen.{Chosen}
 use Rattle.no_plan_witness.specs.declared.decision.Decision.{Decision}
 use Rattle.no_plan_witness.specs.declared.decision.Decision.TheVariants.{NoPlan}
-use Rattle.explain.specs.Printing.{IsListing, IsPrintedWitness, IsDecisionText, planned_text}
+use Rattle.fact_lines.specs.Lines.{IsListing}
+use Rattle.explain.specs.Printing.{IsPrintedWitness, IsDecisionText, planned_text}
 use Rattle.explain.specs.Grammar.{FitsSchema, HasSameFacts, IsReadAs}
 use Rattle.explain.proofs.PrintLaws.{printed_again}
 use Rattle.explain.proofs.Entries.{planned_again}

@@ -1,0 +1,4 @@
+pub mod Texts
+pub mod Ending
+pub mod Parts
+pub mod Results
