@@ -5,16 +5,18 @@ use Rattle.source_trait.specs.declared.lanes.Lane.{Lane}
 use Rattle.command_io.specs.declared.exit_status.Status.{Status}
 use Rattle.command_io.specs.Moments.{Moment}
 use Rattle.command_words.specs.Words.{Command, IsCommand}
-use Rattle.command_words.specs.Words.Command.{Schema as Print, Explain, Run, Exec, Check, Verify, World}
+use Rattle.command_words.specs.Words.Command.{Schema as Print, Explain, Run, Batch, Exec, Check, Verify, Crawl, Reach, World}
 use Rattle.pdq_core.specs.Runs.{Runs}
-use Rattle.pdq_core.specs.Runs.Runs.{no_command, help, schema as print_schema, explain, run, exec, check, verify as verify_rules, world}
+use Rattle.pdq_core.specs.Runs.Runs.{no_command, help, schema as print_schema, explain, run, batch, exec, check, verify as verify_rules, crawl, reach, world}
 use Rattle.pdq_core.specs.Complete.{IsAnswered, NoneRose, IsSupplied}
 use Rattle.pdq_core.proofs.CompleteSchema.{help_answered, schema_answered}
 use Rattle.pdq_core.proofs.CompleteExplain.{explain_answered}
 use Rattle.pdq_core.proofs.CompleteRun.{run_answered}
+use Rattle.pdq_core.proofs.CompleteBatch.{batch_answered}
 use Rattle.pdq_core.proofs.CompleteExec.{exec_answered}
 use Rattle.pdq_core.proofs.CompleteCheck.{check_answered}
 use Rattle.pdq_core.proofs.CompleteVerify.{verify_answered}
+use Rattle.pdq_core.proofs.CompleteCrawl.{crawl_answered, reach_answered}
 use Rattle.pdq_core.proofs.CompleteWorld.{world_answered}
 
 module _ {S : Type 0} (seen : S → Seen) (words : List (List ℕ)) (command : Command) (before after : Moment) (old new : List (Lane S)) (one : (other : Command) → IsCommand words command → IsCommand words other → command ≡ other) (is : IsCommand words command)
@@ -35,6 +37,10 @@ module _ {S : Type 0} (seen : S → Seen) (words : List (List ℕ)) (command : C
   answered status calm (run name query firings search workers calls verify result also ends behind) =
       let given = its (Run name query firings search workers calls verify) also in
       run_answered seen name query firings search calls verify before after (take workers old) (take workers new) result calm given.texts.schema given.texts.statement given.texts.schema_given given.texts.query_given given.execution ends
+  answered status calm (batch name queries firings search workers calls result also ends behind) =
+      let given = its (Batch name queries firings search workers calls) also in
+      batch_answered seen name queries firings search calls before after (take workers old) (take workers new) calm
+      given.texts.schema given.texts.statements given.texts.schema_given given.texts.batch_given given.execution result ends
   answered status calm (exec name plan workers calls result also ends behind) =
       let given = its (Exec name plan workers calls) also in
       exec_answered seen name plan calls before after (take workers old) (take workers new) result calm given.schema given.plan given.schema_given given.plan_given given.lawful given.execution ends
@@ -44,6 +50,13 @@ module _ {S : Type 0} (seen : S → Seen) (words : List (List ℕ)) (command : C
   answered status calm (verify_rules name result also ends) =
       let given = its (Verify name) also in
       verify_answered seen name before after old new result calm given.schema given.schema_given given.serve ends
+  answered status calm (crawl name workers calls result also ends behind) =
+      let given = its (Crawl name workers calls) also in
+      crawl_answered seen name calls before after (take workers old) (take workers new) calm given.schema given.schema_given given.crawl result ends
+  answered status calm (reach name query workers calls result also ends behind) =
+      let given = its (Reach name query workers calls) also in
+      reach_answered seen name calls before after (take workers old) (take workers new) calm given.texts.schema given.texts.schema_given given.crawl
+      query given.texts.statement given.texts.query_given result ends
   answered status calm (world size workers result also ends behind) =
       world_answered seen size before after (take workers old) (take workers new) calm (its (World size workers) also) result ends
 

@@ -1,24 +1,22 @@
 -- An execution, or a delivery, is stopped by nothing but want of memory, where the sources of each lane serve and the cap is kept.
-use Rattle.std.proofs.Common.{◌≡◌, ◌≢◌, ◌<◌, ℕ, zero, suc, List, [], ◌∷◌, map, length, Option, None, Some, Err, refl, sym, ◌∙◌, ap, subst, inl, inr, arith}
-use Rattle.std.specs.Prelude.{◌↔◌, Contains, IsSome, slice_get}
+use Rattle.std.proofs.Common.{◌≡◌, ℕ, zero, suc, List, [], ◌∷◌, map, Option, Err, refl, sym, ◌∙◌, subst, arith}
+use Rattle.std.specs.Prelude.{◌↔◌, Contains}
 use Rattle.std.specs.List.Sorted.{IsStrictlyIncreasing}
-use Rattle.lists.proofs.Members.{some_injective, contains_cases, contains_got}
+use Rattle.lists.proofs.Members.{contains_got}
 use Rattle.meaning.specs.declared.types.Plan.{Plan}
 use Rattle.access_schema.specs.declared.schema.Schema.{Schema}
 use Rattle.source_trait.specs.Asking.{Seen}
 use Rattle.source_trait.specs.Lanes.{KindsStay, LanesStay}
-use Rattle.source_trait.specs.declared.source.AttachFault.{AttachFault}
-use Rattle.source_trait.specs.declared.source.AttachFault.TheVariants as attach
 use Rattle.source_trait.specs.declared.lanes.Kind.{Kind}
 use Rattle.source_trait.specs.declared.lanes.Lane.{Lane}
 use Rattle.source_trait.proofs.LaneSteps.{LanesStay-trans}
 use Rattle.middleware.specs.declared.fault.Run.{Run}
 use Rattle.middleware.specs.declared.fault.RunFault.{RunFault}
 use Rattle.middleware.specs.declared.fault.RunFault.TheVariants as fault
-use Rattle.middleware.specs.PlanSources.{line_for, IsAccessed}
+use Rattle.middleware.specs.PlanSources.{IsAccessed}
 use Rattle.middleware.specs.Attaching.{AllAttached}
-use Rattle.middleware.specs.Needs.{LanesAttach, EachAttached, IsFirstKindless, AttachBreaksAt, AttachesNeeded}
-use Rattle.middleware.specs.Needs.AttachesNeeded.{done, no_source, unknown_kind, refused, no_memory}
+use Rattle.middleware.specs.Needs.{LanesAttach, EachAttached}
+use Rattle.middleware.specs.Needs.AttachesNeeded.{done}
 use Rattle.middleware.specs.LaneRounds.{started}
 use Rattle.middleware.specs.LaneBranches.{CallFails, CapFills, PlanHalts}
 use Rattle.middleware.specs.LaneRunning.{needed_by, AsksRounds, AttachesAndAsks}
@@ -33,59 +31,14 @@ use Rattle.middleware.proofs.LaneStays.{started_stay, asked_stay, attach_stay}
 use Rattle.command_io.specs.declared.stop.Stop.{Stop}
 use Rattle.command_io.specs.declared.stop.Stop.TheVariants as stop
 use Rattle.command_io.specs.Executing.{stop_of_run, ExecutesOrStops, Delivers}
-use Rattle.command_io.specs.Executing.Delivers.{no_rows, no_text, cut}
 use Rattle.pdq_core.specs.Complete.{OnLanes, AtPlaces, Serve, HoldWithin, CanExecute}
-use Rattle.pdq_core.proofs.CompleteTexts.{result_stop}
-use Rattle.pdq_core.proofs.CompleteSources.{in_first, rises_take, none_rose, none_refused}
-
--- what follows on each lane from what holds there
-pub on_lanes : {S : Type 0} (P Q : List (Kind S) → List (Kind S) → Type 0) → ((before after : List (Kind S)) → P before after → Q before after) →
-    (old new : List (Lane S)) → OnLanes P old new → OnLanes Q old new
-on_lanes P Q follows [] [] all = tt
-on_lanes P Q follows [] (u ∷ us) all = absurd all
-on_lanes P Q follows (w ∷ ws) [] all = absurd all
-on_lanes P Q follows (w ∷ ws) (u ∷ us) all = (follows w.kinds.items u.kinds.items all.0, on_lanes P Q follows ws us all.1)
-
-pub none_some : {X : Type 0} (o : Option X) → o ≡ None → IsSome o → ⊥
-none_some o none some = cc
-
-module _ {S : Type 0} (P : List (Kind S) → List (Kind S) → Type 0) where
-  -- what holds of the lane at a place
-  at_place : (old new : List (Lane S)) → OnLanes P old new → (place : ℕ) (before after : Lane S) → slice_get old place ≡ Some before → slice_get new place ≡ Some after →
-      P before.kinds.items after.kinds.items
-  at_place [] new all place before after was now = absurd (cc)
-  at_place (w ∷ ws) [] all place before after was now = absurd all
-  at_place (w ∷ ws) (u ∷ us) all zero before after was now =
-      subst (λ (l : Lane S). P l.kinds.items after.kinds.items) (some_injective w before was)
-      (subst (λ (l : Lane S). P w.kinds.items l.kinds.items) (some_injective u after now) all.0)
-  at_place (w ∷ ws) (u ∷ us) all (suc k) before after was now = at_place ws us all.1 k before after was now
-
-  -- a lane that is at a place was there before
-  from_place : (old new : List (Lane S)) → OnLanes P old new → (place : ℕ) (after : Lane S) → slice_get new place ≡ Some after →
-      (before : Lane S) × (slice_get old place ≡ Some before) × P before.kinds.items after.kinds.items
-  from_place [] [] all place after now = absurd (cc)
-  from_place [] (u ∷ us) all place after now = absurd all
-  from_place (w ∷ ws) [] all place after now = absurd all
-  from_place (w ∷ ws) (u ∷ us) all zero after now = (w, refl, subst (λ (l : Lane S). P w.kinds.items l.kinds.items) (some_injective u after now) all.0)
-  from_place (w ∷ ws) (u ∷ us) all (suc k) after now = from_place ws us all.1 k after now
-
-  -- what became of a lane
-  from_among : (old new : List (Lane S)) → OnLanes P old new → (before : Lane S) → Contains old before → (after : Lane S) × P before.kinds.items after.kinds.items
-  from_among [] new all before among = absurd (omega arith)
-  from_among (w ∷ ws) [] all before among = absurd all
-  from_among (w ∷ ws) (u ∷ us) all before among = elim (contains_cases w ws before among) [
-    | inl here ↦ (u, subst (λ (l : Lane S). P l.kinds.items u.kinds.items) here all.0)
-    | inr there ↦ from_among ws us all.1 before there
-  ]
+use Rattle.pdq_core.proofs.CompleteTexts.{delivered_stop}
+use Rattle.pdq_core.proofs.CompleteSources.{none_rose}
+use Rattle.pdq_core.proofs.CompleteAttaches.{at_place, from_place, attaches_stop}
 
 module _ {S : Type 0} (seen : S → Seen) (schema : Schema) (plan : Plan) where
   abbrev Serves : List (Kind S) → List (Kind S) → Type 0
   Serves = Serve seen schema (IsAccessed schema plan)
-
-  some_line : (old new : List (Lane S)) → 0 < length old → OnLanes Serves old new → (rel : ℕ) → IsAccessed schema plan rel → IsSome (line_for rel schema.sources)
-  some_line [] new some all rel accessed = absurd (omega (arith, some))
-  some_line (w ∷ ws) [] some all rel accessed = absurd all
-  some_line (w ∷ ws) (u ∷ us) some all rel accessed = all.0.lines rel accessed
 
   -- on lanes that attached the relations of the plan, and then were only asked, all of them are attached
   pub all_attached : (old ready new : List (Lane S)) → EachAttached seen schema (needed_by schema plan) old ready →
@@ -162,37 +115,9 @@ module _ {S : Type 0} (seen : S → Seen) (schema : Schema) (plan : Plan) where
     rounds_stop (fault.OverCalls made wanted its) rounds = absurd (cap_stop (fault.OverCalls made wanted its) rounds made wanted rounds.cause.1)
 
   module _ (calls : ℕ) (old new : List (Lane S)) (can : CanExecute seen schema plan calls old new) where
-    has_line : (rel : ℕ) → IsAccessed schema plan rel → line_for rel schema.sources ≡ None → ⊥
-    has_line rel accessed none = none_some _ none (some_line old new (can.some rel accessed) can.serve rel accessed)
-
-    has_kind : (rel : ℕ) → IsFirstKindless schema (needed_by schema plan) old rel → ⊥
-    has_kind rel first = elim first.lacks [
-      | inl empty ↦ let some = can.some rel first.wanted.1 in let none = ap length empty in omega (arith, some, none)
-      | inr lack ↦
-          let (place, lane, at, accessed, none) = lack in
-          let (after, serve) = from_among Serves old new can.serve lane (contains_got old place lane at) in
-          none_some _ none (serve.kinds rel first.line accessed first.line_is)
-    ]
-
-    attach_stop : (rel : ℕ) (why : AttachFault) → AttachBreaksAt seen schema (needed_by schema plan) rel why old new → why ≢ attach.NoMemory → ⊥
-    attach_stop rel why stops apart =
-        let b = stops.breaks in
-        let r = b.refused in
-        let rels = stops.rels b.place in
-        let are = stops.are b.place in
-        none_refused seen schema (IsAccessed schema plan) b.before.kinds.items b.after.kinds.items (at_place Serves old new can.serve b.place b.before b.after b.was b.now)
-        _ r.middle rel why (rises_take rels r.n rel (rises_strictly rels are.ascends) r.at)
-        (λ other among. (are.exactly other).0 (in_first r.n rels other among)) ((are.exactly rel).0 (contains_got rels r.n rel r.at)) apart r.attached r.refused
-
-    attaches_stop : (why : RunFault) → AttachesNeeded seen schema (needed_by schema plan) old new (Err why) → stop_of_run why ≡ stop.Memory
-    attaches_stop why (no_source rel first same) = absurd (has_line rel first.wanted.1 first.lacks)
-    attaches_stop why (unknown_kind rel first same) = absurd (has_kind rel first)
-    attaches_stop why (refused rel its breaks have apart) = absurd (attach_stop rel its breaks apart)
-    attaches_stop why (no_memory how) = refl
-
     -- Nothing but want of memory stops the execution.
     stop_for : (why : RunFault) → AttachesAndAsks seen schema plan calls old new (Err why) → stop_of_run why ≡ stop.Memory
-    stop_for why (not_attached its attaches) = attaches_stop why attaches
+    stop_for why (not_attached its attaches) = attaches_stop seen schema (IsAccessed schema plan) old new can.some can.serve why attaches
     stop_for why (attached middle result (done each have) rounds) =
         rounds_stop calls old middle new (attach_stay seen schema each.rels old middle each.order) (at_place Serves old new can.serve)
         (λ asked. let holds = can.within (all_attached old middle new each asked) in record {
@@ -207,6 +132,4 @@ module _ {S : Type 0} (seen : S → Seen) (schema : Schema) (plan : Plan) where
     -- And so with a delivery, where the output does not fail.
     pub delivery_stop : (IsText : Run → List ℕ → Type 0) (out_old out_new : Option (List ℕ)) (rose : Type 0) → (rose → ⊥) → (why : Stop) →
         Delivers (ExecutesOrStops seen schema plan calls old new) IsText out_old out_new rose (Err why) → why ≡ stop.Memory
-    delivery_stop IsText out_old out_new rose calm why (no_rows end (fault, executes, is) same) = is ∙ execution_stop fault executes
-    delivery_stop IsText out_old out_new rose calm why (no_text run executes same) = refl
-    delivery_stop IsText out_old out_new rose calm why (cut run text end executes is part cause) = result_stop rose calm why cause
+    delivery_stop = delivered_stop (ExecutesOrStops seen schema plan calls old new) (λ end ran. ran.2 ∙ execution_stop ran.0 ran.1)

@@ -1,15 +1,17 @@
 -- Sources that tell and offer an instance serve, and hold it once they are attached.
-use Rattle.std.proofs.Common.{◌≡◌, ◌≢◌, ◌<◌, inl, inr, ℕ, List, [], ◌∷◌, ◌++◌, length, Option, None, Some, Result, Ok, Err, Bool, true, false, cond, nat_eq, refl, sym, ◌∙◌, ap, subst, arith, append_assoc, true≢false}
-use Rattle.std.specs.Prelude.{IfSome, IsSome, IsSomeAnd, IsOk, option_map, if◌then◌else◌}
+use Rattle.std.proofs.Common.{◌≡◌, ◌≢◌, ◌<◌, ◌↔◌, inl, inr, ℕ, zero, suc, List, [], ◌∷◌, ◌++◌, length, Option, None, Some, Result, Ok, Err, Bool, true, false, cond, nat_eq, refl, sym, ◌∙◌, ap, subst, arith, append_assoc, true≢false}
+use Rattle.std.specs.Prelude.{Contains, IfSome, IsSome, IsSomeAnd, IsOk, option_map, slice_get, if◌then◌else◌}
+use Rattle.std.specs.List.Sorted.{IsStrictlyIncreasing}
 use Rattle.std.specs.Bool.{Decides}
 use Rattle.std.specs.Cmp.Lexicographic.{pointwise}
 use Rattle.std.proofs.lemmas.Slice.Eq.{bytes_eq-Decides}
 use Rattle.lists.proofs.Members.{some_injective, contains_here, contains_there, contains_cases, contains_map}
 use Rattle.meaning.specs.declared.types.Fact.{Fact}
 use Rattle.meaning.specs.declared.types.Plan.{Plan}
+use Rattle.meaning.specs.declared.types.Relation.{Relation}
 use Rattle.access_schema.specs.declared.schema.Schema.{Schema}
 use Rattle.access_schema.specs.declared.schema.SourceLine.{SourceLine}
-use Rattle.source_trait.specs.Asking.{RowList, Seen, AttachGives, facts_of, pick}
+use Rattle.source_trait.specs.Asking.{RowList, Rises, Seen, AttachGives, facts_of, pick}
 use Rattle.source_trait.specs.Lanes.{source_of, AtKind}
 use Rattle.source_trait.specs.declared.source.AttachFault.{AttachFault}
 use Rattle.source_trait.specs.declared.source.AttachFault.TheVariants.{TooLarge}
@@ -17,12 +19,20 @@ use Rattle.source_trait.specs.declared.lanes.Kind.{Kind}
 use Rattle.source_trait.specs.declared.lanes.Lane.{Lane}
 use Rattle.source_trait.proofs.LaneSteps.{StepsOn-keeps, StepsOn-others, StepsOn-source, AtKind-map}
 use Rattle.middleware.specs.PlanSources.{line_for, IsAccessed, IsPlanSource}
-use Rattle.middleware.specs.Attaching.{AttachesInOrder, AttachesOne, AllAttached, TellsSame}
-use Rattle.middleware.specs.Held.{SameFacts, HoldPlan}
+use Rattle.middleware.specs.Attaching.{AttachesInOrder, AttachesOne, AllAttached, IsAttached, TellsSame}
+use Rattle.middleware.specs.Held.{SameFacts, HoldsRelation, HoldPlan}
+use Rattle.middleware.specs.Needs.{AreNeeded, LanesAttach, AttachesNeeded}
+use Rattle.middleware.specs.Needs.AttachesNeeded.{done}
 use Rattle.middleware.specs.LaneBranches.{OnEach, LanesHoldPlan}
+use Rattle.middleware.proofs.Attached.{order_attached, attached_after}
+use Rattle.middleware.proofs.Lacking.{rises_strictly}
+use Rattle.middleware.proofs.Laning.{AsksLane-refl}
+use Rattle.middleware.proofs.Planning.{relation_there}
 use Rattle.middleware.proofs.Starting.{relation_of}
+use Rattle.plan_batches.specs.Batching.{NeedsOf, needed_by_all, LanesHoldAll}
+use Rattle.crawl.specs.Crawling.{IsReachable, needed_to_crawl, LanesHoldReachable}
 use Rattle.rule_rows.proofs.Picked.{fact_of, picked_held, held_picked, of_rows}
-use Rattle.pdq_core.specs.Complete.{OnLanes, NoSourceRose, Serve, KeepsCap, CanExecute, OffersFacts, OfferInstance, OfferUntold, placed, located}
+use Rattle.pdq_core.specs.Complete.{OnLanes, NoSourceRose, Serve, KeepsCap, CanExecute, RoundsKeepCap, CanExecuteAll, CrawlKeepsCap, CanCrawl, OffersFacts, OfferInstance, OfferUntold, placed, located}
 
 -- what is picked of a relation are just its facts
 same_picked : (rel : ℕ) (held instance : List Fact) → SameFacts rel (facts_of rel (pick held rel [] [])) instance → SameFacts rel held instance
@@ -180,24 +190,41 @@ module _ {S : Type 0} (seen : S → Seen) (schema : Schema) where
       let e : rows ≡ pick facts rel [] [] = cc in
       same_picked rel facts instance (subst (λ (l : RowList). SameFacts rel (facts_of rel l) instance) e same)
 
+  -- what was offered of a relation is held, where it is attached and the sources then tell the same
+  held_after : (IsNeeded : ℕ → Type 0) (old middle new : List (Kind S)) (instance : List Fact) → OfferInstance seen schema IsNeeded old instance →
+      (rel : ℕ) (relation : Relation) (line : SourceLine) → IsNeeded rel → slice_get schema.relations rel ≡ Some relation → line_for rel schema.sources ≡ Some line →
+      (rels : List ℕ) → AttachesInOrder seen schema rels old middle → TellsSame seen (source_of middle line.kind) (source_of new line.kind) →
+      IsAttached seen rel relation line old new → HoldsRelation seen new line.kind rel instance
+  held_after IsNeeded old middle new instance offer rel relation line needed relation_is line_is rels order same each =
+      let facts = offer.facts rel relation line needed relation_is line_is in
+      let first : OffersFacts (seen each.before) rel relation.columns line.locator instance =
+      at_source (λ s. OffersFacts (seen s) rel relation.columns line.locator instance) (source_of old line.kind) each.before each.was facts in
+      let told_old : AtKind old line.kind Tells = AtKind-map line.kind old _ Tells (λ s o. o.tells) facts in
+      let told_middle = order_keeps Tells tells_stay rels old middle order line.kind told_old in
+      let told_new = asked_tells (source_of middle line.kind) (source_of new line.kind) same told_middle in
+      let told : IsSome (seen each.after).held = at_source Tells (source_of new line.kind) each.after each.now told_new in
+      let rows_are : IfSome (seen each.after).held (λ held. given first.rows ≡ given (pick held rel [] [])) =
+      subst (λ (o : Option (Result RowList AttachFault)). IfSome o (λ its. IfSome (seen each.after).held (λ held. its ≡ given (pick held rel [] [])))) first.offered each.held in
+      subst (λ (o : Option S). IsSomeAnd o (λ s. IsSomeAnd (seen s).held (λ held. SameFacts rel held instance))) (sym each.now)
+      (taken rel instance first.rows (seen each.after).held told rows_are first.same)
+
   -- what was offered is held
   pub offered_held : (plan : Plan) (old new : List (Kind S)) (instance : List Fact) → OfferInstance seen schema (IsAccessed schema plan) old instance → AllAttached seen schema plan old new →
       HoldPlan seen schema plan new instance
   offered_held plan old new instance offer attached rel line accessed line_is =
       let (relation, relation_is) = relation_of schema plan rel accessed in
       let is_source : IsPlanSource schema plan rel relation line = record { accessed = accessed; relation_is = relation_is; line_is = line_is } in
-      let facts = offer.facts rel relation line is_source.accessed is_source.relation_is is_source.line_is in
-      let each = attached.each rel relation line is_source in
-      let first : OffersFacts (seen each.before) rel relation.columns line.locator instance =
-      at_source (λ s. OffersFacts (seen s) rel relation.columns line.locator instance) (source_of old line.kind) each.before each.was facts in
-      let told_old : AtKind old line.kind Tells = AtKind-map line.kind old _ Tells (λ s o. o.tells) facts in
-      let told_middle = order_keeps Tells tells_stay attached.attaches.rels old attached.middle attached.attaches.order line.kind told_old in
-      let told_new = asked_tells (source_of attached.middle line.kind) (source_of new line.kind) (attached.asks.tells line.kind) told_middle in
-      let told : IsSome (seen each.after).held = at_source Tells (source_of new line.kind) each.after each.now told_new in
-      let rows_are : IfSome (seen each.after).held (λ held. given first.rows ≡ given (pick held rel [] [])) =
-      subst (λ (o : Option (Result RowList AttachFault)). IfSome o (λ its. IfSome (seen each.after).held (λ held. its ≡ given (pick held rel [] [])))) first.offered each.held in
-      subst (λ (o : Option S). IsSomeAnd o (λ s. IsSomeAnd (seen s).held (λ held. SameFacts rel held instance))) (sym each.now)
-      (taken rel instance first.rows (seen each.after).held told rows_are first.same)
+      held_after (IsAccessed schema plan) old attached.middle new instance offer rel relation line accessed relation_is line_is
+      attached.attaches.rels attached.attaches.order (attached.asks.tells line.kind) (attached.each rel relation line is_source)
+
+  -- so it is where relations that rise were attached, and nothing was asked
+  attached_held : (IsNeeded : ℕ → Type 0) (old new : List (Kind S)) (instance : List Fact) → OfferInstance seen schema IsNeeded old instance →
+      (rel : ℕ) (relation : Relation) (line : SourceLine) → IsNeeded rel → slice_get schema.relations rel ≡ Some relation → line_for rel schema.sources ≡ Some line →
+      (rels : List ℕ) → Rises rels → Contains rels rel → AttachesInOrder seen schema rels old new → HoldsRelation seen new line.kind rel instance
+  attached_held IsNeeded old new instance offer rel relation line needed relation_is line_is rels up among order =
+      let none = AsksLane-refl seen schema new in
+      held_after IsNeeded old new new instance offer rel relation line needed relation_is line_is rels order (none.tells line.kind)
+      (attached_after seen schema rel relation line [] old new new none (order_attached seen schema rels up rel among relation line relation_is line_is old new order))
 
   -- ---- on each lane
 
@@ -241,3 +268,82 @@ module _ {S : Type 0} (seen : S → Seen) (schema : Schema) where
   pub lanes_untold : (plan : Plan) (old new : List (Lane S)) → OnEach old (OfferUntold seen schema (IsAccessed schema plan)) → OnLanes (NoSourceRose seen schema (IsAccessed schema plan)) old new →
       OnLanes (Serve seen schema (IsAccessed schema plan)) old new
   lanes_untold plan = lanes_serve (IsAccessed schema plan) (OfferUntold seen schema (IsAccessed schema plan)) (untold_serve (IsAccessed schema plan))
+
+  -- ---- relations of which each lane needs the same
+
+  -- lanes that attached them hold each
+  needed_held : (IsNeeded : ℕ → Type 0) (rel : ℕ) (relation : Relation) (line : SourceLine) → IsNeeded rel →
+      slice_get schema.relations rel ≡ Some relation → line_for rel schema.sources ≡ Some line → (instance : List Fact) (rels : ℕ → List ℕ) →
+      ((place : ℕ) → AreNeeded (λ place. IsNeeded) place (rels place)) → (old new : List (Lane S)) → LanesAttach seen schema rels old new →
+      OnEach old (λ kinds. OfferInstance seen schema IsNeeded kinds instance) → OnEach new (λ kinds. HoldsRelation seen kinds line.kind rel instance)
+  needed_held IsNeeded rel relation line need relation_is line_is instance rels are old new =
+      go rels (λ place. ((are place).ascends, (are place).exactly)) old new
+    where
+      go : (rels : ℕ → List ℕ) → ((place : ℕ) → IsStrictlyIncreasing (rels place) × ((rel : ℕ) → Contains (rels place) rel ↔ IsNeeded rel)) →
+          (old new : List (Lane S)) → LanesAttach seen schema rels old new → OnEach old (λ kinds. OfferInstance seen schema IsNeeded kinds instance) →
+          OnEach new (λ kinds. HoldsRelation seen kinds line.kind rel instance)
+      go rels are [] [] order offer = λ lane among. absurd (omega arith)
+      go rels are [] (u ∷ us) order offer = absurd order
+      go rels are (w ∷ ws) [] order offer = absurd order
+      go rels are (w ∷ ws) (u ∷ us) order offer = λ lane among. elim (contains_cases u us lane among) [
+        | inl here ↦
+            subst (λ (l : Lane S). HoldsRelation seen l.kinds.items line.kind rel instance) here
+            (attached_held IsNeeded w.kinds.items u.kinds.items instance (offer w (contains_here w ws)) rel relation line need relation_is line_is
+            (rels zero) (rises_strictly (rels zero) (are zero).0) (((are zero).1 rel).1 need) order.0.order)
+        | inr there ↦
+            go (λ place. rels (suc place)) (λ place. are (suc place)) ws us order.1 (λ l c. offer l (contains_there w ws l c)) lane there
+      ]
+
+  -- ---- the reachable relations
+
+  lanes_reachable : (instance : List Fact) (old new : List (Lane S)) → OnEach old (λ kinds. OfferInstance seen schema (IsReachable schema) kinds instance) →
+      AttachesNeeded seen schema (needed_to_crawl schema) old new (Ok tt) → LanesHoldReachable seen schema new instance
+  lanes_reachable instance old new offer (done each have) = λ rel reach line line_is.
+      let (method, of_schema, of_relation) = reach in
+      let (relation, there) = relation_there schema method of_schema in
+      let relation_is : slice_get schema.relations rel ≡ Some relation = ap (slice_get schema.relations) (sym of_relation) ∙ there in
+      needed_held (IsReachable schema) rel relation line reach relation_is line_is instance each.rels each.are old new each.order offer
+
+  -- so they can be crawled
+  pub offers_crawl : (calls : ℕ) (old new : List (Lane S)) (instance : List Fact) → ((rel : ℕ) → IsReachable schema rel → 0 < length old) →
+      OnEach old (λ kinds. OfferInstance seen schema (IsReachable schema) kinds instance) → OnLanes (NoSourceRose seen schema (IsReachable schema)) old new →
+      CrawlKeepsCap schema instance calls → CanCrawl seen schema calls old new
+  offers_crawl calls old new instance some offer calm within = record {
+    some = some;
+    serve = lanes_serve (IsReachable schema) (λ kinds. OfferInstance seen schema (IsReachable schema) kinds instance)
+        (λ a b its quiet. offers_serve (IsReachable schema) a b instance its quiet) old new offer calm;
+    within = λ middle attaches. record { instance = instance; held = lanes_reachable instance old middle offer attaches; within = within };
+  }
+
+  -- and where nothing is told they serve too
+  pub reachable_untold : (old new : List (Lane S)) → OnEach old (OfferUntold seen schema (IsReachable schema)) → OnLanes (NoSourceRose seen schema (IsReachable schema)) old new →
+      OnLanes (Serve seen schema (IsReachable schema)) old new
+  reachable_untold = lanes_serve (IsReachable schema) (OfferUntold seen schema (IsReachable schema)) (untold_serve (IsReachable schema))
+
+  -- ---- the relations of several plans
+
+  lanes_hold_all : (plans : List Plan) (instance : List Fact) (old new : List (Lane S)) →
+      OnEach old (λ kinds. OfferInstance seen schema (NeedsOf schema plans) kinds instance) →
+      AttachesNeeded seen schema (needed_by_all schema plans) old new (Ok tt) → LanesHoldAll seen schema plans new instance
+  lanes_hold_all plans instance old new offer (done each have) = λ lane among rel line need line_is.
+      let (plan, of, accessed) = need in
+      let (relation, relation_is) = relation_of schema plan rel accessed in
+      needed_held (NeedsOf schema plans) rel relation line need relation_is line_is instance each.rels each.are old new each.order offer lane among
+
+  -- so the plans can be executed together
+  pub offers_batch : (plans : List Plan) (calls : ℕ) (old new : List (Lane S)) (instance : List Fact) →
+      ((rel : ℕ) → NeedsOf schema plans rel → 0 < length old) →
+      OnEach old (λ kinds. OfferInstance seen schema (NeedsOf schema plans) kinds instance) →
+      OnLanes (NoSourceRose seen schema (NeedsOf schema plans)) old new →
+      RoundsKeepCap schema plans instance calls → CanExecuteAll seen schema plans calls old new
+  offers_batch plans calls old new instance some offer calm within = record {
+    some = some;
+    serve = lanes_serve (NeedsOf schema plans) (λ kinds. OfferInstance seen schema (NeedsOf schema plans) kinds instance)
+        (λ a b its quiet. offers_serve (NeedsOf schema plans) a b instance its quiet) old new offer calm;
+    within = λ middle attaches. record { instance = instance; held = lanes_hold_all plans instance old middle offer attaches; within = within };
+  }
+
+  -- and where nothing is told they serve too
+  pub batch_untold : (plans : List Plan) (old new : List (Lane S)) → OnEach old (OfferUntold seen schema (NeedsOf schema plans)) →
+      OnLanes (NoSourceRose seen schema (NeedsOf schema plans)) old new → OnLanes (Serve seen schema (NeedsOf schema plans)) old new
+  batch_untold plans = lanes_serve (NeedsOf schema plans) (OfferUntold seen schema (NeedsOf schema plans)) (untold_serve (NeedsOf schema plans))

@@ -24,17 +24,18 @@ use Rattle.run_command.specs.Ends.{carries_out, IsResult, StatementEnds, RunEnds
 use Rattle.run_command.specs.Ends.StatementEnds.{no_decision, untold, refuted, undecided as spent, stopped, done as executed}
 use Rattle.run_command.specs.Ends.RunEnds.{refused, read}
 use Rattle.pdq_core.specs.Runs.{ended}
-use Rattle.pdq_core.specs.Complete.{IsAnswered, NoneRose, SchemaIsGiven, QueryIsGiven, CanCarryOut, IsPrinted}
+use Rattle.pdq_core.specs.Complete.{IsAnswered, NoneRose, SchemaIsGiven, QueryIsGiven, CanCarryOut, ErrBegins, IsPrinted}
 use Rattle.pdq_core.specs.Complete.IsAnswered.{done, no, undecided, no_memory}
 use Rattle.pdq_core.proofs.CompleteTexts.{same_schema, same_statement, texts_stop, decision_stop, stop_answered}
 use Rattle.pdq_core.proofs.CompleteExecution.{delivery_stop}
 use Rattle.pdq_core.proofs.CompleteVerified.{verified_answered}
 
--- the plan was printed before the line of what stopped its execution
-printed : (plan : Plan) (entries : List Chosen) (before after : Moment) (middle : Option (List ℕ)) (rose : Type 0) (line : List ℕ) → (rose → ⊥) → TookAll before.err middle (planned_text entries plan) →
-    TookLine middle after.err rose line → IsPrinted entries plan before after
-printed plan entries before after middle rose line calm first (inl whole) = (line, goes_on before.err middle after.err (planned_text entries plan) line (planned_text entries plan ++ line) refl first whole)
-printed plan entries before after middle rose line calm first (inr (h, part)) = absurd (calm h)
+-- what was printed stands before the line of what then stopped the command
+pub printed : (text : List ℕ) (before after : Moment) (middle : Option (List ℕ)) (rose : Type 0) (line : List ℕ) → (rose → ⊥) →
+    TookAll before.err middle text → TookLine middle after.err rose line → ErrBegins text before after
+printed text before after middle rose line calm first (inl whole) =
+    (line, goes_on before.err middle after.err text line (text ++ line) refl first whole)
+printed text before after middle rose line calm first (inr (h, part)) = absurd (calm h)
 
 -- a delivery of what was carried out is answered, where the output does not fail
 delivery_answered : {S : Type 0} (seen : S → Seen) (schema : Schema) (calls : ℕ) (verify : Bool) (old new : List (Lane S)) (plan : Plan) → CanCarryOut seen schema calls verify old new plan →
@@ -54,7 +55,8 @@ module _ {S : Type 0} (schema : Schema) (statement : Statement) (names : Names) 
       StopsFor (λ its. its ≡ given) names middle after.err rose end → IsAnswered (status_of end)
   stopped_answered plan entries middle rose given end none took delivery planned told = elim told.tells [
     | inl stays ↦ subst (λ (s : Stop). IsAnswered (status_of s)) (sym (stays.0 ∙ told.cause))
-        (answers plan entries given planned (printed plan entries before after middle rose (fault_line names told.given) none took stays.1) delivery)
+        (answers plan entries given planned
+        (printed (planned_text entries plan) before after middle rose (fault_line names told.given) none took stays.1) delivery)
     | inr wanted ↦ subst (λ (s : Stop). IsAnswered (status_of s)) (sym wanted.0) no_memory
   ]
 

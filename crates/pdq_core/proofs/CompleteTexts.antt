@@ -1,5 +1,5 @@
 -- Texts that are given are read, and what is left to stop a command is want of memory.
-use Rattle.std.proofs.Common.{◌≡◌, ◌<◌, ℕ, List, length, Option, None, Some, Ok, refl, sym, ◌∙◌, subst, inl, inr, arith}
+use Rattle.std.proofs.Common.{◌≡◌, ◌<◌, ℕ, List, length, Option, None, Some, Result, Ok, Err, refl, sym, ◌∙◌, subst, inl, inr, arith}
 use Rattle.std.specs.Prelude.{IfSome, IsSomeAnd, MatchOption}
 use Rattle.lists.proofs.Members.{some_injective}
 use Rattle.meaning.specs.declared.types.Plan.{Plan}
@@ -8,6 +8,7 @@ use Rattle.access_schema.specs.declared.schema.Schema.{Schema}
 use Rattle.tgd_reader.specs.SchemaText.{IsSchemaText}
 use Rattle.tgd_reader.proofs.Exactly.{read_only, no_fault as schema_fault}
 use Rattle.sql_select.proofs.Unique.{one_statement, no_fault as query_fault}
+use Rattle.sql_batch.proofs.Unique.{one_batch, no_fault as batch_fault}
 use Rattle.plan_form.specs.Grammar.{IsPlanText}
 use Rattle.plan_form.proofs.TextLaws.{text_only, no_fault as plan_fault}
 use Rattle.source_trait.specs.Outside.{bytes_of}
@@ -17,18 +18,21 @@ use Rattle.command_io.specs.declared.stop.Input.{Input}
 use Rattle.command_io.specs.declared.stop.Stop.{Stop}
 use Rattle.command_io.specs.declared.stop.Stop.TheVariants as stop
 use Rattle.command_io.specs.Status.{status_of}
-use Rattle.command_io.specs.Inputs.{Contents, without_mark, IsText, SchemaIsRead, QueryIsRead, PlanIsRead, FileCause, FileStop, SchemaStop, QueryStop, PlanStop, TextsStop}
+use Rattle.command_io.specs.Inputs.{Contents, without_mark, IsText, SchemaIsRead, QueryIsRead, BatchIsRead, PlanIsRead, FileCause, FileStop, SchemaStop, QueryStop, BatchStop, PlanStop, TextsStop}
 use Rattle.command_io.specs.Inputs.FileStop.{no_memory as file_memory, not_read}
 use Rattle.command_io.specs.Inputs.SchemaStop.{no_memory as schema_memory, no_file as no_schema_file, no_schema}
 use Rattle.command_io.specs.Inputs.QueryStop.{no_memory as query_memory, no_file as no_query_file, no_statement}
+use Rattle.command_io.specs.Inputs.BatchStop.{no_memory as batch_memory, no_file as no_batch_file, no_batch}
 use Rattle.command_io.specs.Inputs.PlanStop.{no_memory as plan_memory, no_file as no_plan_file, no_plan}
 use Rattle.command_io.specs.Inputs.TextsStop.{no_schema as no_schema_of_both, no_statement as no_statement_of_both}
 use Rattle.command_io.specs.Moments.{ResultStop, DecisionStop}
 use Rattle.command_io.specs.Moments.ResultStop.{no_memory as result_memory, sink_failed as result_failed}
 use Rattle.command_io.specs.Moments.DecisionStop.{no_memory as decision_memory, sink_failed as decision_failed}
+use Rattle.command_io.specs.Executing.{Delivers}
+use Rattle.command_io.specs.Executing.Delivers.{no_rows, no_text, cut}
 use Rattle.command_io.specs.FaultLines.{Names}
 use Rattle.command_io.specs.Telling.{StopsFor}
-use Rattle.pdq_core.specs.Complete.{IsAnswered, IsGiven, SchemaIsGiven, QueryIsGiven, PlanIsGiven}
+use Rattle.pdq_core.specs.Complete.{IsAnswered, IsGiven, SchemaIsGiven, QueryIsGiven, BatchIsGiven, PlanIsGiven}
 use Rattle.pdq_core.specs.Complete.IsAnswered.{no_memory}
 
 -- ---- what was read is what is given
@@ -57,6 +61,12 @@ pub same_statement : (told : Option Contents) (name : List ℕ) (schema : Schema
 same_statement told name schema statement read given is =
     let (text, a, b) = same_text told name _ given is in
     one_statement schema text statement read a b
+
+pub same_batch : (told : Option Contents) (name : List ℕ) (schema : Schema) (statements read : List Statement) →
+    BatchIsGiven told name schema statements → BatchIsRead told name schema read → statements ≡ read
+same_batch told name schema statements read given is =
+    let (text, a, b) = same_text told name _ given is in
+    one_batch schema text statements read a b
 
 pub same_plan : (told : Option Contents) (name : List ℕ) (plan read : Plan) → PlanIsGiven told name plan → PlanIsRead told name read → plan ≡ read
 same_plan told name plan read given is =
@@ -98,6 +108,14 @@ module _ (told : Option Contents) (name : List ℕ) (rose : Type 0) (calm : rose
       let (text, a, b) = same_text told name _ given is in
       absurd (apart (query_fault schema text statement fault a b))
 
+  pub batch_stop : (schema : Schema) (statements : List Statement) → BatchIsGiven told name schema statements →
+      (end : Stop) → BatchStop told name schema rose end → end ≡ stop.Memory
+  batch_stop schema statements given end batch_memory = refl
+  batch_stop schema statements given end (no_batch_file its why) = file_stop _ given _ its why
+  batch_stop schema statements given end (no_batch fault apart is) =
+      let (text, a, b) = same_text told name _ given is in
+      absurd (apart (batch_fault schema text statements fault a b))
+
   pub plan_stop : (plan : Plan) → PlanIsGiven told name plan → (end : Stop) → PlanStop told name rose end → end ≡ stop.Memory
   plan_stop plan given end plan_memory = refl
   plan_stop plan given end (no_plan_file its why) = file_stop _ given _ its why
@@ -115,6 +133,13 @@ texts_stop told name query rose calm schema statement given query_given end (no_
 pub result_stop : (rose : Type 0) → (rose → ⊥) → (end : Stop) → ResultStop rose end → end ≡ stop.Memory
 result_stop rose calm end result_memory = refl
 result_stop rose calm end (result_failed h) = absurd (calm h)
+
+-- a delivery is stopped by nothing but want of memory, where nothing else stops what is delivered and the output does not fail
+pub delivered_stop : {A : Type 0} (Ran : Result A Stop → Type 0) → ((end : Stop) → Ran (Err end) → end ≡ stop.Memory) → (IsText : A → List ℕ → Type 0)
+    (out_old out_new : Option (List ℕ)) (rose : Type 0) → (rose → ⊥) → (why : Stop) → Delivers Ran IsText out_old out_new rose (Err why) → why ≡ stop.Memory
+delivered_stop Ran only IsText out_old out_new rose calm why (no_rows end ran same) = only end ran
+delivered_stop Ran only IsText out_old out_new rose calm why (no_text run ran same) = refl
+delivered_stop Ran only IsText out_old out_new rose calm why (cut run text end ran is part cause) = result_stop rose calm end cause
 
 pub decision_stop : (rose : Type 0) → (rose → ⊥) → (end : Stop) → DecisionStop rose end → end ≡ stop.Memory
 decision_stop rose calm end decision_memory = refl

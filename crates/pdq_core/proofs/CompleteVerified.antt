@@ -39,7 +39,8 @@ use Rattle.pdq_core.specs.Complete.{IsAnswered, AtPlaces, Serve, CanVerify}
 use Rattle.pdq_core.specs.Complete.IsAnswered.{no, no_memory}
 use Rattle.pdq_core.proofs.CompleteTexts.{result_stop}
 use Rattle.pdq_core.proofs.CompleteSources.{in_first, rises_take, none_refused}
-use Rattle.pdq_core.proofs.CompleteExecution.{none_some, rounds_stop}
+use Rattle.pdq_core.proofs.CompleteAttaches.{none_some}
+use Rattle.pdq_core.proofs.CompleteExecution.{rounds_stop}
 use Rattle.pdq_core.proofs.CompleteVerify.{used_stay, tests_stop}
 
 memory_answered : (end : Stop) → end ≡ stop.Memory → IsAnswered (status_of end)

@@ -1,13 +1,9 @@
 -- The status of a run says what was decided of the statement.
-use Rattle.std.proofs.Common.{◌≡◌, ◌++◌, ℕ, true, false, List, [], ◌∷◌, take, length-append, Option, Result, sym, subst, arith}
-use Rattle.lists.proofs.Members.{contains_got}
-use Rattle.meaning.specs.declared.types.Firing.{Firing}
+use Rattle.std.proofs.Common.{◌≡◌, ℕ, true, false, List, [], take, Option, Result, sym, subst}
 use Rattle.meaning.specs.declared.types.Plan.{Plan}
 use Rattle.meaning.specs.declared.types.Statement.{Statement}
 use Rattle.access_schema.specs.declared.schema.Schema.{Schema}
-use Rattle.no_plan_witness.specs.declared.decision.Chosen.{Chosen}
 use Rattle.proof_search.specs.Plans.{HasNoPlan}
-use Rattle.proof_search.specs.Decisions.{IsUndecided}
 use Rattle.source_trait.specs.Asking.{Seen}
 use Rattle.source_trait.specs.declared.lanes.Lane.{Lane}
 use Rattle.middleware.specs.declared.fault.Run.{Run as Run_of}
@@ -20,8 +16,7 @@ use Rattle.command_io.specs.Inputs.{Contents, SchemaIsRead, QueryIsRead}
 use Rattle.command_io.specs.Moments.{Moment, Outputs, outputs_of}
 use Rattle.command_io.specs.FaultLines.{Names}
 use Rattle.command_words.specs.Words.{Command, IsCommand}
-use Rattle.command_words.specs.Words.Command.{Help, Schema as Print, Explain, Run, Exec, Check, Verify, World}
-use Rattle.run_command.specs.Deciding.{IsPlanned}
+use Rattle.command_words.specs.Words.Command.{Help, Schema as Print, Explain, Run, Batch, Exec, Check, Verify, Crawl, Reach, World}
 use Rattle.run_command.specs.Deciding.Shows.{plan as shows_plan, no_plan as shows_none, undecided as shows_log}
 use Rattle.run_command.specs.Explained.{DecisionEnds}
 use Rattle.run_command.specs.Explained.DecisionEnds.{no_decision as nothing_shown, cut as shown_part, shown}
@@ -30,31 +25,13 @@ use Rattle.run_command.specs.Ends.{carries_out, StatementEnds}
 use Rattle.run_command.specs.Ends.StatementEnds.{no_decision, untold, refuted, undecided, stopped, done}
 use Rattle.run_command.specs.Ends.RunEnds.{refused, read}
 use Rattle.pdq_core.specs.Runs.{Runs, ended}
-use Rattle.pdq_core.specs.Runs.Runs.{no_command, help, schema as print_schema, explain, run, exec, check, verify, world}
+use Rattle.pdq_core.specs.Runs.Runs.{no_command, help, schema as print_schema, explain, run, batch, exec, check, verify, crawl, reach, world}
 use Rattle.pdq_core.specs.Statuses.{HasPlan, RunsOn, ReadAs, Says, SaysOf}
 use Rattle.pdq_core.proofs.Refusals.{IsRefusal, IsPlain, refusal_is, memory_plain, result_plain, decision_plain, texts_plain, delivery_plain, plain_end}
+use Rattle.pdq_core.proofs.Decided.{longer, has_plan}
+use Rattle.pdq_core.proofs.BatchStatuses.{batch_says}
 use Rattle.pdq_core.proofs.CheckStatuses.{checked_says}
-
--- the spent firings can be gone on with
-pub longer : (schema : Schema) (statement : Statement) (firings select : ℕ) (log : List Firing) → IsUndecided schema statement firings select log → RunsOn firings schema statement
-longer schema statement firings select log is =
-    let (firing, next, more) = is.goes_on in
-    let count = is.count in
-    let one_more = length-append log (firing ∷ []) in
-    record {
-      select = is.chosen;
-      query = is.query;
-      log = log ++ firing ∷ [];
-      end = next;
-      of_statement = contains_got statement.selects select is.chosen is.of_statement;
-      form = is.form;
-      numbered = is.numbered;
-      run = more;
-      long = omega (arith, count, one_more);
-    }
-
-pub has_plan : (schema : Schema) (statement : Statement) (firings search : ℕ) (plan : Plan) (entries : List Chosen) → IsPlanned schema statement firings search plan entries → HasPlan schema statement
-has_plan schema statement firings search plan entries planned = (plan, planned.is.lawful, planned.is.equivalent)
+use Rattle.pdq_core.proofs.CrawlStatuses.{crawl_says, reach_says}
 
 module _ (told : Option Contents) (name query : List ℕ) (firings : ℕ) where
   refused_says : (status : Status) → IsRefusal status → Says status told name query firings
@@ -114,9 +91,16 @@ module _ {S : Type 0} (seen : S → Seen) (words : List (List ℕ)) (command : C
   says status (run name query firings search workers calls false result also (read schema statement same_result schema_is statement_is ends) behind) =
       its (Run name query firings search workers calls false) (ended result) also
       (run_says before.files name query firings schema statement schema_is statement_is seen search calls _ (record { schema = name; query = query; plan = []; relations = schema.relations }) (outputs_of before) (outputs_of after) (take workers old) (take workers new) result ends)
+  says status (batch name queries firings search workers calls result also ends behind) =
+      its (Batch name queries firings search workers calls) (ended result) also
+      (batch_says seen name queries firings search calls before after (take workers old) (take workers new) result ends)
   says status (exec name plan workers calls result also ends behind) = its (Exec name plan workers calls) (ended result) also tt
   says status (check name query plan firings result also ends same) = its (Check name query plan firings) (ended result) also (checked_says name query plan firings before after result ends)
   says status (verify name result also ends) = its (Verify name) (ended result) also tt
+  says status (crawl name workers calls result also ends behind) =
+      its (Crawl name workers calls) (ended result) also (crawl_says seen name calls before after (take workers old) (take workers new) result ends)
+  says status (reach name query workers calls result also ends behind) =
+      its (Reach name query workers calls) (ended result) also (reach_says seen name calls before after (take workers old) (take workers new) query result ends)
   says status (world size workers result also ends behind) = its (World size workers) (ended result) also tt
 
 pub whole : {S : Type 0} (seen : S → Seen) → ((words : List (List ℕ)) (command other : Command) → IsCommand words command → IsCommand words other → command ≡ other) → (words : List (List ℕ)) (command : Command) (before after : Moment) (old new : List (Lane S)) (status : Status) →

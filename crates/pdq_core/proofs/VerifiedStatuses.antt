@@ -37,16 +37,16 @@ use Rattle.command_io.specs.Executing.{Delivers}
 use Rattle.command_io.specs.Executing.Delivers.{no_rows, no_text, cut, done as delivered}
 use Rattle.command_io.specs.Verified.{stop_of_verify, IsVerifiedStop, VerifiesOrStops}
 use Rattle.command_words.specs.Words.{Command, IsCommand}
-use Rattle.command_words.specs.Words.Command.{Help, Schema as Print, Explain, Run, Exec, Check, Verify, World}
+use Rattle.command_words.specs.Words.Command.{Help, Schema as Print, Explain, Run, Batch, Exec, Check, Verify, Crawl, Reach, World}
 use Rattle.run_command.specs.Ends.{carries_out, StatementEnds}
 use Rattle.run_command.specs.Ends.StatementEnds.{no_decision, untold, refuted, undecided, stopped, done}
 use Rattle.run_command.specs.Ends.RunEnds.{refused, read}
 use Rattle.pdq_core.specs.Runs.{Runs, ended}
-use Rattle.pdq_core.specs.Runs.Runs.{no_command, help, schema as print_schema, explain, run, exec, check, verify, world}
+use Rattle.pdq_core.specs.Runs.Runs.{no_command, help, schema as print_schema, explain, run, batch, exec, check, verify, crawl, reach, world}
 use Rattle.pdq_core.specs.Statuses.{HasPlan, RunsOn, ReadAs}
 use Rattle.pdq_core.specs.Verified.{AreMet, AreBroken, SaysVerified, SaysOfVerified}
 use Rattle.pdq_core.proofs.Refusals.{IsRefusal, IsPlain, plain_or_not, refusal_is, memory_plain, run_plain, result_plain, decision_plain, texts_plain, plain_end}
-use Rattle.pdq_core.proofs.Statuses.{longer, has_plan}
+use Rattle.pdq_core.proofs.Decided.{longer, has_plan}
 
 -- ---- what was found of the rows
 
@@ -168,9 +168,13 @@ module _ {S : Type 0} (seen : S → Seen) (words : List (List ℕ)) (command : C
       its (Run name query firings search workers calls true) (ended result) also
       (run_says seen before.files name query firings (take workers new) schema statement schema_is statement_is search calls _
       (record { schema = name; query = query; plan = []; relations = schema.relations }) (outputs_of before) (outputs_of after) (take workers old) result ends)
+  says status (batch name queries firings search workers calls result also ends behind) =
+      its (Batch name queries firings search workers calls) (ended result) also tt
   says status (exec name plan workers calls result also ends behind) = its (Exec name plan workers calls) (ended result) also tt
   says status (check name query plan firings result also ends same) = its (Check name query plan firings) (ended result) also tt
   says status (verify name result also ends) = its (Verify name) (ended result) also tt
+  says status (crawl name workers calls result also ends behind) = its (Crawl name workers calls) (ended result) also tt
+  says status (reach name query workers calls result also ends behind) = its (Reach name query workers calls) (ended result) also tt
   says status (world size workers result also ends behind) = its (World size workers) (ended result) also tt
 
 pub verified_whole : {S : Type 0} (seen : S → Seen) → ((words : List (List ℕ)) (command other : Command) → IsCommand words command → IsCommand words other → command ≡ other) →

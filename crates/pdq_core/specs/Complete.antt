@@ -7,11 +7,13 @@ use Rattle.meaning.specs.declared.types.Plan.{Plan}
 use Rattle.meaning.specs.declared.types.Relation.{Relation}
 use Rattle.meaning.specs.declared.types.Request.{Request}
 use Rattle.meaning.specs.declared.types.Statement.{Statement}
+use Rattle.meaning.specs.Crawls.{IsCrawlRound, AreCrawlRounds}
 use Rattle.access_schema.specs.declared.schema.Schema.{Schema}
 use Rattle.access_schema.specs.declared.schema.SourceLine.{SourceLine}
 use Rattle.access_schema.specs.Meaning.{meaning_of}
 use Rattle.tgd_reader.specs.SchemaText.{IsSchemaText}
 use Rattle.sql_select.specs.Statements.{IsStatementText}
+use Rattle.sql_batch.specs.Batches.{IsBatchText}
 use Rattle.plan_form.specs.Grammar.{IsPlanText}
 use Rattle.no_plan_witness.specs.declared.decision.Chosen.{Chosen}
 use Rattle.explain.specs.Printing.{planned_text}
@@ -26,6 +28,10 @@ use Rattle.middleware.specs.Attaching.{AttachesInOrder, AllAttached}
 use Rattle.middleware.specs.Asked.{IsRoundAt}
 use Rattle.middleware.specs.Held.{SameFacts}
 use Rattle.middleware.specs.LaneBranches.{LanesHoldPlan}
+use Rattle.middleware.specs.Needs.{AttachesNeeded}
+use Rattle.shared_rounds.specs.SharedRounds.{Once, AreRounds}
+use Rattle.plan_batches.specs.Batching.{NeedsOf, needed_by_all, LanesHoldAll}
+use Rattle.crawl.specs.Crawling.{IsReachable, needed_to_crawl, asked_in, LanesHoldReachable}
 use Rattle.command_io.specs.declared.delivery.TheConstants.{CALLS}
 use Rattle.command_io.specs.declared.exit_status.Status.{Status}
 use Rattle.command_io.specs.declared.exit_status.Status.TheVariants as is
@@ -34,10 +40,11 @@ use Rattle.command_io.specs.Inputs.{Contents, without_mark}
 use Rattle.command_io.specs.Moments.{Moment}
 use Rattle.command_io.specs.Writing.{TookAll}
 use Rattle.command_words.specs.Words.{Command}
-use Rattle.command_words.specs.Words.Command.{Help, Schema as Print, Explain, Run, Exec, Check, Verify, World}
+use Rattle.command_words.specs.Words.Command.{Help, Schema as Print, Explain, Run, Batch, Exec, Check, Verify, Crawl, Reach, World}
 use Rattle.world_source.specs.Texts.{schema_text, query_text}
 use Rattle.run_command.specs.Deciding.{IsPlanned}
 use Rattle.run_command.specs.declared.world.TheConstants.{FIRINGS, UNITS}
+use Rattle.batch_command.specs.Deciding.{Told, plans_of, told_text}
 use Rattle.exec_command.specs.Ends.{MayRun}
 use Rattle.rule_rows.specs.RuleRelations.{RulesName, needed_verified}
 use Rattle.rule_rows.specs.Verifying.{Verifies, used}
@@ -71,6 +78,9 @@ SchemaIsGiven told name schema = IsGiven told name SCHEMA_LIMIT (λ text. IsSche
 
 abbrev pub QueryIsGiven : Option Contents → List ℕ → Schema → Statement → Type 0
 QueryIsGiven told name schema statement = IsGiven told name QUERY_LIMIT (λ text. IsStatementText schema text statement)
+
+abbrev pub BatchIsGiven : Option Contents → List ℕ → Schema → List Statement → Type 0
+BatchIsGiven told name schema statements = IsGiven told name QUERY_LIMIT (λ text. IsBatchText schema text statements)
 
 abbrev pub PlanIsGiven : Option Contents → List ℕ → Plan → Type 0
 PlanIsGiven told name plan = IsGiven told name PLAN_LIMIT (λ text. IsPlanText text plan)
@@ -142,6 +152,47 @@ abbrev pub CanCarryOut : {S : Type 0} → (S → Seen) → Schema → ℕ → Bo
 CanCarryOut seen schema calls false old new plan = CanExecute seen schema plan calls old new
 CanCarryOut seen schema calls true old new plan = CanVerify seen schema plan calls old new
 
+-- The rounds that the plans share on the instance do not pass the cap on requests.
+abbrev pub RoundsKeepCap : Schema → List Plan → List Fact → ℕ → Type 0
+RoundsKeepCap schema plans instance cap = (n : ℕ) (asked : List Request) → AreRounds (meaning_of schema) instance plans Once n asked →
+    length asked ≤ cap
+
+-- The sources of each lane hold the relations of all plans of one instance, on which the rounds that the plans share do not pass the cap.
+pub record HoldAllWithin {S : Type 0} (seen : S → Seen) (schema : Schema) (plans : List Plan) (cap : ℕ)
+    (lanes : List (Lane S)) : Type 0 where
+  pub instance : List Fact
+  pub held : LanesHoldAll seen schema plans lanes instance
+  pub within : RoundsKeepCap schema plans instance cap
+
+-- Of the used lanes: there is one where some plan accesses a relation, the sources of each serve the relations of all plans, and where all
+-- of these came to be attached on each, the rounds that the plans share do not pass the cap of so many calls.
+pub record CanExecuteAll {S : Type 0} (seen : S → Seen) (schema : Schema) (plans : List Plan) (calls : ℕ)
+    (old new : List (Lane S)) : Type 0 where
+  pub some : (rel : ℕ) → NeedsOf schema plans rel → 0 < length old
+  pub serve : OnLanes (Serve seen schema (NeedsOf schema plans)) old new
+  pub within : (middle : List (Lane S)) → AttachesNeeded seen schema (needed_by_all schema plans) old middle (Ok tt) →
+      HoldAllWithin seen schema plans calls middle
+
+-- No round of a crawl on the instance passes the cap on requests.
+abbrev pub CrawlKeepsCap : Schema → List Fact → ℕ → Type 0
+CrawlKeepsCap schema instance cap = (rounds : List (List Request)) (now : List Request) →
+    AreCrawlRounds (meaning_of schema) schema.constants instance [] rounds →
+    IsCrawlRound (meaning_of schema) schema.constants instance (asked_in rounds) now → length (asked_in rounds) + length now ≤ cap
+
+-- The sources of each lane hold the reachable relations of one instance, on which no round of a crawl passes the cap.
+pub record HoldReachable {S : Type 0} (seen : S → Seen) (schema : Schema) (cap : ℕ) (lanes : List (Lane S)) : Type 0 where
+  pub instance : List Fact
+  pub held : LanesHoldReachable seen schema lanes instance
+  pub within : CrawlKeepsCap schema instance cap
+
+-- Of the used lanes: there is one where a relation is reachable, the sources of each serve the reachable relations, and where all of these
+-- came to be attached on each, no round passes the cap of so many calls.
+pub record CanCrawl {S : Type 0} (seen : S → Seen) (schema : Schema) (calls : ℕ) (old new : List (Lane S)) : Type 0 where
+  pub some : (rel : ℕ) → IsReachable schema rel → 0 < length old
+  pub serve : OnLanes (Serve seen schema (IsReachable schema)) old new
+  pub within : (middle : List (Lane S)) → AttachesNeeded seen schema (needed_to_crawl schema) old middle (Ok tt) →
+      HoldReachable seen schema calls middle
+
 -- ---- sources that tell
 
 -- A source tells what it holds, and its offer of the relation, which are just the rows of the instance.
@@ -179,9 +230,13 @@ pub record OfferUntold {S : Type 0} (seen : S → Seen) (schema : Schema) (IsNee
 
 -- ---- commands
 
--- What standard error took begins with the text of the plan and of what is said of each select, where that is told.
+-- What standard error took begins with the text, where that is told.
+abbrev pub ErrBegins : List ℕ → Moment → Moment → Type 0
+ErrBegins text before after = (rest : List ℕ) × TookAll before.err after.err (text ++ rest)
+
+-- So it does with the text of the plan and of what is said of each select.
 abbrev pub IsPrinted : List Chosen → Plan → Moment → Moment → Type 0
-IsPrinted entries plan before after = (rest : List ℕ) × TookAll before.err after.err (planned_text entries plan ++ rest)
+IsPrinted entries plan before after = ErrBegins (planned_text entries plan) before after
 
 -- The texts of a schema and of a statement over it are given.
 pub record TextsAreGiven (told : Option Contents) (name query : List ℕ) : Type 0 where
@@ -196,6 +251,26 @@ pub record RunIsSupplied {S : Type 0} (seen : S → Seen) (name query : List ℕ
   pub texts : TextsAreGiven before.files name query
   pub execution : (plan : Plan) (entries : List Chosen) → IsPlanned texts.schema texts.statement firings search plan entries →
       IsPrinted entries plan before after → CanCarryOut seen texts.schema calls verify old new plan
+
+-- The texts of a schema and of a batch of statements over it are given.
+pub record BatchTextsAreGiven (told : Option Contents) (name queries : List ℕ) : Type 0 where
+  pub schema : Schema
+  pub statements : List Statement
+  pub schema_given : SchemaIsGiven told name schema
+  pub batch_given : BatchIsGiven told queries schema statements
+
+-- Plans for the statements that were printed can be executed together.
+abbrev pub CanBatch : {S : Type 0} → (S → Seen) → (firings search calls : ℕ) → Moment → Moment → List (Lane S) → List (Lane S) →
+    Schema → List Statement → Type 0
+CanBatch seen firings search calls before after old new schema statements = (plans : List Told) →
+    AllZip (λ statement (its : Told). IsPlanned schema statement firings search its.plan its.entries) statements plans →
+    ErrBegins (told_text 1 plans) before after → CanExecuteAll seen schema (plans_of plans) calls old new
+
+-- For `batch`: the texts are given, and the plans for the statements that were printed can be executed together.
+pub record BatchIsSupplied {S : Type 0} (seen : S → Seen) (name queries : List ℕ) (firings search calls : ℕ)
+    (before after : Moment) (old new : List (Lane S)) : Type 0 where
+  pub texts : BatchTextsAreGiven before.files name queries
+  pub execution : CanBatch seen firings search calls before after old new texts.schema texts.statements
 
 -- For `exec`: the texts are given, and the plan is lawful and can be executed.
 pub record ExecIsSupplied {S : Type 0} (seen : S → Seen) (name its : List ℕ) (calls : ℕ)
@@ -219,6 +294,19 @@ pub record VerifyIsSupplied {S : Type 0} (seen : S → Seen) (name : List ℕ) (
   pub schema_given : SchemaIsGiven told name schema
   pub serve : Serve seen schema (RulesName schema) (used old) (used new)
 
+-- For `crawl`: the text is given, and the reachable relations can be crawled.
+pub record CrawlIsSupplied {S : Type 0} (seen : S → Seen) (name : List ℕ) (calls : ℕ)
+    (told : Option Contents) (old new : List (Lane S)) : Type 0 where
+  pub schema : Schema
+  pub schema_given : SchemaIsGiven told name schema
+  pub crawl : CanCrawl seen schema calls old new
+
+-- For `reach`: the texts are given, and the reachable relations can be crawled.
+pub record ReachIsSupplied {S : Type 0} (seen : S → Seen) (name query : List ℕ) (calls : ℕ)
+    (told : Option Contents) (old new : List (Lane S)) : Type 0 where
+  pub texts : TextsAreGiven told name query
+  pub crawl : CanCrawl seen texts.schema calls old new
+
 -- For `world`: its texts are those of a schema and of a statement over it, and the plan for the statement that was printed can be executed.
 pub record WorldIsSupplied {S : Type 0} (seen : S → Seen) (size : ℕ) (before after : Moment) (old new : List (Lane S)) : Type 0 where
   pub schema : Schema
@@ -235,8 +323,13 @@ IsSupplied seen (Print name) before after old new = (schema : Schema) × SchemaI
 IsSupplied seen (Explain name query firings search) before after old new = TextsAreGiven before.files name query
 IsSupplied seen (Run name query firings search workers calls verify) before after old new =
     RunIsSupplied seen name query firings search calls verify before after (take workers old) (take workers new)
+IsSupplied seen (Batch name queries firings search workers calls) before after old new =
+    BatchIsSupplied seen name queries firings search calls before after (take workers old) (take workers new)
 IsSupplied seen (Exec name plan workers calls) before after old new = ExecIsSupplied seen name plan calls before.files
     (take workers old) (take workers new)
 IsSupplied seen (Check name query plan firings) before after old new = CheckIsSupplied before.files name query plan
 IsSupplied seen (Verify name) before after old new = VerifyIsSupplied seen name before.files old new
+IsSupplied seen (Crawl name workers calls) before after old new = CrawlIsSupplied seen name calls before.files (take workers old) (take workers new)
+IsSupplied seen (Reach name query workers calls) before after old new = ReachIsSupplied seen name query calls before.files
+    (take workers old) (take workers new)
 IsSupplied seen (World size workers) before after old new = WorldIsSupplied seen size before after (take workers old) (take workers new)

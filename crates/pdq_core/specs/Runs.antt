@@ -1,5 +1,5 @@
 -- What a run of the program does: the ways in which it ends, with the exit status of each.
-use Rattle.std.specs.Prelude.{◌≡◌, ℕ, Bool, List, [], take, drop, Result, Ok, Err}
+use Rattle.std.specs.Prelude.{◌≡◌, ℕ, Bool, false, List, [], take, drop, Result, Ok, Err}
 use Rattle.source_trait.specs.Asking.{Seen}
 use Rattle.source_trait.specs.Causes.{Rose}
 use Rattle.source_trait.specs.declared.lanes.Lane.{Lane}
@@ -16,11 +16,14 @@ use Rattle.schema_command.specs.Ends.{SchemaEnds}
 use Rattle.run_command.specs.Ends.{RunEnds}
 use Rattle.run_command.specs.Explained.{ExplainEnds}
 use Rattle.run_command.specs.World.{WorldEnds}
+use Rattle.batch_command.specs.Ends.{BatchEnds}
 use Rattle.exec_command.specs.Ends.{ExecEnds}
 use Rattle.check_command.specs.Ends.{CheckEnds}
 use Rattle.verify_command.specs.Ends.{VerifyEnds}
+use Rattle.crawl_command.specs.Ends.{CrawlEnds}
+use Rattle.crawl_command.specs.Reach.{ReachEnds}
 use Rattle.command_words.specs.Words.{Command, IsCommand}
-use Rattle.command_words.specs.Words.Command.{Help, Schema, Explain, Run, Exec, Check, Verify, World}
+use Rattle.command_words.specs.Words.Command.{Help, Schema, Explain, Run, Batch, Exec, Check, Verify, Crawl, Reach, World}
 use Rattle.pdq_core.specs.Help.{HelpEnds}
 
 -- The status is that of the outcome where nothing stopped the command, and otherwise that of the stop.
@@ -53,6 +56,12 @@ pub data Runs {S : Type 0} (seen : S → Seen) (words : List (List ℕ)) (before
       RunEnds seen name query (record { firings = firings; search = search; calls = calls; verify = verify }) before after
       (take workers old) (take workers new) result →
       drop workers new ≡ drop workers old → Runs seen words before after old new (ended result)
+  -- the words are `batch SCHEMA QUERIES`, with a number of firings, one of search units, one of workers and one of calls; no rules are tested
+  batch : (name queries : List ℕ) (firings search workers calls : ℕ) (result : Result Outcome Stop) →
+      IsCommand words (Batch name queries firings search workers calls) →
+      BatchEnds seen name queries (record { firings = firings; search = search; calls = calls; verify = false }) before after
+      (take workers old) (take workers new) result →
+      drop workers new ≡ drop workers old → Runs seen words before after old new (ended result)
   -- the words are `exec SCHEMA PLAN`, with a number of workers and one of calls
   exec : (name plan : List ℕ) (workers calls : ℕ) (result : Result Outcome Stop) → IsCommand words (Exec name plan workers calls) →
       ExecEnds seen name plan calls before after (take workers old) (take workers new) result →
@@ -63,6 +72,14 @@ pub data Runs {S : Type 0} (seen : S → Seen) (words : List (List ℕ)) (before
   -- the words are `verify SCHEMA`
   verify : (name : List ℕ) (result : Result Outcome Stop) → IsCommand words (Verify name) →
       VerifyEnds seen name before after old new result → Runs seen words before after old new (ended result)
+  -- the words are `crawl SCHEMA`, with a number of workers and one of calls
+  crawl : (name : List ℕ) (workers calls : ℕ) (result : Result Outcome Stop) → IsCommand words (Crawl name workers calls) →
+      CrawlEnds seen name calls before after (take workers old) (take workers new) result →
+      drop workers new ≡ drop workers old → Runs seen words before after old new (ended result)
+  -- the words are `reach SCHEMA QUERY`, with a number of workers and one of calls
+  reach : (name query : List ℕ) (workers calls : ℕ) (result : Result Outcome Stop) → IsCommand words (Reach name query workers calls) →
+      ReachEnds seen name query calls before after (take workers old) (take workers new) result →
+      drop workers new ≡ drop workers old → Runs seen words before after old new (ended result)
   -- the words are `world N`, with a number of workers
   world : (size workers : ℕ) (result : Result Outcome Stop) → IsCommand words (World size workers) →
       WorldEnds seen size (outputs_of before) (outputs_of after) (take workers old) (take workers new) result → drop workers new ≡ drop workers old → Runs seen words before after old new (ended result)

@@ -1,5 +1,5 @@
--- What the status of a run of `explain` or `run` says of the statement, and that of `check` of the plan.
-use Rattle.std.specs.Prelude.{◌⊎◌, ◌<◌, ℕ, false, List, Contains, Option, length}
+-- What the status of a run of `explain` or `run` says of the statement, that of `batch` of the statements, and that of `check` of the plan.
+use Rattle.std.specs.Prelude.{◌≡◌, ◌⊎◌, ◌<◌, ◌++◌, ◌∷◌, ℕ, false, List, Contains, Option, length}
 use Rattle.meaning.specs.declared.types.Firing.{Firing}
 use Rattle.meaning.specs.declared.types.Branch.{Branch}
 use Rattle.meaning.specs.declared.types.Plan.{Plan}
@@ -20,9 +20,9 @@ use Rattle.proof_search.specs.Plans.{known_of, HasNoPlan}
 use Rattle.plan_check.specs.Verdicts.{IsLegalOver}
 use Rattle.command_io.specs.declared.exit_status.Status.{Status}
 use Rattle.command_io.specs.declared.exit_status.Status.TheVariants as is
-use Rattle.command_io.specs.Inputs.{Contents, SchemaIsRead, QueryIsRead, PlanIsRead}
+use Rattle.command_io.specs.Inputs.{Contents, SchemaIsRead, QueryIsRead, BatchIsRead, PlanIsRead}
 use Rattle.command_words.specs.Words.{Command}
-use Rattle.command_words.specs.Words.Command.{Explain, Run, Check}
+use Rattle.command_words.specs.Words.Command.{Explain, Run, Batch, Check, Crawl, Reach}
 
 -- Some lawful plan over the known constants is equivalent to the statement.
 abbrev pub HasPlan : Schema → Statement → Type 0
@@ -55,6 +55,35 @@ Says is.Done told name query firings = ReadAs told name query HasPlan
 Says is.No told name query firings = ReadAs told name query HasNoPlan
 Says is.Undecided told name query firings = ReadAs told name query (RunsOn firings)
 Says _ told name query firings = Unit {0}
+
+-- The two texts were read as a schema and a batch of statements, of which this is so.
+pub record ReadAll (told : Option Contents) (name queries : List ℕ) (P : Schema → List Statement → Type 0) : Type 0 where
+  pub schema : Schema
+  pub statements : List Statement
+  pub schema_is : SchemaIsRead told name schema
+  pub statements_are : BatchIsRead told queries schema statements
+  pub so : P schema statements
+
+-- Each of the statements has a plan.
+abbrev pub HavePlans : Schema → List Statement → Type 0
+HavePlans schema statements = (statement : Statement) → Contains statements statement → HasPlan schema statement
+
+-- This is so of one of the statements, and each before it has a plan.
+pub record ComesTo (P : Schema → Statement → Type 0) (schema : Schema) (statements : List Statement) : Type 0 where
+  pub front : List Statement
+  pub statement : Statement
+  pub rest : List Statement
+  pub all : statements ≡ front ++ statement ∷ rest
+  pub before : HavePlans schema front
+  pub so : P schema statement
+
+-- Done says that each statement has a plan. No says that some statement has none, and undecided that for some statement there is a longer
+-- run than the firings given; each before that one has a plan.
+abbrev pub SaysOfBatch : Status → Option Contents → List ℕ → List ℕ → ℕ → Type 0
+SaysOfBatch is.Done told name queries firings = ReadAll told name queries HavePlans
+SaysOfBatch is.No told name queries firings = ReadAll told name queries (ComesTo HasNoPlan)
+SaysOfBatch is.Undecided told name queries firings = ReadAll told name queries (ComesTo (RunsOn firings))
+SaysOfBatch _ told name queries firings = Unit {0}
 
 -- The plan is lawful over the known constants and as wide as the statement, and equivalent to it.
 pub record IsRight (schema : Schema) (statement : Statement) (plan : Plan) : Type 0 where
@@ -97,10 +126,19 @@ SaysOfPlan is.No told name query its firings = ReadWith told name query its IsWr
 SaysOfPlan is.Undecided told name query its firings = ReadWith told name query its (FiresOn firings)
 SaysOfPlan _ told name query its firings = Unit {0}
 
--- That is so of the commands that decide a statement, and of the one that judges a plan; what is so of `run` with the rules tested first
--- stands in `Verified`.
+-- Nothing is decided: the status is none but done, or that of a stop.
+abbrev pub DecidesNothing : Status → Type 0
+DecidesNothing is.No = ⊥
+DecidesNothing is.Undecided = ⊥
+DecidesNothing _ = Unit {0}
+
+-- That is so of the commands that decide statements, of the one that judges a plan, and of those that crawl; what is so of `run` with the
+-- rules tested first stands in `Verified`.
 abbrev pub SaysOf : Command → Option Contents → Status → Type 0
 SaysOf (Explain name query firings search) told status = Says status told name query firings
 SaysOf (Run name query firings search workers calls false) told status = Says status told name query firings
+SaysOf (Batch name queries firings search workers calls) told status = SaysOfBatch status told name queries firings
 SaysOf (Check name query plan firings) told status = SaysOfPlan status told name query plan firings
+SaysOf (Crawl name workers calls) told status = DecidesNothing status
+SaysOf (Reach name query workers calls) told status = DecidesNothing status
 SaysOf _ told status = Unit {0}

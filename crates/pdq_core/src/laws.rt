@@ -5,19 +5,22 @@ ghost use Rattle.meaning.specs.declared.types.Plan.{Plan};
 ghost use Rattle.meaning.specs.declared.types.Statement.{Statement};
 ghost use Rattle.access_schema.specs.declared.schema.Schema.{Schema};
 ghost use Rattle.tgd_reader.specs.SchemaText.{IsSchemaText};
+ghost use Rattle.sql_batch.specs.Batches.{IsBatchText};
 ghost use Rattle.sql_select.specs.Statements.{IsStatementText};
 ghost use Rattle.plan_form.specs.Grammar.{IsPlanText};
 ghost use Rattle.source_trait.specs.declared.lanes.Lane.{Lane};
 ghost use Rattle.middleware.specs.PlanSources.{IsAccessed};
 ghost use Rattle.middleware.specs.LaneBranches.{OnEach};
+ghost use Rattle.plan_batches.specs.Batching.{NeedsOf};
 ghost use Rattle.command_io.specs.declared.exit_status.Status.{Status};
 ghost use Rattle.command_io.specs.declared.exit_status.Status.TheVariants as ends_in;
+ghost use Rattle.crawl.specs.Crawling.{IsReachable};
 ghost use Rattle.command_io.specs.Moments.{Moment};
 ghost use Rattle.command_words.specs.Words.{Command, IsCommand};
 ghost use Rattle.rule_rows.specs.RuleRelations.{RulesName};
 ghost use Rattle.rule_rows.specs.Verifying.{used};
 ghost use Rattle.pdq_core.specs.Runs.{Runs};
-ghost use Rattle.pdq_core.specs.Complete.{NoneRose, OnLanes, NoSourceRose, OfferInstance, OfferUntold, KeepsCap, Serve, CanExecute, IsSupplied, IsAnswered};
+ghost use Rattle.pdq_core.specs.Complete.{NoneRose, OnLanes, NoSourceRose, OfferInstance, OfferUntold, KeepsCap, RoundsKeepCap, CrawlKeepsCap, Serve, CanExecute, CanExecuteAll, CanCrawl, IsSupplied, IsAnswered};
 ghost use Rattle.pdq_core.specs.Statuses.{SaysOf};
 ghost use Rattle.pdq_core.specs.Exact.{HasNoLongRun, DecidesAlone, HasNone};
 ghost use Rattle.pdq_core.specs.Verified.{SaysOfVerified};
@@ -36,7 +39,8 @@ pub fn runs_without_faults_are_answered<S: Source>()
 }
 
 /// What the law above needs of sources can be given. Where those of each used lane tell what they hold, offer one instance within
-/// their limits and do not fail, they serve; and a plan can be executed if no round of it on the instance passes the cap.
+/// their limits and do not fail, they serve; and a plan can be executed, several together, or the methods crawled, if no round of that on the
+/// instance passes the cap.
 pub fn sources_that_tell_serve<S: Source>()
     ensures plan { (schema : Schema) (plan : Plan) (calls : ℕ) (old new : List (Lane S)) (instance : List Fact) →
         ((rel : ℕ) → IsAccessed schema plan rel → 0 < length old) →
@@ -45,6 +49,16 @@ pub fn sources_that_tell_serve<S: Source>()
     ensures rules { (schema : Schema) (old new : List (Lane S)) (instance : List Fact) →
         OfferInstance S.seen schema (RulesName schema) (used old) instance → NoSourceRose S.seen schema (RulesName schema) (used old) (used new) →
         Serve S.seen schema (RulesName schema) (used old) (used new) }
+    ensures batch { (schema : Schema) (plans : List Plan) (calls : ℕ) (old new : List (Lane S)) (instance : List Fact) →
+        ((rel : ℕ) → NeedsOf schema plans rel → 0 < length old) →
+        OnEach old (λ kinds. OfferInstance S.seen schema (NeedsOf schema plans) kinds instance) →
+        OnLanes (NoSourceRose S.seen schema (NeedsOf schema plans)) old new → RoundsKeepCap schema plans instance calls →
+        CanExecuteAll S.seen schema plans calls old new }
+    ensures crawl { (schema : Schema) (calls : ℕ) (old new : List (Lane S)) (instance : List Fact) →
+        ((rel : ℕ) → IsReachable schema rel → 0 < length old) →
+        OnEach old (λ kinds. OfferInstance S.seen schema (IsReachable schema) kinds instance) →
+        OnLanes (NoSourceRose S.seen schema (IsReachable schema)) old new → CrawlKeepsCap schema instance calls →
+        CanCrawl S.seen schema calls old new }
 {}
 
 /// Sources that tell nothing of what they offer can supply it too, as those over files of the system: they serve where each line has a
@@ -56,12 +70,19 @@ pub fn sources_that_do_not_tell_serve<S: Source>()
     ensures rules { (schema : Schema) (old new : List (Lane S)) →
         OfferUntold S.seen schema (RulesName schema) (used old) → NoSourceRose S.seen schema (RulesName schema) (used old) (used new) →
         Serve S.seen schema (RulesName schema) (used old) (used new) }
+    ensures batch { (schema : Schema) (plans : List Plan) (old new : List (Lane S)) →
+        OnEach old (OfferUntold S.seen schema (NeedsOf schema plans)) → OnLanes (NoSourceRose S.seen schema (NeedsOf schema plans)) old new →
+        OnLanes (Serve S.seen schema (NeedsOf schema plans)) old new }
+    ensures crawl { (schema : Schema) (old new : List (Lane S)) →
+        OnEach old (OfferUntold S.seen schema (IsReachable schema)) → OnLanes (NoSourceRose S.seen schema (IsReachable schema)) old new →
+        OnLanes (Serve S.seen schema (IsReachable schema)) old new }
 {}
 
 /// The status of `explain` and of `run` with no rules tested first is right. `Done` says that some lawful plan is equivalent to the statement, `No` that
-/// none is, and `Undecided` that there is a longer ordered run than the firings given. That of `check` is right too: `Done` says that the
+/// none is, and `Undecided` that there is a longer ordered run than the firings given. So is that of `batch`: `Done` says it of each
+/// statement, and `No` and `Undecided` say it of one, and that each before it has a plan. That of `check` is right too: `Done` says that the
 /// plan is lawful and equivalent to the statement, `No` that it is not, and `Undecided` that a base run from a frozen select or branch is
-/// longer than the firings given.
+/// longer than the firings given. Of `crawl` and `reach` it is none but `Done` or that of a stop.
 pub fn statuses_are_right<S: Source>()
     ensures { (words : List (List ℕ)) (command : Command) (before after : Moment) (old new : List (Lane S)) (status : Status) →
         Runs S.seen words before after old new status → IsCommand words command → SaysOf command before.files status }
@@ -79,10 +100,10 @@ pub fn verified_statuses_are_right<S: Source>()
     words_are_one_command();
 }
 
-/// The status of `explain`, `run` and `check` is exact where the texts of their files are given and no run is longer than the firings
-/// given: no ordered run from a select, and for `check` no base run from a frozen select or branch. Then it is never `Undecided`; and
-/// where the command is answered, memory was found and no rules are tested first, it is `No` exactly where no lawful plan is equivalent to
-/// the statement, and for `check` exactly where the plan is not lawful or not equivalent to it.
+/// The status of `explain`, `run`, `batch` and `check` is exact where the texts of their files are given and no run is longer than the
+/// firings given: no ordered run from a select, and for `check` no base run from a frozen select or branch. Then it is never `Undecided`;
+/// and where the command is answered, memory was found and no rules are tested first, it is `No` exactly where no lawful plan is equivalent
+/// to the statement, for `batch` to one of the statements, and for `check` exactly where the plan is not lawful or not equivalent to it.
 pub fn statuses_are_exact<S: Source>()
     ensures undecided { (words : List (List ℕ)) (command : Command) (before after : Moment) (old new : List (Lane S)) (status : Status) →
         Runs S.seen words before after old new status → IsCommand words command → HasNoLongRun command before.files → status ≢ ends_in.Undecided }
@@ -93,10 +114,12 @@ pub fn statuses_are_exact<S: Source>()
     words_are_one_command();
 }
 
-/// A text is that of one schema at most, over a schema of one statement at most, and of one plan at most. So what the laws above take
-/// as given is what the program read.
+/// A text is that of one schema at most, over a schema of one statement and of one batch at most, and of one plan at most. So what the laws
+/// above take as given is what the program read.
 pub fn texts_mean_one_thing()
     ensures schema { (text : List ℕ) (one other : Schema) → IsSchemaText text one → IsSchemaText text other → one ≡ other }
     ensures statement { (schema : Schema) (text : List ℕ) (one other : Statement) → IsStatementText schema text one → IsStatementText schema text other → one ≡ other }
+    ensures batch { (schema : Schema) (text : List ℕ) (one other : List Statement) → IsBatchText schema text one →
+        IsBatchText schema text other → one ≡ other }
     ensures plan { (text : List ℕ) (one other : Plan) → IsPlanText text one → IsPlanText text other → one ≡ other }
 {}

@@ -4,7 +4,9 @@ ghost use Rattle.source_trait.specs.Lanes.{LanesStay};
 ghost use Rattle.command_io.specs.Moments.{Stays};
 ghost use Rattle.pdq_core.specs.Runs.{Runs, ended as ended_by};
 
-use crate::first_lanes::{exec_on_first, run_on_first, world_on_first};
+use crate::first_lanes::{
+    batch_on_first, crawl_on_first, exec_on_first, reach_on_first, run_on_first, world_on_first,
+};
 use crate::help::print_usage;
 use check_command::check_plan;
 use command_io::{Outcome, Outside, Status, Stop, say, status};
@@ -20,8 +22,8 @@ use verify_command::verify_rules;
 /// Runs the command that the words are, and answers how it ended.
 ///
 /// `words` are those after the program's name. The command reads its texts from `files`, writes its result to `out`, and its decision
-/// and the line of what stopped it to `err`. `run`, `exec` and `world` use the first lanes, as many as the words say or all where there
-/// are fewer, which ask at once in threads of `rt`; `verify` uses the first.
+/// and the line of what stopped it to `err`. `run`, `batch`, `exec`, `crawl`, `reach` and `world` use the first lanes, as many as the words
+/// say or all where there are fewer, which ask at once in threads of `rt`; `verify` uses the first.
 pub fn run_words<R: Threads + Sync, F: Files, S: Source + Send + Drop, O: Sink, E: Sink>(
     rt: &R,
     alloc: Global,
@@ -73,6 +75,26 @@ pub fn run_words<R: Threads + Sync, F: Files, S: Source + Send + Drop, O: Sink, 
             ended(run_on_first(rt, alloc, schema, query, settings, workers, outside, lanes))
         }
         Some(
+            Command::Batch {
+                schema,
+                queries,
+                firings,
+                search,
+                workers,
+                calls,
+            },
+        ) => {
+            let settings = Settings {
+                firings,
+                search,
+                calls,
+                verify: false,
+            };
+            ended(batch_on_first(
+                rt, alloc, schema, queries, settings, workers, outside, lanes,
+            ))
+        }
+        Some(
             Command::Exec {
                 schema,
                 plan,
@@ -89,6 +111,21 @@ pub fn run_words<R: Threads + Sync, F: Files, S: Source + Send + Drop, O: Sink, 
             },
         ) => ended(check_plan(alloc, schema, query, plan, firings, outside)),
         Some(Command::Verify { schema }) => ended(verify_rules(alloc, schema, outside, lanes)),
+        Some(
+            Command::Crawl {
+                schema,
+                workers,
+                calls,
+            },
+        ) => ended(crawl_on_first(rt, alloc, schema, workers, calls, outside, lanes)),
+        Some(
+            Command::Reach {
+                schema,
+                query,
+                workers,
+                calls,
+            },
+        ) => ended(reach_on_first(rt, alloc, schema, query, workers, calls, outside, lanes)),
         Some(Command::World { size, workers }) => {
             ended(world_on_first(rt, alloc, size, workers, &mut outside.outputs, lanes))
         }

@@ -53,7 +53,8 @@ use Rattle.run_command.specs.World.WorldEnds.{refused, read}
 use Rattle.run_command.specs.World.WorldStop.{no_memory as world_memory, no_schema, no_statement}
 use Rattle.run_command.specs.declared.world.TheConstants.{FIRINGS, UNITS}
 use Rattle.pdq_core.specs.Complete.{NoRiseOf, NoSourceRose, OfferInstance, CanExecute}
-use Rattle.pdq_core.proofs.CompleteExecution.{on_lanes, all_attached, execution_stop}
+use Rattle.pdq_core.proofs.CompleteAttaches.{on_lanes}
+use Rattle.pdq_core.proofs.CompleteExecution.{all_attached, execution_stop}
 use Rattle.pdq_core.proofs.CompleteOffers.{lanes_hold, offers_execute}
 use Rattle.world_laws.specs.World.{IsWorldSchema, world_statement}
 use Rattle.world_laws.specs.Instance.{world_facts}

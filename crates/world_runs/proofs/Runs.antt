@@ -7,9 +7,9 @@ use Rattle.middleware.specs.LaneBranches.{OnEach}
 use Rattle.command_io.specs.declared.exit_status.Status.{Status}
 use Rattle.command_io.specs.Moments.{Moment, outputs_of}
 use Rattle.command_words.specs.Words.{Command, IsCommand}
-use Rattle.command_words.specs.Words.Command.{Help, Schema as Print, Explain, Run, Exec, Check, Verify, World}
+use Rattle.command_words.specs.Words.Command.{Help, Schema as Print, Explain, Run, Batch, Exec, Check, Verify, Crawl, Reach, World}
 use Rattle.pdq_core.specs.Runs.{Runs}
-use Rattle.pdq_core.specs.Runs.Runs.{no_command, help, schema as print_schema, explain, run, exec, check, verify as verify_rules, world}
+use Rattle.pdq_core.specs.Runs.Runs.{no_command, help, schema as print_schema, explain, run, batch, exec, check, verify as verify_rules, crawl, reach, world}
 use Rattle.pdq_core.specs.Generators.{HasGenerator}
 use Rattle.world_runs.specs.Ends.{WorldIsOver, RunIsOver}
 use Rattle.world_runs.proofs.Ends.{world_over}
@@ -47,9 +47,13 @@ module _ {S : Type 0} (seen : S → Seen) (old new : List (Lane S)) where
     run_over _ (print_schema name result also ends same) = absurd (its (Print name) also)
     run_over _ (explain name query firings search result also ends same) = absurd (its (Explain name query firings search) also)
     run_over _ (run name query firings search lanes calls verify result also ends behind) = absurd (its (Run name query firings search lanes calls verify) also)
+    run_over _ (batch name queries firings search lanes calls result also ends behind) =
+        absurd (its (Batch name queries firings search lanes calls) also)
     run_over _ (exec name plan lanes calls result also ends behind) = absurd (its (Exec name plan lanes calls) also)
     run_over _ (check name query plan firings result also ends same) = absurd (its (Check name query plan firings) also)
     run_over _ (verify_rules name result also ends) = absurd (its (Verify name) also)
+    run_over _ (crawl name lanes calls result also ends behind) = absurd (its (Crawl name lanes calls) also)
+    run_over _ (reach name query lanes calls result also ends behind) = absurd (its (Reach name query lanes calls) also)
     run_over _ (world other lanes result also ends behind) =
         let (same, had) = its (World other lanes) also in
         let over = world_over seen other had.some had.few (outputs_of before) (outputs_of after) (take lanes old) (take lanes new) had.lane had.lanes had.stay result ends in

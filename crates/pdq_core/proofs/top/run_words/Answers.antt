@@ -4,9 +4,9 @@ use Rattle.source_trait.proofs.LaneSteps.{LanesStay-refl}
 use Rattle.command_io.specs.declared.stop.Stop.TheVariants as stop
 use Rattle.command_io.proofs.Lines.{said_tells}
 use Rattle.command_words.specs.Words.{IsCommand}
-use Rattle.command_words.specs.Words.Command.{Help, Schema, Explain, Run, Exec, Check, Verify, World}
-use Rattle.pdq_core.specs.Runs.Runs.{no_command, help, schema, explain, run, exec, check, verify, world}
-use Rattle.pdq_core.proofs.Ways.{few_explained, settings_run, few_checked, units_explained, workers_run, workers_exec, calls_exec, workers_world, small_world}
+use Rattle.command_words.specs.Words.Command.{Help, Schema, Explain, Run, Batch, Exec, Check, Verify, Crawl, Reach, World}
+use Rattle.pdq_core.specs.Runs.Runs.{no_command, help, schema, explain, run, batch, exec, check, verify, crawl, reach, world}
+use Rattle.pdq_core.proofs.Ways.{few_explained, settings_run, few_checked, units_explained, workers_run, settings_batch, workers_batch, workers_exec, calls_exec, workers_crawl, calls_crawl, workers_reach, calls_reach, workers_world, small_world}
 use Rattle.pdq_core.proofs.top.run_words.Goals as goal
 
 pub returns-in-None-clause-run : goal.returns-in-None-clause-run
@@ -82,6 +82,32 @@ run_on_first-requires-clause-workers g c κs within =
     workers_run c.args.words.now c.in-Some-Run.schema.now c.in-Some-Run.query.now c.in-Some-Run.firings c.in-Some-Run.search c.in-Some-Run.workers c.in-Some-Run.calls c.in-Some-Run.verify
     (rw c.in-Some-Run.field-0-is at c.in-Some-Run.ensures.some)
 
+pub returns-in-Some-Batch-clause-run : goal.returns-in-Some-Batch-clause-run
+returns-in-Some-Batch-clause-run g c =
+    let its = c.in-Some-Batch in
+    let is : IsCommand c.args.words.now (Batch its.schema.now its.queries.now its.firings its.search its.workers its.calls) =
+    rw its.field-0-is at its.ensures.some in
+    rw c.ended-in-Some-Batch.ensures (batch its.schema.now its.queries.now its.firings its.search its.workers its.calls
+    c.batch_on_first.result is c.batch_on_first.ensures.ends c.batch_on_first.ensures.behind)
+
+pub returns-in-Some-Batch-clause-stays : goal.returns-in-Some-Batch-clause-stays
+returns-in-Some-Batch-clause-stays g c = c.batch_on_first.ensures.stays
+
+pub returns-in-Some-Batch-clause-lanes : goal.returns-in-Some-Batch-clause-lanes
+returns-in-Some-Batch-clause-lanes g c = c.batch_on_first.ensures.lanes
+
+pub batch_on_first-requires-clause-within : goal.batch_on_first-requires-clause-within
+batch_on_first-requires-clause-within g c κs within =
+    let its = c.in-Some-Batch in
+    settings_batch c.args.words.now its.schema.now its.queries.now its.firings its.search its.workers its.calls
+    (rw its.field-0-is at its.ensures.some)
+
+pub batch_on_first-requires-clause-workers : goal.batch_on_first-requires-clause-workers
+batch_on_first-requires-clause-workers g c κs within =
+    let its = c.in-Some-Batch in
+    workers_batch c.args.words.now its.schema.now its.queries.now its.firings its.search its.workers its.calls
+    (rw its.field-0-is at its.ensures.some)
+
 pub returns-in-Some-Exec-clause-run : goal.returns-in-Some-Exec-clause-run
 returns-in-Some-Exec-clause-run g c =
     let is : IsCommand c.args.words.now (Exec c.in-Some-Exec.schema.now c.in-Some-Exec.plan.now c.in-Some-Exec.workers c.in-Some-Exec.calls) = rw c.in-Some-Exec.field-0-is at c.in-Some-Exec.ensures.some in
@@ -128,6 +154,44 @@ returns-in-Some-Verify-clause-stays g c = c.verify_rules.ensures.stays
 
 pub returns-in-Some-Verify-clause-lanes : goal.returns-in-Some-Verify-clause-lanes
 returns-in-Some-Verify-clause-lanes g c = c.verify_rules.ensures.lanes
+
+pub returns-in-Some-Crawl-clause-run : goal.returns-in-Some-Crawl-clause-run
+returns-in-Some-Crawl-clause-run g c =
+    let is : IsCommand c.args.words.now (Crawl c.in-Some-Crawl.schema.now c.in-Some-Crawl.workers c.in-Some-Crawl.calls) = rw c.in-Some-Crawl.field-0-is at c.in-Some-Crawl.ensures.some in
+    rw c.ended-in-Some-Crawl.ensures (crawl c.in-Some-Crawl.schema.now c.in-Some-Crawl.workers c.in-Some-Crawl.calls c.crawl_on_first.result is c.crawl_on_first.ensures.ends c.crawl_on_first.ensures.behind)
+
+pub returns-in-Some-Crawl-clause-stays : goal.returns-in-Some-Crawl-clause-stays
+returns-in-Some-Crawl-clause-stays g c = c.crawl_on_first.ensures.stays
+
+pub returns-in-Some-Crawl-clause-lanes : goal.returns-in-Some-Crawl-clause-lanes
+returns-in-Some-Crawl-clause-lanes g c = c.crawl_on_first.ensures.lanes
+
+pub crawl_on_first-requires-clause-workers : goal.crawl_on_first-requires-clause-workers
+crawl_on_first-requires-clause-workers g c κs within = workers_crawl c.args.words.now c.in-Some-Crawl.schema.now c.in-Some-Crawl.workers c.in-Some-Crawl.calls (rw c.in-Some-Crawl.field-0-is at c.in-Some-Crawl.ensures.some)
+
+pub crawl_on_first-requires-clause-calls : goal.crawl_on_first-requires-clause-calls
+crawl_on_first-requires-clause-calls g c κs within =
+    calls_crawl c.args.words.now c.in-Some-Crawl.schema.now c.in-Some-Crawl.workers c.in-Some-Crawl.calls
+    (rw c.in-Some-Crawl.field-0-is at c.in-Some-Crawl.ensures.some)
+
+pub returns-in-Some-Reach-clause-run : goal.returns-in-Some-Reach-clause-run
+returns-in-Some-Reach-clause-run g c =
+    let is : IsCommand c.args.words.now (Reach c.in-Some-Reach.schema.now c.in-Some-Reach.query.now c.in-Some-Reach.workers c.in-Some-Reach.calls) = rw c.in-Some-Reach.field-0-is at c.in-Some-Reach.ensures.some in
+    rw c.ended-in-Some-Reach.ensures (reach c.in-Some-Reach.schema.now c.in-Some-Reach.query.now c.in-Some-Reach.workers c.in-Some-Reach.calls c.reach_on_first.result is c.reach_on_first.ensures.ends c.reach_on_first.ensures.behind)
+
+pub returns-in-Some-Reach-clause-stays : goal.returns-in-Some-Reach-clause-stays
+returns-in-Some-Reach-clause-stays g c = c.reach_on_first.ensures.stays
+
+pub returns-in-Some-Reach-clause-lanes : goal.returns-in-Some-Reach-clause-lanes
+returns-in-Some-Reach-clause-lanes g c = c.reach_on_first.ensures.lanes
+
+pub reach_on_first-requires-clause-workers : goal.reach_on_first-requires-clause-workers
+reach_on_first-requires-clause-workers g c κs within = workers_reach c.args.words.now c.in-Some-Reach.schema.now c.in-Some-Reach.query.now c.in-Some-Reach.workers c.in-Some-Reach.calls (rw c.in-Some-Reach.field-0-is at c.in-Some-Reach.ensures.some)
+
+pub reach_on_first-requires-clause-calls : goal.reach_on_first-requires-clause-calls
+reach_on_first-requires-clause-calls g c κs within =
+    calls_reach c.args.words.now c.in-Some-Reach.schema.now c.in-Some-Reach.query.now c.in-Some-Reach.workers c.in-Some-Reach.calls
+    (rw c.in-Some-Reach.field-0-is at c.in-Some-Reach.ensures.some)
 
 pub returns-in-Some-World-clause-run : goal.returns-in-Some-World-clause-run
 returns-in-Some-World-clause-run g c =
