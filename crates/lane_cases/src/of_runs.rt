@@ -63,23 +63,76 @@ impl<'a> Source for Meeting<'a> {
     }
 }
 
-// Whether a run on these lanes with two workers writes the plan and the rows.
-fn answers<R: Threads + Sync, S: Source + Send + Drop>(
-    rt: &R,
-    alloc: Global,
-    lanes: &mut Vec<Lane<S>>,
-) -> Result<bool, Fail> {
-    let mut outside = outside(alloc, NO_FAULTS)?;
-    let words = ["run", "s.pdq", "q.sql", "--workers", "2"];
-    let code = ran(rt, alloc, &words, &mut outside, lanes)?;
-    let wrote = &outside.outputs;
-    Ok(code == 0 && wrote.out.bytes() == ROWS.as_bytes() && wrote.err.bytes() == PLAN.as_bytes())
-}
+/// The facts that the methods reach: all that is in the office.
+const FACTS: &str = "profinfo('1', '101', 'smith')
+profinfo('3', '103', 'smith')
+udirect('1', 'smith')
+udirect('2', 'jones')
+udirect('3', 'smith')
+";
 
-// Whether a run with two workers writes the plan and the rows, on two lanes whose look-ups raise these counts.
-fn answers_by_two<R: Threads + Sync>(
+/// What a batch of the query and of all names writes to standard output and to standard error.
+const BOTH: (&str, &str) = (
+    "-- query 1
+eid,onum
+1,101
+3,103
+-- query 2
+lname
+jones
+smith
+",
+    "# query 1
+# select 1 cost 7 least
+plan 2
+branch
+access all_direct(new, 'smith')
+access prof_by_eid($0, new, 'smith')
+output $0, $1
+end
+# query 2
+# select 1 cost 5 least
+plan 1
+branch
+access all_direct(new, new)
+output $1
+end
+",
+);
+
+/// What a batch of two look-ups writes.
+const APART: (&str, &str) = (
+    "-- query 1
+onum
+101
+-- query 2
+onum
+103
+",
+    "# query 1
+# select 1 cost 2 least
+plan 1
+branch
+access prof_by_eid('1', new, new)
+output $0
+end
+# query 2
+# select 1 cost 2 least
+plan 1
+branch
+access prof_by_eid('3', new, new)
+output $0
+end
+",
+);
+
+// Whether these words end well over two lanes whose look-ups raise these counts, and write just these texts to standard output and
+// standard error.
+fn writes_by_two<R: Threads + Sync>(
     rt: &R,
     alloc: Global,
+    words: &[&str],
+    wanted: (&str, &str),
     called: &AtomicU64,
     met: &AtomicU64,
 ) -> Result<bool, Fail> {
@@ -88,7 +141,11 @@ fn answers_by_two<R: Threads + Sync>(
         let own = office(alloc, NO_FAULTS)?;
         lanes.push(lane(alloc, Meeting { own, called, met })?)?;
     }
-    answers(rt, alloc, &mut lanes)
+    let mut outside = outside(alloc, NO_FAULTS)?;
+    let code = ran(rt, alloc, words, &mut outside, &mut lanes)?;
+    let (out, err) = wanted;
+    let wrote = &outside.outputs;
+    Ok(code == 0 && wrote.out.bytes() == out.as_bytes() && wrote.err.bytes() == err.as_bytes())
 }
 
 // Each of the two look-ups waits until the other one is asked too: on one lane the first would wait in vain.
@@ -96,7 +153,52 @@ fn answers_by_two<R: Threads + Sync>(
 fn two_workers_ask_at_once(rt: HostRuntime) -> Result<(), Fail> {
     let called = AtomicU64::new(0);
     let met = AtomicU64::new(0);
-    assert!(rt; answers_by_two(&rt, rt.alloc(), &called, &met)?);
+    let words = ["run", "s.pdq", "q.sql", "--workers", "2"];
+    assert!(rt; writes_by_two(&rt, rt.alloc(), &words, (ROWS, PLAN), &called, &met)?);
+    assert_eq!(rt; met.load(Ordering::SeqCst), 2);
+    assert_eq!(rt; called.load(Ordering::SeqCst), 2);
+    Ok(())
+}
+
+// A crawl looks up five values in its second round and two in its third: the first look-up waits until another one is asked too.
+#[test]
+fn two_workers_crawl_at_once(rt: HostRuntime) -> Result<(), Fail> {
+    let called = AtomicU64::new(0);
+    let met = AtomicU64::new(0);
+    let words = ["crawl", "s.pdq", "--workers", "2"];
+    assert!(rt; writes_by_two(&rt, rt.alloc(), &words, (FACTS, ""), &called, &met)?);
+    assert_eq!(rt; met.load(Ordering::SeqCst), 7);
+    assert_eq!(rt; called.load(Ordering::SeqCst), 7);
+    Ok(())
+}
+
+// The directory is listed once for both queries, and then the two look-ups of the first one wait for one another.
+#[test]
+fn two_workers_share_a_batch(rt: HostRuntime) -> Result<(), Fail> {
+    let called = AtomicU64::new(0);
+    let met = AtomicU64::new(0);
+    let words = [
+        "batch",
+        "s.pdq",
+        "both.sql",
+        "--workers",
+        "2",
+        "--calls",
+        "3",
+    ];
+    assert!(rt; writes_by_two(&rt, rt.alloc(), &words, BOTH, &called, &met)?);
+    assert_eq!(rt; met.load(Ordering::SeqCst), 2);
+    assert_eq!(rt; called.load(Ordering::SeqCst), 2);
+    Ok(())
+}
+
+// Each query looks up one profile, in the same round: asked one query after another, the first look-up would wait in vain.
+#[test]
+fn two_queries_are_asked_at_once(rt: HostRuntime) -> Result<(), Fail> {
+    let called = AtomicU64::new(0);
+    let met = AtomicU64::new(0);
+    let words = ["batch", "s.pdq", "apart.sql", "--workers", "2"];
+    assert!(rt; writes_by_two(&rt, rt.alloc(), &words, APART, &called, &met)?);
     assert_eq!(rt; met.load(Ordering::SeqCst), 2);
     assert_eq!(rt; called.load(Ordering::SeqCst), 2);
     Ok(())

@@ -31,6 +31,14 @@ const QUERY: &str = "SELECT DISTINCT eid, onum FROM profinfo WHERE lname = 'smit
 
 const NO_ANSWER: &str = "SELECT DISTINCT eid, onum FROM profinfo WHERE lname = 'nobody'";
 
+/// The second query of `both.sql`, whose first one is that of `q.sql`.
+const NAMES: &str = "; SELECT DISTINCT lname FROM udirect";
+
+/// The queries of `apart.sql`, each of which looks up one profile.
+const FIRST: &str = "SELECT DISTINCT onum FROM profinfo WHERE eid = '1'";
+
+const THIRD: &str = "; SELECT DISTINCT onum FROM profinfo WHERE eid = '3'";
+
 /// What a run of the query writes to standard error, 125 bytes.
 pub(crate) const PLAN: &str = "# select 1 cost 7 least
 plan 2
@@ -168,13 +176,15 @@ fn file(alloc: Global, name: &str, text: &str, more: &str) -> Result<NamedFile, 
     })
 }
 
-/// The files of both schemas and both queries.
+/// The files of both schemas, of both queries and of both batches.
 fn files(alloc: Global, faults: Faults) -> Result<MemoryFiles, Fail> {
     let mut files = Seq::new(alloc);
     files.push(file(alloc, "s.pdq", RELATIONS, SOURCES)?)?;
     files.push(file(alloc, "two.pdq", RELATIONS, SOURCES_OF_TWO_KINDS)?)?;
     files.push(file(alloc, "q.sql", QUERY, "")?)?;
     files.push(file(alloc, "none.sql", NO_ANSWER, "")?)?;
+    files.push(file(alloc, "both.sql", QUERY, NAMES)?)?;
+    files.push(file(alloc, "apart.sql", FIRST, THIRD)?)?;
     if !names_differ(&files) {
         return Err(Fail::from("two files have one name"));
     }
