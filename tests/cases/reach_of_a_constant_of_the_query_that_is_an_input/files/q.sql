@@ -1,0 +1,1 @@
+SELECT DISTINCT onum FROM profinfo WHERE eid = '1'

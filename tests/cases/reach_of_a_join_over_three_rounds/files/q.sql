@@ -1,0 +1,1 @@
+SELECT DISTINCT e.id AS who, d.head AS head FROM emp e, dept d WHERE e.dept = d.name

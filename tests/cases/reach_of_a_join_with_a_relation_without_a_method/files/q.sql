@@ -1,0 +1,1 @@
+SELECT DISTINCT s.a AS x FROM s, r

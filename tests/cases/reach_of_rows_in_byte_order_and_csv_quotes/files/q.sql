@@ -1,0 +1,1 @@
+SELECT DISTINCT b AS "Bee", a, 'k' FROM r
