@@ -1,0 +1,2 @@
+SELECT DISTINCT s.a, t.b FROM s, t WHERE t.a = s.a;
+SELECT DISTINCT b FROM t WHERE a = '1'

@@ -1,0 +1,1 @@
+SELECT DISTINCT lname AS "Name" FROM udirect; SELECT DISTINCT lname AS who FROM udirect

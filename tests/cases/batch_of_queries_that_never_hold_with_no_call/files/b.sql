@@ -1,0 +1,1 @@
+SELECT DISTINCT eid FROM udirect WHERE lname = 'a' AND lname = 'b';SELECT DISTINCT eid FROM udirect WHERE lname = 'a' AND lname = 'b'

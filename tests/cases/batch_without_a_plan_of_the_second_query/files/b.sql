@@ -1,0 +1,1 @@
+SELECT DISTINCT lname FROM udirect; SELECT DISTINCT eid, onum FROM profinfo WHERE lname = 'smith'; SELECT DISTINCT lname FROM udirect
