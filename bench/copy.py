@@ -13,7 +13,7 @@ import argparse, glob, math, os, re, resource, shutil, statistics, subprocess, s
 TOP = os.path.realpath(f"{os.path.dirname(os.path.realpath(__file__))}/..")
 NAME = "copy_speed"
 USES = ["lists", "meaning", "access_schema", "homomorphism", "rule_pass", "accessible_copy"]
-CRATES = USES + ["meaning_laws"]
+CRATES = USES + ["meaning_laws", "state_path"]
 # The files of planner_cases' tests that the measurements use.
 HELPERS = ["calls", "queries", "schemas"]
 # Each measurement, and how many units of work its sizes are: firings, relations, or sets.
