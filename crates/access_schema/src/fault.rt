@@ -18,6 +18,7 @@ pub enum Limit {
     Conditions,
     Items,
     Statements,
+    Selects,
 }
 
 /// What is wrong with a part, in the order in which faults are looked for.

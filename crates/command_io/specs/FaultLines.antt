@@ -67,6 +67,7 @@ limit_name limit.Froms = codes "from items"
 limit_name limit.Conditions = codes "conditions"
 limit_name limit.Items = codes "items"
 limit_name limit.Statements = codes "statements"
+limit_name limit.Selects = codes "selects"
 
 -- What is wrong with a part of a schema.
 abbrev pub schema_what : SchemaFault → List ℕ

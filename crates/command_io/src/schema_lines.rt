@@ -116,5 +116,6 @@ fn push_limit(text: &mut Vec<u8>, limit: Limit) -> Result<(), AllocError>
         Limit::Conditions => text.extend_from_slice(b"conditions"),
         Limit::Items => text.extend_from_slice(b"items"),
         Limit::Statements => text.extend_from_slice(b"statements"),
+        Limit::Selects => text.extend_from_slice(b"selects"),
     }
 }
