@@ -5,7 +5,6 @@ ghost use Rattle.std.specs.List.{filter};
 ghost use Rattle.source_trait.specs.Asking.{agrees};
 ghost use Rattle.world_source.specs.Formulas.{IsPairKey, in_range, numbers_of, row_of, rows_of};
 
-use itoa::Buffer;
 use lists::{NoMemory, Text};
 use pq_text::plain_number;
 use row_text::PackedRows;
@@ -55,7 +54,7 @@ impl Formula {
         }
         let none = PackedRows::new(alloc);
         match self.number_with(positions, values) {
-            Some(number) => self.with_row(none, number),
+            Some(number) => self.with_row(alloc, none, number),
             None => Ok(none),
         }
     }
@@ -66,19 +65,19 @@ impl Formula {
     {
         let mut rows = PackedRows::new(alloc);
         for number in 0..self.count {
-            rows = self.with_row(rows, number)?;
+            rows = self.with_row(alloc, rows, number)?;
         }
         Ok(rows)
     }
 
-    // The rows, and the one of a number behind them. The digits take no memory of their own.
-    fn with_row(self, rows: PackedRows, number: u32) -> Result<PackedRows, NoMemory>
+    // The rows, and the one of a number behind them.
+    fn with_row(self, alloc: Global, rows: PackedRows, number: u32) -> Result<PackedRows, NoMemory>
         requires { number < self.count }
         ensures { IfOk result (λ more. more ≡ rows ++ row_of self.step self.count number ∷ []) }
     {
-        let mut first = Buffer::new();
-        let mut second = Buffer::new();
-        rows.with_texts(&[first.format(number), second.format(self.next(number))])
+        let first = format!(in alloc; "{number}")?;
+        let second = format!(in alloc; "{}", self.next(number))?;
+        rows.with_texts(&[first.as_str(), second.as_str()])
     }
 
     // The number of the one row that has the values at the positions; none where no row has them.
