@@ -1,10 +1,10 @@
 -- Matches that stand for all others with the same values at the frontier.
-use Rattle.std.proofs.Common.{◌≡◌, ◌⊎◌, ℕ, ◌+◌, ◌-◌, ◌<◌, ◌≤◌, List, [], ◌∷◌, ◌++◌, length, Some, None, Option, sym, ap, ◌∙◌, subst, inl, inr, ⊎_elim, arith, Contains, map, take, drop, slice_get, slice_index_or}
+use Rattle.std.proofs.Common.{refl, append_assoc, ◌≡◌, ◌⊎◌, ℕ, ◌+◌, ◌-◌, ◌<◌, ◌≤◌, List, [], ◌∷◌, ◌++◌, length, Some, None, Option, sym, ap, ◌∙◌, subst, inl, inr, ⊎_elim, arith, Contains, map, take, drop, slice_get, slice_index_or}
 use Rattle.std.proofs.lemmas.Bool.{cases_lt}
-use Rattle.std.proofs.lemmas.List.{take_all}
+use Rattle.std.proofs.lemmas.List.{take_all, append-nil}
 use Rattle.std.proofs.lemmas.List.Elements.{Contains-append_left, Contains-append_right, Contains-append_cases, Contains-push_cases}
 use Rattle.std.proofs.lemmas.Option.{slice_get-get_or}
-use Rattle.lists.proofs.Members.{contains_here, contains_there, contains_cases, contains_map, contains_mapped, contains_none}
+use Rattle.lists.proofs.Members.{contains_here, contains_there, contains_cases, contains_none}
 use Rattle.lists.proofs.Places.{take_indexed}
 use Rattle.meaning_laws.proofs.Carrying.{occurs_below}
 use Rattle.meaning_laws.proofs.Deciding.{same_facts}
@@ -24,12 +24,11 @@ use Rattle.homomorphism.specs.Ways.{IsWay}
 use Rattle.homomorphism.specs.Matches.{IsMatch, NoMatch, AreCovered}
 use Rattle.homomorphism.specs.Listed.{AreCandidates}
 use Rattle.homomorphism.specs.Rules.{IsMet, IsUnmet, IsUnmetMatch}
-use Rattle.homomorphism.specs.Widening.{AreRuns, taken}
-use Rattle.homomorphism.specs.Frontier.{HasLike, AreFrontier, AreFrontierMatches, IsStart}
+use Rattle.homomorphism.specs.Widening.{taken}
+use Rattle.homomorphism.specs.Frontier.{HasLike, AreFrontier, AreFrontierMatches}
 use Rattle.homomorphism.proofs.AtomByAtom.{match_none}
 use Rattle.homomorphism.proofs.Binding.{apart}
 use Rattle.homomorphism.proofs.Choosing.{picked, picked_has, length_picked}
-use Rattle.homomorphism.proofs.Giving.{body_fits}
 use Rattle.homomorphism.proofs.Touching.{default}
 
 -- a variable that is not one without a value has one
@@ -122,43 +121,6 @@ module _ (facts : List Ground) (atoms : List Atom) (order : List ℕ) (place : �
         (λ other c. are other (contains_there atom rest other c));
   })
 
--- all atoms, by their numbers
-module _ (atoms : List Atom) (order : List ℕ) (r : AreRuns (length atoms) (order ∷ [])) where
-  to_atom : (atom : Atom) → Contains (taken atoms order) atom → Contains atoms atom
-  to_atom atom c =
-      let (n, among, e) = contains_mapped (λ k. slice_index_or atoms k (record { rel = 0; terms = [] })) order atom c in
-      let low = r.within order n (contains_here order []) among in
-      (n, low, sym (default atoms n (record { rel = 0; terms = [] }) atom low) ∙ e)
-
-  from_atom : (atom : Atom) → Contains atoms atom → Contains (taken atoms order) atom
-  from_atom atom (n, low, e) =
-      let (other, among, c) = r.each n low in
-      let here : Contains order n = ⊎_elim (λ same. subst (λ z. Contains z n) (sym same) c) (λ h. absurd (contains_none other h)) (contains_cases order [] other among) in
-      subst (Contains (taken atoms order)) (default atoms n (record { rel = 0; terms = [] }) atom low ∙ e) (contains_map (λ k. slice_index_or atoms k (record { rel = 0; terms = [] })) order n here)
-
-  pub covered_taken : (given : List (Option Val)) → AreCovered atoms given → AreCovered (taken atoms order) given
-  unfolding from_atom
-  covered_taken given covered x low = ⊎_elim inl (λ (atom, c, o). inr (atom, from_atom atom c, o)) (covered x low)
-
-  pub frontier_found : (facts : List Ground) (rule : Rule) (fixed : List (Option Val)) (found : List Assignment) → rule.body ≡ atoms → Gives [] (bound rule.body) fixed → AreFrontier facts (taken atoms order) rule.head fixed found → AreFrontierMatches facts rule found
-  unfolding to_atom from_atom
-  frontier_found facts rule fixed found same g f = record {
-    width = λ m c. (f.each m c).width ∙ body_fits rule fixed g;
-    each = λ m c. subst (AreFacts Const (GroundsOf facts) (at m.vals)) (sym same) (λ atom h. (f.each m c).facts_are atom (from_atom atom h));
-    all = λ a are. subst (λ n. HasLike found rule.head n a) (body_fits rule fixed g) (f.all a (g.complete a (λ x l. absurd (omega arith))) (λ atom h. are atom (subst (λ z. Contains z atom) (sym same) (to_atom atom h))));
-  }
-
-  -- matches that agree with the values to begin with stand for all others
-  pub frontier_started : (facts : List Ground) (head : List Atom) (given start : List (Option Val)) (found : List Assignment) → IsStart facts atoms head given start → AreFrontier facts (taken atoms order) head start found → AreFrontier facts (taken atoms order) head given found
-  unfolding to_atom from_atom
-  frontier_started facts head given start found s f = record {
-    each = λ m c. let r = f.each m c in record { width = r.width ∙ s.width; agrees = s.wider (at m.vals) r.agrees; facts_are = r.facts_are };
-    all = λ a ag are.
-        let (b, agb, areb, same) = s.like a ag (λ atom c. are atom (from_atom atom c)) in
-        let (m, among, like) = f.all b agb (λ atom c. areb atom (to_atom atom c)) in
-        (m, among, λ x o l. same x o l ∙ like x o (subst (λ n. x < n) (sym s.width) l));
-  }
-
 -- a body without a match
 pub frontier_absent : (facts : List Ground) (rule : Rule) (fixed : List (Option Val)) → Gives [] (bound rule.body) fixed → NoMatch facts rule.body fixed → AreFrontierMatches facts rule []
 frontier_absent facts rule fixed g none = record {
@@ -194,3 +156,29 @@ frontier_met facts rule found numbered m met a body = let (one, among, like) = m
 
 pub unmet_frontier : (facts : List Ground) (rule : Rule) (found : List Assignment) (one : Assignment) → AreFrontierMatches facts rule found → Contains found one → IsUnmet facts rule one.vals → IsUnmetMatch facts rule one.vals
 unmet_frontier facts rule found one m c u = record { width = m.width one c; body = m.each one c; unmet = u }
+
+-- a walk through matches, of which those that were met are done
+pub record IsWalked (facts : List Ground) (rule : Rule) (left : List Assignment) : Type 0 where
+  pub found : List Assignment
+  pub done : List Assignment
+  pub whole : found ≡ done ++ left
+  pub matches : AreFrontierMatches facts rule found
+  pub met : (one : Assignment) → Contains done one → IsMet facts rule one.vals
+
+pub walked_start : (facts : List Ground) (rule : Rule) (left : List Assignment) → AreFrontierMatches facts rule left → IsWalked facts rule left
+walked_start facts rule left m = record { found = left; done = []; whole = refl; matches = m; met = λ one c. absurd (contains_none one c) }
+
+pub walked_among : (facts : List Ground) (rule : Rule) (left more : List Assignment) (one : Assignment) (w : IsWalked facts rule left) → left ≡ one ∷ more → Contains w.found one
+walked_among facts rule left more one w e = subst (λ z. Contains z one) (sym (w.whole ∙ ap (λ z. w.done ++ z) e)) (Contains-append_right w.done (one ∷ more) one (contains_here one more))
+
+pub walked_more : (facts : List Ground) (rule : Rule) (left more : List Assignment) (one : Assignment) → left ≡ one ∷ more → IsMet facts rule one.vals → IsWalked facts rule left → IsWalked facts rule more
+walked_more facts rule left more one e m w = record {
+  found = w.found;
+  done = w.done ++ one ∷ [];
+  whole = w.whole ∙ ap (λ z. w.done ++ z) e ∙ sym (append_assoc w.done (one ∷ []) more);
+  matches = w.matches;
+  met = λ other c. ⊎_elim (λ h. w.met other h) (λ same. subst (λ (n : Assignment). IsMet facts rule n.vals) same m) (Contains-push_cases w.done one other c);
+}
+
+pub walked_all : (facts : List Ground) (rule : Rule) (left : List Assignment) → IsNumbered rule → left ≡ [] → IsWalked facts rule left → MeetsRule Const (GroundsOf facts) rule
+walked_all facts rule left numbered e w = frontier_met facts rule w.found numbered w.matches (λ one c. w.met one (subst (λ z. Contains z one) (w.whole ∙ ap (λ z. w.done ++ z) e ∙ append-nil w.done) c))

@@ -22,3 +22,5 @@ pub mod Runs
 pub mod FrontierMatches
 pub mod Starting
 pub mod Heads
+pub mod Turns
+pub mod Walking

@@ -1,9 +1,8 @@
 -- Membership and lists without doubles.
-use Rattle.std.proofs.Common.{◌≡◌, ◌⊎◌, ℕ, zero, suc, List, [], ◌∷◌, ◌++◌, Bool, true, false, cond, sym, subst, ⊎_elim, arith, Contains, take, ◌+◌}
+use Rattle.std.proofs.Common.{◌≡◌, ℕ, zero, suc, List, [], ◌∷◌, ◌++◌, Bool, true, false, cond, sym, subst, ⊎_elim, arith, Contains, take}
 use Rattle.std.specs.List.{filter}
 use Rattle.std.proofs.lemmas.List.Elements.{Contains-append_cases, Contains-append_left, Contains-push}
-use Rattle.lists.proofs.Members.{contains_here, contains_there, contains_cases, contains_none, contains_filter}
-use Rattle.lists.proofs.Places.{take_indexed}
+use Rattle.lists.proofs.Members.{contains_here, contains_there, contains_cases, contains_none}
 use Rattle.meaning.specs.Search.{AreDistinct}
 
 pub contains_else : {X : Type 0} (y : X) (xs : List X) (x : X) → (y ≡ x → ⊥) → Contains (y ∷ xs) x → Contains xs x

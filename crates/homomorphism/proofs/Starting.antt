@@ -23,10 +23,10 @@ only : (facts : List Ground) (a : ℕ → Val) (atoms : List Atom) (atom : Atom)
 only facts a atoms atom among are other c = are other (⊎_elim (λ e. subst (Contains atoms) e among) (λ h. absurd (contains_none other h)) (contains_cases atom [] other c))
 
 -- an assignment with the values that are given
-abbrev both : List (Option Val) → (ℕ → Val) → ℕ → Val
+abbrev pub both : List (Option Val) → (ℕ → Val) → ℕ → Val
 both start a x = chosen (slice_get start x) (a x)
 
-agrees_both : (start : List (Option Val)) (a : ℕ → Val) → Agrees start (both start a)
+pub agrees_both : (start : List (Option Val)) (a : ℕ → Val) → Agrees start (both start a)
 agrees_both start a x v e = ap (λ o. chosen o (a x)) e
 
 pub start_itself : (facts : List Ground) (atoms head : List Atom) (given : List (Option Val)) → IsStart facts atoms head given given
@@ -71,7 +71,7 @@ pub record AreBetween (given found : List (Option Val)) (count : ℕ) (start : L
 pub between_none : (given found : List (Option Val)) → AreBetween given found 0 []
 between_none given found = record { width = refl; each = λ x l. absurd (omega arith) }
 
-length_push : {X : Type 0} (xs : List X) (x : X) → length (xs ++ x ∷ []) ≡ length xs + 1
+pub length_push : {X : Type 0} (xs : List X) (x : X) → length (xs ++ x ∷ []) ≡ length xs + 1
 length_push [] x = refl
 length_push (y ∷ xs) x = let h = length_push xs x in omega arith
 

@@ -11,3 +11,4 @@ pub mod Codes
 pub mod Listed
 pub mod Widening
 pub mod Heads
+pub mod Walks

@@ -105,7 +105,7 @@ fn note_use(uses: &mut Vec<Run>, variable: usize, number: usize) -> Result<(), N
 }
 
 /// The term's variable, where no value is given for it.
-fn open_variable(term: &Term, given: &[Option<Val>]) -> Option<usize> {
+pub fn open_variable(term: &Term, given: &[Option<Val>]) -> Option<usize> {
     match term {
         Term::Const(_) => None,
         Term::Var(variable) => {
@@ -199,7 +199,7 @@ fn all_true(seen: &[bool]) -> bool
 }
 
 /// Whether each number below the count is in one of the runs, and no other number.
-fn are_runs(alloc: Global, count: usize, runs: &[Run]) -> Result<bool, NoMemory>
+pub fn are_runs(alloc: Global, count: usize, runs: &[Run]) -> Result<bool, NoMemory>
     ensures { IfOk result (λ are. are ≡ true → AreRuns count runs.now) }
 {
     let mut seen = vec![in alloc; false; count]?;

@@ -69,7 +69,7 @@ fn filled(alloc: Global, given: &[Option<Val>]) -> Result<Assignment, NoMemory>
 }
 
 /// A copy of the values.
-fn copied(alloc: Global, given: &[Option<Val>]) -> Result<Vec<Option<Val>>, NoMemory>
+pub fn copied(alloc: Global, given: &[Option<Val>]) -> Result<Vec<Option<Val>>, NoMemory>
     ensures { IfOk result (λ copies. copies.items ≡ given.now) }
 {
     let mut copies = Vec::with_capacity(alloc, given.len())?;

@@ -5,16 +5,13 @@ ghost use Rattle.meaning.specs.Triggers.{terms_bound, bound, IsNumbered};
 ghost use Rattle.meaning.specs.Matching.{MeetsRule, GroundsOf};
 ghost use Rattle.homomorphism.specs.Narrowing.{Gives};
 ghost use Rattle.homomorphism.specs.Rules.{AreBodyMatches, IsMet, IsUnmet, IsUnmetMatch};
-ghost use Rattle.homomorphism.specs.Frontier.{AreFrontierMatches};
 
-use crate::arrange::numbers;
 use crate::assignment::{Assignment, Assignments, Bindings};
 use crate::find::all_matches;
-use crate::frontier::frontier;
 use crate::head::Head;
 use crate::search::search;
-use crate::start::start;
 use crate::store::Store;
+use crate::walk::Walk;
 use lists::{Copies, NoMemory, Seq};
 use meaning::types::{Atom, Rule, Term, Val};
 use std::alloc::Global;
@@ -73,34 +70,6 @@ pub fn body_matches(alloc: Global, rule: &Rule, store: &Store) -> Result<Assignm
     Ok(found)
 }
 
-/// Matches of the rule's body: for each match one that gives the variables of the head the same values.
-///
-/// A rule that is met at the one is met at the other.
-pub fn frontier_matches(alloc: Global, rule: &Rule, store: &Store) -> Result<Assignments, NoMemory>
-    requires { IsNumbered rule.now }
-    ensures { IfOk result (λ found. AreFrontierMatches store.now rule.now found) }
-{
-    let body = rule.body.as_slice();
-    let none = Vec::new(alloc);
-    let fixed = given(alloc, none.as_slice(), variables_width(body))?;
-    let Some(first) = start(alloc, body, rule.head.as_slice(), store, fixed)? else {
-        return Ok(Seq::new(alloc));
-    };
-    let order = numbers(alloc, body.len())?;
-    let mut values = first.into_vec();
-    let mut found = Vec::new(alloc);
-    frontier(
-        alloc,
-        body,
-        order.as_slice(),
-        rule.head.as_slice(),
-        store,
-        &mut values,
-        &mut found,
-    )?;
-    Ok(Seq::from_vec(found))
-}
-
 /// Whether the values of the body variables extend to values that make the head atoms facts.
 pub fn is_met(alloc: Global, rule: &Rule, store: &Store, values: &[Val]) -> Result<bool, NoMemory>
     requires numbered { IsNumbered rule.now }
@@ -127,10 +96,10 @@ pub fn first_unmet(
     ensures none { IfOk result (λ found. IfNone found (MeetsRule Const (GroundsOf store.now) rule.now)) }
 {
     let head = Head::of(alloc, rule)?;
-    let found = frontier_matches(alloc, rule, store)?;
-    for one in found.as_slice() {
-        if !head.is_met(alloc, rule, store, one)? {
-            return Ok(Some(one.copy(alloc)?));
+    let mut walk = Walk::over(alloc, rule, store)?;
+    while let Some(one) = walk.next(alloc)? {
+        if !head.is_met(alloc, rule, store, &one)? {
+            return Ok(Some(one));
         }
     }
     Ok(None)

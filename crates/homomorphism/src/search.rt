@@ -114,7 +114,12 @@ fn search_run(
 }
 
 /// Whether the variables of these atoms that had no value still have none.
-fn are_untouched(atoms: &[Atom], run: &[usize], given: &[Option<Val>], now: &[Option<Val>]) -> bool
+pub fn are_untouched(
+    atoms: &[Atom],
+    run: &[usize],
+    given: &[Option<Val>],
+    now: &[Option<Val>],
+) -> bool
     requires { (n : ℕ) → Contains run.now n → n < length atoms.now }
     ensures { result ≡ true → AreUntouched (taken atoms.now run.now) given.now now.now }
 {

@@ -4,6 +4,7 @@ mod closings;
 mod listing;
 mod looks;
 mod marks;
+mod products;
 mod queries;
 mod rounds;
 mod schemas;

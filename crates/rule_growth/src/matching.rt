@@ -2,15 +2,15 @@
 ghost use Rattle.meaning.specs.Triggers.{IsNumbered};
 
 use crate::asking::is_asked;
-use homomorphism::{Assignment, Store, frontier_matches, is_met};
+use homomorphism::{Assignment, Store, Walk, is_met};
 use lists::NoMemory;
 use meaning::types::{Atom, Rule, Term, Val};
 use std::alloc::Global;
 
-/// The most ways to choose a fact for each atom of a body whose matches are listed.
+/// The most ways to choose a fact for each atom of a body whose matches are gone through.
 const MOST_WAYS: usize = 16384;
 
-/// Whether the body can be matched, and so that its matches are soon listed: each of its relations has facts, and the ways to choose
+/// Whether the body can be matched, and so that all its matches are soon seen: each of its relations has facts, and the ways to choose
 /// one for each atom are few. `counts` has the number of facts of each relation. Takes no memory.
 pub fn is_narrow(counts: &[usize], body: &[Atom]) -> bool {
     let mut ways: usize = 1;
@@ -34,10 +34,10 @@ pub fn is_wanting(
 ) -> Result<bool, NoMemory>
     requires { IsNumbered rule.now }
 {
-    let found = frontier_matches(alloc, rule, facts)?;
-    for one in found.as_slice() {
+    let mut walk = Walk::over(alloc, rule, facts)?;
+    while let Some(one) = walk.next(alloc)? {
         let counts = match labels {
-            Some(labels) => gives_asked(rule.head.as_slice(), one, labels),
+            Some(labels) => gives_asked(rule.head.as_slice(), &one, labels),
             None => true,
         };
         if counts && !is_met(alloc, rule, facts, one.vals.as_slice())? {

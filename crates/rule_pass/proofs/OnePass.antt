@@ -3,9 +3,9 @@
 -- not feed itself. Of those that agree at the frontier one is taken.
 use Rattle.std.proofs.Common.{◌≡◌, ℕ, ◌+◌, ◌*◌, ◌<◌, ◌≤◌, List, [], ◌∷◌, ◌++◌, length, max, append_assoc, Some, refl, sym, ap, ◌∙◌, subst, ⊎_elim, arith, Contains, map, take, slice_get, slice_index_or}
 use Rattle.std.proofs.lemmas.List.{take_more, append-nil}
-use Rattle.std.proofs.lemmas.List.Elements.{Contains-append_left, Contains-push, Contains-push_cases}
+use Rattle.std.proofs.lemmas.List.Elements.{Contains-append_left, Contains-append_right, Contains-push, Contains-push_cases}
 use Rattle.std.proofs.lemmas.Option.{slice_get-get_or}
-use Rattle.lists.proofs.Members.{contains_map, contains_mapped, contains_got, some_injective}
+use Rattle.lists.proofs.Members.{contains_here, contains_map, contains_mapped, contains_got, some_injective}
 use Rattle.meaning.specs.declared.types.Val.{Val}
 use Rattle.meaning.specs.declared.types.Val.TheVariants.{Const, Label}
 use Rattle.meaning.specs.declared.types.Ground.{Ground}
@@ -192,6 +192,39 @@ module _ {L : Type 0} (logged : L → Trigger → ℕ → L) (size : L → ℕ) 
 
       self : Contains (take (k + 1) order) (slice_index_or order k 0)
       self = subst (λ z. Contains z (slice_index_or order k 0)) (sym (take_more order k 0 l)) (Contains-push (take k order) (slice_index_or order k 0))
+
+-- what holds after some of the matches that a walk goes through, of which others are left
+pub record IsPassing {L : Type 0} (logged : L → Trigger → ℕ → L) (size : L → ℕ) (rules : List Rule) (order : List ℕ) (first : State) (begun : L) (k budget : ℕ) (rule : Rule) (left : List Assignment) (log : L) (now : State) : Type 0 where
+  pub found : List Assignment
+  pub done : List Assignment
+  pub whole : found ≡ done ++ left
+  pub passing : Passing logged size rules order first begun k budget rule found done log now
+
+pub passing_begin : {L : Type 0} (logged : L → Trigger → ℕ → L) (size : L → ℕ) (rules : List Rule) (order : List ℕ) (first : State) (begun : L) (k budget : ℕ) (rule : Rule) (left : List Assignment) →
+    AreMet rules first.facts (take k order) → AreFrontierMatches first.facts rule left → IsPassing logged size rules order first begun k budget rule left begun first
+passing_begin logged size rules order first begun k budget rule left m b = record {
+  found = left;
+  done = [];
+  whole = refl;
+  passing = passing_start logged size rules order first begun k budget rule left m b;
+}
+
+module _ {L : Type 0} (logged : L → Trigger → ℕ → L) (size : L → ℕ) (rules : List Rule) (order : List ℕ) (first : State) (begun : L) (k budget : ℕ) (rule : Rule) (left : List Assignment) (log : L) (now : State) (w : IsPassing logged size rules order first begun k budget rule left log now) where
+  pub passing_among : (one : Assignment) (more : List Assignment) → left ≡ one ∷ more → Contains w.found one
+  passing_among one more e = subst (λ z. Contains z one) (sym (w.whole ∙ ap (λ z. w.done ++ z) e)) (Contains-append_right w.done (one ∷ more) one (contains_here one more))
+
+  -- one match more is done
+  pub passing_next : (one : Assignment) (more : List Assignment) (others : L) (then_ : State) → left ≡ one ∷ more → Passing logged size rules order first begun k budget rule w.found (w.done ++ one ∷ []) others then_ →
+      IsPassing logged size rules order first begun k budget rule more others then_
+  passing_next one more others then_ e p = record {
+    found = w.found;
+    done = w.done ++ one ∷ [];
+    whole = w.whole ∙ ap (λ z. w.done ++ z) e ∙ sym (append_assoc w.done (one ∷ []) more);
+    passing = p;
+  }
+
+  pub passing_end : left ≡ [] → Passing logged size rules order first begun k budget rule w.found w.found log now
+  passing_end e = subst (λ done. Passing logged size rules order first begun k budget rule w.found done log now) (sym (w.whole ∙ ap (λ z. w.done ++ z) e ∙ append-nil w.done)) w.passing
 
 -- after all matches the rule is met
 pub passing_all : {L : Type 0} (logged : L → Trigger → ℕ → L) (size : L → ℕ) (rules : List Rule) (order : List ℕ) (first : State) (begun : L) (k budget : ℕ) (rule : Rule) (found : List Assignment) (log : L) (now : State) →

@@ -15,7 +15,7 @@ use crate::firing::fire;
 use crate::log::Log;
 use crate::order::rule_order;
 use crate::state::State;
-use homomorphism::{Head, frontier_matches};
+use homomorphism::{Head, Walk};
 use lists::NoMemory;
 use meaning::types::{Rules, Trigger, Triggers};
 use std::alloc::Global;
@@ -115,12 +115,12 @@ fn run_rule<L: Log>(
 {
     let number = order[place];
     let rule = &rules.as_slice()[number as usize];
-    let found = frontier_matches(alloc, rule, state.store())?;
-    if found.is_empty() {
+    let mut walk = Walk::over(alloc, rule, state.store())?;
+    if walk.is_over() {
         return Ok(Stopped::Ended);
     }
     let head = Head::of(alloc, rule)?;
-    for one in found.into_vec() {
+    while let Some(one) = walk.next(alloc)? {
         if !head.is_met(alloc, rule, state.store(), &one)? {
             if log.firings() >= budget {
                 return Ok(Stopped::Spent);

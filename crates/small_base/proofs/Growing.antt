@@ -1,10 +1,10 @@
 -- How facts grow by firings with shared labels.
-use Rattle.std.proofs.Common.{◌≡◌, ℕ, ◌+◌, ◌-◌, ◌<◌, ◌≤◌, List, [], length, slice_get, slice_index_or, Some, refl, sym, ap, ◌∙◌, subst, ⊎_elim, arith}
+use Rattle.std.proofs.Common.{◌≡◌, ℕ, ◌+◌, ◌-◌, ◌<◌, ◌≤◌, List, [], ◌∷◌, length, slice_get, slice_index_or, Some, refl, sym, ap, ◌∙◌, subst, ⊎_elim, arith}
 use Rattle.std.specs.Prelude.{Contains, map}
 use Rattle.std.proofs.lemmas.Bool.{cases_lt}
 use Rattle.std.proofs.lemmas.List.{length-map}
 use Rattle.std.proofs.lemmas.Option.{slice_get_within}
-use Rattle.lists.proofs.Members.{contains_map, contains_mapped, some_injective}
+use Rattle.lists.proofs.Members.{contains_here, contains_there, contains_map, contains_mapped, some_injective}
 use Rattle.meaning.specs.declared.types.Term.{Term}
 use Rattle.meaning.specs.declared.types.Term.TheVariants.{Var, Const as Said}
 use Rattle.meaning.specs.declared.types.Val.{Val}
@@ -117,6 +117,27 @@ module _ (rules : List Rule) (facts : List Ground) (trigger : Trigger) (rule : R
       named = λ constants have named. shared_named constants (λ atom t among has. (have rule of_rules).1 atom t among has) later enough named;
       fits = shared_fits fits of_rules;
     }
+
+-- matches that are left of those that were found in earlier facts
+pub record AreLeft (first : List Ground) (rule : Rule) (left : List Assignment) : Type 0 where
+  pub found : List Assignment
+  pub matches : AreFrontierMatches first rule found
+  pub among : (one : Assignment) → Contains left one → Contains found one
+
+pub left_all : (first : List Ground) (rule : Rule) (left : List Assignment) → AreFrontierMatches first rule left → AreLeft first rule left
+left_all first rule left m = record { found = left; matches = m; among = λ one c. c }
+
+pub left_first : (first : List Ground) (rule : Rule) (left more : List Assignment) (one : Assignment) (a : AreLeft first rule left) →
+    left ≡ one ∷ more → Contains a.found one
+left_first first rule left more one a e = a.among one (subst (λ z. Contains z one) (sym e) (contains_here one more))
+
+pub left_more : (first : List Ground) (rule : Rule) (left more : List Assignment) (one : Assignment) → left ≡ one ∷ more →
+    AreLeft first rule left → AreLeft first rule more
+left_more first rule left more one e a = record {
+  found = a.found;
+  matches = a.matches;
+  among = λ other c. a.among other (subst (λ z. Contains z other) (sym e) (contains_there one more other c));
+}
 
 -- the trigger of a match of the body, found in earlier facts
 pub match_trigger : (rules : List Rule) (first facts : List Ground) (number fresh : ℕ) (rule : Rule) (found : List Assignment) (one : Assignment) → slice_get rules number ≡ Some rule → AreFrontierMatches first rule found → Contains found one → AreIn first facts →

@@ -7,7 +7,7 @@ ghost use Rattle.small_base.specs.Closing.{GrowsFrom, IsClosing};
 ghost use Rattle.small_base.specs.Shared.{IsSharedTrigger};
 
 use access_schema::Schema;
-use homomorphism::{Head, Positions, frontier_matches, ground_under, variables_width};
+use homomorphism::{Head, Positions, Walk, ground_under, variables_width};
 use lists::NoMemory;
 use meaning::types::{Ground, Trigger};
 use rule_pass::{HIGHEST_FIRST_LABEL, State, active, rule_order};
@@ -72,8 +72,8 @@ fn close_rule(
     ensures { OnOk result (GrowsFrom (meaning_of schema.now) state.old.facts state.old.next state.new) }
 {
     let rule = &schema.rules.as_slice()[number as usize];
-    let found = frontier_matches(alloc, rule, state.store())?;
-    if found.is_empty() {
+    let mut walk = Walk::over(alloc, rule, state.store())?;
+    if walk.is_over() {
         return Ok(true);
     }
     let head = Head::of(alloc, rule)?;
@@ -81,7 +81,7 @@ fn close_rule(
     if fresh > HIGHEST_FIRST_LABEL {
         return Ok(false);
     }
-    for one in found.into_vec() {
+    while let Some(one) = walk.next(alloc)? {
         if !head.is_met(alloc, rule, state.store(), &one)? {
             let trigger = Trigger {
                 rule: number,

@@ -1,32 +1,36 @@
-use Rattle.std.proofs.Common.{subst, sym, Contains}
-use Rattle.std.proofs.lemmas.List.{take_all}
-use Rattle.homomorphism.specs.declared.assignment.Assignment.{Assignment}
-use Rattle.homomorphism.specs.Rules.{IsUnmet, IsMet, IsUnmetMatch}
-use Rattle.homomorphism.specs.Frontier.{AreFrontierMatches}
-use Rattle.homomorphism.proofs.AtomByAtom.{is_among}
-use Rattle.homomorphism.proofs.FrontierMatches.{frontier_met, unmet_frontier}
-use Rattle.homomorphism.proofs.Giving.{met_push}
+use Rattle.std.proofs.Common.{◌≡◌, ◌∷◌, [], length, subst, sym, arith, ◌<◌}
+use Rattle.homomorphism.specs.Rules.{IsMet, IsUnmet}
+use Rattle.homomorphism.proofs.FrontierMatches.{IsWalked, walked_start, walked_among, walked_more, walked_all, unmet_frontier}
 use Rattle.homomorphism.proofs.rules.first_unmet.Goals as goal
+
+pub loop-walk-init : goal.loop-walk-init
+loop-walk-init c = walked_start c.args.store.now c.args.rule.now c.in_ok-walk.walk c.in_ok-walk.ensures
 
 pub is_met-requires-clause-width : goal.is_met-requires-clause-width
 is_met-requires-clause-width c =
-    let m : AreFrontierMatches c.args.store.now c.args.rule.now c.as_slice-one-items.result.now = rw c.as_slice-one-items.ensures c.in_ok-found.ensures in
-    m.width c.one-item.result (is_among c.as_slice-one-items.result.now c.loop-one.one-index c.one-item.result c.loop-one-test.true c.one-item.is)
+    let is : c.loop-walk.walk ≡ c.in-Some.one ∷ c.next.new.self = rw c.in-Some.is at c.in_ok-one.ensures.some in
+    let w : IsWalked c.args.store.now c.args.rule.now c.loop-walk.walk = c.loop-walk.invariant in
+    w.matches.width c.in-Some.one (walked_among c.args.store.now c.args.rule.now c.loop-walk.walk c.next.new.self c.in-Some.one w is)
 
 pub returns-then-not-branch-clause-some : goal.returns-then-not-branch-clause-some
 returns-then-not-branch-clause-some c =
-    let m : AreFrontierMatches c.args.store.now c.args.rule.now c.as_slice-one-items.result.now = rw c.as_slice-one-items.ensures c.in_ok-found.ensures in
-    let u : IsUnmet c.args.store.now c.args.rule.now c.one-item.result.vals = c.in_ok-is_met.ensures.unmet c.if-not-branch.true in
-    subst (λ (m : Assignment). IsUnmetMatch c.args.store.now c.args.rule.now m.vals) (sym c.in_ok-copy.ensures) (unmet_frontier c.args.store.now c.args.rule.now c.as_slice-one-items.result.now c.one-item.result m
-    (is_among c.as_slice-one-items.result.now c.loop-one.one-index c.one-item.result c.loop-one-test.true c.one-item.is) u)
+    let is : c.loop-walk.walk ≡ c.in-Some.one ∷ c.next.new.self = rw c.in-Some.is at c.in_ok-one.ensures.some in
+    let w : IsWalked c.args.store.now c.args.rule.now c.loop-walk.walk = c.loop-walk.invariant in
+    let u : IsUnmet c.args.store.now c.args.rule.now c.in-Some.one.vals = c.in_ok-is_met.ensures.unmet c.if-not-branch.true in
+    unmet_frontier c.args.store.now c.args.rule.now w.found c.in-Some.one w.matches (walked_among c.args.store.now c.args.rule.now c.loop-walk.walk c.next.new.self c.in-Some.one w is) u
 
-pub loop-one-preserved : goal.loop-one-preserved
-loop-one-preserved c =
-    let u : IsMet c.args.store.now c.args.rule.now c.one-item.result.vals = c.in_ok-is_met.ensures.met c.if-not-branch.false in
-    met_push c.args.store.now c.args.rule.now c.as_slice-one-items.result.now c.loop-one.one-index c.one-item.result c.loop-one-test.true c.one-item.is c.loop-one.invariant u
+pub loop-walk-preserved : goal.loop-walk-preserved
+loop-walk-preserved c =
+    let is : c.loop-walk.walk ≡ c.in-Some.one ∷ c.next.new.self = rw c.in-Some.is at c.in_ok-one.ensures.some in
+    let m : IsMet c.args.store.now c.args.rule.now c.in-Some.one.vals = c.in_ok-is_met.ensures.met c.if-not-branch.false in
+    walked_more c.args.store.now c.args.rule.now c.loop-walk.walk c.next.new.self c.in-Some.one is m c.loop-walk.invariant
+
+pub loop-walk-smaller : goal.loop-walk-smaller
+loop-walk-smaller c =
+    let is : c.loop-walk.walk ≡ c.in-Some.one ∷ c.next.new.self = rw c.in-Some.is at c.in_ok-one.ensures.some in
+    subst (λ z. length c.next.new.self < length z) (sym is) (omega arith)
 
 pub returns-clause-none : goal.returns-clause-none
 returns-clause-none c =
-    let m : AreFrontierMatches c.args.store.now c.args.rule.now c.as_slice-one-items.result.now = rw c.as_slice-one-items.ensures c.in_ok-found.ensures in
-    frontier_met c.args.store.now c.args.rule.now c.as_slice-one-items.result.now c.requires m
-    (λ one among. c.loop-one.invariant one (subst (λ z. Contains z one) (sym (take_all c.loop-one.one-index c.as_slice-one-items.result.now c.loop-one-test.false)) among))
+    let none : c.loop-walk.walk ≡ [] = rw c.in_default.is at c.in_ok-one.ensures.none in
+    walked_all c.args.store.now c.args.rule.now c.loop-walk.walk c.requires none c.loop-walk.invariant

@@ -1,7 +1,9 @@
-use Rattle.std.proofs.Common.{take, Contains}
-use Rattle.homomorphism.specs.declared.assignment.Assignment.{Assignment}
-use Rattle.homomorphism.specs.Rules.{IsMet}
+use Rattle.std.proofs.Common.{length}
+use Rattle.homomorphism.proofs.FrontierMatches.{IsWalked}
 use Rattle.homomorphism.proofs.rules.first_unmet.Given as goal
 
-abbrev pub invariant-loop-one : goal.invariant-loop-one
-invariant-loop-one l = (one : Assignment) → Contains (take l.one-index l.one-items) one → IsMet l.store l.rule one.vals
+abbrev pub invariant-loop-walk : goal.invariant-loop-walk
+invariant-loop-walk l = IsWalked l.store l.rule l.walk
+
+abbrev pub decreases-loop-walk : goal.decreases-loop-walk
+decreases-loop-walk l = length l.walk
