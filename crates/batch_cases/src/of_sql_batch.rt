@@ -8,18 +8,21 @@ use std::alloc::Global;
 use std::test::*;
 use tgd_reader::read_schema;
 
-const SCHEMA: &str = "relation r(a)\nrelation s(b)\n";
+/// The schema of all texts.
+pub const SCHEMA: &str = "relation r(a)\nrelation s(b)\n";
 
 fn limit_name(limit: Limit) -> &'static str {
     match limit {
         Limit::Froms => "from items",
         Limit::Items => "items",
         Limit::Statements => "statements",
+        Limit::Selects => "selects",
         _ => "other",
     }
 }
 
-fn fault_text(alloc: Global, fault: &SqlFault) -> Result<String, NoMemory> {
+/// The kind of a fault and its place.
+pub fn fault_text(alloc: Global, fault: &SqlFault) -> Result<String, NoMemory> {
     match fault {
         SqlFault::NoMemory => Err(NoMemory),
         SqlFault::NotUtf8 { offset } => format!(in alloc; "utf8 {offset}"),
@@ -29,6 +32,7 @@ fn fault_text(alloc: Global, fault: &SqlFault) -> Result<String, NoMemory> {
         SqlFault::OverLimit(limit) => format!(in alloc; "{}", limit_name(*limit)),
         SqlFault::UnknownName { offset } => format!(in alloc; "unknown {offset}"),
         SqlFault::Ambiguous { offset } => format!(in alloc; "ambiguous {offset}"),
+        SqlFault::WrongWidth { offset } => format!(in alloc; "width {offset}"),
     }
 }
 

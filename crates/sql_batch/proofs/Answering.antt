@@ -11,7 +11,7 @@ use Rattle.sql_select.specs.declared.fault.SqlFault.{SqlFault}
 use Rattle.sql_select.specs.declared.fault.SqlFault.TheVariants as fault
 use Rattle.sql_select.specs.Statements.{AreTokens}
 use Rattle.sql_batch.specs.declared.cutting.Part.{Part}
-use Rattle.sql_batch.specs.declared.reading.TheConstants.{NAMES}
+use Rattle.sql_batch.specs.declared.reading.TheConstants.{WIDTHS}
 use Rattle.sql_batch.specs.declared.batch.TheConstants.{MOST_STATEMENTS}
 use Rattle.sql_batch.specs.Cutting.{ends_query, cut_from, cut, alone}
 use Rattle.sql_batch.specs.Batches.{kind_of, AreQueries, IsFirstFault, IsBatchText, IsFaultOfQueries, too_many, IsBatchFault, of_text, of_queries}
@@ -40,17 +40,17 @@ module _ (schema : Schema) (bytes : List ℕ) where
   -- too many parts
   pub of_many : (parts : List Part) (result : Result (List Statement) SqlFault) → IfOk result (AreQueries schema bytes parts) → IfErr result (λ f. (f ≡ fault.NoMemory) ⊎ IsFirstFault schema bytes parts f) →
       are_too_many (length parts) result ≡ true → IsFaultOfQueries schema bytes parts (fault.OverLimit limit.Statements)
-  of_many parts (Ok list) z h many = too_many refl (λ part c. queries_reach schema bytes parts list z part c NAMES) (ltb-true MOST_STATEMENTS (length parts) many)
-  of_many parts (Err f) z h many = both (nat_le NAMES (kind_of f)) refl many
+  of_many parts (Ok list) z h many = too_many refl (λ part c. queries_reach schema bytes parts list z part c WIDTHS) (ltb-true MOST_STATEMENTS (length parts) many)
+  of_many parts (Err f) z h many = both (nat_le WIDTHS (kind_of f)) refl many
     where
-      reach : NAMES ≤ kind_of f → IsFirstFault schema bytes parts f → MOST_STATEMENTS < length parts → IsFaultOfQueries schema bytes parts (fault.OverLimit limit.Statements)
-      reach names first more = too_many refl (λ part c. weaker schema bytes (alone bytes part) NAMES (kind_of f) names (fault_reaches schema bytes parts f first part c)) more
+      reach : WIDTHS ≤ kind_of f → IsFirstFault schema bytes parts f → MOST_STATEMENTS < length parts → IsFaultOfQueries schema bytes parts (fault.OverLimit limit.Statements)
+      reach names first more = too_many refl (λ part c. weaker schema bytes (alone bytes part) WIDTHS (kind_of f) names (fault_reaches schema bytes parts f first part c)) more
 
-      never : f ≡ fault.NoMemory → NAMES ≤ kind_of f → ⊥
-      never e names = let none : NAMES ≤ kind_of fault.NoMemory = subst (λ (g : SqlFault). NAMES ≤ kind_of g) e names in omega (arith, none)
+      never : f ≡ fault.NoMemory → WIDTHS ≤ kind_of f → ⊥
+      never e names = let none : WIDTHS ≤ kind_of fault.NoMemory = subst (λ (g : SqlFault). WIDTHS ≤ kind_of g) e names in omega (arith, none)
 
-      both : (names : Bool) → nat_le NAMES (kind_of f) ≡ names → (if names then nat_lt MOST_STATEMENTS (length parts) else false) ≡ true → IsFaultOfQueries schema bytes parts (fault.OverLimit limit.Statements)
-      both true e many = ⊎_elim (λ none. absurd (never none (leb-true NAMES (kind_of f) e))) (λ first. reach (leb-true NAMES (kind_of f) e) first (ltb-true MOST_STATEMENTS (length parts) many)) h
+      both : (names : Bool) → nat_le WIDTHS (kind_of f) ≡ names → (if names then nat_lt MOST_STATEMENTS (length parts) else false) ≡ true → IsFaultOfQueries schema bytes parts (fault.OverLimit limit.Statements)
+      both true e many = ⊎_elim (λ none. absurd (never none (leb-true WIDTHS (kind_of f) e))) (λ first. reach (leb-true WIDTHS (kind_of f) e) first (ltb-true MOST_STATEMENTS (length parts) many)) h
       both false e many = absurd (cc)
 
   -- parts that were cut from the tokens of the bytes

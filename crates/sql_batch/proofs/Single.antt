@@ -14,11 +14,10 @@ use Rattle.sql_select.specs.declared.piece.Piece.TheVariants as piece
 use Rattle.sql_select.specs.declared.state.State.TheVariants as state
 use Rattle.sql_select.specs.Words.{written, piece_for, piece_of, pieces_of}
 use Rattle.sql_select.specs.Grammar.{Place, S0, S1, I0, I1, I2, I3, I4, I5, F0, F1, F2, F3, C0, C1, C2, C3, C4, C5, C6, C7, E, next, Leads}
-use Rattle.sql_select.specs.Reading.{empty}
+use Rattle.sql_select.specs.Reading.{started}
 use Rattle.sql_select.specs.Statements.{IsStatementText}
 use Rattle.sql_select.proofs.Complete.{complete}
 use Rattle.sql_select.proofs.Leading.{ends}
-use Rattle.sql_select.proofs.Queries.{as_select}
 use Rattle.sql_batch.specs.declared.cutting.Part.{Part}
 use Rattle.sql_batch.specs.Cutting.{is_symbol, is_semicolon, cut_from, alone}
 use Rattle.sql_batch.specs.Batches.{AreQueries, IsBatchText}
@@ -64,6 +63,7 @@ nothing_behind piece.From r e = absurd (cc)
 nothing_behind piece.Where r e = absurd (cc)
 nothing_behind piece.And r e = absurd (cc)
 nothing_behind piece.As r e = absurd (cc)
+nothing_behind piece.Union r e = absurd (cc)
 nothing_behind piece.Comma r e = absurd (cc)
 nothing_behind piece.Dot r e = absurd (cc)
 nothing_behind piece.Equals r e = absurd (cc)
@@ -93,8 +93,7 @@ all n = omega arith
 pub one_query : (schema : Schema) (bytes : List ℕ) (s : Statement) → IsStatementText schema bytes s → IsBatchText schema bytes (s ∷ [])
 one_query schema bytes s is =
     let tokens = is.written.tokens in
-    let (raw, _, text) = as_select is.raws (pieces_of bytes tokens) is.written.text in
-    let whole = ends state.Start empty raw (pieces_of bytes tokens) (complete raw (pieces_of bytes tokens) text) in
+    let whole = ends state.Start started is.raws (pieces_of bytes tokens) (complete is.raws (pieces_of bytes tokens) is.written.text) in
     let one : cut_from bytes 0 tokens ≡ record { from = 0; to = length bytes } ∷ [] = uncut bytes 0 tokens S0 whole.last whole.leads in
     let same : alone bytes (record { from = 0; to = length bytes }) ≡ bytes = ap (λ (n : ℕ). take n bytes) (all (length bytes)) ∙ take-length bytes in
     record {

@@ -16,7 +16,7 @@ use Rattle.sql_select.specs.declared.fault.SqlFault.TheVariants as fault
 use Rattle.sql_select.specs.Statements.{AreTokens, IsSqlFault}
 use Rattle.sql_select.proofs.Unique as select
 use Rattle.sql_batch.specs.declared.cutting.Part.{Part}
-use Rattle.sql_batch.specs.declared.reading.TheConstants.{TOKENS, NAMES}
+use Rattle.sql_batch.specs.declared.reading.TheConstants.{TOKENS, WIDTHS}
 use Rattle.sql_batch.specs.declared.batch.TheConstants.{MOST_STATEMENTS}
 use Rattle.sql_batch.specs.Cutting.{cut, alone}
 use Rattle.sql_batch.specs.Batches.{kind_of, AreQueries, Reaches, IsFirstFault, IsBatchText, IsFaultOfQueries, of_one, too_many, IsBatchFault, of_text, of_queries}
@@ -46,6 +46,7 @@ module _ (schema : Schema) (bytes : List ℕ) where
   clash (fault.Syntax o) tokens h k are = absurd (omega (arith, k))
   clash (fault.Unsupported word o) tokens h k are = absurd (omega (arith, k))
   clash (fault.OverLimit l) tokens h k are = absurd (omega (arith, k))
+  clash (fault.WrongWidth o) tokens h k are = absurd (omega (arith, k))
   clash (fault.UnknownName o) tokens h k are = absurd (omega (arith, k))
   clash (fault.Ambiguous o) tokens h k are = absurd (omega (arith, k))
 
@@ -91,10 +92,10 @@ module _ (schema : Schema) (bytes : List ℕ) where
         unequal)
         (apart first.before other.before first.after other.after first.part other.part (sym first.whole ∙ other.whole))
 
-    few_clash : (f : SqlFault) → IsFirstFault schema bytes parts f → (NAMES ≤ kind_of f → length parts ≤ MOST_STATEMENTS) →
-        ((part : Part) → Contains parts part → Reaches schema (alone bytes part) NAMES) → MOST_STATEMENTS < length parts → ⊥
+    few_clash : (f : SqlFault) → IsFirstFault schema bytes parts f → (WIDTHS ≤ kind_of f → length parts ≤ MOST_STATEMENTS) →
+        ((part : Part) → Contains parts part → Reaches schema (alone bytes part) WIDTHS) → MOST_STATEMENTS < length parts → ⊥
     few_clash f first few reach many =
-        let names = kind_reached (alone bytes first.part) f NAMES first.is first.one (reach first.part (its_part f first)) in
+        let names = kind_reached (alone bytes first.part) f WIDTHS first.is first.one (reach first.part (its_part f first)) in
         let most = few names in
         omega (arith, most, many)
 

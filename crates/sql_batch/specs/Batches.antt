@@ -9,7 +9,7 @@ use Rattle.sql_select.specs.declared.fault.SqlFault.{SqlFault}
 use Rattle.sql_select.specs.declared.fault.SqlFault.TheVariants as fault
 use Rattle.sql_select.specs.Statements.{AreTokens, IsStatementText, StatementFits, IsSqlFault}
 use Rattle.sql_batch.specs.declared.cutting.Part.{Part}
-use Rattle.sql_batch.specs.declared.reading.TheConstants.{TOKENS, NAMES}
+use Rattle.sql_batch.specs.declared.reading.TheConstants.{TOKENS, WIDTHS}
 use Rattle.sql_batch.specs.declared.batch.TheConstants.{MOST_STATEMENTS}
 use Rattle.sql_batch.specs.Cutting.{cut, alone}
 
@@ -31,7 +31,7 @@ pub record IsBatchText (schema : Schema) (bytes : List ℕ) (statements : List S
 
 -- ---- faults
 
--- the kinds of faults in the order in which they are looked for: no UTF-8, no tokens, no query, limits, names
+-- the kinds of faults in the order in which they are looked for: no UTF-8, no tokens, no query, limits, widths, names
 abbrev pub kind_of : SqlFault → ℕ
 kind_of fault.NoMemory = 0
 kind_of (fault.NotUtf8 offset) = 1
@@ -39,8 +39,9 @@ kind_of (fault.Lex f) = TOKENS
 kind_of (fault.Syntax offset) = 3
 kind_of (fault.Unsupported word offset) = 3
 kind_of (fault.OverLimit limit) = 4
-kind_of (fault.UnknownName offset) = NAMES
-kind_of (fault.Ambiguous offset) = NAMES
+kind_of (fault.WrongWidth offset) = WIDTHS
+kind_of (fault.UnknownName offset) = 6
+kind_of (fault.Ambiguous offset) = 6
 
 -- The text has no fault of a kind before this one: it is a query, or it has a fault of this kind or a later one.
 abbrev pub Reaches : Schema → List ℕ → ℕ → Type 0
@@ -59,11 +60,13 @@ pub record IsFirstFault (schema : Schema) (bytes : List ℕ) (parts : List Part)
   pub earlier : (other : Part) → Contains before other → Reaches schema (alone bytes other) (kind_of f + 1)
   pub later : (other : Part) → Contains after other → Reaches schema (alone bytes other) (kind_of f)
 
--- The parts have the fault: that of one of them, and then they are not too many where it is of names; or they are too many.
+-- The parts have the fault: that of one of them, and then they are not too many where it is of widths or names; or they
+-- are too many.
 pub data IsFaultOfQueries (schema : Schema) (bytes : List ℕ) (parts : List Part) (f : SqlFault) : Type 0 where
-  of_one : IsFirstFault schema bytes parts f → (NAMES ≤ kind_of f → length parts ≤ MOST_STATEMENTS) → IsFaultOfQueries schema bytes parts f
-  too_many : f ≡ fault.OverLimit limit.Statements → ((part : Part) → Contains parts part → Reaches schema (alone bytes part) NAMES) →
-      MOST_STATEMENTS < length parts → IsFaultOfQueries schema bytes parts f
+  of_one : IsFirstFault schema bytes parts f → (WIDTHS ≤ kind_of f → length parts ≤ MOST_STATEMENTS) →
+      IsFaultOfQueries schema bytes parts f
+  too_many : f ≡ fault.OverLimit limit.Statements →
+      ((part : Part) → Contains parts part → Reaches schema (alone bytes part) WIDTHS) → MOST_STATEMENTS < length parts → IsFaultOfQueries schema bytes parts f
 
 -- The bytes have the fault: as for one query they are no UTF-8 or have no tokens; or their queries have it. An offset is one of all bytes.
 pub data IsBatchFault (schema : Schema) (bytes : List ℕ) (f : SqlFault) : Type 0 where

@@ -5,7 +5,7 @@ use Rattle.meaning.specs.declared.types.Statement.{Statement}
 use Rattle.sql_select.specs.declared.fault.SqlFault.{SqlFault}
 use Rattle.sql_select.specs.declared.fault.SqlFault.TheVariants as fault
 use Rattle.sql_select.specs.Statements.{IsLexFault}
-use Rattle.sql_batch.specs.declared.reading.TheConstants.{NAMES}
+use Rattle.sql_batch.specs.declared.reading.TheConstants.{WIDTHS}
 use Rattle.sql_batch.specs.declared.batch.TheConstants.{MOST_STATEMENTS}
 use Rattle.access_schema.specs.declared.schema.Schema.{Schema}
 use Rattle.sql_batch.specs.declared.cutting.Part.{Part}
@@ -37,7 +37,7 @@ outcome_of read = result_of read.statements read.first
 -- there are too many parts, and none has a fault of a kind that is looked for before that
 abbrev pub are_too_many : ℕ → Result (List Statement) SqlFault → Bool
 are_too_many count (Ok statements) = nat_lt MOST_STATEMENTS count
-are_too_many count (Err f) = if nat_le NAMES (kind_of f) then nat_lt MOST_STATEMENTS count else false
+are_too_many count (Err f) = if nat_le WIDTHS (kind_of f) then nat_lt MOST_STATEMENTS count else false
 
 -- The text has no tokens, and this fault says so.
 abbrev pub IsTextFault : List ℕ → SqlFault → Type 0

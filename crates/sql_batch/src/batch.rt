@@ -10,7 +10,7 @@ ghost use Rattle.sql_batch.specs.Batches.{AreQueries, AllFit, IsBatchText, IsBat
 ghost use Rattle.sql_batch.specs.Reading.{are_too_many, IsTextFault};
 
 use crate::cutting::{Part, parts_of};
-use crate::reading::{NAMES, kind_of, read_queries};
+use crate::reading::{WIDTHS, kind_of, read_queries};
 use access_schema::{Limit, Schema};
 use lists::Seq;
 use meaning::types::Statement;
@@ -122,6 +122,6 @@ fn are_too_many(count: usize, read: &Result<Seq<Statement>, SqlFault>) -> bool
 {
     match read {
         Ok(_) => count > MOST_STATEMENTS,
-        Err(fault) => NAMES <= kind_of(fault) && count > MOST_STATEMENTS,
+        Err(fault) => WIDTHS <= kind_of(fault) && count > MOST_STATEMENTS,
     }
 }

@@ -18,8 +18,8 @@ use std::alloc::Global;
 /// The kind of the faults of tokens, which are the last that are looked for in the text as a whole.
 pub const TOKENS: u32 = 2;
 
-/// The kind of the faults of names, which are looked for last.
-pub const NAMES: u32 = 5;
+/// The kind of the faults of widths, which are looked for behind all limits.
+pub const WIDTHS: u32 = 5;
 
 /// The number of a fault's kind: kinds are looked for in this order.
 pub fn kind_of(fault: &SqlFault) -> u32
@@ -31,7 +31,8 @@ pub fn kind_of(fault: &SqlFault) -> u32
         SqlFault::Lex(_) => TOKENS,
         SqlFault::Syntax { .. } | SqlFault::Unsupported { .. } => 3,
         SqlFault::OverLimit(_) => 4,
-        SqlFault::UnknownName { .. } | SqlFault::Ambiguous { .. } => NAMES,
+        SqlFault::WrongWidth { .. } => WIDTHS,
+        SqlFault::UnknownName { .. } | SqlFault::Ambiguous { .. } => 6,
     }
 }
 

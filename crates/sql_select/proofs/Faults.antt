@@ -8,14 +8,14 @@ use Rattle.sql_select.specs.declared.piece.RawSelect.{RawSelect}
 use Rattle.sql_select.specs.declared.reading.WalkFault.{WalkFault}
 use Rattle.sql_select.specs.declared.reading.WalkFault.TheVariants as fault
 use Rattle.sql_select.specs.Words.{piece_of, pieces_of}
-use Rattle.sql_select.specs.Reading.{IsSelectText, empty, read, IsReading, IsFaultOf}
-use Rattle.sql_select.specs.Grammar.{S0, StopsAt}
+use Rattle.sql_select.specs.Reading.{started, read, IsReading, IsFaultOf}
+use Rattle.sql_select.specs.Grammar.{IsText, S0, StopsAt}
 use Rattle.sql_select.proofs.Said.{all_sound}
 use Rattle.sql_select.proofs.Leading.{stops, ends, ends_or_stops}
 use Rattle.sql_select.proofs.Complete.{complete}
 
-pub reads : (result : Result RawSelect WalkFault) (pieces : List Piece) → IsReading result (read state.Start empty pieces) → IfOk result (λ raw. IsSelectText raw pieces)
-reads (Ok raw) pieces is = all_sound pieces raw is
+pub reads : (result : Result (List RawSelect) WalkFault) (pieces : List Piece) → IsReading result (read state.Start started pieces) → IfOk result (λ raws. IsText raws pieces)
+reads (Ok raws) pieces is = all_sound pieces raws is
 reads (Err fault) pieces is = tt
 
 -- tokens come apart where their pieces do
@@ -45,14 +45,14 @@ pub pieces_long : (text : List ℕ) (tokens : List Token) → length (pieces_of 
 pieces_long text [] = refl
 pieces_long text (t ∷ tokens) = ap (λ n. suc n) (pieces_long text tokens)
 
-pub faults : (text : List ℕ) (tokens : List Token) (result : Result RawSelect WalkFault) → IsReading result (read state.Start empty (pieces_of text tokens)) → IfErr result (IsFaultOf text tokens)
-faults text tokens (Ok raw) is = tt
+pub faults : (text : List ℕ) (tokens : List Token) (result : Result (List RawSelect) WalkFault) → IsReading result (read state.Start started (pieces_of text tokens)) → IfErr result (IsFaultOf text tokens)
+faults text tokens (Ok raws) is = tt
 faults text tokens (Err fault.NoMemory) is = tt
 faults text tokens (Err (fault.At left)) (after, e, count) =
-    let at = stops state.Start empty (pieces_of text tokens) after e in
+    let at = stops state.Start started (pieces_of text tokens) after e in
     let parts = apart text tokens at.before after at.whole in
     (parts.first, parts.second, parts.whole, sym (pieces_long text parts.second) ∙ ap length parts.is_second ∙ count, subst (λ q. StopsAt S0 (pieces_of text tokens) q) (sym parts.is_second) at)
 
--- what is written as a select stops nowhere
-pub no_misfit : (raw : RawSelect) (pieces after : List Piece) → IsSelectText raw pieces → StopsAt S0 pieces after → ⊥
-no_misfit raw pieces after is stop = ends_or_stops pieces after (ends state.Start empty raw pieces (complete raw pieces is)) stop
+-- what is written as a query stops nowhere
+pub no_misfit : (raws : List RawSelect) (pieces after : List Piece) → IsText raws pieces → StopsAt S0 pieces after → ⊥
+no_misfit raws pieces after is stop = ends_or_stops pieces after (ends state.Start started raws pieces (complete raws pieces is)) stop

@@ -28,6 +28,7 @@ use Rattle.sql_select.specs.Naming.{named_from, named_items, named_condition, na
 use Rattle.sql_select.specs.Names.{IsMeant, IsMeaning}
 use Rattle.sql_select.specs.Limits.{IsWithinLimits}
 use Rattle.sql_select.specs.Statements.{Means, IsStatementText, IsBounded, StatementFits}
+use Rattle.sql_select.proofs.Wide.{alike_all}
 
 items_long : (text : List ℕ) (place : ℕ) (items : List RawItem) → length (named_items text place items) ≡ length items
 items_long text place [] = refl
@@ -75,9 +76,13 @@ module _ (schema : Schema) (parts : NamedSelect) (select : Select) (is : IsMeani
     items = λ o c. items_fit parts.items select.items o is.items c;
   }
 
+-- a select has as many items as the one that is written
+as_wide : (relations : List Relation) (bytes : List ℕ) (raw : RawSelect) (select : Select) → Means relations bytes raw select → length select.items ≡ length raw.items
+as_wide relations bytes raw select means = AllZip-long _ (named_select bytes raw).items select.items means.items ∙ items_long bytes 1 raw.items
+
 bounded : (schema : Schema) (bytes : List ℕ) (raw : RawSelect) (select : Select) → Means schema.relations bytes raw select → IsWithinLimits raw → (raw.items ≡ [] → ⊥) → (raw.froms ≡ [] → ⊥) → IsBounded select
 bounded schema bytes raw select means within has_items has_froms =
-    let items : length select.items ≡ length raw.items = AllZip-long _ (named_select bytes raw).items select.items means.items ∙ items_long bytes 1 raw.items in
+    let items : length select.items ≡ length raw.items = as_wide schema.relations bytes raw select means in
     let froms : length select.froms ≡ length raw.froms = AllZip-long _ (named_select bytes raw).froms select.froms means.froms.relations_are ∙ length-map raw.froms (named_from bytes) in
     let conditions : length select.conditions ≡ length raw.conditions = AllZip-long _ (named_select bytes raw).conditions select.conditions means.conditions ∙ length-map raw.conditions (named_condition bytes) in
     let names : length select.names ≡ length raw.items = ap length means.names ∙ length-map (named_select bytes raw).items (λ (item : NamedItem). item.name) ∙ items_long bytes 1 raw.items in
@@ -107,9 +112,14 @@ meant schema bytes (raw ∷ raws) (x ∷ xs) select (m, z) c = ⊎_elim
 
 pub statement_fits : (schema : Schema) (bytes : List ℕ) (statement : Statement) → IsStatementText schema bytes statement → StatementFits schema statement
 statement_fits schema bytes statement is = record {
-  count = AllZip-long _ is.raws statement.selects is.means ∙ is.written.text.count;
+  some = let long = AllZip-long _ is.raws statement.selects is.means in let some = is.written.text.some in omega (arith, long, some);
+  few = let long = AllZip-long _ is.raws statement.selects is.means in let few = is.within.few in omega (arith, long, few);
+  wide = λ first second c d.
+      let (raw, among, means) = meant schema bytes is.raws statement.selects first is.means c in
+      let (other, among', means') = meant schema bytes is.raws statement.selects second is.means d in
+      as_wide schema.relations bytes raw first means ∙ alike_all is.raws raw other is.wide among among' ∙ sym (as_wide schema.relations bytes other second means');
   fits = λ select c. let (raw, among, means) = meant schema bytes is.raws statement.selects select is.means c in select_fits schema (named_select bytes raw) select means;
   bounded = λ select c.
       let (raw, among, means) = meant schema bytes is.raws statement.selects select is.means c in
-      bounded schema bytes raw select means (is.within raw among) (is.written.text.items raw among) (is.written.text.froms raw among);
+      bounded schema bytes raw select means (is.within.each raw among) (is.written.text.items raw among) (is.written.text.froms raw among);
 }

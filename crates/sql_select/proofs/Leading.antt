@@ -8,8 +8,9 @@ use Rattle.sql_select.specs.declared.state.State.{State}
 use Rattle.sql_select.specs.declared.state.State.TheVariants as state
 use Rattle.sql_select.specs.declared.state.Done.{Done}
 use Rattle.sql_select.specs.declared.piece.RawSelect.{RawSelect}
+use Rattle.sql_select.specs.declared.reading.Walk.{Walk}
 use Rattle.sql_select.specs.Steps.{step_of, ending_of}
-use Rattle.sql_select.specs.Reading.{added, ended, moved, read}
+use Rattle.sql_select.specs.Reading.{kept, entered, ended, moved, read}
 use Rattle.sql_select.specs.Grammar.{Place, S0, S1, I0, I1, I2, I3, I4, I5, F0, F1, F2, F3, C0, C1, C2, C3, C4, C5, C6, C7, E, next, IsLast, Leads, IsStuck, StopsAt}
 use Rattle.sql_select.proofs.Placed.{place_of, placed, follows}
 
@@ -23,19 +24,19 @@ no_end state.End e last = absurd (cc)
 no_end _ e last = absurd last
 
 -- where reading stops, the table leads to a place that does not list what is next
-pub stops : (s : State) (raw : RawSelect) (pieces after : List Piece) → read s raw pieces ≡ Err after → StopsAt (place_of s) pieces after
-stops s raw [] after e = go (ending_of s) refl e
+pub stops : (s : State) (walk : Walk) (pieces after : List Piece) → read s walk pieces ≡ Err after → StopsAt (place_of s) pieces after
+stops s walk [] after e = go (ending_of s) refl e
   where
-    go : (found : Option Done) → ending_of s ≡ found → ended found raw ≡ Err after → StopsAt (place_of s) [] after
+    go : (found : Option Done) → ending_of s ≡ found → ended found walk ≡ Err after → StopsAt (place_of s) [] after
     go None is e = let none : [] ≡ after = cc in record { before = []; whole = none; place = place_of s; leads = refl; stuck = subst (λ a. IsStuck (place_of s) a) none (no_end s is) }
     go (Some d) is e = absurd (cc)
-stops s raw (p ∷ pieces) after e = go (step_of s p) refl e (λ s' raw' e'. stops s' raw' pieces after e')
+stops s walk (p ∷ pieces) after e = go (step_of s p) refl e (λ s' walk' e'. stops s' walk' pieces after e')
   where
-    go : (found : Option (State × Done)) → step_of s p ≡ found → moved found raw (p ∷ pieces) (λ s' raw'. read s' raw' pieces) ≡ Err after →
-        ((s' : State) (raw' : RawSelect) → read s' raw' pieces ≡ Err after → StopsAt (place_of s') pieces after) → StopsAt (place_of s) (p ∷ pieces) after
+    go : (found : Option (State × Done)) → step_of s p ≡ found → moved found walk (p ∷ pieces) (λ s' walk'. read s' walk' pieces) ≡ Err after →
+        ((s' : State) (walk' : Walk) → read s' walk' pieces ≡ Err after → StopsAt (place_of s') pieces after) → StopsAt (place_of s) (p ∷ pieces) after
     go None is e rec = let here : p ∷ pieces ≡ after = cc in
         record { before = []; whole = here; place = place_of s; leads = refl; stuck = subst (λ a. IsStuck (place_of s) a) here (sym (follows s p) ∙ ap placed is) }
-    go (Some (s', d)) is e rec = let later = rec s' (added d raw) e in
+    go (Some (s', d)) is e rec = let later = rec s' (entered s' (kept d walk)) e in
         record { before = p ∷ later.before; whole = ap (λ q. p ∷ q) later.whole; place = later.place; leads = (place_of s', sym (follows s p) ∙ ap placed is, later.leads); stuck = later.stuck }
 
 -- from every place some pieces lead to the end
@@ -99,18 +100,18 @@ end_last (state.RightEnd c) d e = tt
 end_last state.End d e = tt
 end_last _ d e = absurd (cc)
 
-pub ends : (s : State) (raw final : RawSelect) (pieces : List Piece) → read s raw pieces ≡ Ok final → Ends (place_of s) pieces
-ends s raw final [] e = go (ending_of s) refl e
+pub ends : (s : State) (walk : Walk) (final : List RawSelect) (pieces : List Piece) → read s walk pieces ≡ Ok final → Ends (place_of s) pieces
+ends s walk final [] e = go (ending_of s) refl e
   where
-    go : (found : Option Done) → ending_of s ≡ found → ended found raw ≡ Ok final → Ends (place_of s) []
+    go : (found : Option Done) → ending_of s ≡ found → ended found walk ≡ Ok final → Ends (place_of s) []
     go None is e = absurd (cc)
     go (Some d) is e = record { last = place_of s; leads = refl; end = end_last s d is }
-ends s raw final (p ∷ pieces) e = go (step_of s p) refl e (λ s' raw' e'. ends s' raw' final pieces e')
+ends s walk final (p ∷ pieces) e = go (step_of s p) refl e (λ s' walk' e'. ends s' walk' final pieces e')
   where
-    go : (found : Option (State × Done)) → step_of s p ≡ found → moved found raw (p ∷ pieces) (λ s' raw'. read s' raw' pieces) ≡ Ok final →
-        ((s' : State) (raw' : RawSelect) → read s' raw' pieces ≡ Ok final → Ends (place_of s') pieces) → Ends (place_of s) (p ∷ pieces)
+    go : (found : Option (State × Done)) → step_of s p ≡ found → moved found walk (p ∷ pieces) (λ s' walk'. read s' walk' pieces) ≡ Ok final →
+        ((s' : State) (walk' : Walk) → read s' walk' pieces ≡ Ok final → Ends (place_of s') pieces) → Ends (place_of s) (p ∷ pieces)
     go None is e rec = absurd (cc)
-    go (Some (s', d)) is e rec = let later = rec s' (added d raw) e in
+    go (Some (s', d)) is e rec = let later = rec s' (entered s' (kept d walk)) e in
         record { last = later.last; leads = (place_of s', sym (follows s p) ∙ ap placed is, later.leads); end = later.end }
 
 -- pieces that are listed to their end stop nowhere

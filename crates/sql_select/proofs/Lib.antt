@@ -10,7 +10,8 @@ pub mod ColumnFaults
 pub mod Stand
 pub mod Resolved
 pub mod Meanings
-pub mod Queries
+pub mod Limiting
+pub mod Wide
 pub mod Unique
 pub mod Fitting
 pub mod Answering

@@ -62,5 +62,6 @@ module _ (relations : List Relation) (parts : NamedSelect) where
   naming_fault (Err (fault.NotUtf8 offset)) e = absurd e
   naming_fault (Err (fault.Syntax offset)) e = absurd e
   naming_fault (Err (fault.Unsupported word offset)) e = absurd e
+  naming_fault (Err (fault.WrongWidth offset)) e = absurd e
   naming_fault (Err (fault.OverLimit limit)) e = absurd e
   naming_fault (Err (fault.Lex f)) e = absurd e

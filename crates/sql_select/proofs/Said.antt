@@ -1,7 +1,9 @@
 -- The pieces that were read to reach a state are those of the parts so far.
-use Rattle.std.proofs.Common.{◌≡◌, ◌≢◌, List, [], ◌∷◌, ◌++◌, ap, subst, sym, ◌∙◌, refl, inl, inr, append_assoc}
+use Rattle.std.proofs.Common.{◌≡◌, ◌≢◌, ◌⊎◌, ◌≤◌, List, [], ◌∷◌, ◌++◌, length, ap, subst, sym, ◌∙◌, refl, inl, inr, ⊎_elim, arith, append_assoc}
 use Rattle.std.proofs.lemmas.List.{append-nil}
-use Rattle.std.specs.Prelude.{Option, Some, None, Ok}
+use Rattle.std.proofs.lemmas.List.Elements.{Contains-append_cases}
+use Rattle.std.specs.Prelude.{Option, Some, None, Ok, Contains}
+use Rattle.lists.proofs.Members.{contains_none, contains_one}
 use Rattle.sql_select.specs.declared.piece.Piece.{Piece}
 use Rattle.sql_select.specs.declared.piece.Piece.TheVariants as piece
 use Rattle.sql_select.specs.declared.piece.RawOperand.{RawOperand}
@@ -16,8 +18,9 @@ use Rattle.sql_select.specs.declared.state.Done.{Done}
 use Rattle.sql_select.specs.declared.state.Done.TheVariants as done
 use Rattle.sql_select.specs.declared.piece.RawSelect.{RawSelect}
 use Rattle.sql_select.specs.Steps.{step_of, ending_of, after_item, after_operand, after_from, after_left, after_condition}
-use Rattle.sql_select.specs.Reading.{IsSelectText, empty, added, ended, moved, read}
-use Rattle.sql_select.specs.Grammar.{shown_operand, shown_item, shown_from, shown_condition, further, parted, shown_where, shown}
+use Rattle.sql_select.specs.declared.reading.Walk.{Walk}
+use Rattle.sql_select.specs.Reading.{empty, added, started, kept, entered, ended, moved, read}
+use Rattle.sql_select.specs.Grammar.{shown_operand, shown_item, shown_from, shown_condition, further, parted, shown_where, shown, IsText}
 
 -- members, each followed by the separator
 abbrev pub closed : {X : Type 0} → (X → List Piece) → Piece → List X → List Piece
@@ -68,10 +71,11 @@ pub record AtCondition (raw : RawSelect) (ps now : List Piece) : Type 0 where
   pub froms : raw.froms ≢ []
   pub is : ps ≡ asked raw ++ now
 
-pub record AtEnd (raw : RawSelect) (ps : List Piece) : Type 0 where
+-- the select, and what closes it
+pub record AtEnd (raw : RawSelect) (ps : List Piece) (last : Piece) : Type 0 where
   pub items : raw.items ≢ []
   pub froms : raw.froms ≢ []
-  pub is : ps ≡ shown raw ++ piece.Semicolon ∷ []
+  pub is : ps ≡ shown raw ++ last ∷ []
 
 -- a state, the parts that are finished, and the pieces that were read
 abbrev pub IsAt : State → RawSelect → List Piece → Type 0
@@ -95,11 +99,16 @@ IsAt (state.Right l) raw ps = AtCondition raw ps (shown_operand l ++ piece.Equal
 IsAt (state.RightName l n) raw ps = AtCondition raw ps (shown_operand l ++ piece.Equals ∷ piece.Name n ∷ [])
 IsAt (state.RightDot l n) raw ps = AtCondition raw ps (shown_operand l ++ piece.Equals ∷ piece.Name n ∷ piece.Dot ∷ [])
 IsAt (state.RightEnd c) raw ps = AtCondition raw ps (shown_condition c)
-IsAt state.End raw ps = AtEnd raw ps
+IsAt state.End raw ps = AtEnd raw ps piece.Semicolon
+
+-- a state that was reached, where the start is reached behind a select
+abbrev IsReached : State → RawSelect → List Piece → Type 0
+IsReached state.Start raw ps = AtEnd raw ps piece.Union
+IsReached s raw ps = IsAt s raw ps
 
 abbrev Moved : RawSelect → List Piece → Option (State × Done) → Type 0
 Moved raw ps None = Unit {0}
-Moved raw ps (Some (s, d)) = IsAt s (added d raw) ps
+Moved raw ps (Some (s, d)) = IsReached s (added d raw) ps
 
 item_more : (raw : RawSelect) (ps now now' : List Piece) (p : Piece) → now ++ p ∷ [] ≡ now' → AtItem raw ps now → AtItem raw (ps ++ p ∷ []) now'
 item_more raw ps now now' p e at = record { froms = at.froms; conditions = at.conditions; is = ap (λ q. q ++ p ∷ []) at.is ∙ append_assoc (opened raw) now (p ∷ []) ∙ ap (λ q. opened raw ++ q) e }
@@ -169,8 +178,8 @@ from_last raw ps from at =
           ∙ sym (append-nil (asked (added (done.From from) raw)));
     }
 
-from_end : (raw : RawSelect) (ps : List Piece) (from : RawFrom) → AtFrom raw ps (shown_from from) → AtEnd (added (done.From from) raw) (ps ++ piece.Semicolon ∷ [])
-from_end raw ps from at = record { items = at.items; froms = not_empty raw.froms from; is = ap (λ q. q ++ piece.Semicolon ∷ []) (from_shown raw ps from at) }
+from_end : (raw : RawSelect) (ps : List Piece) (from : RawFrom) (last : Piece) → AtFrom raw ps (shown_from from) → AtEnd (added (done.From from) raw) (ps ++ last ∷ []) last
+from_end raw ps from last at = record { items = at.items; froms = not_empty raw.froms from; is = ap (λ q. q ++ last ∷ []) (from_shown raw ps from at) }
 
 -- the members of WHERE, regrouped behind what stands before them
 asked_more : (P F C one : List Piece) → (P ++ piece.From ∷ (F ++ piece.Where ∷ C)) ++ one ≡ P ++ piece.From ∷ (F ++ piece.Where ∷ (C ++ one))
@@ -196,8 +205,8 @@ condition_shown raw ps c at = at.is
     ∙ ap (λ q. piece.Select ∷ piece.Distinct ∷ q) (asked_more (parted shown_item piece.Comma raw.items) (parted shown_from piece.Comma raw.froms) (closed shown_condition piece.And raw.conditions) (shown_condition c))
     ∙ ap (λ q. piece.Select ∷ piece.Distinct ∷ (parted shown_item piece.Comma raw.items ++ piece.From ∷ (parted shown_from piece.Comma raw.froms ++ q))) (where_push raw.conditions c)
 
-condition_end : (raw : RawSelect) (ps : List Piece) (c : RawCondition) → AtCondition raw ps (shown_condition c) → AtEnd (added (done.Condition c) raw) (ps ++ piece.Semicolon ∷ [])
-condition_end raw ps c at = record { items = at.items; froms = at.froms; is = ap (λ q. q ++ piece.Semicolon ∷ []) (condition_shown raw ps c at) }
+condition_end : (raw : RawSelect) (ps : List Piece) (c : RawCondition) (last : Piece) → AtCondition raw ps (shown_condition c) → AtEnd (added (done.Condition c) raw) (ps ++ last ∷ []) last
+condition_end raw ps c last at = record { items = at.items; froms = at.froms; is = ap (λ q. q ++ last ∷ []) (condition_shown raw ps c at) }
 
 -- a state's part without a second name
 item_bare : (raw : RawSelect) (ps : List Piece) (o : RawOperand) → AtItem raw ps (shown_operand o) → AtItem raw ps (shown_item (record { operand = o; alias = alias.Missing }))
@@ -218,7 +227,8 @@ operand_moves raw ps o _ at = tt
 from_moves : (raw : RawSelect) (ps : List Piece) (from : RawFrom) (p : Piece) → AtFrom raw ps (shown_from from) → Moved raw (ps ++ p ∷ []) (after_from from p)
 from_moves raw ps from piece.Comma at = from_closed raw ps from at
 from_moves raw ps from piece.Where at = from_last raw ps from at
-from_moves raw ps from piece.Semicolon at = from_end raw ps from at
+from_moves raw ps from piece.Union at = from_end raw ps from piece.Union at
+from_moves raw ps from piece.Semicolon at = from_end raw ps from piece.Semicolon at
 from_moves raw ps from _ at = tt
 
 left_moves : (raw : RawSelect) (ps : List Piece) (l : RawOperand) (p : Piece) → AtCondition raw ps (shown_operand l) → Moved raw (ps ++ p ∷ []) (after_left l p)
@@ -227,7 +237,8 @@ left_moves raw ps l _ at = tt
 
 condition_moves : (raw : RawSelect) (ps : List Piece) (c : RawCondition) (p : Piece) → AtCondition raw ps (shown_condition c) → Moved raw (ps ++ p ∷ []) (after_condition c p)
 condition_moves raw ps c piece.And at = condition_closed raw ps c at
-condition_moves raw ps c piece.Semicolon at = condition_end raw ps c at
+condition_moves raw ps c piece.Union at = condition_end raw ps c piece.Union at
+condition_moves raw ps c piece.Semicolon at = condition_end raw ps c piece.Semicolon at
 condition_moves raw ps c _ at = tt
 
 moves : (s : State) (raw : RawSelect) (ps : List Piece) (p : Piece) → IsAt s raw ps → Moved raw (ps ++ p ∷ []) (step_of s p)
@@ -247,6 +258,7 @@ moves (state.ItemName n) raw ps piece.From at = operand_moves raw ps (operand.Pl
 moves (state.ItemName n) raw ps piece.Where at = operand_moves raw ps (operand.Plain n) piece.Where at
 moves (state.ItemName n) raw ps piece.And at = operand_moves raw ps (operand.Plain n) piece.And at
 moves (state.ItemName n) raw ps piece.As at = operand_moves raw ps (operand.Plain n) piece.As at
+moves (state.ItemName n) raw ps piece.Union at = operand_moves raw ps (operand.Plain n) piece.Union at
 moves (state.ItemName n) raw ps piece.Comma at = operand_moves raw ps (operand.Plain n) piece.Comma at
 moves (state.ItemName n) raw ps piece.Equals at = operand_moves raw ps (operand.Plain n) piece.Equals at
 moves (state.ItemName n) raw ps piece.Semicolon at = operand_moves raw ps (operand.Plain n) piece.Semicolon at
@@ -267,6 +279,7 @@ moves (state.FromName n) raw ps piece.Distinct at = from_moves raw ps (record { 
 moves (state.FromName n) raw ps piece.From at = from_moves raw ps (record { relation = n; alias = alias.Missing }) piece.From at
 moves (state.FromName n) raw ps piece.Where at = from_moves raw ps (record { relation = n; alias = alias.Missing }) piece.Where at
 moves (state.FromName n) raw ps piece.And at = from_moves raw ps (record { relation = n; alias = alias.Missing }) piece.And at
+moves (state.FromName n) raw ps piece.Union at = from_moves raw ps (record { relation = n; alias = alias.Missing }) piece.Union at
 moves (state.FromName n) raw ps piece.Comma at = from_moves raw ps (record { relation = n; alias = alias.Missing }) piece.Comma at
 moves (state.FromName n) raw ps piece.Dot at = from_moves raw ps (record { relation = n; alias = alias.Missing }) piece.Dot at
 moves (state.FromName n) raw ps piece.Equals at = from_moves raw ps (record { relation = n; alias = alias.Missing }) piece.Equals at
@@ -287,6 +300,7 @@ moves (state.LeftName n) raw ps piece.From at = left_moves raw ps (operand.Plain
 moves (state.LeftName n) raw ps piece.Where at = left_moves raw ps (operand.Plain n) piece.Where at
 moves (state.LeftName n) raw ps piece.And at = left_moves raw ps (operand.Plain n) piece.And at
 moves (state.LeftName n) raw ps piece.As at = left_moves raw ps (operand.Plain n) piece.As at
+moves (state.LeftName n) raw ps piece.Union at = left_moves raw ps (operand.Plain n) piece.Union at
 moves (state.LeftName n) raw ps piece.Comma at = left_moves raw ps (operand.Plain n) piece.Comma at
 moves (state.LeftName n) raw ps piece.Equals at = left_moves raw ps (operand.Plain n) piece.Equals at
 moves (state.LeftName n) raw ps piece.Semicolon at = left_moves raw ps (operand.Plain n) piece.Semicolon at
@@ -306,6 +320,7 @@ moves (state.RightName l n) raw ps piece.From at = condition_moves raw ps (recor
 moves (state.RightName l n) raw ps piece.Where at = condition_moves raw ps (record { left = l; right = operand.Plain n }) piece.Where at
 moves (state.RightName l n) raw ps piece.And at = condition_moves raw ps (record { left = l; right = operand.Plain n }) piece.And at
 moves (state.RightName l n) raw ps piece.As at = condition_moves raw ps (record { left = l; right = operand.Plain n }) piece.As at
+moves (state.RightName l n) raw ps piece.Union at = condition_moves raw ps (record { left = l; right = operand.Plain n }) piece.Union at
 moves (state.RightName l n) raw ps piece.Comma at = condition_moves raw ps (record { left = l; right = operand.Plain n }) piece.Comma at
 moves (state.RightName l n) raw ps piece.Equals at = condition_moves raw ps (record { left = l; right = operand.Plain n }) piece.Equals at
 moves (state.RightName l n) raw ps piece.Semicolon at = condition_moves raw ps (record { left = l; right = operand.Plain n }) piece.Semicolon at
@@ -314,6 +329,12 @@ moves (state.RightDot l n) raw ps (piece.Name t) at = condition_more raw ps (sho
 moves (state.RightDot l n) raw ps _ at = tt
 moves (state.RightEnd c) raw ps p at = condition_moves raw ps c p at
 moves state.End raw ps p at = tt
+
+-- the pieces are this select, and one semicolon may follow
+pub record IsSelectText (raw : RawSelect) (pieces : List Piece) : Type 0 where
+  pub items : raw.items ≢ []
+  pub froms : raw.froms ≢ []
+  pub written : (pieces ≡ shown raw) ⊎ (pieces ≡ shown raw ++ piece.Semicolon ∷ [])
 
 -- where the end is listed, the pieces are the select
 abbrev IsEnded : RawSelect → List Piece → Option Done → Type 0
@@ -328,19 +349,74 @@ ends (state.RightEnd c) raw ps at = record { items = at.items; froms = at.froms;
 ends state.End raw ps at = record { items = at.items; froms = at.froms; written = inr at.is }
 ends _ raw ps at = tt
 
--- what is read is a select as it is written
-pub read_sound : (s : State) (raw : RawSelect) (before left : List Piece) (final : RawSelect) → IsAt s raw before → read s raw left ≡ Ok final → IsSelectText final (before ++ left)
-read_sound s raw before [] final at e = go (ending_of s) (ends s raw before at) e
-  where
-    go : (found : Option Done) → IsEnded raw before found → ended found raw ≡ Ok final → IsSelectText final (before ++ [])
-    go None is e = absurd (cc)
-    go (Some d) is e = let same : added d raw ≡ final = cc in subst (λ r. IsSelectText r (before ++ [])) same (subst (λ q. IsSelectText (added d raw) q) (sym (append-nil before)) is)
-read_sound s raw before (p ∷ left) final at e = go (step_of s p) (moves s raw before p at) e (λ s' raw' at' e'. read_sound s' raw' (before ++ p ∷ []) left final at' e')
-  where
-    go : (found : Option (State × Done)) → Moved raw (before ++ p ∷ []) found → moved found raw (p ∷ left) (λ s' raw'. read s' raw' left) ≡ Ok final →
-        ((s' : State) (raw' : RawSelect) → IsAt s' raw' (before ++ p ∷ []) → read s' raw' left ≡ Ok final → IsSelectText final ((before ++ p ∷ []) ++ left)) → IsSelectText final (before ++ p ∷ left)
-    go None is e rec = absurd (cc)
-    go (Some (s', d)) is e rec = subst (λ q. IsSelectText final q) (append_assoc before (p ∷ []) left) (rec s' (added d raw) is e)
+-- what the selects that are finished have
+pub record AreWhole (raws : List RawSelect) : Type 0 where
+  pub items : (raw : RawSelect) → Contains raws raw → raw.items ≢ []
+  pub froms : (raw : RawSelect) → Contains raws raw → raw.froms ≢ []
 
-pub all_sound : (left : List Piece) (final : RawSelect) → read state.Start empty left ≡ Ok final → IsSelectText final left
-all_sound left final e = read_sound state.Start empty [] left final (refl, refl) e
+-- one select more
+one_more : (raws : List RawSelect) (raw : RawSelect) → AreWhole raws → raw.items ≢ [] → raw.froms ≢ [] → AreWhole (raws ++ raw ∷ [])
+one_more raws raw whole items froms = record {
+  items = λ other c. ⊎_elim (λ h. whole.items other h) (λ h. subst (λ (r : RawSelect). r.items ≢ []) (contains_one raw other h) items) (Contains-append_cases raws (raw ∷ []) other c);
+  froms = λ other c. ⊎_elim (λ h. whole.froms other h) (λ h. subst (λ (r : RawSelect). r.froms ≢ []) (contains_one raw other h) froms) (Contains-append_cases raws (raw ∷ []) other c);
+}
+
+push_long : {X : Type 0} (xs : List X) (x : X) → 1 ≤ length (xs ++ x ∷ [])
+push_long [] x = omega arith
+push_long (y ∷ xs) x = omega arith
+
+-- the selects that are finished and the last one are a query
+query_of : (raws : List RawSelect) (raw : RawSelect) (ps : List Piece) → AreWhole raws → IsSelectText raw ps → IsText (raws ++ raw ∷ []) (closed shown piece.Union raws ++ ps)
+query_of raws raw ps whole is = let more = one_more raws raw whole is.items is.froms in record {
+  some = push_long raws raw;
+  items = more.items;
+  froms = more.froms;
+  written = ⊎_elim
+      (λ e. inl (ap (λ q. closed shown piece.Union raws ++ q) e ∙ parted_push shown piece.Union raws raw))
+      (λ e. inr (ap (λ q. closed shown piece.Union raws ++ q) e ∙ sym (append_assoc (closed shown piece.Union raws) (shown raw) (piece.Semicolon ∷ [])) ∙ ap (λ q. q ++ piece.Semicolon ∷ []) (parted_push shown piece.Union raws raw)))
+      is.written;
+}
+
+-- where reading stands: the selects that are finished, each with `union`, and the one that is being read
+pub record Stands (s : State) (walk : Walk) (before : List Piece) : Type 0 where
+  pub whole : AreWhole walk.finished
+  pub now : List Piece
+  pub is : IsAt s walk.raw now
+  pub all : before ≡ closed shown piece.Union walk.finished ++ now
+
+-- a step leads to where the next one stands
+stands_next : (s : State) (walk : Walk) (ps : List Piece) (before : List Piece) → AreWhole walk.finished → IsReached s walk.raw ps → before ≡ closed shown piece.Union walk.finished ++ ps → Stands s (entered s walk) before
+stands_next state.Start walk ps before whole at e = record {
+  whole = one_more walk.finished walk.raw whole at.items at.froms;
+  now = [];
+  is = (refl, refl);
+  all = e ∙ ap (λ q. closed shown piece.Union walk.finished ++ q) at.is
+      ∙ sym (append_assoc (closed shown piece.Union walk.finished) (shown walk.raw) (piece.Union ∷ []))
+      ∙ sym (closed_push shown piece.Union walk.finished walk.raw)
+      ∙ sym (append-nil (closed shown piece.Union (walk.finished ++ walk.raw ∷ [])));
+}
+stands_next _ walk ps before whole at e = record { whole = whole; now = ps; is = at; all = e }
+
+-- what is read is a query as it is written
+pub read_sound : (s : State) (walk : Walk) (before left : List Piece) (final : List RawSelect) → Stands s walk before → read s walk left ≡ Ok final → IsText final (before ++ left)
+read_sound s walk before [] final at e = go (ending_of s) (ends s walk.raw at.now at.is) e
+  where
+    go : (found : Option Done) → IsEnded walk.raw at.now found → ended found walk ≡ Ok final → IsText final (before ++ [])
+    go None is e = absurd (cc)
+    go (Some d) is e =
+        let same : walk.finished ++ added d walk.raw ∷ [] ≡ final = cc in
+        subst (λ r. IsText r (before ++ [])) same
+        (subst (λ q. IsText (walk.finished ++ added d walk.raw ∷ []) q) (sym (append-nil before ∙ at.all)) (query_of walk.finished (added d walk.raw) at.now at.whole is))
+read_sound s walk before (p ∷ left) final at e = go (step_of s p) (moves s walk.raw at.now p at.is) e (λ s' walk' at' e'. read_sound s' walk' (before ++ p ∷ []) left final at' e')
+  where
+    go : (found : Option (State × Done)) → Moved walk.raw (at.now ++ p ∷ []) found → moved found walk (p ∷ left) (λ s' walk'. read s' walk' left) ≡ Ok final →
+        ((s' : State) (walk' : Walk) → Stands s' walk' (before ++ p ∷ []) → read s' walk' left ≡ Ok final → IsText final ((before ++ p ∷ []) ++ left)) → IsText final (before ++ p ∷ left)
+    go None is e rec = absurd (cc)
+    go (Some (s', d)) is e rec = subst (λ q. IsText final q) (append_assoc before (p ∷ []) left)
+        (rec s' (entered s' (kept d walk)) (stands_next s' (kept d walk) (at.now ++ p ∷ []) (before ++ p ∷ []) at.whole is (ap (λ q. q ++ p ∷ []) at.all ∙ append_assoc (closed shown piece.Union walk.finished) at.now (p ∷ []))) e)
+
+nothing_whole : AreWhole []
+nothing_whole = record { items = λ raw c. absurd (contains_none raw c); froms = λ raw c. absurd (contains_none raw c) }
+
+pub all_sound : (left : List Piece) (final : List RawSelect) → read state.Start started left ≡ Ok final → IsText final left
+all_sound left final e = read_sound state.Start started [] left final (record { whole = nothing_whole; now = []; is = (refl, refl); all = refl }) e

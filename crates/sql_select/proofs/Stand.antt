@@ -20,8 +20,7 @@ use Rattle.sql_select.specs.declared.piece.RawFrom.{RawFrom}
 use Rattle.sql_select.specs.declared.piece.RawCondition.{RawCondition}
 use Rattle.sql_select.specs.declared.piece.RawSelect.{RawSelect}
 use Rattle.sql_select.specs.Words.{written, is_refused_word, name_or_other, word_piece, symbol_piece, piece_for, pieces_of}
-use Rattle.sql_select.specs.Grammar.{shown_operand, shown_alias, shown_item, shown_from, shown_condition, further, parted, shown_where, shown}
-use Rattle.sql_select.specs.Reading.{IsSelectText}
+use Rattle.sql_select.specs.Grammar.{shown_operand, shown_alias, shown_item, shown_from, shown_condition, further, parted, shown_where, shown, shown_query, IsText}
 use Rattle.sql_select.specs.Spanning.{OperandStands, AliasStands, ItemStands, FromStands, ConditionStands, SelectStands}
 
 all_left : {X : Type 0} (P : X → Type 0) (xs ys : List X) → AllByRecursion P (xs ++ ys) → AllByRecursion P xs
@@ -46,7 +45,8 @@ module _ (text : List ℕ) where
   word_stands : (t : Token) (word : List ℕ) → IsSpan text t → PieceStands (word_piece t word)
   word_stands t word span =
       let last : Piece = name_or_other t word in
-      let from_as : Piece = if pointwise nat_eq (codes "as") word then piece.As else last in
+      let from_union : Piece = if pointwise nat_eq (codes "union") word then piece.Union else last in
+      let from_as : Piece = if pointwise nat_eq (codes "as") word then piece.As else from_union in
       let from_and : Piece = if pointwise nat_eq (codes "and") word then piece.And else from_as in
       let from_where : Piece = if pointwise nat_eq (codes "where") word then piece.Where else from_and in
       let from_from : Piece = if pointwise nat_eq (codes "from") word then piece.From else from_where in
@@ -56,8 +56,9 @@ module _ (text : List ℕ) where
       (pick (pointwise nat_eq (codes "from") word) piece.From from_where tt
       (pick (pointwise nat_eq (codes "where") word) piece.Where from_and tt
       (pick (pointwise nat_eq (codes "and") word) piece.And from_as tt
-      (pick (pointwise nat_eq (codes "as") word) piece.As last tt
-      (pick (is_refused_word word) piece.Other (piece.Name t) tt span))))))
+      (pick (pointwise nat_eq (codes "as") word) piece.As from_union tt
+      (pick (pointwise nat_eq (codes "union") word) piece.Union last tt
+      (pick (is_refused_word word) piece.Other (piece.Name t) tt span)))))))
 
   symbol_stands : (bytes : List ℕ) → PieceStands (symbol_piece bytes)
   symbol_stands bytes =
@@ -130,14 +131,14 @@ module _ (text : List ℕ) where
         conditions = where_stands raw.conditions (all_right PieceStands B W behind.1);
       }
 
-  pub select_stands : (raw : RawSelect) (tokens : List Token) → AllByRecursion (IsSpan text) tokens → IsSelectText raw (pieces_of text tokens) → SelectStands text raw
-  select_stands raw tokens spans is =
+  pub selects_stand : (raws : List RawSelect) (tokens : List Token) → AllByRecursion (IsSpan text) tokens → IsText raws (pieces_of text tokens) → AllByRecursion (SelectStands text) raws
+  selects_stand raws tokens spans is =
       let all = pieces_stand tokens spans in
-      shown_stands raw (⊎_elim
+      parted_stand shown piece.Union (SelectStands text) shown_stands raws (⊎_elim
       (λ e. subst (λ ps. AllByRecursion PieceStands ps) e all)
-      (λ e. all_left PieceStands (shown raw) (piece.Semicolon ∷ []) (subst (λ ps. AllByRecursion PieceStands ps) e all))
+      (λ e. all_left PieceStands (shown_query raws) (piece.Semicolon ∷ []) (subst (λ ps. AllByRecursion PieceStands ps) e all))
       is.written)
 
-pub all_stand : (text : List ℕ) (tokens : List Token) (result : Result RawSelect WalkFault) → AllByRecursion (IsSpan text) tokens → IfOk result (λ raw. IsSelectText raw (pieces_of text tokens)) → IfOk result (SelectStands text)
-all_stand text tokens (Ok raw) spans is = select_stands text raw tokens spans is
+pub all_stand : (text : List ℕ) (tokens : List Token) (result : Result (List RawSelect) WalkFault) → AllByRecursion (IsSpan text) tokens → IfOk result (λ raws. IsText raws (pieces_of text tokens)) → IfOk result (AllByRecursion (SelectStands text))
+all_stand text tokens (Ok raws) spans is = selects_stand text raws tokens spans is
 all_stand text tokens (Err f) spans is = tt

@@ -1,6 +1,8 @@
 -- Bytes are one statement at most, and have one fault at most.
 use Rattle.std.proofs.Common.{◌≡◌, ◌≢◌, ℕ, List, [], ◌∷◌, ◌++◌, length, drop, ap, subst, sym, ◌∙◌, refl, ⊎_elim, arith, true, false, Ok, Err, length-append}
+use Rattle.std.specs.Prelude.{Some, slice_get}
 use Rattle.std.specs.List.{AllZip}
+use Rattle.lists.proofs.Members.{some_injective}
 use Rattle.access_schema.specs.declared.fault.Limit.{Limit}
 use Rattle.access_schema.specs.declared.fault.Limit.TheVariants as limit
 use Rattle.access_schema.specs.declared.schema.Schema.{Schema}
@@ -23,11 +25,13 @@ use Rattle.sql_select.specs.declared.fault.SqlFault.TheVariants as fault
 use Rattle.sql_select.specs.Words.{pieces_of}
 use Rattle.sql_select.specs.Grammar.{IsText, S0, StopsAt}
 use Rattle.sql_select.specs.Limits.{AreWithinLimits, IsOver}
+use Rattle.sql_select.specs.Widths.{AreAlikeWide, IsFirstOtherWide, select_offsets}
 use Rattle.sql_select.specs.Naming.{named_select}
-use Rattle.sql_select.specs.Statements.{AreTokens, IsWritten, Means, IsStatementText, IsFirstNameFault, IsLexFault, IsMisfit, offset_of, begins_unsupported, first_written, IsSqlFault}
-use Rattle.sql_select.proofs.Queries.{as_select, one_reading}
+use Rattle.sql_select.specs.Statements.{AreTokens, IsWritten, Means, IsStatementText, IsFirstNameFault, IsLexFault, IsMisfit, offset_of, begins_unsupported, first_written, IsWrongWidth, IsSqlFault}
+use Rattle.sql_select.proofs.Complete.{one_reading}
 use Rattle.sql_select.proofs.Leading.{one_rest}
 use Rattle.sql_select.proofs.Faults.{no_misfit, pieces_long}
+use Rattle.sql_select.proofs.Wide.{width_clash, one_number}
 use Rattle.sql_select.proofs.Meanings.{one_select, no_name_fault, one_name_fault}
 use Rattle.pq_text.proofs.FirstBad.{utf8_clash, one_bad}
 
@@ -71,8 +75,7 @@ module _ (bytes : List ℕ) where
   -- a query that is written stops nowhere
   misfit_clash : (raws : List RawSelect) (after : List Token) → IsWritten bytes raws → IsMisfit bytes after → ⊥
   misfit_clash raws after w m =
-      let (raw, _, text) = as_select raws (pieces_of bytes w.tokens) w.text in
-      no_misfit raw (pieces_of bytes w.tokens) (pieces_of bytes after) text
+      no_misfit raws (pieces_of bytes w.tokens) (pieces_of bytes after) w.text
       (subst (λ ts. StopsAt S0 (pieces_of bytes ts) (pieces_of bytes after)) (one_tokens m.tokens w.tokens m.lexed w.lexed) m.stops)
 
   -- what is left of one list, as long as something else that is left of it, is that
@@ -92,15 +95,23 @@ module _ (bytes : List ℕ) where
       same_suffix m.before m'.before after after' (sym m.whole ∙ tokens ∙ m'.whole) (sym (pieces_long bytes after) ∙ ap length pieces ∙ pieces_long bytes after')
 
   over_clash : (raws : List RawSelect) (l : Limit) → IsOver raws l → AreWithinLimits raws → ⊥
-  over_clash raws limit.Froms (raw, among, over) w = let few = (w raw among).froms in omega (arith, few, over)
-  over_clash raws limit.Conditions (few, (raw, among, over)) w = let most = (w raw among).conditions in omega (arith, most, over)
-  over_clash raws limit.Items (few, (raw, among, over)) w = let most = (w raw among).items in omega (arith, most, over)
+  over_clash raws limit.Froms (raw, among, over) w = let few = (w.each raw among).froms in omega (arith, few, over)
+  over_clash raws limit.Conditions (few, (raw, among, over)) w = let most = (w.each raw among).conditions in omega (arith, most, over)
+  over_clash raws limit.Items (few, (raw, among, over)) w = let most = (w.each raw among).items in omega (arith, most, over)
+  over_clash raws limit.Selects (each, over) w = let few = w.few in omega (arith, few, over)
   over_clash raws _ h w = absurd h
 
   one_limit : (raws : List RawSelect) (l m : Limit) → IsOver raws l → IsOver raws m → l ≡ m
   one_limit raws limit.Froms limit.Froms h h' = refl
   one_limit raws limit.Conditions limit.Conditions h h' = refl
   one_limit raws limit.Items limit.Items h h' = refl
+  one_limit raws limit.Selects limit.Selects h h' = refl
+  one_limit raws limit.Froms limit.Selects (raw, among, over) h' = let few = (h'.0 raw among).froms in absurd (omega (arith, over, few))
+  one_limit raws limit.Conditions limit.Selects (few', (raw, among, over)) h' = let few = (h'.0 raw among).conditions in absurd (omega (arith, over, few))
+  one_limit raws limit.Items limit.Selects (few', (raw, among, over)) h' = let few = (h'.0 raw among).items in absurd (omega (arith, over, few))
+  one_limit raws limit.Selects limit.Froms h (raw, among, over) = let few = (h.0 raw among).froms in absurd (omega (arith, over, few))
+  one_limit raws limit.Selects limit.Conditions h (few', (raw, among, over)) = let few = (h.0 raw among).conditions in absurd (omega (arith, over, few))
+  one_limit raws limit.Selects limit.Items h (few', (raw, among, over)) = let few = (h.0 raw among).items in absurd (omega (arith, over, few))
   one_limit raws limit.Froms limit.Conditions (raw, among, over) h' = let few = h'.0 raw among in absurd (omega (arith, over, few))
   one_limit raws limit.Froms limit.Items (raw, among, over) h' = let few = (h'.0 raw among).0 in absurd (omega (arith, over, few))
   one_limit raws limit.Conditions limit.Froms h (raw, among, over) = let few = h.0 raw among in absurd (omega (arith, over, few))
@@ -110,7 +121,28 @@ module _ (bytes : List ℕ) where
   one_limit raws limit.Froms _ h h' = absurd h'
   one_limit raws limit.Conditions _ h h' = absurd h'
   one_limit raws limit.Items _ h h' = absurd h'
+  one_limit raws limit.Selects _ h h' = absurd h'
   one_limit raws _ m h h' = absurd h
+
+  -- ---- widths
+
+  width_written : (offset : ℕ) (w : IsWrongWidth bytes offset) → IsWritten bytes w.0
+  width_written offset (raws, tokens, are, text, within, (number, other, at)) = record { tokens = tokens; lexed = are; text = text }
+
+  -- selects of one width have no fault of widths
+  alike_clash : (raws : List RawSelect) (offset : ℕ) → IsWritten bytes raws → AreAlikeWide raws → IsWrongWidth bytes offset → ⊥
+  alike_clash raws offset w alike (others, tokens, are, text, within, (number, other, at)) =
+      width_clash others number (subst AreAlikeWide (one_raws raws others w (record { tokens = tokens; lexed = are; text = text })) alike) other
+
+  same_offset : (raws : List RawSelect) (tokens : List Token) (m n o p : ℕ) → IsFirstOtherWide raws m → IsFirstOtherWide raws n →
+      slice_get (select_offsets bytes tokens) m ≡ Some o → slice_get (select_offsets bytes tokens) n ≡ Some p → o ≡ p
+  same_offset raws tokens m n o p is is' at at' = some_injective o p (sym at ∙ ap (λ k. slice_get (select_offsets bytes tokens) k) (one_number raws m n is is') ∙ at')
+
+  one_width : (o p : ℕ) → IsWrongWidth bytes o → IsWrongWidth bytes p → o ≡ p
+  one_width o p (raws, tokens, are, text, within, (m, other, at)) (raws', tokens', are', text', within', (n, other', at')) =
+      let same : raws' ≡ raws = one_raws raws' raws (record { tokens = tokens'; lexed = are'; text = text' }) (record { tokens = tokens; lexed = are; text = text }) in
+      let all : tokens' ≡ tokens = one_tokens tokens' tokens are' are in
+      same_offset raws tokens m n o p other (subst (λ rs. IsFirstOtherWide rs n) same other') at (subst (λ ts. slice_get (select_offsets bytes ts) n ≡ Some p) all at')
 
 module _ (schema : Schema) (bytes : List ℕ) where
   -- what selects mean is one list
@@ -147,8 +179,9 @@ module _ (schema : Schema) (bytes : List ℕ) where
   no_fault s (fault.Syntax o) is h = absurd (misfit_clash bytes is.raws h.0 is.written h.1)
   no_fault s (fault.Unsupported word o) is h = absurd (misfit_clash bytes is.raws h.0 is.written h.1)
   no_fault s (fault.OverLimit l) is h = absurd (over_clash bytes h.0 l h.2 (subst AreWithinLimits (one_raws bytes is.raws h.0 is.written h.1) is.within))
-  no_fault s (fault.UnknownName o) is h = absurd (name_clash s h.0 (name.Unknown o) is h.1 h.3)
-  no_fault s (fault.Ambiguous o) is h = absurd (name_clash s h.0 (name.Ambiguous o) is h.1 h.3)
+  no_fault s (fault.WrongWidth o) is h = absurd (alike_clash bytes is.raws o is.written is.wide h)
+  no_fault s (fault.UnknownName o) is h = absurd (name_clash s h.0 (name.Unknown o) is h.1 h.4)
+  no_fault s (fault.Ambiguous o) is h = absurd (name_clash s h.0 (name.Ambiguous o) is h.1 h.4)
 
   -- two faults of names are one
   one_first_fault : (raws : List RawSelect) (f g : NameFault) → IsFirstNameFault schema.relations bytes raws f → IsFirstNameFault schema.relations bytes raws g → f ≡ g
@@ -183,6 +216,7 @@ module _ (schema : Schema) (bytes : List ℕ) where
   one_fault (fault.Syntax ao) fault.NoMemory h h' some some' = absurd (some' refl)
   one_fault (fault.Unsupported aw ao) fault.NoMemory h h' some some' = absurd (some' refl)
   one_fault (fault.OverLimit ao) fault.NoMemory h h' some some' = absurd (some' refl)
+  one_fault (fault.WrongWidth ao) fault.NoMemory h h' some some' = absurd (some' refl)
   one_fault (fault.UnknownName ao) fault.NoMemory h h' some some' = absurd (some' refl)
   one_fault (fault.Ambiguous ao) fault.NoMemory h h' some some' = absurd (some' refl)
   one_fault (fault.NotUtf8 ao) (fault.NotUtf8 bo) h h' some some' = ap (λ n. fault.NotUtf8 n) (one_bad bytes ao bo h h')
@@ -190,6 +224,7 @@ module _ (schema : Schema) (bytes : List ℕ) where
   one_fault (fault.NotUtf8 ao) (fault.Syntax bo) h h' some some' = absurd (utf8_clash bytes ao h h'.1.lexed.utf8)
   one_fault (fault.NotUtf8 ao) (fault.Unsupported bw bo) h h' some some' = absurd (utf8_clash bytes ao h h'.1.lexed.utf8)
   one_fault (fault.NotUtf8 ao) (fault.OverLimit bo) h h' some some' = absurd (utf8_clash bytes ao h h'.1.lexed.utf8)
+  one_fault (fault.NotUtf8 ao) (fault.WrongWidth bo) h h' some some' = absurd (utf8_clash bytes ao h h'.2.utf8)
   one_fault (fault.NotUtf8 ao) (fault.UnknownName bo) h h' some some' = absurd (utf8_clash bytes ao h h'.1.lexed.utf8)
   one_fault (fault.NotUtf8 ao) (fault.Ambiguous bo) h h' some some' = absurd (utf8_clash bytes ao h h'.1.lexed.utf8)
   one_fault (fault.Lex ao) (fault.NotUtf8 bo) h h' some some' = absurd (utf8_clash bytes bo h' h.0)
@@ -197,6 +232,7 @@ module _ (schema : Schema) (bytes : List ℕ) where
   one_fault (fault.Lex ao) (fault.Syntax bo) h h' some some' = absurd (lex_clash bytes ao h'.1.tokens h.1 h'.1.lexed)
   one_fault (fault.Lex ao) (fault.Unsupported bw bo) h h' some some' = absurd (lex_clash bytes ao h'.1.tokens h.1 h'.1.lexed)
   one_fault (fault.Lex ao) (fault.OverLimit bo) h h' some some' = absurd (lex_clash bytes ao h'.1.tokens h.1 h'.1.lexed)
+  one_fault (fault.Lex ao) (fault.WrongWidth bo) h h' some some' = absurd (lex_clash bytes ao h'.1 h.1 h'.2)
   one_fault (fault.Lex ao) (fault.UnknownName bo) h h' some some' = absurd (lex_clash bytes ao h'.1.tokens h.1 h'.1.lexed)
   one_fault (fault.Lex ao) (fault.Ambiguous bo) h h' some some' = absurd (lex_clash bytes ao h'.1.tokens h.1 h'.1.lexed)
   one_fault (fault.Syntax ao) (fault.NotUtf8 bo) h h' some some' = absurd (utf8_clash bytes bo h' h.1.lexed.utf8)
@@ -204,6 +240,7 @@ module _ (schema : Schema) (bytes : List ℕ) where
   one_fault (fault.Syntax ao) (fault.Syntax bo) h h' some some' = ap (λ n. fault.Syntax n) (h.3 ∙ ap (λ ts. offset_of bytes ts) (one_after bytes h.0 h'.0 h.1 h'.1) ∙ sym h'.3)
   one_fault (fault.Syntax ao) (fault.Unsupported bw bo) h h' some some' = let same = one_after bytes h.0 h'.0 h.1 h'.1 in let never : false ≡ true = sym h.2 ∙ ap (λ ts. begins_unsupported bytes ts) same ∙ h'.2 in absurd (cc)
   one_fault (fault.Syntax ao) (fault.OverLimit bo) h h' some some' = absurd (misfit_clash bytes h'.0 h.0 h'.1 h.1)
+  one_fault (fault.Syntax ao) (fault.WrongWidth bo) h h' some some' = absurd (misfit_clash bytes h'.0 h.0 (width_written bytes bo h') h.1)
   one_fault (fault.Syntax ao) (fault.UnknownName bo) h h' some some' = absurd (misfit_clash bytes h'.0 h.0 h'.1 h.1)
   one_fault (fault.Syntax ao) (fault.Ambiguous bo) h h' some some' = absurd (misfit_clash bytes h'.0 h.0 h'.1 h.1)
   one_fault (fault.Unsupported aw ao) (fault.NotUtf8 bo) h h' some some' = absurd (utf8_clash bytes bo h' h.1.lexed.utf8)
@@ -211,6 +248,7 @@ module _ (schema : Schema) (bytes : List ℕ) where
   one_fault (fault.Unsupported aw ao) (fault.Syntax bo) h h' some some' = let same = one_after bytes h.0 h'.0 h.1 h'.1 in let never : true ≡ false = sym h.2 ∙ ap (λ ts. begins_unsupported bytes ts) same ∙ h'.2 in absurd (cc)
   one_fault (fault.Unsupported aw ao) (fault.Unsupported bw bo) h h' some some' = let same = one_after bytes h.0 h'.0 h.1 h'.1 in ap (λ w. fault.Unsupported w ao) (h.4 ∙ ap (λ ts. first_written bytes ts) same ∙ sym h'.4) ∙ ap (λ n. fault.Unsupported bw n) (h.3 ∙ ap (λ ts. offset_of bytes ts) same ∙ sym h'.3)
   one_fault (fault.Unsupported aw ao) (fault.OverLimit bo) h h' some some' = absurd (misfit_clash bytes h'.0 h.0 h'.1 h.1)
+  one_fault (fault.Unsupported aw ao) (fault.WrongWidth bo) h h' some some' = absurd (misfit_clash bytes h'.0 h.0 (width_written bytes bo h') h.1)
   one_fault (fault.Unsupported aw ao) (fault.UnknownName bo) h h' some some' = absurd (misfit_clash bytes h'.0 h.0 h'.1 h.1)
   one_fault (fault.Unsupported aw ao) (fault.Ambiguous bo) h h' some some' = absurd (misfit_clash bytes h'.0 h.0 h'.1 h.1)
   one_fault (fault.OverLimit ao) (fault.NotUtf8 bo) h h' some some' = absurd (utf8_clash bytes bo h' h.1.lexed.utf8)
@@ -218,19 +256,30 @@ module _ (schema : Schema) (bytes : List ℕ) where
   one_fault (fault.OverLimit ao) (fault.Syntax bo) h h' some some' = absurd (misfit_clash bytes h.0 h'.0 h.1 h'.1)
   one_fault (fault.OverLimit ao) (fault.Unsupported bw bo) h h' some some' = absurd (misfit_clash bytes h.0 h'.0 h.1 h'.1)
   one_fault (fault.OverLimit ao) (fault.OverLimit bo) h h' some some' = ap (λ l. fault.OverLimit l) (one_limit bytes h.0 ao bo h.2 (subst (λ rs. IsOver rs bo) (one_raws bytes h'.0 h.0 h'.1 h.1) h'.2))
+  one_fault (fault.OverLimit ao) (fault.WrongWidth bo) h h' some some' = absurd (over_clash bytes h.0 ao h.2 (subst AreWithinLimits (one_raws bytes h'.0 h.0 (width_written bytes bo h') h.1) h'.4))
   one_fault (fault.OverLimit ao) (fault.UnknownName bo) h h' some some' = absurd (over_clash bytes h.0 ao h.2 (subst AreWithinLimits (one_raws bytes h'.0 h.0 h'.1 h.1) h'.2))
   one_fault (fault.OverLimit ao) (fault.Ambiguous bo) h h' some some' = absurd (over_clash bytes h.0 ao h.2 (subst AreWithinLimits (one_raws bytes h'.0 h.0 h'.1 h.1) h'.2))
+  one_fault (fault.WrongWidth ao) (fault.NotUtf8 bo) h h' some some' = absurd (utf8_clash bytes bo h' h.2.utf8)
+  one_fault (fault.WrongWidth ao) (fault.Lex bo) h h' some some' = absurd (lex_clash bytes bo h.1 h'.1 h.2)
+  one_fault (fault.WrongWidth ao) (fault.Syntax bo) h h' some some' = absurd (misfit_clash bytes h.0 h'.0 (width_written bytes ao h) h'.1)
+  one_fault (fault.WrongWidth ao) (fault.Unsupported bw bo) h h' some some' = absurd (misfit_clash bytes h.0 h'.0 (width_written bytes ao h) h'.1)
+  one_fault (fault.WrongWidth ao) (fault.OverLimit bo) h h' some some' = absurd (over_clash bytes h'.0 bo h'.2 (subst AreWithinLimits (one_raws bytes h.0 h'.0 (width_written bytes ao h) h'.1) h.4))
+  one_fault (fault.WrongWidth ao) (fault.WrongWidth bo) h h' some some' = ap (λ n. fault.WrongWidth n) (one_width bytes ao bo h h')
+  one_fault (fault.WrongWidth ao) (fault.UnknownName bo) h h' some some' = absurd (alike_clash bytes h'.0 ao h'.1 h'.3 h)
+  one_fault (fault.WrongWidth ao) (fault.Ambiguous bo) h h' some some' = absurd (alike_clash bytes h'.0 ao h'.1 h'.3 h)
   one_fault (fault.UnknownName ao) (fault.NotUtf8 bo) h h' some some' = absurd (utf8_clash bytes bo h' h.1.lexed.utf8)
   one_fault (fault.UnknownName ao) (fault.Lex bo) h h' some some' = absurd (lex_clash bytes bo h.1.tokens h'.1 h.1.lexed)
   one_fault (fault.UnknownName ao) (fault.Syntax bo) h h' some some' = absurd (misfit_clash bytes h.0 h'.0 h.1 h'.1)
   one_fault (fault.UnknownName ao) (fault.Unsupported bw bo) h h' some some' = absurd (misfit_clash bytes h.0 h'.0 h.1 h'.1)
   one_fault (fault.UnknownName ao) (fault.OverLimit bo) h h' some some' = absurd (over_clash bytes h'.0 bo h'.2 (subst AreWithinLimits (one_raws bytes h.0 h'.0 h.1 h'.1) h.2))
-  one_fault (fault.UnknownName ao) (fault.UnknownName bo) h h' some some' = ap (λ n. fault.UnknownName n) (unknown_same ao bo (names_one h.0 h'.0 (name.Unknown ao) (name.Unknown bo) h.1 h'.1 h.3 h'.3))
-  one_fault (fault.UnknownName ao) (fault.Ambiguous bo) h h' some some' = absurd (unknown_ambiguous ao bo (names_one h.0 h'.0 (name.Unknown ao) (name.Ambiguous bo) h.1 h'.1 h.3 h'.3))
+  one_fault (fault.UnknownName ao) (fault.WrongWidth bo) h h' some some' = absurd (alike_clash bytes h.0 bo h.1 h.3 h')
+  one_fault (fault.UnknownName ao) (fault.UnknownName bo) h h' some some' = ap (λ n. fault.UnknownName n) (unknown_same ao bo (names_one h.0 h'.0 (name.Unknown ao) (name.Unknown bo) h.1 h'.1 h.4 h'.4))
+  one_fault (fault.UnknownName ao) (fault.Ambiguous bo) h h' some some' = absurd (unknown_ambiguous ao bo (names_one h.0 h'.0 (name.Unknown ao) (name.Ambiguous bo) h.1 h'.1 h.4 h'.4))
   one_fault (fault.Ambiguous ao) (fault.NotUtf8 bo) h h' some some' = absurd (utf8_clash bytes bo h' h.1.lexed.utf8)
   one_fault (fault.Ambiguous ao) (fault.Lex bo) h h' some some' = absurd (lex_clash bytes bo h.1.tokens h'.1 h.1.lexed)
   one_fault (fault.Ambiguous ao) (fault.Syntax bo) h h' some some' = absurd (misfit_clash bytes h.0 h'.0 h.1 h'.1)
   one_fault (fault.Ambiguous ao) (fault.Unsupported bw bo) h h' some some' = absurd (misfit_clash bytes h.0 h'.0 h.1 h'.1)
   one_fault (fault.Ambiguous ao) (fault.OverLimit bo) h h' some some' = absurd (over_clash bytes h'.0 bo h'.2 (subst AreWithinLimits (one_raws bytes h.0 h'.0 h.1 h'.1) h.2))
-  one_fault (fault.Ambiguous ao) (fault.UnknownName bo) h h' some some' = absurd (unknown_ambiguous bo ao (sym (names_one h.0 h'.0 (name.Ambiguous ao) (name.Unknown bo) h.1 h'.1 h.3 h'.3)))
-  one_fault (fault.Ambiguous ao) (fault.Ambiguous bo) h h' some some' = ap (λ n. fault.Ambiguous n) (ambiguous_same ao bo (names_one h.0 h'.0 (name.Ambiguous ao) (name.Ambiguous bo) h.1 h'.1 h.3 h'.3))
+  one_fault (fault.Ambiguous ao) (fault.WrongWidth bo) h h' some some' = absurd (alike_clash bytes h.0 bo h.1 h.3 h')
+  one_fault (fault.Ambiguous ao) (fault.UnknownName bo) h h' some some' = absurd (unknown_ambiguous bo ao (sym (names_one h.0 h'.0 (name.Ambiguous ao) (name.Unknown bo) h.1 h'.1 h.4 h'.4)))
+  one_fault (fault.Ambiguous ao) (fault.Ambiguous bo) h h' some some' = ap (λ n. fault.Ambiguous n) (ambiguous_same ao bo (names_one h.0 h'.0 (name.Ambiguous ao) (name.Ambiguous bo) h.1 h'.1 h.4 h'.4))

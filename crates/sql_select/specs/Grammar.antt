@@ -1,5 +1,5 @@
 -- The grammar of a query: the pieces that its parts are written as, and the table of places, which says where a text stops being one.
-use Rattle.std.specs.Prelude.{◌≡◌, ◌≢◌, ◌⊎◌, List, [], ◌∷◌, ◌++◌, Contains, length, Option, Some, None}
+use Rattle.std.specs.Prelude.{◌≡◌, ◌≢◌, ◌⊎◌, ◌≤◌, List, [], ◌∷◌, ◌++◌, Contains, length, Option, Some, None}
 use Rattle.sql_select.specs.declared.piece.Piece.{Piece}
 use Rattle.sql_select.specs.declared.piece.Piece.TheVariants as piece
 use Rattle.sql_select.specs.declared.piece.RawOperand.{RawOperand}
@@ -48,18 +48,13 @@ shown_where (condition ∷ conditions) = piece.Where ∷ parted shown_condition 
 abbrev pub shown : RawSelect → List Piece
 shown raw = piece.Select ∷ piece.Distinct ∷ (parted shown_item piece.Comma raw.items ++ piece.From ∷ (parted shown_from piece.Comma raw.froms ++ shown_where raw.conditions))
 
--- the selects of a query as they are written, one after another
+-- the selects of a query as they are written, with `union` between two of them
 abbrev pub shown_query : List RawSelect → List Piece
-shown_query [] = []
-shown_query (raw ∷ raws) = shown raw ++ shown_query raws
+shown_query raws = parted shown piece.Union raws
 
--- A query has one select.
-abbrev pub HasItsSelects : {X : Type 0} → List X → Type 0
-HasItsSelects selects = length selects ≡ 1
-
--- the pieces are the query of these selects, and one semicolon may follow
+-- the pieces are the query of these selects, of which there is one or more, and one semicolon may follow
 pub record IsText (raws : List RawSelect) (pieces : List Piece) : Type 0 where
-  pub count : HasItsSelects raws
+  pub some : 1 ≤ length raws
   pub items : (raw : RawSelect) → Contains raws raw → raw.items ≢ []
   pub froms : (raw : RawSelect) → Contains raws raw → raw.froms ≢ []
   pub written : (pieces ≡ shown_query raws) ⊎ (pieces ≡ shown_query raws ++ piece.Semicolon ∷ [])
@@ -81,6 +76,7 @@ next_I3 p = next_I5 p
 abbrev pub next_F3 : Piece → Option Place
 next_F3 piece.Comma = Some F0
 next_F3 piece.Where = Some C0
+next_F3 piece.Union = Some S0
 next_F3 piece.Semicolon = Some E
 next_F3 _ = None
 
@@ -90,6 +86,7 @@ next_C3 _ = None
 
 abbrev pub next_C7 : Piece → Option Place
 next_C7 piece.And = Some C0
+next_C7 piece.Union = Some S0
 next_C7 piece.Semicolon = Some E
 next_C7 _ = None
 

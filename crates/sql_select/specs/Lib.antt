@@ -1,6 +1,7 @@
 pub mod Words
 pub mod Grammar
 pub mod Limits
+pub mod Widths
 pub mod Naming
 pub mod Names
 pub mod Statements

@@ -3,9 +3,11 @@ use Rattle.std.specs.Prelude.{◌≡◌, ℕ, List, true, false}
 use Rattle.pq_text.specs.declared.token.Token.{Token}
 use Rattle.sql_select.specs.declared.fault.SqlFault.{SqlFault}
 use Rattle.sql_select.specs.declared.fault.SqlFault.TheVariants as fault
+use Rattle.sql_select.specs.declared.piece.RawSelect.{RawSelect}
 use Rattle.sql_select.specs.Words.{written, is_unsupported}
+use Rattle.sql_select.specs.Limits.{IsOver}
 use Rattle.std.specs.Str.{IsUtf8}
-use Rattle.sql_select.specs.Statements.{IsLexFault, IsMisfit, offset_of, begins_unsupported, first_written}
+use Rattle.sql_select.specs.Statements.{IsWritten, IsLexFault, IsMisfit, offset_of, begins_unsupported, first_written, IsWrongWidth}
 
 -- the fault where these tokens are left
 abbrev pub IsMisfitFault : List ℕ → List Token → SqlFault → Type 0
@@ -21,7 +23,7 @@ IsTokenFault text t (fault.Syntax offset) = (is_unsupported text t ≡ false) ×
 IsTokenFault text t (fault.Unsupported word offset) = (is_unsupported text t ≡ true) × (offset ≡ t.start) × (word ≡ written text t)
 IsTokenFault text t _ = ⊥
 
--- The text has the fault: of tokens, or of the place where it stops being a query.
+-- The text has the fault: of tokens, of the place where it stops being a query, of a limit, or of a width.
 abbrev pub IsTextFault : List ℕ → SqlFault → Type 0
 IsTextFault text fault.NoMemory = Unit {0}
 IsTextFault text (fault.Lex f) = IsUtf8 text × IsLexFault text f
@@ -29,4 +31,6 @@ IsTextFault text (fault.Syntax offset) =
     (after : List Token) × IsMisfit text after × (begins_unsupported text after ≡ false) × (offset ≡ offset_of text after)
 IsTextFault text (fault.Unsupported word offset) =
     (after : List Token) × IsMisfit text after × (begins_unsupported text after ≡ true) × (offset ≡ offset_of text after) × (word ≡ first_written text after)
+IsTextFault text (fault.OverLimit limit) = (raws : List RawSelect) × IsWritten text raws × IsOver raws limit
+IsTextFault text (fault.WrongWidth offset) = IsWrongWidth text offset
 IsTextFault text _ = ⊥

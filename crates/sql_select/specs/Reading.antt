@@ -1,17 +1,18 @@
--- The parts read step by step.
-use Rattle.std.specs.Prelude.{◌≡◌, ◌≢◌, ◌⊎◌, ◌≤◌, ℕ, List, [], ◌∷◌, ◌++◌, length, Option, Some, None, Result, Ok, Err}
+-- The selects read step by step.
+use Rattle.std.specs.Prelude.{◌≡◌, ◌≤◌, ℕ, List, [], ◌∷◌, ◌++◌, length, Option, Some, None, Result, Ok, Err}
 use Rattle.sql_select.specs.declared.piece.Piece.{Piece}
-use Rattle.sql_select.specs.declared.piece.Piece.TheVariants as piece
 use Rattle.sql_select.specs.declared.state.State.{State}
+use Rattle.sql_select.specs.declared.state.State.TheVariants as state
 use Rattle.sql_select.specs.declared.state.Done.{Done}
 use Rattle.sql_select.specs.declared.state.Done.TheVariants as done
 use Rattle.sql_select.specs.declared.piece.RawSelect.{RawSelect}
+use Rattle.sql_select.specs.declared.reading.Walk.{Walk}
 use Rattle.sql_select.specs.declared.reading.WalkFault.{WalkFault}
 use Rattle.sql_select.specs.declared.reading.WalkFault.TheVariants as fault
 use Rattle.pq_text.specs.declared.token.Token.{Token}
 use Rattle.sql_select.specs.Steps.{step_of, ending_of}
 use Rattle.sql_select.specs.Words.{pieces_of}
-use Rattle.sql_select.specs.Grammar.{shown, S0, StopsAt}
+use Rattle.sql_select.specs.Grammar.{S0, StopsAt}
 
 abbrev pub empty : RawSelect
 empty = record { items = []; froms = []; conditions = [] }
@@ -22,27 +23,35 @@ added (done.Item item) raw = record { items = raw.items ++ item ∷ []; froms = 
 added (done.From from) raw = record { items = raw.items; froms = raw.froms ++ from ∷ []; conditions = raw.conditions }
 added (done.Condition condition) raw = record { items = raw.items; froms = raw.froms; conditions = raw.conditions ++ condition ∷ [] }
 
-abbrev pub ended : Option Done → RawSelect → Result RawSelect (List Piece)
-ended None raw = Err []
-ended (Some d) raw = Ok (added d raw)
+-- nothing is read yet
+abbrev pub started : Walk
+started = record { finished = []; raw = empty }
 
-abbrev pub moved : Option (State × Done) → RawSelect → List Piece → (State → RawSelect → Result RawSelect (List Piece)) → Result RawSelect (List Piece)
-moved None raw left go = Err left
-moved (Some (s, d)) raw left go = go s (added d raw)
+-- What a step finished is added to the select that is being read.
+abbrev pub kept : Done → Walk → Walk
+kept d walk = record { finished = walk.finished; raw = added d walk.raw }
 
--- the pieces are this select, and one semicolon may follow
-pub record IsSelectText (raw : RawSelect) (pieces : List Piece) : Type 0 where
-  pub items : raw.items ≢ []
-  pub froms : raw.froms ≢ []
-  pub written : (pieces ≡ shown raw) ⊎ (pieces ≡ shown raw ++ piece.Semicolon ∷ [])
+-- Where a select is to begin, the one before is finished.
+abbrev pub entered : State → Walk → Walk
+entered state.Start walk = record { finished = walk.finished ++ walk.raw ∷ []; raw = empty }
+entered s walk = walk
 
--- the parts, or the pieces that are left at the first that is not listed
-abbrev pub read : State → RawSelect → List Piece → Result RawSelect (List Piece)
-read s raw [] = ended (ending_of s) raw
-read s raw (p ∷ ps) = moved (step_of s p) raw (p ∷ ps) (λ s' raw'. read s' raw' ps)
+abbrev pub ended : Option Done → Walk → Result (List RawSelect) (List Piece)
+ended None walk = Err []
+ended (Some d) walk = Ok (walk.finished ++ added d walk.raw ∷ [])
 
-abbrev pub IsReading : Result RawSelect WalkFault → Result RawSelect (List Piece) → Type 0
-IsReading (Ok raw) reading = reading ≡ Ok raw
+abbrev pub moved : Option (State × Done) → Walk → List Piece → (State → Walk → Result (List RawSelect) (List Piece)) →
+    Result (List RawSelect) (List Piece)
+moved None walk left go = Err left
+moved (Some (s, d)) walk left go = go s (entered s (kept d walk))
+
+-- the selects, or the pieces that are left at the first that is not listed
+abbrev pub read : State → Walk → List Piece → Result (List RawSelect) (List Piece)
+read s walk [] = ended (ending_of s) walk
+read s walk (p ∷ ps) = moved (step_of s p) walk (p ∷ ps) (λ s' walk'. read s' walk' ps)
+
+abbrev pub IsReading : Result (List RawSelect) WalkFault → Result (List RawSelect) (List Piece) → Type 0
+IsReading (Ok raws) reading = reading ≡ Ok raws
 IsReading (Err fault.NoMemory) reading = Unit {0}
 IsReading (Err (fault.At left)) reading = (after : List Piece) × (reading ≡ Err after) × (length after ≡ left)
 

@@ -8,7 +8,9 @@ use Rattle.sql_select.specs.declared.named.NameFault.{NameFault}
 use Rattle.sql_select.specs.declared.named.NameFault.TheVariants as name
 use Rattle.sql_select.specs.declared.fault.SqlFault.{SqlFault}
 use Rattle.sql_select.specs.declared.fault.SqlFault.TheVariants as fault
+use Rattle.sql_select.specs.declared.piece.RawSelect.{RawSelect}
 use Rattle.sql_select.specs.Names.{IsNameFault}
+use Rattle.sql_select.specs.Statements.{IsFirstNameFault}
 use Rattle.sql_select.specs.Resolving.{from_fault, rels_of, column_fault, item_operands, condition_operands, meant_items, meant_conditions}
 
 abbrev pub item_names : List NamedItem → List (List ℕ)
@@ -49,6 +51,13 @@ Resolves (Err fault.NoMemory) r = Unit {0}
 Resolves (Err (fault.UnknownName offset)) r = r ≡ Err (name.Unknown offset)
 Resolves (Err (fault.Ambiguous offset)) r = r ≡ Err (name.Ambiguous offset)
 Resolves (Err _) r = ⊥
+
+-- The fault is that of the names of the first of these selects that has one, or memory ran out.
+abbrev pub IsNamesFault : List Relation → List ℕ → List RawSelect → SqlFault → Type 0
+IsNamesFault relations bytes raws fault.NoMemory = Unit {0}
+IsNamesFault relations bytes raws (fault.UnknownName o) = IsFirstNameFault relations bytes raws (name.Unknown o)
+IsNamesFault relations bytes raws (fault.Ambiguous o) = IsFirstNameFault relations bytes raws (name.Ambiguous o)
+IsNamesFault relations bytes raws _ = ⊥
 
 -- The fault is one of names, or memory ran out.
 abbrev pub IsNamingFault : List Relation → NamedSelect → SqlFault → Type 0

@@ -1,5 +1,5 @@
 -- Which bytes are a statement over a schema, and which fault other bytes have.
-use Rattle.std.specs.Prelude.{◌≡◌, ◌≤◌, ◌⊎◌, ◌++◌, ℕ, List, [], ◌∷◌, Bool, true, false, Contains, length}
+use Rattle.std.specs.Prelude.{◌≡◌, ◌≤◌, ◌⊎◌, ◌++◌, ℕ, List, [], ◌∷◌, Bool, true, false, Some, Contains, length, slice_get}
 use Rattle.std.specs.List.{AllZip}
 use Rattle.std.specs.Str.{IsUtf8}
 use Rattle.pq_text.specs.declared.token.Token.{Token}
@@ -14,15 +14,16 @@ use Rattle.meaning.specs.declared.types.Statement.{Statement}
 use Rattle.meaning.specs.Conjunctive.{SelectFits}
 use Rattle.access_schema.specs.declared.schema.Schema.{Schema}
 use Rattle.access_schema.specs.Meaning.{meaning_of}
-use Rattle.sql_select.specs.declared.limits.TheConstants.{MOST_FROMS, MOST_CONDITIONS, MOST_ITEMS}
+use Rattle.sql_select.specs.declared.limits.TheConstants.{MOST_FROMS, MOST_CONDITIONS, MOST_ITEMS, MOST_SELECTS}
 use Rattle.sql_select.specs.declared.piece.RawSelect.{RawSelect}
 use Rattle.sql_select.specs.declared.named.NameFault.{NameFault}
 use Rattle.sql_select.specs.declared.named.NameFault.TheVariants as name
 use Rattle.sql_select.specs.declared.fault.SqlFault.{SqlFault}
 use Rattle.sql_select.specs.declared.fault.SqlFault.TheVariants as fault
 use Rattle.sql_select.specs.Words.{written, is_unsupported, pieces_of}
-use Rattle.sql_select.specs.Grammar.{HasItsSelects, IsText, S0, StopsAt}
+use Rattle.sql_select.specs.Grammar.{IsText, S0, StopsAt}
 use Rattle.sql_select.specs.Limits.{AreWithinLimits, IsOver}
+use Rattle.sql_select.specs.Widths.{AreAlikeWide, IsFirstOtherWide, select_offsets}
 use Rattle.sql_select.specs.Naming.{named_select}
 use Rattle.sql_select.specs.Names.{IsMeaning, IsNameFault}
 
@@ -41,11 +42,13 @@ pub record IsWritten (bytes : List ℕ) (raws : List RawSelect) : Type 0 where
 abbrev pub Means : List Relation → List ℕ → RawSelect → Select → Type 0
 Means relations bytes raw select = IsMeaning relations (named_select bytes raw) select
 
--- The bytes are the statement over the schema: its selects, within the limits, with each name one that is there.
+-- The bytes are the statement over the schema: its selects, within the limits and of one width, with each name one that
+-- is there.
 pub record IsStatementText (schema : Schema) (bytes : List ℕ) (statement : Statement) : Type 0 where
   pub raws : List RawSelect
   pub written : IsWritten bytes raws
   pub within : AreWithinLimits raws
+  pub wide : AreAlikeWide raws
   pub means : AllZip (Means schema.relations bytes) raws statement.selects
 
 -- ---- what a statement keeps
@@ -59,9 +62,12 @@ pub record IsBounded (select : Select) : Type 0 where
   pub froms : length select.froms ≤ MOST_FROMS
   pub conditions : length select.conditions ≤ MOST_CONDITIONS
 
--- The statement has its selects, each over the schema and within the limits.
+-- The statement has one select or more and not too many, of one width, each over the schema and within the limits.
 pub record StatementFits (schema : Schema) (statement : Statement) : Type 0 where
-  pub count : HasItsSelects statement.selects
+  pub some : 1 ≤ length statement.selects
+  pub few : length statement.selects ≤ MOST_SELECTS
+  pub wide : (first second : Select) → Contains statement.selects first → Contains statement.selects second →
+      length first.items ≡ length second.items
   pub fits : (select : Select) → Contains statement.selects select → SelectFits (meaning_of schema) select
   pub bounded : (select : Select) → Contains statement.selects select → IsBounded select
 
@@ -109,7 +115,14 @@ IsFirstNameFault relations bytes (raw ∷ raws) f =
     IsNameFault relations (named_select bytes raw) f
     ⊎ ((select : Select) × Means relations bytes raw select × IsFirstNameFault relations bytes raws f)
 
--- The bytes have the fault. Faults are looked for in the order: no UTF-8, no tokens, no query, limits, names.
+-- the place of the word `select` with which the first select of another width begins
+abbrev pub IsWrongWidth : List ℕ → ℕ → Type 0
+IsWrongWidth bytes offset =
+    (raws : List RawSelect) × (tokens : List Token) × AreTokens bytes tokens × IsText raws (pieces_of bytes tokens)
+    × AreWithinLimits raws
+    × ((number : ℕ) × IsFirstOtherWide raws number × (slice_get (select_offsets bytes tokens) number ≡ Some offset))
+
+-- The bytes have the fault. Faults are looked for in the order: no UTF-8, no tokens, no query, limits, widths, names.
 abbrev pub IsSqlFault : Schema → List ℕ → SqlFault → Type 0
 IsSqlFault schema bytes fault.NoMemory = Unit {0}
 IsSqlFault schema bytes (fault.NotUtf8 offset) = IsFirstBad bytes offset
@@ -119,7 +132,10 @@ IsSqlFault schema bytes (fault.Syntax offset) =
 IsSqlFault schema bytes (fault.Unsupported word offset) =
     (after : List Token) × IsMisfit bytes after × (begins_unsupported bytes after ≡ true) × (offset ≡ offset_of bytes after) × (word ≡ first_written bytes after)
 IsSqlFault schema bytes (fault.OverLimit limit) = (raws : List RawSelect) × IsWritten bytes raws × IsOver raws limit
+IsSqlFault schema bytes (fault.WrongWidth offset) = IsWrongWidth bytes offset
 IsSqlFault schema bytes (fault.UnknownName offset) =
-    (raws : List RawSelect) × IsWritten bytes raws × AreWithinLimits raws × IsFirstNameFault schema.relations bytes raws (name.Unknown offset)
+    (raws : List RawSelect) × IsWritten bytes raws × AreWithinLimits raws × AreAlikeWide raws
+    × IsFirstNameFault schema.relations bytes raws (name.Unknown offset)
 IsSqlFault schema bytes (fault.Ambiguous offset) =
-    (raws : List RawSelect) × IsWritten bytes raws × AreWithinLimits raws × IsFirstNameFault schema.relations bytes raws (name.Ambiguous offset)
+    (raws : List RawSelect) × IsWritten bytes raws × AreWithinLimits raws × AreAlikeWide raws
+    × IsFirstNameFault schema.relations bytes raws (name.Ambiguous offset)

@@ -29,6 +29,7 @@ after_operand o p = after_item (record { operand = o; alias = alias.Missing }) p
 abbrev pub after_from : RawFrom → Piece → Option (State × Done)
 after_from from piece.Comma = Some (state.From, done.From from)
 after_from from piece.Where = Some (state.Left, done.From from)
+after_from from piece.Union = Some (state.Start, done.From from)
 after_from from piece.Semicolon = Some (state.End, done.From from)
 after_from from _ = None
 
@@ -38,6 +39,7 @@ after_left left _ = None
 
 abbrev pub after_condition : RawCondition → Piece → Option (State × Done)
 after_condition condition piece.And = Some (state.Left, done.Condition condition)
+after_condition condition piece.Union = Some (state.Start, done.Condition condition)
 after_condition condition piece.Semicolon = Some (state.End, done.Condition condition)
 after_condition condition _ = None
 

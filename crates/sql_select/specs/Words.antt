@@ -24,7 +24,7 @@ abbrev pub third_words : List (List ℕ)
 third_words = codes "like" ∷ codes "limit" ∷ codes "natural" ∷ codes "not" ∷ codes "null" ∷ codes "offset" ∷ codes "on" ∷ codes "or" ∷ []
 
 abbrev pub fourth_words : List (List ℕ)
-fourth_words = codes "order" ∷ codes "outer" ∷ codes "right" ∷ codes "union" ∷ codes "using" ∷ codes "with" ∷ []
+fourth_words = codes "order" ∷ codes "outer" ∷ codes "right" ∷ codes "using" ∷ codes "with" ∷ []
 
 abbrev pub is_refused_word : List ℕ → Bool
 is_refused_word word = if is_among first_words word then true else (if is_among second_words word then true else (if is_among third_words word then true else is_among fourth_words word))
@@ -51,7 +51,9 @@ abbrev pub word_piece : Token → List ℕ → Piece
 word_piece t word =
     if pointwise nat_eq (codes "select") word then piece.Select else (if pointwise nat_eq (codes "distinct") word then piece.Distinct
     else (if pointwise nat_eq (codes "from") word then piece.From else (if pointwise nat_eq (codes "where") word then piece.Where
-    else (if pointwise nat_eq (codes "and") word then piece.And else (if pointwise nat_eq (codes "as") word then piece.As else name_or_other t word)))))
+    else (if pointwise nat_eq (codes "and") word then piece.And
+    else (if pointwise nat_eq (codes "as") word then piece.As
+    else (if pointwise nat_eq (codes "union") word then piece.Union else name_or_other t word))))))
 
 abbrev pub symbol_piece : List ℕ → Piece
 symbol_piece bytes =

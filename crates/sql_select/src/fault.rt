@@ -9,7 +9,8 @@ use std::alloc::{AllocError, AllocFailed};
 
 /// Why a text is no query over a schema, in the order in which faults are looked for. An offset counts bytes from 0.
 ///
-/// `Lex` never holds `NoMemory`. `Unsupported` carries the token as it is written.
+/// `Lex` never holds `NoMemory`. `Unsupported` carries the token as it is written. `WrongWidth` is at the word `select` of
+/// the first select that has another number of items than the first one.
 #[derive(Debug, Drop)]
 pub enum SqlFault {
     NoMemory,
@@ -18,6 +19,7 @@ pub enum SqlFault {
     Unsupported { word: Text, offset: u32 },
     UnknownName { offset: u32 },
     Ambiguous { offset: u32 },
+    WrongWidth { offset: u32 },
     OverLimit(Limit),
     Lex(LexFault),
 }

@@ -18,6 +18,7 @@ mod reading;
 mod resolve;
 mod state;
 mod statement;
+mod widths;
 mod words;
 
 pub use constants::known;
@@ -25,5 +26,5 @@ pub use fault::SqlFault;
 pub use laws::{
     one_fault, one_reading, one_statement, places_reach_the_end, statements_have_no_fault,
 };
-pub use limits::{MOST_CONDITIONS, MOST_FROMS, MOST_ITEMS};
+pub use limits::{MOST_CONDITIONS, MOST_FROMS, MOST_ITEMS, MOST_SELECTS};
 pub use statement::{read_select, result_names};

@@ -13,6 +13,7 @@ pub enum Piece {
     Where,
     And,
     As,
+    Union,
     Comma,
     Dot,
     Equals,

@@ -261,6 +261,7 @@ fn after_from(from: RawFrom, piece: Piece) -> Option<(State, Done)>
     match piece {
         Piece::Comma => Some((State::From, Done::From(from))),
         Piece::Where => Some((State::Left, Done::From(from))),
+        Piece::Union => Some((State::Start, Done::From(from))),
         Piece::Semicolon => Some((State::End, Done::From(from))),
         _ => None,
     }
@@ -280,6 +281,7 @@ fn after_condition(condition: RawCondition, piece: Piece) -> Option<(State, Done
 {
     match piece {
         Piece::And => Some((State::Left, Done::Condition(condition))),
+        Piece::Union => Some((State::Start, Done::Condition(condition))),
         Piece::Semicolon => Some((State::End, Done::Condition(condition))),
         _ => None,
     }

@@ -1,19 +1,25 @@
 // From bytes to a statement over a schema.
-ghost use Rattle.std.specs.Prelude.{◌≡◌, ◌≤◌, ◌∷◌, [], length, IfOk, IfErr, MatchResult};
+ghost use Rattle.std.specs.Prelude.{◌≡◌, ◌≤◌, ◌<◌, ◌^◌, length, IfOk, IfErr, MatchResult};
+ghost use Rattle.std.specs.List.{AllByRecursion, AllZip};
 ghost use Rattle.meaning.specs.declared.types.Statement.{Statement};
 ghost use Rattle.sql_select.specs.declared.fault.SqlFault.TheVariants.{NoMemory};
-ghost use Rattle.sql_select.specs.Statements.{IsStatementText, StatementFits, IsSqlFault, result_names};
+ghost use Rattle.sql_select.specs.Limits.{IsWithinLimits};
+ghost use Rattle.sql_select.specs.Naming.{named_select};
+ghost use Rattle.sql_select.specs.Resolving.{AreNarrow};
+ghost use Rattle.sql_select.specs.Select.{IsNamesFault, IsNamingFault};
+ghost use Rattle.sql_select.specs.Spanning.{SelectStands};
+ghost use Rattle.sql_select.specs.Statements.{Means, IsStatementText, StatementFits, IsSqlFault, result_names};
 
 use crate::fault::SqlFault;
-use crate::limits::passed_limit;
 use crate::naming::named_select;
-use crate::raw::read_raw;
+use crate::piece::RawSelect;
+use crate::raw::read_raws;
 use crate::resolve::resolve_select;
 use access_schema::Schema;
 use lists::{Seq, Texts};
-use meaning::types::{Select, Statement};
+use meaning::types::{Relation, Select, Statement};
 use pq_text::read_utf8;
-use std::alloc::{AllocError, Global};
+use std::alloc::Global;
 
 /// The statement over the schema that the bytes are, or the bytes' fault.
 pub fn read_select(alloc: Global, bytes: &[u8], schema: &Schema) -> Result<Statement, SqlFault>
@@ -45,15 +51,55 @@ fn read_text(alloc: Global, text: &str, schema: &Schema) -> Result<Statement, Sq
     ensures read { IfOk result (IsStatementText schema.now text.now) }
     ensures fault { IfErr result (IsSqlFault schema.now text.now) }
 {
-    let raw = read_raw(alloc, text)?;
-    if let Some(limit) = passed_limit(&raw) {
-        return Err(SqlFault::OverLimit(limit));
-    }
-    let parts = named_select(alloc, text, &raw)?;
-    match resolve_select(alloc, schema.relations.as_slice(), &parts) {
-        Ok(select) => Ok(one_select(alloc, select)?),
+    let raws = read_raws(alloc, text)?;
+    match resolve_selects(alloc, text, schema.relations.as_slice(), raws.as_slice()) {
+        Ok(selects) => Ok(Statement { selects }),
         Err(fault) => Err(fault),
     }
+}
+
+// The select that the parts stand for, or the fault of their names.
+fn resolve_raw(
+    alloc: Global,
+    text: &str,
+    relations: &[Relation],
+    raw: &RawSelect,
+) -> Result<Select, SqlFault>
+    requires few { length relations.now < 2 ^ 32 }
+    requires narrow { AreNarrow relations.now }
+    requires stands { SelectStands text.now raw.now }
+    requires within { IsWithinLimits raw.now }
+    ensures means { IfOk result (Means relations.now text.now raw.now) }
+    ensures fault { IfErr result (IsNamingFault relations.now (named_select text.now raw.now)) }
+{
+    let parts = named_select(alloc, text, raw)?;
+    resolve_select(alloc, relations, &parts)
+}
+
+// The selects that these parts stand for, or the fault of the first of them whose names have one.
+fn resolve_selects(
+    alloc: Global,
+    text: &str,
+    relations: &[Relation],
+    raws: &[RawSelect],
+) -> Result<Seq<Select>, SqlFault>
+    requires few { length relations.now < 2 ^ 32 }
+    requires narrow { AreNarrow relations.now }
+    requires stand { AllByRecursion (SelectStands text.now) raws.now }
+    requires within { AllByRecursion IsWithinLimits raws.now }
+    ensures means { IfOk result (AllZip (Means relations.now text.now) raws.now) }
+    ensures fault { IfErr result (IsNamesFault relations.now text.now raws.now) }
+{
+    let mut selects = Seq::new(alloc);
+    let mut left = raws;
+    while let [raw, rest @ ..] = left {
+        match resolve_raw(alloc, text, relations, raw) {
+            Ok(select) => selects.push(select)?,
+            Err(fault) => return Err(fault),
+        }
+        left = rest;
+    }
+    Ok(selects)
 }
 
 /// The names of the columns of the statement's rows: those of its first select. Takes no memory.
@@ -62,12 +108,4 @@ pub fn result_names(statement: &Statement) -> &Texts
     ensures { result.now ≡ result_names statement.now.selects }
 {
     &statement.selects.as_slice()[0].names
-}
-
-fn one_select(alloc: Global, select: Select) -> Result<Statement, AllocError>
-    ensures { IfOk result (λ statement. statement ≡ record { selects = select ∷ [] }) }
-{
-    let mut selects = Seq::new(alloc);
-    selects.push(select)?;
-    Ok(Statement { selects })
 }

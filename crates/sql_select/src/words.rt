@@ -76,7 +76,6 @@ fn is_fourth_word(bytes: &[u8]) -> bool
     spells(bytes, b"order")
         || spells(bytes, b"outer")
         || spells(bytes, b"right")
-        || spells(bytes, b"union")
         || spells(bytes, b"using")
         || spells(bytes, b"with")
 }
@@ -141,6 +140,9 @@ fn word_piece(token: Token, bytes: &[u8]) -> Piece
     }
     if spells(bytes, b"as") {
         return Piece::As;
+    }
+    if spells(bytes, b"union") {
+        return Piece::Union;
     }
     if is_refused_word(bytes) {
         return Piece::Other;

@@ -1,8 +1,8 @@
 -- The query text of a world is its statement.
-use Rattle.std.proofs.Common.{◌≡◌, ℕ, zero, suc, false, List, [], ◌∷◌, drop, refl, sym, subst, arith}
+use Rattle.std.proofs.Common.{◌≡◌, ◌∙◌, ℕ, zero, suc, false, List, [], ◌∷◌, length, drop, ap, refl, sym, subst, arith}
 use Rattle.std.specs.Prelude.{Result, Ok, Err}
 use Rattle.std.specs.Str.{IsUtf8}
-use Rattle.lists.proofs.Members.{contains_one}
+use Rattle.lists.proofs.Members.{contains_one, some_injective}
 use Rattle.meaning.specs.declared.types.Relation.{Relation}
 use Rattle.meaning.specs.declared.types.Statement.{Statement}
 use Rattle.pq_text.specs.declared.token.Token.{Token}
@@ -16,7 +16,7 @@ use Rattle.sql_select.specs.declared.piece.Piece.{Piece}
 use Rattle.sql_select.specs.declared.piece.RawSelect.{RawSelect}
 use Rattle.sql_select.specs.declared.state.State.TheVariants as state
 use Rattle.sql_select.specs.Words.{pieces_of}
-use Rattle.sql_select.specs.Reading.{empty, read}
+use Rattle.sql_select.specs.Reading.{empty, started, read}
 use Rattle.sql_select.specs.Limits.{IsWithinLimits}
 use Rattle.sql_select.specs.Naming.{named_select}
 use Rattle.sql_select.specs.Names.{IsMeaning}
@@ -25,7 +25,6 @@ use Rattle.sql_select.specs.Statements.{IsStatementText, IsSqlFault}
 use Rattle.sql_select.specs.declared.fault.SqlFault.{SqlFault}
 use Rattle.sql_select.specs.declared.fault.SqlFault.TheVariants.{NoMemory}
 use Rattle.sql_select.proofs.Said.{all_sound}
-use Rattle.sql_select.proofs.Queries.{as_query}
 use Rattle.sql_select.proofs.Resolved.{means}
 use Rattle.sql_select.proofs.Unique.{one_statement, no_fault}
 use Rattle.world_source.specs.Texts.{query_text}
@@ -46,14 +45,18 @@ tokens_from (suc k) text from = let start : ℕ = gap_from from Sql false (drop 
 abbrev tokens : List Token
 tokens = tokens_from 200 query_text 0
 
-abbrev raw_in : Result RawSelect (List Piece) → RawSelect
-raw_in (Ok raw) = raw
+abbrev first_or : RawSelect → List RawSelect → RawSelect
+first_or d [] = d
+first_or d (raw ∷ raws) = raw
+
+abbrev raw_in : Result (List RawSelect) (List Piece) → RawSelect
+raw_in (Ok raws) = first_or empty raws
 raw_in (Err left) = empty
 
 abbrev raw : RawSelect
-raw = raw_in (read state.Start empty (pieces_of query_text tokens))
+raw = raw_in (read state.Start started (pieces_of query_text tokens))
 
-is_read : read state.Start empty (pieces_of query_text tokens) ≡ Ok raw
+is_read : read state.Start started (pieces_of query_text tokens) ≡ Ok (raw ∷ [])
 is_read = refl
 
 is_resolved : resolved world_relations (named_select query_text raw) ≡ Ok world_select
@@ -95,9 +98,13 @@ is_statement n schema is = record {
   written = record {
     tokens = tokens;
     lexed = record { utf8 = utf8; lexes = are_tokens 200 query_text 0 };
-    text = as_query raw (pieces_of query_text tokens) (all_sound (pieces_of query_text tokens) raw is_read);
+    text = all_sound (pieces_of query_text tokens) (raw ∷ []) is_read;
   };
-  within = λ other there. subst IsWithinLimits (contains_one raw other there) (record { froms = omega arith; conditions = omega arith; items = omega arith });
+  within = record {
+    each = λ other there. subst IsWithinLimits (contains_one raw other there) (record { froms = omega arith; conditions = omega arith; items = omega arith });
+    few = omega arith;
+  };
+  wide = λ first other at there. ap (λ (r : RawSelect). length r.items) (sym (contains_one raw other there) ∙ some_injective raw first at);
   means = (subst Stands (sym is.relations) (means world_relations (named_select query_text raw) (Ok world_select) is_resolved), tt);
 }
 

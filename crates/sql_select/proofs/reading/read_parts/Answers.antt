@@ -9,5 +9,5 @@ returns-clause-reads c = reads c.read_tokens.result (pieces_of c.args.text.now c
 pub returns-clause-fault : goal.returns-clause-fault
 returns-clause-fault c = faults c.args.text.now c.args.tokens.now c.read_tokens.result c.read_tokens.ensures.reading
 
-pub returns-clause-stands : goal.returns-clause-stands
-returns-clause-stands c = all_stand c.args.text.now c.args.tokens.now c.read_tokens.result c.requires (reads c.read_tokens.result (pieces_of c.args.text.now c.args.tokens.now) c.read_tokens.ensures.reading)
+pub returns-clause-stand : goal.returns-clause-stand
+returns-clause-stand c = all_stand c.args.text.now c.args.tokens.now c.read_tokens.result c.requires (reads c.read_tokens.result (pieces_of c.args.text.now c.args.tokens.now) c.read_tokens.ensures.reading)

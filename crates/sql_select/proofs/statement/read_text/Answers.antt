@@ -1,6 +1,10 @@
-use Rattle.sql_select.proofs.Answering.{as_sql_fault}
+use Rattle.std.proofs.Common.{List, sym, subst}
+use Rattle.std.specs.List.{AllByRecursion}
+use Rattle.lists.proofs.Members.{all_from}
+use Rattle.sql_select.specs.declared.piece.RawSelect.{RawSelect}
+use Rattle.sql_select.specs.Limits.{IsWithinLimits}
 use Rattle.sql_select.proofs.statement.read_text.Goals as goal
 
-pub returns-clause-fault : goal.returns-clause-fault
-returns-clause-fault c =
-    as_sql_fault c.args.schema.now c.args.text.now c.in_ok-raw.raw c.as_slice.result.now c.in_ok-parts.parts c.in-Err.fault c.as_slice.ensures c.in_ok-parts.ensures c.in_ok-raw.ensures.read c.in_default.ensures c.in-Err.ensures.fault
+pub resolve_selects-requires-clause-within : goal.resolve_selects-requires-clause-within
+resolve_selects-requires-clause-within c =
+    subst (λ (raws : List RawSelect). AllByRecursion IsWithinLimits raws) (sym c.as_slice-2.ensures) (all_from IsWithinLimits c.in_ok-raws.raws c.in_ok-raws.ensures.within.each)
