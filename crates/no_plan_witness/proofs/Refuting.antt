@@ -16,7 +16,7 @@ use Rattle.meaning.specs.declared.types.Query.{Query}
 use Rattle.meaning.specs.declared.types.SchemaParts.{SchemaParts}
 use Rattle.meaning.specs.declared.types.Statement.{Statement}
 use Rattle.meaning.specs.declared.types.Firing.{Firing}
-use Rattle.meaning.specs.Matching.{value_of, AreFacts, GroundsOf}
+use Rattle.meaning.specs.Matching.{value_of, AreFacts, GroundsOf, AnswersQuery}
 use Rattle.meaning.specs.Homomorphisms.{image, fact_of, renamed}
 use Rattle.meaning.specs.Naming.{IsNaming}
 use Rattle.meaning.specs.Runs.{Proof, IsRun, opening, frozen_head, IsStuck}
@@ -24,7 +24,7 @@ use Rattle.meaning.specs.Fitting.{RulesFit, QueryHasConstants, QueryFits, IsKept
 use Rattle.meaning.specs.Conjunctive.{StandFor}
 use Rattle.meaning.specs.Claims.{Refutes}
 use Rattle.meaning_laws.proofs.Kept.{kept_opening, kept_run}
-use Rattle.meaning_laws.proofs.Renaming.{naming_exists}
+use Rattle.meaning_laws.proofs.Renaming.{naming_exists, answer_renamed}
 use Rattle.meaning_laws.proofs.Witness.{witness_refutes}
 use Rattle.no_plan_witness.specs.declared.refutation.Witness.{Witness}
 use Rattle.no_plan_witness.specs.Texts.{labels_in, numbered_text, Names, text_under, AreNamesFor}
@@ -202,6 +202,21 @@ stuck_refutes schema constants statement queries query end pair rules stand amon
     subst (λ row. Refutes schema constants statement pair.first pair.second row) head
     (subst (λ facts. Refutes schema constants statement pair.first facts (map (image h) (frozen_head query))) second
     (subst (λ facts. Refutes schema constants statement facts (renamed h end.copy) (map (image h) (frozen_head query))) first refuted))
+
+-- and its answer is the query's on the first instance
+pub stuck_answer : (schema : SchemaParts) (constants : List (List ℕ)) (query : Query) (end : Proof) (pair : Witness) → QueryFits schema query →
+    IsKept schema constants query end → IsWitnessOf constants end.base end.copy (frozen_head query) pair →
+    AnswersQuery query pair.first pair.answer
+stuck_answer schema constants query end pair fits kept is =
+    let all : List Ground = end.base ++ end.copy in
+    let h : ℕ → List ℕ = named constants all is.names is.named in
+    let first : renamed h end.base ≡ pair.first =
+    same_facts constants all is.names is.named end.base (λ fact c. Contains-append_left end.base end.copy fact c) ∙ sym is.first_is in
+    let head : map (image h) (frozen_head query) ≡ pair.answer = same_head constants all is.names is.named (frozen_head query)
+    (λ k c. more_labels end.base end.copy k (head_occurs schema constants query end fits kept k c)) ∙ sym is.answer in
+    subst (λ row. AnswersQuery query pair.first row) head
+    (subst (λ facts. AnswersQuery query facts (map (image h) (frozen_head query))) first
+    (answer_renamed constants end.next h (is_naming constants all is.names is.named end.next) end.base kept.base_named query (frozen_head query) kept.answered))
 
 pub witnesses_refute : (schema : SchemaParts) (constants : List (List ℕ)) (statement : Statement) (queries : List Query) (query : Query)
     (log : List Firing) (end : Proof) (pair : Witness) → RulesFit schema constants → StandFor schema queries statement →

@@ -23,7 +23,8 @@ use Rattle.plan_check.specs.declared.verdict.Verdict.{Verdict}
 use Rattle.plan_check.specs.declared.verdict.Verdict.TheVariants as verdict
 use Rattle.plan_check.specs.declared.trial.Tried.{Tried}
 use Rattle.plan_check.specs.declared.trial.Tried.TheVariants as all
-use Rattle.plan_check.specs.Forms.{IsSelectForm, IsBranchForm}
+use Rattle.sql_conjunctive.specs.Queries.{IsSelectForm}
+use Rattle.plan_check.specs.Forms.{IsBranchForm}
 use Rattle.plan_check.specs.Trials.{AnswersForm, AnswersSome, FormIsContained, FormStays, NoneSeparates, IsFirstSeparated, AreTried}
 use Rattle.plan_check.specs.Verdicts.{known_of, IsLegalOver, GivesSelect, AnswersAlone, IsKept, IsWithin, NoneLost, NoneAdded, IsVerdict, verdict_of, IsConclusion}
 use Rattle.plan_check.specs.Verdicts.IsConclusion.{same, lost, added, select_spent, branch_spent}
@@ -54,7 +55,7 @@ module _ (schema : Schema) (statement : Statement) (selects : List (Option Query
 
   answers_form : (select : Select) (form : Option Query) → IsSelectForm schema select form → (facts : List Fact) → IsInstance (meaning_of schema) facts → (row : Row) →
       AnswersSelect select facts row → AnswersForm form facts row
-  answers_form select None is facts instance row answer = is facts instance row answer
+  answers_form select None is facts instance row answer = is.no_answer facts instance row answer
   answers_form select (Some query) is facts instance row answer = (is.answers facts instance row).1 answer
 
   pub some_answers : (facts : List Fact) → IsInstance (meaning_of schema) facts → (row : Row) → AnswersSome selects facts row → Answers statement facts row

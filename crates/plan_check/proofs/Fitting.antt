@@ -25,10 +25,11 @@ use Rattle.access_schema.specs.Invariant.{terms_of}
 use Rattle.access_schema.proofs.Ordered.{ordered_from, bound_is}
 use Rattle.access_schema.proofs.Keeping.{well_formed}
 use Rattle.sql_conjunctive.specs.Form.{HaveLiterals}
+use Rattle.sql_conjunctive.specs.Queries.{IsQueryOf, IsSelectForm}
 use Rattle.sql_select.specs.Known.{literal_in, literals_of_condition, literals_of, literals_in}
 use Rattle.accessible_copy.specs.Goals.{IsCounted}
 use Rattle.rule_pass.specs.declared.pass.TheConstants.{HIGHEST_FIRST_LABEL}
-use Rattle.plan_check.specs.Forms.{IsQueryOf, IsSelectForm, IsBranchForm}
+use Rattle.plan_check.specs.Forms.{IsBranchForm}
 use Rattle.plan_check.specs.Trials.{IsTriable, FormIsTriable, AreTriable}
 use Rattle.plan_extract.proofs.Zips.{zip_right, zip_length}
 use Rattle.sql_conjunctive.proofs.Counted.{bounded_terms, ordered_short, terms_few}

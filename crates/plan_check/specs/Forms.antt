@@ -1,49 +1,20 @@
--- The queries of the selects of a statement and of the branches of a plan.
-use Rattle.std.specs.Prelude.{◌≡◌, ◌↔◌, ◌≤◌, ℕ, List, ◌∷◌, Contains, Option, Some, None}
+-- The queries of the branches of a plan.
+use Rattle.std.specs.Prelude.{◌≡◌, ◌≤◌, ℕ, Contains, Option, Some, None}
 use Rattle.meaning.specs.declared.types.Term.{Term}
 use Rattle.meaning.specs.declared.types.Term.TheVariants.{Var, Const as Said}
 use Rattle.meaning.specs.declared.types.Atom.{Atom}
 use Rattle.meaning.specs.declared.types.Method.{Method}
 use Rattle.meaning.specs.declared.types.SchemaParts.{SchemaParts}
-use Rattle.meaning.specs.declared.types.Fact.{Fact}
 use Rattle.meaning.specs.declared.types.Query.{Query}
-use Rattle.meaning.specs.declared.types.Select.{Select}
 use Rattle.meaning.specs.declared.types.Place.{Place}
 use Rattle.meaning.specs.declared.types.Place.TheVariants.{Const, Col, New}
 use Rattle.meaning.specs.declared.types.Step.{Step}
 use Rattle.meaning.specs.declared.types.Branch.{Branch}
 use Rattle.meaning.specs.declared.types.Plan.{Plan}
-use Rattle.meaning.specs.Values.{Value, Row}
-use Rattle.meaning.specs.Instances.{IsInstance}
-use Rattle.meaning.specs.Matching.{AnswersQuery}
-use Rattle.meaning.specs.Answers.{AnswersSelect}
-use Rattle.meaning.specs.Fitting.{QueryFits, QueryHasConstants}
-use Rattle.meaning.specs.Conjunctive.{IsConjunctive}
+use Rattle.meaning.specs.Values.{Value}
 use Rattle.meaning.specs.Plans.{IsMethod, NamesMethods}
 use Rattle.meaning.specs.Judge.{terms_of, columns_of, IsBranchQuery}
-use Rattle.access_schema.specs.declared.schema.Schema.{Schema}
-use Rattle.access_schema.specs.Meaning.{meaning_of}
-use Rattle.sql_conjunctive.specs.Form.{IsNumbered, HaveLiterals}
 use Rattle.rule_pass.specs.declared.pass.TheConstants.{HIGHEST_FIRST_LABEL}
-
--- ---- selects
-
--- The query is the select's conjunctive form, numbered, without constants that the select lacks, and has its answers.
-pub record IsQueryOf (schema : Schema) (select : Select) (query : Query) : Type 0 where
-  pub form : IsConjunctive (meaning_of schema) select query
-  pub numbered : IsNumbered query
-  pub fits : QueryFits (meaning_of schema) query
-  pub constants : (known : List Value) → HaveLiterals known select → QueryHasConstants known query
-  pub answers : (facts : List Fact) → IsInstance (meaning_of schema) facts → (row : Row) →
-      AnswersQuery query facts row ↔ AnswersSelect select facts row
-
--- A select has its query, or none where it has no answer on any instance.
-abbrev pub IsSelectForm : Schema → Select → Option Query → Type 0
-IsSelectForm schema select (Some query) = IsQueryOf schema select query
-IsSelectForm schema select None =
-    (facts : List Fact) → IsInstance (meaning_of schema) facts → (row : Row) → AnswersSelect select facts row → ⊥
-
--- ---- branches
 
 -- A branch has its query.
 abbrev pub IsBranchForm : SchemaParts → Branch → Option Query → Type 0

@@ -21,6 +21,7 @@ use Rattle.access_schema.specs.Meaning.{meaning_of}
 use Rattle.access_schema.specs.Lists.{once_after}
 use Rattle.sql_select.specs.Known.{literals_in}
 use Rattle.sql_conjunctive.specs.Form.{IsNumbered}
+use Rattle.sql_conjunctive.specs.Queries.{IsSelectForm}
 use Rattle.plan_form.specs.declared.fault.PlanFault.{PlanFault}
 use Rattle.plan_form.specs.declared.fault.PlanFaultKind.TheVariants.{WrongWidth}
 use Rattle.plan_form.specs.Faults.{IsFirstFault}
@@ -30,7 +31,7 @@ use Rattle.plan_check.specs.declared.verdict.Verdict.{Verdict}
 use Rattle.plan_check.specs.declared.verdict.Verdict.TheVariants as verdict
 use Rattle.plan_check.specs.declared.trial.Tried.{Tried}
 use Rattle.plan_check.specs.declared.trial.Tried.TheVariants as all
-use Rattle.plan_check.specs.Forms.{IsSelectForm, IsBranchForm}
+use Rattle.plan_check.specs.Forms.{IsBranchForm}
 use Rattle.plan_check.specs.Trials.{IsSpent, AreContained, NoneSeparates, IsFirstSeparated, IsFirstSpent}
 
 -- ---- legal plans

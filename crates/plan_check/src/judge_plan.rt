@@ -9,13 +9,14 @@ ghost use Rattle.plan_check.specs.Trials.{AreTriable};
 ghost use Rattle.plan_check.specs.Verdicts.{known_of, IsLegalOver, IsVerdict, IsConclusion};
 
 use crate::conclude::conclude;
-use crate::forms::{branch_forms, select_forms};
+use crate::forms::branch_forms;
 use crate::legality::fault_of;
 use crate::trial::{Trial, Tried, try_each};
 use crate::verdict::Verdict;
 use access_schema::Schema;
 use lists::{NoMemory, Texts};
 use meaning::types::{Plan, Query, Statement};
+use sql_conjunctive::select_forms;
 use sql_select::known;
 use std::alloc::Global;
 
@@ -62,7 +63,7 @@ fn judge_legal(
     requires budget { firings ≤ MOST_FIRINGS }
     ensures { IfOk result (IsVerdict schema.now statement.now plan.now firings) }
 {
-    let selects = select_forms(alloc, schema, statement)?;
+    let selects = select_forms(alloc, statement, schema)?;
     let branches = branch_forms(alloc, schema, plan)?;
     let verdict = try_both(
         alloc,

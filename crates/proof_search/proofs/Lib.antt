@@ -1,9 +1,9 @@
 pub mod Turns
-pub mod Literals
 pub mod Searching
 pub mod Found
 pub mod RefutingPairs
 pub mod Formed
+mod Planned
 pub mod Based
 pub mod Cheaper
 pub mod ClosedQueries

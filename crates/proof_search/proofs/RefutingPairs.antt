@@ -27,7 +27,7 @@ use Rattle.small_base.specs.Closing.{IsClosing}
 use Rattle.no_plan_witness.specs.declared.refutation.Witness.{Witness}
 use Rattle.no_plan_witness.specs.Texts.{text_under}
 use Rattle.no_plan_witness.specs.Witnesses.{IsWitnessOf}
-use Rattle.no_plan_witness.proofs.Refuting.{stuck_refutes}
+use Rattle.no_plan_witness.proofs.Refuting.{stuck_refutes, stuck_answer}
 use Rattle.proof_search.specs.Searches.{IsSearch}
 use Rattle.proof_search.specs.declared.question.Question.{Question}
 use Rattle.proof_search.specs.Questions.{IsQuestion, IsSearchFor, IsRefutedOn, IsExhausted}
@@ -90,6 +90,7 @@ module _ (question : Question) (is : IsQuestion question) where
         refutes = λ statement stand.
             stuck_refutes (meaning_of question.schema.now) question.known.now statement question.queries.now query end pair rules stand is.among
             (λ q among. (is.queries q among).constants) (is.queries query is.among).fits kept stuck its;
+        answered = stuck_answer (meaning_of question.schema.now) question.known.now query end pair (is.queries query is.among).fits kept its;
         wide = ap length its.answer ∙ length-map (frozen_head query) (image (text_under its.names))
             ∙ length-map query.head (value_of Const Label);
       }

@@ -1,6 +1,7 @@
 pub mod Searches
 pub mod Branches
 pub mod Plans
+pub mod Forms
 pub mod Chosen
 pub mod Choices
 pub mod Outcomes

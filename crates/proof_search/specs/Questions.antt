@@ -1,6 +1,7 @@
 -- What is asked of a query, and what answers it.
 use Rattle.std.specs.Prelude.{◌≡◌, ◌≤◌, ◌^◌, ℕ, List, Contains, length}
 use Rattle.meaning.specs.declared.types.Branch.{Branch}
+use Rattle.meaning.specs.declared.types.Query.{Query}
 use Rattle.meaning.specs.declared.types.Val.TheVariants.{Const}
 use Rattle.meaning.specs.Matching.{MeetsAll, GroundsOf}
 use Rattle.meaning.specs.Fitting.{IsKept}
@@ -12,11 +13,14 @@ use Rattle.exposure_search.specs.Exploring.{Exploring}
 use Rattle.no_plan_witness.specs.declared.refutation.Witness.{Witness}
 use Rattle.proof_search.specs.declared.outcome.Choice.{Choice}
 use Rattle.proof_search.specs.declared.outcome.QueryOutcome.{QueryOutcome}
+use Rattle.proof_search.specs.declared.outcome.First.{First}
+use Rattle.proof_search.specs.declared.outcome.Outcome.{Outcome}
 use Rattle.proof_search.specs.declared.question.Question.{Question}
+use Rattle.proof_search.specs.declared.question.Questions.{Questions}
 use Rattle.proof_search.specs.Searches.{AreSearchable, IsSearch}
 use Rattle.proof_search.specs.Branches.{IsQueryBranch, IsRefutingPair}
 use Rattle.proof_search.specs.Choices.{IsSpaceOf, IsChoice}
-use Rattle.proof_search.specs.Outcomes.{IsQueryOutcome}
+use Rattle.proof_search.specs.Outcomes.{IsFirst, IsQueryOutcome, IsOutcome}
 
 -- The query is one of the queries, which can be searched and are few. Each constant of the schema is known, the head is the query's
 -- frozen one, and the firings are no more than a proof may have.
@@ -55,6 +59,31 @@ pub record IsSpaceOn (question : Question) (space : Exploring) : Type 0 where
 abbrev pub IsChoiceOn : Question → ℕ → Choice → Type 0
 IsChoiceOn question search choice = IsChoice (meaning_of question.schema.now) question.known.now question.queries.now question.firings search question.query.now choice
 
--- What the search of the query comes to, with so many units.
-abbrev pub IsOutcomeOn : Question → ℕ → QueryOutcome → Type 0
-IsOutcomeOn question search outcome = IsQueryOutcome (meaning_of question.schema.now) question.known.now question.queries.now question.firings search question.query.now outcome
+-- What the proof of the query comes to.
+abbrev pub IsOutcomeOn : Question → QueryOutcome → Type 0
+IsOutcomeOn question outcome = IsQueryOutcome (meaning_of question.schema.now) question.known.now question.queries.now question.firings question.query.now outcome
+
+-- ---- what is asked of all queries
+
+-- The queries can be searched and are few, each constant of the schema is known, and the firings are no more than a proof may have.
+pub record AreQuestions (questions : Questions) : Type 0 where
+  pub queries : AreSearchable (meaning_of questions.schema.now) questions.known.now questions.queries.now
+  pub few : length questions.queries.now ≤ 2 ^ 32
+  pub known : (c : List ℕ) → Contains questions.schema.now.constants c → Contains questions.known.now c
+  pub firings : questions.firings ≤ MOST_FIRINGS
+
+-- The branch that is found first is one for the query.
+abbrev pub IsFirstFor : Questions → Query → First → Type 0
+IsFirstFor questions query first = IsFirst (meaning_of questions.schema.now) questions.known.now questions.queries.now query first
+
+-- The choice is one for the query, after so many units.
+abbrev pub IsChoiceFor : Questions → ℕ → Query → Choice → Type 0
+IsChoiceFor questions search query choice = IsChoice (meaning_of questions.schema.now) questions.known.now questions.queries.now questions.firings search query choice
+
+-- What the proof of the query comes to.
+abbrev pub IsOutcomeFor : Questions → Query → QueryOutcome → Type 0
+IsOutcomeFor questions query outcome = IsQueryOutcome (meaning_of questions.schema.now) questions.known.now questions.queries.now questions.firings query outcome
+
+-- What the proofs of the queries come to.
+abbrev pub AreOutcomesFor : Questions → Outcome → Type 0
+AreOutcomesFor questions outcome = IsOutcome (meaning_of questions.schema.now) questions.known.now questions.queries.now questions.firings outcome

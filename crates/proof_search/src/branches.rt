@@ -1,92 +1,145 @@
 // The branches of queries.
-ghost use Rattle.std.specs.Prelude.{◌≡◌, ◌≤◌, ◌^◌, ℕ, true, false, List, IfOk, Contains, length};
+ghost use Rattle.std.specs.Prelude.{◌≡◌, ◌≤◌, true, false, IfOk, Contains, length};
+ghost use Rattle.std.specs.List.{AllZip};
 ghost use Rattle.meaning.specs.Runs.{HasGoal};
 ghost use Rattle.access_schema.specs.Meaning.{meaning_of};
-ghost use Rattle.rule_pass.specs.declared.pass.TheConstants.{MOST_FIRINGS};
 ghost use Rattle.accessible_copy.specs.Proving.{log_of};
 ghost use Rattle.accessible_copy.specs.Rounds.{IsAllQuiet, GoesOn};
-ghost use Rattle.proof_search.specs.Searches.{AreSearchable};
-ghost use Rattle.proof_search.specs.Outcomes.{IsQueryOutcome, IsOutcome};
-ghost use Rattle.proof_search.specs.Questions.{IsQuestion, IsSearchFor, IsOutcomeOn};
+ghost use Rattle.proof_search.specs.Questions.{AreQuestions, IsQuestion, IsSearchFor, IsBranchOn, IsChoiceOn, IsOutcomeOn};
+ghost use Rattle.proof_search.specs.Questions.{IsFirstFor, IsChoiceFor, IsOutcomeFor, AreOutcomesFor};
 
 use crate::attempting::attempted;
 use crate::bounding::bounded;
 use crate::exposing::Turn;
-use crate::outcome::{Outcome, QueryOutcome};
+use crate::outcome::{Choice, Choices, First, Firsts, Outcome, QueryOutcome};
 use crate::proving::prove;
-use crate::question::Question;
+use crate::question::{Question, Questions};
 use crate::reading::branch_in;
 use crate::refuting::refuted;
 use crate::sparing::spare;
-use access_schema::Schema;
 use accessible_copy::Proof;
-use lists::{Copies, NoMemory, Seq, Texts};
-use meaning::types::{Firings, Queries, Query};
+use lists::{Copies, NoMemory, Seq};
+use meaning::types::{Firings, Query};
 use no_plan_witness::witness;
 use plan_extract::frozen_values;
 use std::alloc::Global;
 
-/// A branch for each of the queries, in order, each read off a proof of at most `firings` firings, and searched for a cheaper one with
-/// `search` units.
+/// The first branch of each of the queries, in order, each found by proofs of at most the question's firings.
 ///
-/// A pair against every plan comes at once. Where the firings of a query are spent, the others are searched too, as one of them may
-/// give such a pair; if none does, the log of the first comes.
-pub fn branches_for(
+/// The pair of a query that is stuck comes at once. Where the firings of a query are spent, the others are looked at too, as one of them
+/// may be stuck; if none is, the log of the first comes. Attempts over some of the rules are made with `search` units at most.
+pub fn first_branches(
     alloc: Global,
-    schema: &Schema,
-    queries: &Queries,
-    known: &Texts,
-    firings: u32,
+    questions: &Questions<'_>,
     search: u32,
 ) -> Result<Outcome, NoMemory>
-    requires queries { AreSearchable (meaning_of schema.now) known.now queries.now }
-    requires few { length queries.now ≤ 2 ^ 32 }
-    requires known { (c : List ℕ) → Contains schema.now.constants c → Contains known.now c }
-    requires firings { firings ≤ MOST_FIRINGS }
-    ensures { IfOk result (IsOutcome (meaning_of schema.now) known.now queries.now firings search) }
+    requires { AreQuestions questions.now }
+    ensures { IfOk result (AreOutcomesFor questions.now) }
 {
-    let mut choices = Seq::new(alloc);
+    let mut firsts = Seq::new(alloc);
     let mut spent = None;
-    for query in queries.as_slice() {
-        match branch_for(alloc, schema, query, queries, known, firings, search)? {
-            QueryOutcome::Branch(choice) => choices.push(choice)?,
-            QueryOutcome::Refuted(pair) => return Ok(Outcome::Refuted(pair)),
-            QueryOutcome::Spent(log) => spent = spent.or(Some(log)),
+    let queries = questions.queries.as_slice();
+    for number in 0..queries.len() {
+        match first_for(alloc, questions, &queries[number], search)? {
+            QueryOutcome::Branch(first) => firsts.push(first)?,
+            QueryOutcome::Stuck(pair) => return Ok(Outcome::Stuck(pair)),
+            QueryOutcome::Spent(log) => spent = spent.or(Some((number as u32, log))),
         }
     }
     match spent {
-        Some(log) => Ok(Outcome::Spent(log)),
-        None => Ok(Outcome::Branches(choices)),
+        Some((number, log)) => Ok(Outcome::Spent(number, log)),
+        None => Ok(Outcome::Branches(firsts)),
     }
 }
 
-/// The branch for the query among the queries, or why there is none.
-fn branch_for(
+/// The branch that is chosen for each of the queries, in order, searched for a cheaper one than its first with `search` units.
+pub fn chosen_branches(
     alloc: Global,
-    schema: &Schema,
+    questions: &Questions<'_>,
+    firsts: Firsts,
+    search: u32,
+) -> Result<Choices, NoMemory>
+    requires questions { AreQuestions questions.now }
+    requires firsts { AllZip (IsFirstFor questions.now) questions.now.queries.now firsts }
+    ensures { IfOk result (λ choices. AllZip (IsChoiceFor questions.now search) questions.now.queries.now choices) }
+{
+    let mut choices = Seq::new(alloc);
+    let queries = questions.queries.as_slice();
+    let mut number: usize = 0;
+    for first in firsts.into_vec() {
+        choices.push(choice_for(alloc, questions, &queries[number], first, search)?)?;
+        number += 1;
+    }
+    Ok(choices)
+}
+
+/// What the proofs of the query come to.
+fn first_for(
+    alloc: Global,
+    questions: &Questions<'_>,
     query: &Query,
-    queries: &Queries,
-    known: &Texts,
-    firings: u32,
     search: u32,
 ) -> Result<QueryOutcome, NoMemory>
-    requires queries { AreSearchable (meaning_of schema.now) known.now queries.now }
-    requires few { length queries.now ≤ 2 ^ 32 }
-    requires among { Contains queries.now query.now }
-    requires known { (c : List ℕ) → Contains schema.now.constants c → Contains known.now c }
-    requires firings { firings ≤ MOST_FIRINGS }
-    ensures { IfOk result (IsQueryOutcome (meaning_of schema.now) known.now queries.now firings search query.now) }
+    requires questions { AreQuestions questions.now }
+    requires among { Contains questions.now.queries.now query.now }
+    ensures { IfOk result (IsOutcomeFor questions.now query.now) }
 {
     let head = Seq::from_vec(frozen_values(alloc, query.head.as_slice())?);
     let question = Question {
-        schema,
+        schema: questions.schema,
         query,
-        queries,
-        known,
+        queries: questions.queries,
+        known: questions.known,
         head: &head,
-        firings,
+        firings: questions.firings,
     };
     outcome_for(alloc, &question, search)
+}
+
+/// The branch that is chosen for the query, of which this is the first.
+fn choice_for(
+    alloc: Global,
+    questions: &Questions<'_>,
+    query: &Query,
+    first: First,
+    search: u32,
+) -> Result<Choice, NoMemory>
+    requires questions { AreQuestions questions.now }
+    requires among { Contains questions.now.queries.now query.now }
+    requires first { IsFirstFor questions.now query.now first }
+    ensures { IfOk result (IsChoiceFor questions.now search query.now) }
+{
+    let head = Seq::from_vec(frozen_values(alloc, query.head.as_slice())?);
+    let question = Question {
+        schema: questions.schema,
+        query,
+        queries: questions.queries,
+        known: questions.known,
+        head: &head,
+        firings: questions.firings,
+    };
+    chosen(alloc, &question, first, search)
+}
+
+/// The branch that is chosen where this is the first. One of an attempt is of a proof in which the cheapest exposures came first.
+fn chosen(
+    alloc: Global,
+    question: &Question<'_>,
+    first: First,
+    search: u32,
+) -> Result<Choice, NoMemory>
+    requires question { IsQuestion question.now }
+    requires first { IsBranchOn question.now first.branch }
+    ensures { IfOk result (IsChoiceOn question.now search) }
+{
+    let First { branch, facts } = first;
+    match facts {
+        Some(facts) => {
+            let branch = spare(alloc, question, branch, facts, search)?;
+            bounded(alloc, question, branch, search)
+        }
+        None => bounded(alloc, question, branch, search),
+    }
 }
 
 /// The branch of an attempt over some of the rules, or else what the proof over all of them comes to.
@@ -96,13 +149,16 @@ fn outcome_for(
     search: u32,
 ) -> Result<QueryOutcome, NoMemory>
     requires { IsQuestion question.now }
-    ensures { IfOk result (IsOutcomeOn question.now search) }
+    ensures { IfOk result (IsOutcomeOn question.now) }
 {
-    if let Some(first) = attempted(alloc, question, search)? {
-        return Ok(QueryOutcome::Branch(bounded(alloc, question, first, search)?));
+    if let Some(branch) = attempted(alloc, question, search)? {
+        return Ok(QueryOutcome::Branch(First {
+            branch,
+            facts: None,
+        }));
     }
     let (proof, quiet) = prove(alloc, question, Turn::All)?;
-    let outcome = outcome_of(alloc, question, &proof, quiet, search);
+    let outcome = outcome_of(alloc, question, &proof, quiet);
     // written out, since it is proved as one call, and at the end of the scope as a call for each list in the proof
     drop(proof);
     outcome
@@ -114,19 +170,18 @@ fn outcome_of(
     question: &Question<'_>,
     proof: &Proof,
     quiet: bool,
-    search: u32,
 ) -> Result<QueryOutcome, NoMemory>
     requires question { IsQuestion question.now }
     requires search { IsSearchFor question.now proof.now }
     requires quiet { quiet ≡ true → IsAllQuiet (meaning_of question.now.schema.now) proof.now }
     requires spent { quiet ≡ false → (question.now.firings ≤ length proof.now.entries) × GoesOn (meaning_of question.now.schema.now) proof.now }
-    ensures { IfOk result (IsOutcomeOn question.now search) }
+    ensures { IfOk result (IsOutcomeOn question.now) }
 {
     match branch_in(alloc, question, proof)? {
-        Some(first) => {
-            let branch = spare(alloc, question, first, proof.sizes().base, search)?;
-            Ok(QueryOutcome::Branch(bounded(alloc, question, branch, search)?))
-        }
+        Some(branch) => Ok(QueryOutcome::Branch(First {
+            branch,
+            facts: Some(proof.sizes().base),
+        })),
         None => without_goal(alloc, question, proof, quiet),
     }
 }
@@ -143,14 +198,14 @@ fn without_goal(
     requires quiet { quiet ≡ true → IsAllQuiet (meaning_of question.now.schema.now) proof.now }
     requires spent { quiet ≡ false → (question.now.firings ≤ length proof.now.entries) × GoesOn (meaning_of question.now.schema.now) proof.now }
     requires goal { HasGoal question.now.queries.now proof.now.end question.now.head.now → ⊥ }
-    ensures { (search : ℕ) → IfOk result (IsOutcomeOn question.now search) }
+    ensures { IfOk result (IsOutcomeOn question.now) }
 {
     if quiet {
         let pair = witness(alloc, proof, question.known, question.head)?;
-        return Ok(QueryOutcome::Refuted(pair));
+        return Ok(QueryOutcome::Stuck(pair));
     }
     if let Some(pair) = refuted(alloc, question)? {
-        return Ok(QueryOutcome::Refuted(pair));
+        return Ok(QueryOutcome::Stuck(pair));
     }
     let log = copied_log(alloc, proof)?;
     Ok(QueryOutcome::Spent(log))

@@ -15,20 +15,29 @@ pub struct Choice {
     pub least: Least,
 }
 
-/// What the search of a query comes to: its branch; a pair that refutes every plan; or the log of its proof, where the firings are
-/// spent.
+/// The branch that is found first for a query; and the number of base facts of the proof over all rules, where it is read off that.
+#[derive(Drop)]
+pub struct First {
+    pub branch: Branch,
+    pub facts: Option<usize>,
+}
+
+/// First branches in order.
+pub type Firsts = Seq<First>;
+
+/// What the proof of a query comes to: its first branch; a pair that refutes every plan; or the log, where the firings are spent.
 #[derive(Drop)]
 pub enum QueryOutcome {
-    Branch(Choice),
-    Refuted(Witness),
+    Branch(First),
+    Stuck(Witness),
     Spent(Firings),
 }
 
-/// What the search of several queries comes to: a branch for each; a pair that refutes every plan; or the log of the first whose
-/// firings are spent.
+/// What the proofs of several queries come to: a branch for each; the pair of the first that is stuck; or the number and the log of the
+/// first whose firings are spent.
 #[derive(Drop)]
 pub enum Outcome {
-    Branches(Choices),
-    Refuted(Witness),
-    Spent(Firings),
+    Branches(Firsts),
+    Stuck(Witness),
+    Spent(u32, Firings),
 }

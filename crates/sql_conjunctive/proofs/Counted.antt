@@ -7,12 +7,9 @@ use Rattle.meaning.specs.declared.types.Atom.{Atom}
 use Rattle.meaning.specs.declared.types.Term.{Term}
 use Rattle.meaning.specs.declared.types.Term.TheVariants.{Var, Const}
 use Rattle.meaning.specs.declared.types.Query.{Query}
-use Rattle.meaning.specs.declared.types.SchemaParts.{SchemaParts}
 use Rattle.meaning.specs.declared.types.Select.{Select}
 use Rattle.meaning.specs.Triggers.{terms_bound}
 use Rattle.meaning.specs.Conjunctive.{IsConjunctive}
-use Rattle.meaning.specs.Fitting.{QueryFits}
-use Rattle.meaning_laws.proofs.Carrying.{occurs_below}
 use Rattle.access_schema.specs.declared.schema.Schema.{Schema}
 use Rattle.access_schema.specs.Meaning.{meaning_of}
 use Rattle.access_schema.specs.Invariant.{terms_of}

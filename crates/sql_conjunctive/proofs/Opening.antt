@@ -1,11 +1,9 @@
 -- The opening atoms, made one after the other.
-use Rattle.std.proofs.Common.{◌≡◌, ◌≤◌, ◌+◌, ◌-◌, ℕ, List, [], ◌∷◌, ◌++◌, length, take, drop, get_or, ap, ◌∙◌, refl, arith, append_assoc}
-use Rattle.std.specs.Prelude.{slice_get, Option, Some, None}
-use Rattle.std.proofs.lemmas.Option.{slice_get_within, get_or_from_slice_get}
+use Rattle.std.proofs.Common.{◌≡◌, ◌≤◌, ◌+◌, ◌-◌, ℕ, List, [], ◌∷◌, ◌++◌, length, take, drop, get_or, ap, ◌∙◌, arith, append_assoc}
 use Rattle.std.proofs.lemmas.List.{take_all}
 use Rattle.meaning.specs.declared.types.Atom.{Atom}
 use Rattle.meaning.specs.declared.types.Relation.{Relation}
-use Rattle.sql_conjunctive.specs.Merging.{AreNarrow, width_in, width_of, opened, opening_from}
+use Rattle.sql_conjunctive.specs.Merging.{opened, opening_from}
 
 pub opening_step : (relations : List Relation) (from : ℕ) (atoms new whole : List Atom) (left : List ℕ) →
     1 ≤ length left → new ≡ atoms ++ opened relations from (get_or left 0 0) ∷ [] → atoms ++ opening_from relations from left ≡ whole →

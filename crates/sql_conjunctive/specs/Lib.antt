@@ -1,4 +1,5 @@
 pub mod Form
+pub mod Queries
 pub mod Rows
 pub mod Fits
 pub mod Merging

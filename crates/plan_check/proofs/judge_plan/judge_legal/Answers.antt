@@ -3,13 +3,19 @@ use Rattle.std.specs.Prelude.{Contains}
 use Rattle.access_schema.specs.Meaning.{meaning_of}
 use Rattle.access_schema.proofs.Texts.{once_known, once_taken}
 use Rattle.sql_select.specs.Known.{literals_in}
-use Rattle.plan_check.specs.Forms.{IsSelectForm, IsBranchForm}
+use Rattle.sql_conjunctive.specs.Queries.{IsSelectForm}
+use Rattle.plan_check.specs.Forms.{IsBranchForm}
 use Rattle.plan_check.specs.Trials.{AreTriable}
 use Rattle.plan_check.specs.Verdicts.{IsLegalOver}
 use Rattle.plan_extract.proofs.Zips.{zip_length}
 use Rattle.plan_check.proofs.Fitting.{selects_triable, branches_triable, named_methods}
 use Rattle.plan_check.proofs.Concluding.{verdict_is}
 use Rattle.plan_check.proofs.judge_plan.judge_legal.Goals as goal
+
+pub select_forms-requires : goal.select_forms-requires
+select_forms-requires c = record {
+  fits = λ select among. record { fits = c.requires.fits.fits select among; few = (c.requires.fits.bounded select among).froms };
+}
 
 pub branch_forms-requires : goal.branch_forms-requires
 branch_forms-requires c = λ branch among. record { named = named_methods (meaning_of c.args.schema.now) c.args.known.now branch (c.requires.legal.lawful branch among).1; few = c.requires.columns branch among }
@@ -30,7 +36,7 @@ try_both-requires-clause-branches c =
 pub try_both-requires-clause-few_selects : goal.try_both-requires-clause-few_selects
 try_both-requires-clause-few_selects c =
     let long = zip_length (IsSelectForm c.args.schema.now) c.args.statement.now.selects c.in_ok-selects.selects.items c.in_ok-selects.ensures in
-    let count = c.requires.fits.count in
+    let count : length c.args.statement.now.selects ≤ 16 = c.requires.fits.few in
     rw c.as_slice.ensures.value (omega arith)
 
 pub try_both-requires-clause-few_branches : goal.try_both-requires-clause-few_branches

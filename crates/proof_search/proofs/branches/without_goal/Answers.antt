@@ -8,12 +8,12 @@ use Rattle.proof_search.proofs.RefutingPairs.{stuck_pair}
 use Rattle.proof_search.proofs.branches.without_goal.Goals as goal
 
 pub returns-then-quiet : goal.returns-then-quiet
-returns-then-quiet c search =
+returns-then-quiet c =
     stuck_pair c.args.question.now c.requires.question c.args.proof.now c.requires.search c.requires.goal (c.requires.quiet c.if-quiet.true)
     c.in_ok-pair.pair c.in_ok-pair.ensures
 
 pub returns : goal.returns
-returns c search =
+returns c =
     let question = c.args.question.now in
     let schema = meaning_of question.schema.now in
     let proof = c.args.proof.now in

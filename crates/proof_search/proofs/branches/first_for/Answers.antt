@@ -1,14 +1,14 @@
 use Rattle.std.proofs.Common.{◌∙◌, map, ap}
 use Rattle.meaning.specs.declared.types.Val.TheVariants.{Const, Label}
 use Rattle.meaning.specs.Matching.{value_of}
-use Rattle.proof_search.proofs.branches.branch_for.Goals as goal
+use Rattle.proof_search.proofs.branches.first_for.Goals as goal
 
 pub outcome_for-requires : goal.outcome_for-requires
 outcome_for-requires c = record {
-  queries = c.requires.queries;
-  few = c.requires.few;
+  queries = c.requires.questions.queries;
+  few = c.requires.questions.few;
   among = c.requires.among;
-  known = c.requires.known;
+  known = c.requires.questions.known;
   head = c.from_vec-head.ensures ∙ c.in_ok-frozen_values.ensures ∙ ap (map (value_of Const Label)) c.as_slice.ensures;
-  firings = c.requires.firings;
+  firings = c.requires.questions.firings;
 }

@@ -1,7 +1,7 @@
 use Rattle.std.proofs.Common.{take}
 use Rattle.std.specs.List.{AllZip}
-use Rattle.plan_check.specs.Forms.{IsSelectForm}
-use Rattle.plan_check.proofs.forms.select_forms.Given as goal
+use Rattle.sql_conjunctive.specs.Queries.{IsSelectForm}
+use Rattle.sql_conjunctive.proofs.selects.select_forms.Given as goal
 
 -- the forms of the selects so far
 abbrev pub invariant-loop-select : goal.invariant-loop-select
