@@ -10,7 +10,7 @@ use Rattle.source_trait.specs.declared.lanes.Lane.{Lane}
 use Rattle.row_text.specs.RowText.{IsRowText}
 use Rattle.row_text.proofs.Texts.{IsRowText-alike}
 use Rattle.middleware.specs.declared.fault.Run.{Run}
-use Rattle.middleware.specs.Executing.{Executes}
+use Rattle.plan_execution.specs.Executing.{Executes}
 use Rattle.command_io.specs.declared.stop.Stop.{Stop}
 use Rattle.command_io.specs.Executing.{ExecutesOrStops, Delivers}
 use Rattle.command_io.proofs.Delivering.{delivers_as}

@@ -4,7 +4,7 @@ use Rattle.std.specs.Prelude.{Contains, slice_get}
 use Rattle.std.specs.List.{AllZip}
 use Rattle.std.proofs.lemmas.Bool.Decides.{nat_tests}
 use Rattle.std.proofs.lemmas.List.{map-append, take_more}
-use Rattle.lists.proofs.Members.{contains_here, contains_there, contains_cases, contains_mapped, map_got, map_same, contains_none, contains_one}
+use Rattle.lists.proofs.Members.{contains_here, contains_there, contains_cases, contains_mapped, map_got, map_same, contains_none}
 use Rattle.lists.proofs.Booleans.{cond_true}
 use Rattle.meaning.specs.declared.types.Fact.{Fact}
 use Rattle.meaning.specs.declared.types.Method.{Method}
@@ -19,8 +19,7 @@ use Rattle.meaning_laws.proofs.Conjoining.{range_at}
 use Rattle.meaning_laws.proofs.Frozen.{made_grows}
 use Rattle.access_schema.specs.declared.schema.Schema.{Schema}
 use Rattle.access_schema.specs.Meaning.{meaning_of}
-use Rattle.source_trait.specs.Asking.{RowList, Seen, pick}
-use Rattle.source_trait.specs.declared.lanes.Lane.{Lane}
+use Rattle.source_trait.specs.Asking.{RowList, pick}
 use Rattle.middleware.specs.Asked.{HasConstant, IsStepRequest}
 use Rattle.middleware.specs.Joining.{input_row_of, input_value_or, text_or}
 use Rattle.middleware.specs.Rounds.{requests_of, IsWanted, next_rows}
@@ -28,16 +27,12 @@ use Rattle.middleware.specs.Live.{is_named, is_shown, is_live}
 use Rattle.middleware.specs.Naming.{Texts, AreAsked, IsLocal}
 use Rattle.middleware.specs.Blocks.{HasColumn, AreTables, HaveLive, AreBlocks, Gathers}
 use Rattle.middleware.specs.Branches.{HasAdded, IsInput, IsReady, IsReadyOut, out_value, output_of}
-use Rattle.middleware.specs.BlockRounds.{Asks, Checks, WantsOf, AreOfStep, BlocksGo, BlocksHalt, out_of, AddsOutputs}
-use Rattle.middleware.specs.LaneBranches.{LanesHoldSteps, LanesGo, LanesHalt}
+use Rattle.middleware.specs.BlockRounds.{Asks, Checks, out_of, AddsOutputs}
 use Rattle.middleware.specs.declared.blocks.Block.{Block}
 use Rattle.middleware.specs.declared.block_round.Asking.{Asking}
-use Rattle.middleware.specs.declared.round.RoundFault.{RoundFault}
-use Rattle.middleware.specs.declared.round.RoundFault.TheVariants as round
 use Rattle.middleware.proofs.Blocking.{OfNames, names_below, local_from}
 use Rattle.middleware.proofs.BlockSteps.{first_columns, has_asked, asks_same, tables_next, live_next, blocks_next, same_images}
 use Rattle.middleware.proofs.Branching.{inputs_for}
-use Rattle.middleware.proofs.LaneShares.{each_some}
 
 -- ---- places and live columns
 
@@ -92,7 +87,7 @@ constants_of row columns n places locals after began (p ∷ inputs) i are =
 
 -- ---- the round of a step
 
-module _ {S : Type 0} (seen : S → Seen) (schema : Schema) (well : IsWellFormed (meaning_of schema)) (step : Step) (steps : List Step) (outs : List Out) (n : ℕ) (blocks : List Block)
+module _ (schema : Schema) (well : IsWellFormed (meaning_of schema)) (step : Step) (steps : List Step) (outs : List Out) (n : ℕ) (blocks : List Block)
     (ready : IsReady (meaning_of schema) n step) (have : HaveLive (is_live (step ∷ steps) outs) n blocks) where
   abbrev live : ℕ → Bool
   live = is_live (step ∷ steps) outs
@@ -120,7 +115,7 @@ module _ {S : Type 0} (seen : S → Seen) (schema : Schema) (well : IsWellFormed
       at_table : IsWanted asking.step.places method.inputs a.table.rows list
       at_table = subst (λ (r : RowList). IsWanted asking.step.places method.inputs r list) a.rows_are wanted
 
-      pub wants : WantsOf seen schema step steps outs n blocks method list
+      pub wants : (partial : RowList) → AreBlocks live n partial blocks → IsWanted step.places method.inputs partial list
       wants partial m = record {
         ascends = wanted.ascends;
         same = λ values.
@@ -131,7 +126,7 @@ module _ {S : Type 0} (seen : S → Seen) (schema : Schema) (well : IsWellFormed
             );
       }
 
-      pub of_step : AreOfStep seen schema step steps outs n blocks method list
+      pub of_step : (request : Request) → Contains (requests_of method.rel method.inputs list) request → IsStepRequest (meaning_of schema) step request
       of_step request c =
           let (values, among, is) = contains_mapped (λ v. record { rel = method.rel; positions = method.inputs; values = v }) list request c in
           let (row, of, e) = contains_mapped (input_row_of asking.step.places method.inputs) a.table.rows values ((at_table.same values).0 among) in
@@ -171,15 +166,6 @@ module _ {S : Type 0} (seen : S → Seen) (schema : Schema) (well : IsWellFormed
           (subst (λ (r : RowList). (row : List (List ℕ)) → Contains grown.rows row ↔ Contains (next_rows asking.step.places method instance r) row) a.rows_are rows_are)))
 
   module _ (method : Method) (named : IsMethod (meaning_of schema) step.method method) (asking : Asking) (a : Asks step method.inputs n blocks asking) where
-    same_method : (other : Method) → IsMethod (meaning_of schema) asking.step.method other → method ≡ other
-    same_method other is = well.once method other named.0 is.0 (named.1 ∙ sym a.method_is ∙ sym is.1)
-
-    asks_by : (other : Method) → method ≡ other → Asks step other.inputs n blocks asking
-    asks_by other e = subst (λ (m : Method). Asks step m.inputs n blocks asking) e a
-
-    named_by : (other : Method) → method ≡ other → IsMethod (meaning_of schema) step.method other
-    named_by other e = subst (λ (m : Method). IsMethod (meaning_of schema) step.method m) e named
-
     -- what is asked is over the columns that there are behind the step
     pub asking_below : (k : ℕ) → Contains asking.columns k → k < asking.count
     asking_below k c = subst (λ n. k < n) (sym a.count_is) (⊎_elim
@@ -192,64 +178,6 @@ module _ {S : Type 0} (seen : S → Seen) (schema : Schema) (well : IsWellFormed
       below = λ b c k h. let l = a.gathers.rest_tables.below b c k h in let more = made_grows n step.places in omega (arith, l, more);
       apart = a.gathers.rest_tables.apart;
     })
-
-    local_holds : (instance : List Fact) (lanes : List (Lane S)) → LanesHoldSteps seen schema (step ∷ []) lanes instance → LanesHoldSteps seen schema (asking.step ∷ []) lanes instance
-    local_holds instance lanes holds lane there s method line among named_it line_is =
-        let at : asking.step ≡ s = contains_one asking.step s among in
-        holds lane there step method line (contains_here step []) (named_it.0, named_it.1 ∙ ap (λ (x : Step). x.method) (sym at) ∙ a.method_is) line_is
-
-    pub blocks_go : (rows : RowList) (before after : ℕ) (old new : List (Lane S)) → LanesGo seen schema asking.step asking.rows rows before after old new
-        → (grown : Block) → grown.columns ≡ asking.columns → grown.rows ≡ rows → (others : List Block) → Checks (is_live steps outs) asking.count grown asking.rest.items others
-        → BlocksGo seen schema step steps outs n blocks asking.count others before after old new
-    blocks_go rows before after old new goes grown columns_are grown_rows others c =
-        let e = same_method goes.method goes.named in
-        let b = asks_by goes.method e in
-        let is = named_by goes.method e in record {
-          method = goes.method;
-          named = is;
-          list = goes.list;
-          wanted = wants goes.method is asking b goes.list goes.wanted;
-          of_step = of_step goes.method is asking b goes.list goes.wanted;
-          asks = goes.asks;
-          made_is = goes.count;
-          next_is = a.count_is;
-          tables = go_tables goes.method is asking b grown columns_are others c;
-          live_columns = go_live goes.method is asking b grown columns_are others c;
-          blocks_are = λ instance holds partial m. go_blocks goes.method is asking b grown columns_are others c instance partial m
-              (subst (λ (r : RowList). (row : List (List ℕ)) → Contains r row ↔ Contains (next_rows asking.step.places goes.method instance asking.rows) row) (sym grown_rows)
-              (goes.rows_are instance (local_holds instance old holds)));
-        }
-
-    -- the round was asked, and there was no memory behind it
-    pub blocks_full : (rows : RowList) (before after room : ℕ) (old new : List (Lane S)) → LanesGo seen schema asking.step asking.rows rows before after old new
-        → BlocksHalt seen schema step steps outs n blocks room round.NoMemory old new
-    blocks_full rows before after room old new goes =
-        let e = same_method goes.method goes.named in
-        let b = asks_by goes.method e in
-        let is = named_by goes.method e in inr (record {
-          method = goes.method;
-          named = is;
-          list = goes.list;
-          wanted = wants goes.method is asking b goes.list goes.wanted;
-          of_step = of_step goes.method is asking b goes.list goes.wanted;
-          asks = each_some seen schema (requests_of goes.method.rel goes.method.inputs goes.list) old new goes.asks;
-          cause = tt;
-        })
-
-    pub blocks_halt : (room : ℕ) (why : RoundFault) (old new : List (Lane S)) → LanesHalt seen schema asking.step asking.rows room why old new
-        → BlocksHalt seen schema step steps outs n blocks room why old new
-    blocks_halt room why old new stops =
-        let e = same_method stops.method stops.named in
-        let b = asks_by stops.method e in
-        let is = named_by stops.method e in inr (record {
-          method = stops.method;
-          named = is;
-          list = stops.list;
-          wanted = wants stops.method is asking b stops.list stops.wanted;
-          of_step = of_step stops.method is asking b stops.list stops.wanted;
-          asks = stops.asks;
-          cause = stops.cause;
-        })
 
 -- ---- the outputs
 

@@ -3,7 +3,7 @@ use Rattle.std.proofs.Common.{◌≡◌, inl, inr, ⊎_elim, ℕ, zero, suc, ◌
 use Rattle.std.specs.Prelude.{Contains, IsSomeAnd, slice_get}
 use Rattle.std.specs.List.{AllZip}
 use Rattle.std.proofs.lemmas.List.{drop_more}
-use Rattle.lists.proofs.Members.{contains_here, contains_there, contains_map, contains_mapped, got_below, contains_take}
+use Rattle.lists.proofs.Members.{contains_here, contains_there, contains_map, contains_mapped, got_below}
 use Rattle.meaning.specs.declared.types.Fact.{Fact}
 use Rattle.meaning.specs.declared.types.Method.{Method}
 use Rattle.meaning.specs.declared.types.SchemaParts.{SchemaParts}
@@ -16,22 +16,19 @@ use Rattle.meaning.specs.declared.types.Branch.{Branch}
 use Rattle.meaning.specs.declared.types.Request.{Request}
 use Rattle.meaning.specs.Plans.{made, IsWellFormed, IsMethod, AreLawfulPlaces, IsLawfulOut, AreLawfulFrom, IsLawfulBranch}
 use Rattle.meaning.specs.Rows.{IsOut}
-use Rattle.meaning.specs.Requests.{IsRound}
 use Rattle.access_schema.specs.declared.schema.Schema.{Schema}
 use Rattle.source_trait.specs.Asking.{RowList, Seen}
 use Rattle.source_trait.specs.Lanes.{source_of}
 use Rattle.source_trait.specs.declared.lanes.Kind.{Kind}
 use Rattle.middleware.specs.Held.{SameFacts, HoldsRelation}
 use Rattle.middleware.specs.Attaching.{TellsSame}
-use Rattle.middleware.specs.Asked.{AsksLane, HasConstant, IsStepRequest}
-use Rattle.middleware.specs.Joining.{input_row_of, input_value_or}
-use Rattle.middleware.specs.Rounds.{requests_of, IsWanted, CanAskAll, next_rows}
+use Rattle.middleware.specs.Asked.{AsksLane}
+use Rattle.middleware.specs.Rounds.{CanAskAll}
 use Rattle.middleware.specs.Branches.{HasAdded, AddsBranch, IsInput, columns_after, IsReady, IsReadyOut, IsReadyBranch, out_value, output_of, IsAskable, Means}
-use Rattle.middleware.specs.Live.{is_live, is_shown}
+use Rattle.middleware.specs.Live.{is_shown}
 use Rattle.middleware.specs.Naming.{AreNamed}
-use Rattle.middleware.specs.Blocks.{AreBlocks}
 use Rattle.middleware.specs.declared.blocks.Block.{Block}
-use Rattle.middleware.proofs.Steps.{steps_length, requests_append, requests_one, next_partial, is_round}
+use Rattle.middleware.proofs.Steps.{steps_length}
 
 -- ---- what a lawful branch makes ready
 
@@ -90,37 +87,13 @@ module _ (schema : SchemaParts) (well : IsWellFormed schema) (constants : List (
     output = λ out c. outs_ready 0 branch.steps branch.output l out c;
   }
 
--- ---- requests of a step
-
-constants_zip : (places : List Place) (row : List (List ℕ)) (columns : ℕ) (inputs : List ℕ) → ((p : ℕ) → Contains inputs p → IsInput columns (slice_get places p)) → AllZip (λ p value. HasConstant (slice_get places p) value) inputs (input_row_of places inputs row)
-constants_zip places row columns [] are = tt
-constants_zip places row columns (p ∷ inputs) are = (value_is (slice_get places p) (are p (contains_here p inputs)), constants_zip places row columns inputs (λ q c. are q (contains_there p inputs q c)))
-  where
-    value_is : (o : Option Place) → IsInput columns o → HasConstant o (input_value_or row o)
-    value_is None i = absurd i
-    value_is (Some (Const c)) i = refl
-    value_is (Some (Col k)) i = tt
-    value_is (Some New) i = absurd i
+-- ---- the inputs of a step
 
 pub inputs_for : (schema : SchemaParts) → IsWellFormed schema → (columns : ℕ) (step : Step) (method : Method) → IsMethod schema step.method method → IsReady schema columns step
     → (p : ℕ) → Contains method.inputs p → IsInput columns (slice_get step.places p)
 inputs_for schema well columns step method named ready =
     let same : ready.method ≡ method = well.once ready.method method ready.named.0 named.0 (ready.named.1 ∙ sym named.1) in
     subst (λ (m : Method). (p : ℕ) → Contains m.inputs p → IsInput columns (slice_get step.places p)) same ready.inputs
-
--- the wanted requests are requests of the step
-pub of_step : (schema : SchemaParts) (step : Step) (method : Method) (columns : ℕ) → IsMethod schema step.method method → ((p : ℕ) → Contains method.inputs p → IsInput columns (slice_get step.places p))
-    → (rows list : RowList) → IsWanted step.places method.inputs rows list → (n : ℕ) (request : Request) → Contains (requests_of method.rel method.inputs (take n list)) request → IsStepRequest schema step request
-of_step schema step method columns named are rows list wanted n request c =
-    let (values, among, is) = contains_mapped (λ v. record { rel = method.rel; positions = method.inputs; values = v }) (take n list) request c in
-    let (row, of, e) = contains_mapped (input_row_of step.places method.inputs) rows values ((wanted.same values).0 (contains_take n list values among)) in
-    subst (λ (q : Request). IsStepRequest schema step q) is (record {
-      method = method;
-      named = named;
-      of_relation = refl;
-      positions = refl;
-      constants = subst (λ (v : List (List ℕ)). AllZip (λ p value. HasConstant (slice_get step.places p) value) method.inputs v) e (constants_zip step.places row columns method.inputs are);
-    })
 
 -- ---- the steps from one on
 
@@ -138,27 +111,6 @@ drop_all (s ∷ steps) (suc i) over = drop_all steps i (omega arith)
 pub columns_push : (n : ℕ) (steps : List Step) (step : Step) → columns_after n (steps ++ step ∷ []) ≡ made (columns_after n steps) step.places
 columns_push n [] step = refl
 columns_push n (s ∷ steps) step = columns_push (made n s.places) steps step
-
--- one step more, whose round wants this list
-module _ (schema : SchemaParts) (well : IsWellFormed schema) (instance : List Fact) (outs : List Out) (before : List Step) (step : Step) (steps : List Step)
-    (method : Method) (named : IsMethod schema step.method method) (ready : IsReady schema (columns_after 0 before) step) (blocks : List Block) (list : RowList) (requests : List Request)
-    (m : Means schema instance (is_live (step ∷ steps) outs) before blocks requests)
-    (wanted : IsWanted step.places method.inputs m.partial list) where
-  step_inputs : (p : ℕ) → Contains method.inputs p → IsInput (columns_after 0 before) (slice_get step.places p)
-  step_inputs = inputs_for schema well (columns_after 0 before) step method named ready
-
-  pub round_means : IsRound schema instance before step (requests_of method.rel method.inputs list)
-  round_means = is_round schema well instance before step method named step_inputs m.partial list m.partial_are wanted
-
-  pub means_more : (next : List Block) → AreBlocks (is_live steps outs) (columns_after 0 (before ++ step ∷ [])) (next_rows step.places method instance m.partial) next
-      → Means schema instance (is_live steps outs) (before ++ step ∷ []) next (requests ++ requests_of method.rel method.inputs list)
-  means_more next blocks_are = record {
-    partial = next_rows step.places method instance m.partial;
-    partial_are = next_partial schema well instance before step method named step_inputs m.partial (next_rows step.places method instance m.partial) m.partial_are (λ row. ((λ c. c), (λ c. c)));
-    blocks_are = blocks_are;
-    are = requests_append schema instance [] before (step ∷ []) requests (requests_of method.rel method.inputs list) m.are
-        (requests_one schema instance before step (requests_of method.rel method.inputs list) round_means);
-  }
 
 -- the output of all its steps
 module _ (schema : SchemaParts) (instance : List Fact) (branch : Branch) (ready : IsReadyBranch schema branch) (blocks : List Block) (rows next : RowList) (requests : List Request)

@@ -1,5 +1,5 @@
 -- Each round has its list of requests, and so have steps and branches, whatever the instance.
-use Rattle.std.proofs.Common.{◌≡◌, ◌⊎◌, ◌↔◌, inl, inr, ⊎_elim, ℕ, zero, suc, ◌+◌, List, [], ◌∷◌, ◌++◌, length, map, take, drop, Some, refl, sym, ◌∙◌, ap, subst, append_assoc, arith}
+use Rattle.std.proofs.Common.{◌≡◌, ◌⊎◌, ◌↔◌, inl, inr, ⊎_elim, ℕ, suc, List, [], ◌∷◌, ◌++◌, map, take, Some, refl, sym, ◌∙◌, ap, subst, append_assoc}
 use Rattle.std.specs.Prelude.{Contains, slice_get}
 use Rattle.std.specs.List.Sorted.{IsStrictlySortedBy}
 use Rattle.std.specs.Ordering.{ordering_reverse}
@@ -14,15 +14,14 @@ use Rattle.meaning.specs.declared.types.Step.{Step}
 use Rattle.meaning.specs.declared.types.Branch.{Branch}
 use Rattle.meaning.specs.declared.types.Request.{Request}
 use Rattle.meaning.specs.Plans.{IsWellFormed}
-use Rattle.meaning.specs.Requests.{IsRound, AreStepsRequests, AreBranchesRequests}
+use Rattle.meaning.specs.Requests.{AreStepsRequests, AreBranchesRequests}
 use Rattle.source_trait.specs.Asking.{RowList}
 use Rattle.row_text.specs.RowText.{row_cmp}
 use Rattle.lists.proofs.Orders.{rows_equal, rows_total}
-use Rattle.lists.proofs.Places.{got_after}
 use Rattle.middleware.specs.Joining.{input_row_of}
 use Rattle.middleware.specs.Rounds.{requests_of, IsWanted, next_rows}
 use Rattle.middleware.specs.Branches.{columns_after, IsReady, AreReady, ArePartial}
-use Rattle.middleware.proofs.Steps.{next_partial, is_round, requests_append, requests_one}
+use Rattle.middleware.proofs.Steps.{next_partial, is_round}
 
 -- a strictly ascending list with one row more
 record Put (x : List (List ℕ)) (ys zs : RowList) : Type 0 where
@@ -90,16 +89,6 @@ wanted_exists places inputs rows =
     let (list, s, same) = ascending (map (input_row_of places inputs) rows) in
     (list, record { ascends = s; same = same })
 
-take_after : {X : Type 0} (xs ys : List X) (i : ℕ) → take (length xs + i) (xs ++ ys) ≡ xs ++ take i ys
-take_after [] ys i = ap (λ n. take n ys) (omega arith)
-take_after (x ∷ xs) ys i = let e : length (x ∷ xs) + i ≡ suc (length xs + i) = omega arith in rw e (ap (λ (l : List _). x ∷ l) (take_after xs ys i))
-
--- a list around one of its members
-pub split_at : {X : Type 0} (xs : List X) (n : ℕ) (x : X) → slice_get xs n ≡ Some x → xs ≡ take n xs ++ x ∷ drop (n + 1) xs
-split_at [] n x e = absurd (cc)
-split_at (y ∷ xs) zero x e = let same : y ≡ x = cc in ap (λ z. z ∷ xs) same
-split_at (y ∷ xs) (suc n) x e = let one : suc n + 1 ≡ suc (n + 1) = omega arith in rw one (ap (λ (l : List _). y ∷ l) (split_at xs n x e))
-
 module _ (schema : SchemaParts) (well : IsWellFormed schema) (facts : List Fact) where
   -- steps have requests, whatever comes before them
   steps_from : (before steps : List Step) (rows : RowList) → ArePartial schema facts before rows → ((i : ℕ) (step : Step) → slice_get steps i ≡ Some step → IsReady schema (columns_after 0 (before ++ take i steps)) step)
@@ -123,35 +112,6 @@ module _ (schema : SchemaParts) (well : IsWellFormed schema) (facts : List Fact)
 
   pub steps_exist : (steps : List Step) → AreReady schema steps → (list : List Request) × AreStepsRequests schema facts [] steps list
   steps_exist steps ready = steps_from [] steps ([] ∷ []) first_partial ready
-
-  -- the requests of the rounds before a step and of its own go on to those of all steps
-  pub steps_rest : (steps : List Step) → AreReady schema steps → (n : ℕ) (step : Step) → slice_get steps n ≡ Some step → (rows : RowList) → ArePartial schema facts (take n steps) rows
-      → (earlier now : List Request) → AreStepsRequests schema facts [] (take n steps) earlier → IsRound schema facts (take n steps) step now
-      → (later : List Request) × AreStepsRequests schema facts [] steps ((earlier ++ now) ++ later)
-  steps_rest steps ready n step at rows partial earlier now earlier_are round =
-      let here : IsReady schema (columns_after 0 (take n steps)) step = ready n step at in
-      let next = next_partial schema well facts (take n steps) step here.method here.named here.inputs rows (next_rows step.places here.method facts rows) partial (λ row. ((λ c. c), (λ c. c))) in
-      let whole : steps ≡ take n steps ++ step ∷ drop (n + 1) steps = split_at steps n step at in
-      let around : steps ≡ (take n steps ++ step ∷ []) ++ drop (n + 1) steps = whole ∙ sym (append_assoc (take n steps) (step ∷ []) (drop (n + 1) steps)) in
-      let (later, rest) = steps_from (take n steps ++ step ∷ []) (drop (n + 1) steps) (next_rows step.places here.method facts rows) next
-      (λ i s e. after (take n steps ++ step ∷ []) (drop (n + 1) steps) (subst (λ (l : List Step). AreReady schema l) around ready) i s e) in
-      let to_here = requests_append schema facts [] (take n steps) (step ∷ []) earlier now earlier_are (requests_one schema facts (take n steps) step now round) in
-      let all = requests_append schema facts [] (take n steps ++ step ∷ []) (drop (n + 1) steps) (earlier ++ now) later to_here rest in
-      (later, subst (λ (l : List Step). AreStepsRequests schema facts [] l ((earlier ++ now) ++ later)) (sym around) all)
-    where
-      after : (first second : List Step) → AreReady schema (first ++ second) → (i : ℕ) (s : Step) → slice_get second i ≡ Some s → IsReady schema (columns_after 0 (first ++ take i second)) s
-      after first second are i s e = subst (λ (l : List Step). IsReady schema (columns_after 0 l) s) (take_after first second i) (are (length first + i) s (got_after first second i ∙ e))
-
-  -- the requests of the rounds before a step go on to those of all steps
-  pub steps_go_on : (steps : List Step) → AreReady schema steps → (n : ℕ) (step : Step) → slice_get steps n ≡ Some step → (rows : RowList) → ArePartial schema facts (take n steps) rows
-      → (earlier : List Request) → AreStepsRequests schema facts [] (take n steps) earlier → (later : List Request) × AreStepsRequests schema facts [] steps ((earlier ++ []) ++ later)
-  steps_go_on steps ready n step at rows partial earlier earlier_are =
-      let here : IsReady schema (columns_after 0 (take n steps)) step = ready n step at in
-      let (list, wanted) = wanted_exists step.places here.method.inputs rows in
-      let now = requests_of here.method.rel here.method.inputs list in
-      let round = is_round schema well facts (take n steps) step here.method here.named here.inputs rows list partial wanted in
-      let (later, all) = steps_rest steps ready n step at rows partial earlier now earlier_are round in
-      (now ++ later, subst (λ (l : List Request). AreStepsRequests schema facts [] steps l) (append_assoc earlier now later ∙ ap (λ (l : List Request). l ++ (now ++ later)) (sym (append-nil earlier))) all)
 
   pub branches_exist : (branches : List Branch) → ((branch : Branch) → Contains branches branch → AreReady schema branch.steps) → (list : List Request) × AreBranchesRequests schema facts branches list
   branches_exist [] ready = ([], refl)

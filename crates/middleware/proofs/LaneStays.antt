@@ -1,5 +1,5 @@
 -- Lanes that are started, placed and attached: what holds of each of them, and that no count of theirs falls.
-use Rattle.std.proofs.Common.{◌≡◌, ◌⊎◌, inl, inr, ℕ, zero, suc, ◌+◌, ◌<◌, ◌≤◌, List, [], ◌∷◌, length, map, take, Some, refl, sym, ◌∙◌, ap, subst, arith}
+use Rattle.std.proofs.Common.{◌≡◌, ◌⊎◌, inl, inr, ℕ, zero, suc, ◌<◌, List, [], ◌∷◌, length, map, Some, refl, sym, ◌∙◌, ap, subst, arith}
 use Rattle.std.specs.Prelude.{Contains, slice_get, Err}
 use Rattle.std.specs.List.{AllZip}
 use Rattle.lists.proofs.Members.{some_injective, contains_here, contains_cases, contains_mapped}

@@ -1,15 +1,15 @@
 -- Places of a table, one after another, and the places of columns.
-use Rattle.std.proofs.Common.{◌≡◌, ℕ, ◌+◌, ◌<◌, ◌≤◌, List, [], ◌∷◌, ◌++◌, length, take, drop, get_or, Option, Some, ⊎_elim, zero, suc, refl, sym, ◌∙◌, ap, subst, append_assoc, arith}
+use Rattle.std.proofs.Common.{◌≡◌, ℕ, ◌+◌, ◌<◌, ◌≤◌, List, [], ◌∷◌, ◌++◌, length, take, drop, get_or, Some, ⊎_elim, zero, suc, refl, sym, ◌∙◌, ap, subst, append_assoc, arith}
 use Rattle.std.specs.Prelude.{Contains, slice_get}
 use Rattle.std.proofs.lemmas.List.{append-nil, drop_more, take_more}
-use Rattle.lists.proofs.Members.{contains_here, contains_one}
+use Rattle.lists.proofs.Members.{contains_one}
 use Rattle.meaning.specs.declared.types.Place.{Place}
 use Rattle.meaning.specs.declared.types.Place.TheVariants.{Const, Col, New}
 use Rattle.meaning.specs.Plans.{made}
 use Rattle.middleware.specs.Naming.{AddsAsked, AreAsked, IsLocal}
 use Rattle.middleware.specs.Named.{AddsLocal, NamesOne}
 use Rattle.middleware.specs.declared.naming.Named.{Named}
-use Rattle.middleware.proofs.Steps.{in_append, append_first, append_second}
+use Rattle.middleware.proofs.Steps.{in_append}
 
 -- what goes on from the old table goes on from the new one
 moved : (places locals : List Place) (after columns others : List ℕ) (n m : ℕ) → columns ≡ others → n ≡ m → IsLocal columns n places locals after → IsLocal others m places locals after

@@ -1,5 +1,5 @@
 -- What attaching the relations that lanes need comes to.
-use Rattle.std.proofs.Common.{◌≡◌, ◌≢◌, ◌↔◌, inl, inr, ℕ, zero, suc, ◌+◌, ◌<◌, ◌≤◌, Bool, true, false, ◌||◌, not, nat_eq, List, [], ◌∷◌, length, get_or, Option, None, Some, refl, sym, ◌∙◌, ap, subst, arith}
+use Rattle.std.proofs.Common.{◌≡◌, ◌≢◌, ◌↔◌, inl, inr, ℕ, zero, suc, ◌+◌, ◌<◌, ◌≤◌, Bool, true, false, ◌||◌, nat_eq, List, [], ◌∷◌, length, Option, None, Some, refl, sym, ◌∙◌, ap, subst, arith}
 use Rattle.std.specs.Prelude.{Contains, IsSome, slice_get, Result, Ok, Err}
 use Rattle.std.specs.List.Sorted.{IsStrictlyIncreasing}
 use Rattle.std.specs.List.{list_any}
@@ -11,13 +11,13 @@ use Rattle.meaning.specs.declared.types.Relation.{Relation}
 use Rattle.access_schema.specs.declared.schema.Schema.{Schema}
 use Rattle.access_schema.specs.declared.schema.SourceLine.{SourceLine}
 use Rattle.source_trait.specs.Asking.{Seen, Rises}
-use Rattle.source_trait.specs.Lanes.{names_of, source_of, LanesStay}
+use Rattle.source_trait.specs.Lanes.{names_of, source_of}
 use Rattle.source_trait.specs.declared.source.AttachFault.{AttachFault}
 use Rattle.source_trait.specs.declared.source.AttachFault.TheVariants as attach
 use Rattle.source_trait.specs.declared.lanes.Lane.{Lane}
 use Rattle.middleware.specs.PlanSources.{line_for}
 use Rattle.middleware.specs.Sources.{first_lineless, has_place, needs_at, IsPlaced, HavePlace, LackPlace, LacksPlace, refused_as}
-use Rattle.middleware.specs.Needs.{IsWanted, listed, needed, AreNeeded, LacksKind, IsFirstLineless, IsFirstKindless, HaveAll, LanesAttach, LanesBreak, EachAttached, AttachBreaksAt, AttachesNeeded}
+use Rattle.middleware.specs.Needs.{IsWanted, listed, needed, AreNeeded, LacksKind, HaveAll, LanesAttach, LanesBreak, AttachBreaksAt, AttachesNeeded}
 use Rattle.middleware.specs.Needs.AttachesNeeded.{done, no_source, unknown_kind, refused, no_memory}
 use Rattle.middleware.specs.declared.fault.RunFault.{RunFault}
 use Rattle.middleware.specs.declared.fault.RunFault.TheVariants as fault
@@ -40,7 +40,7 @@ stands_before (z ∷ xs) up (suc n) (suc k) x y at other less =
 
 -- ---- places on the lanes that need a relation
 
-any_to : (q : ℕ) (ks : List ℕ) → list_any (λ y. nat_eq y q) ks ≡ true → Contains ks q
+pub any_to : (q : ℕ) (ks : List ℕ) → list_any (λ y. nat_eq y q) ks ≡ true → Contains ks q
 any_to q [] e = absurd (cc)
 any_to q (k ∷ ks) e = go (nat_eq k q) refl e (any_to q ks)
   where
@@ -49,7 +49,7 @@ any_to q (k ∷ ks) e = go (nat_eq k q) refl e (any_to q ks)
     go true test h later = let same : k ≡ q = grind (arith, nat_tests, test) in subst (λ n. Contains (k ∷ ks) n) same (contains_here k ks)
     go false test h later = contains_there k ks q (later h)
 
-any_of : (q : ℕ) (ks : List ℕ) → Contains ks q → list_any (λ y. nat_eq y q) ks ≡ true
+pub any_of : (q : ℕ) (ks : List ℕ) → Contains ks q → list_any (λ y. nat_eq y q) ks ≡ true
 any_of q [] c = absurd (omega arith)
 any_of q (k ∷ ks) c = elim (contains_cases k ks q c) [
   | inl same ↦

@@ -1,7 +1,6 @@
 -- What the branches of a plan mean on an instance, and what a lane holds for them.
-use Rattle.std.proofs.Common.{◌≡◌, inl, inr, ⊎_elim, ℕ, ◌+◌, List, [], ◌∷◌, ◌++◌, take, drop, Some, refl, sym, ◌∙◌, ap, subst, append_assoc}
+use Rattle.std.proofs.Common.{◌≡◌, inl, inr, ⊎_elim, List, [], ◌∷◌, ◌++◌, Some, refl, sym, subst}
 use Rattle.std.specs.Prelude.{Contains, slice_get}
-use Rattle.std.proofs.lemmas.List.{take-append-drop}
 use Rattle.lists.proofs.Members.{contains_here, contains_cases, got_below, contains_none}
 use Rattle.meaning.specs.declared.types.Fact.{Fact}
 use Rattle.meaning.specs.declared.types.Method.{Method}
@@ -13,18 +12,13 @@ use Rattle.meaning.specs.declared.types.Plan.{Plan}
 use Rattle.meaning.specs.declared.types.Request.{Request}
 use Rattle.meaning.specs.Plans.{IsWellFormed, IsMethod}
 use Rattle.meaning.specs.Rows.{IsBranchRow}
-use Rattle.meaning.specs.Requests.{AreStepsRequests, AreBranchesRequests}
 use Rattle.access_schema.specs.declared.schema.Schema.{Schema}
 use Rattle.access_schema.specs.Meaning.{meaning_of}
-use Rattle.source_trait.specs.Asking.{RowList, Seen}
-use Rattle.source_trait.specs.declared.lanes.Kind.{Kind}
+use Rattle.source_trait.specs.Asking.{RowList}
 use Rattle.middleware.specs.PlanSources.{IsAccessed}
-use Rattle.middleware.specs.Held.{HoldPlan}
-use Rattle.middleware.specs.Asked.{AsksLane}
-use Rattle.middleware.specs.Branches.{AreReady, HoldSteps, AddsBranch, BranchesMean}
+use Rattle.middleware.specs.Branches.{AddsBranch, BranchesMean}
 use Rattle.middleware.proofs.Steps.{in_append, append_first, append_second}
-use Rattle.middleware.proofs.Existing.{split_at, branches_exist, branches_append, branches_one}
-use Rattle.middleware.proofs.Branching.{relation_earlier}
+use Rattle.middleware.proofs.Existing.{branches_append, branches_one}
 
 -- a relation that a step accesses is one of the schema
 pub relation_there : (schema : Schema) (method : Method) → Contains schema.methods method → (relation : Relation) × (slice_get schema.relations method.rel ≡ Some relation)
@@ -53,34 +47,3 @@ module _ (schema : SchemaParts) (well : IsWellFormed schema) (instance : List Fa
     where
       only : (b : Branch) → Contains (its ∷ []) b → its ≡ b
       only b h = ⊎_elim (λ e. e) (λ n. absurd (contains_none b n)) (contains_cases its [] b h)
-
-  -- the requests of the branches before one, and the first ones of its own, are followed by others
-  pub branches_rest : (branches : List Branch) → ((its : Branch) → Contains branches its → AreReady schema its.steps) → (i : ℕ) (its : Branch) → slice_get branches i ≡ Some its
-      → (list asked rest : List Request) → AreBranchesRequests schema instance (take i branches) list → AreStepsRequests schema instance [] its.steps (asked ++ rest)
-      → (more : List Request) × AreBranchesRequests schema instance branches ((list ++ asked) ++ more)
-  branches_rest branches ready i its got list asked rest are here =
-      let (later, after) = branches_exist schema well instance (drop (i + 1) branches) (λ b c. ready b (in_drop b c)) in
-      let to_here = branches_append schema well instance (take i branches) (its ∷ []) list (asked ++ rest) are (branches_one schema well instance its (asked ++ rest) here) in
-      let all = branches_append schema well instance (take i branches ++ its ∷ []) (drop (i + 1) branches) (list ++ (asked ++ rest)) later to_here after in
-      (rest ++ later, subst (λ (l : List Request). AreBranchesRequests schema instance branches l) (joined later) (subst (λ (l : List Branch). AreBranchesRequests schema instance l ((list ++ (asked ++ rest)) ++ later)) (sym around) all))
-    where
-      in_drop : (b : Branch) → Contains (drop (i + 1) branches) b → Contains branches b
-      in_drop b c = subst (λ (l : List Branch). Contains l b) (take-append-drop (i + 1) branches) (append_second (take (i + 1) branches) (drop (i + 1) branches) b c)
-
-      around : branches ≡ (take i branches ++ its ∷ []) ++ drop (i + 1) branches
-      around = split_at branches i its got ∙ sym (append_assoc (take i branches) (its ∷ []) (drop (i + 1) branches))
-
-      joined : (later : List Request) → (list ++ (asked ++ rest)) ++ later ≡ (list ++ asked) ++ (rest ++ later)
-      joined later = ap (λ (l : List Request). l ++ later) (sym (append_assoc list asked rest)) ∙ append_assoc (list ++ asked) rest later
-
-module _ {S : Type 0} (seen : S → Seen) (schema : Schema) (plan : Plan) where
-  abbrev parts : SchemaParts
-  parts = meaning_of schema
-
-  pub hold_steps : (kinds : List (Kind S)) (instance : List Fact) → HoldPlan seen schema plan kinds instance → (its : Branch) → Contains plan.branches its → HoldSteps seen schema its.steps kinds instance
-  hold_steps kinds instance holds its of_plan step method line among named line_is =
-      holds method.rel line (accessed_by schema plan its step method of_plan among named) line_is
-
-  pub plan_earlier : (requests : List Request) (old new : List (Kind S)) → AsksLane seen schema requests old new → (instance : List Fact) → HoldPlan seen schema plan new instance → HoldPlan seen schema plan old instance
-  plan_earlier requests old new asks instance holds rel line accessed line_is =
-      relation_earlier seen schema requests old new asks line.kind rel instance (holds rel line accessed line_is)

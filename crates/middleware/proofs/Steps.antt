@@ -1,10 +1,10 @@
 -- The joined rows of a round are the next partial rows, and its list is the round's.
-use Rattle.std.proofs.Common.{◌≡◌, ◌⊎◌, ◌↔◌, inl, inr, ⊎_elim, ℕ, zero, suc, ◌+◌, ◌<◌, ◌≤◌, List, [], ◌∷◌, ◌++◌, length, map, take, get_or, Option, None, Some, Bool, true, false, cond, ◌&&◌, nat_eq, refl, sym, ◌∙◌, ap, subst, append_assoc, arith}
+use Rattle.std.proofs.Common.{◌≡◌, ◌⊎◌, ◌↔◌, inl, inr, ⊎_elim, ℕ, zero, suc, ◌+◌, ◌<◌, ◌≤◌, List, [], ◌∷◌, ◌++◌, length, map, take, get_or, Option, None, Some, Bool, true, false, cond, ◌&&◌, nat_eq, refl, sym, ◌∙◌, ap, subst, arith}
 use Rattle.std.specs.Prelude.{Contains, slice_get}
 use Rattle.std.specs.List.{AllZip, filter}
 use Rattle.std.specs.Cmp.Lexicographic.{pointwise, nat_list_eq_equiv}
 use Rattle.std.proofs.lemmas.Bool.Decides.{nat_tests}
-use Rattle.std.proofs.lemmas.List.{length_push, append-nil, map-append, take_more}
+use Rattle.std.proofs.lemmas.List.{length_push, map-append, take_more}
 use Rattle.std.specs.declared.cmp.Ordering.TheVariants.{Less}
 use Rattle.lists.proofs.Members.{contains_here, contains_there, contains_cases, contains_map, contains_mapped, contains_one, got_before, got_below, got_mapped, contains_joined, joined_from, filter_from, contains_filter}
 use Rattle.meaning.specs.declared.types.Fact.{Fact}
@@ -16,7 +16,7 @@ use Rattle.meaning.specs.declared.types.Step.{Step}
 use Rattle.meaning.specs.declared.types.Request.{Request}
 use Rattle.meaning.specs.Plans.{IsWellFormed, IsMethod}
 use Rattle.meaning.specs.Rows.{Joins, StepsTo, LeadsTo}
-use Rattle.meaning.specs.Requests.{input_value, Wants, IsRound, AreStepsRequests}
+use Rattle.meaning.specs.Requests.{input_value, Wants, IsRound}
 use Rattle.meaning_laws.proofs.Monotone.{joins_length}
 use Rattle.source_trait.specs.Asking.{RowList, agrees, pick}
 use Rattle.row_text.specs.RowText.{row_cmp}
@@ -174,22 +174,6 @@ module _ (schema : SchemaParts) (facts : List Fact) where
   push_steps : (steps : List Step) (step : Step) (row mid last : List (List ℕ)) → LeadsTo schema facts steps row mid → StepsTo schema facts step mid last → LeadsTo schema facts (steps ++ step ∷ []) row last
   push_steps [] step row mid last e one = (last, subst (λ r. StepsTo schema facts step r last) e one, refl)
   push_steps (s ∷ steps) step row mid last (next, first, more) one = (next, first, push_steps steps step next mid last more one)
-
-  -- the requests of steps and of those after them
-  pub requests_append : (before first second : List Step) (a b : List Request) → AreStepsRequests schema facts before first a → AreStepsRequests schema facts (before ++ first) second b → AreStepsRequests schema facts before (first ++ second) (a ++ b)
-  requests_append before [] second a b e rest =
-      subst (λ (l : List Request). AreStepsRequests schema facts before second (l ++ b)) (sym e) (subst (λ (s : List Step). AreStepsRequests schema facts s second b) (append-nil before) rest)
-  requests_append before (s ∷ first) second a b (now, later, e, this, more) rest = (
-    now,
-    later ++ b,
-    ap (λ (l : List Request). l ++ b) e ∙ append_assoc now later b,
-    this,
-    requests_append (before ++ s ∷ []) first second later b more (subst (λ (l : List Step). AreStepsRequests schema facts l second b) (sym (append_assoc before (s ∷ []) first)) rest),
-  )
-
-  -- the requests of one step are its round
-  pub requests_one : (before : List Step) (step : Step) (now : List Request) → IsRound schema facts before step now → AreStepsRequests schema facts before (step ∷ []) now
-  requests_one before step now round = (now, [], sym (append-nil now), round, refl)
 
 -- the values at the input positions, and the request's list of them
 zip_inputs : (places : List Place) (row : List (List ℕ)) (inputs : List ℕ) (values : List (List ℕ)) → ((p : ℕ) → Contains inputs p → IsInput (length row) (slice_get places p)) → AllZip (λ p value. input_value row (slice_get places p) ≡ Some value) inputs values → values ≡ input_row_of places inputs row

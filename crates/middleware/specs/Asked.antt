@@ -1,18 +1,14 @@
 -- Which requests the sources of a lane are asked.
-use Rattle.std.specs.Prelude.{◌≡◌, ℕ, Bool, false, List, [], ◌++◌, Option, None, Some, option_map, slice_get, take, nat_eq}
+use Rattle.std.specs.Prelude.{◌≡◌, ℕ, Bool, false, List, ◌++◌, Option, None, Some, option_map, slice_get, nat_eq}
 use Rattle.std.specs.List.{filter, AllZip}
 use Rattle.std.specs.Cmp.Lexicographic.{pointwise}
-use Rattle.meaning.specs.declared.types.Fact.{Fact}
 use Rattle.meaning.specs.declared.types.Method.{Method}
 use Rattle.meaning.specs.declared.types.Place.{Place}
 use Rattle.meaning.specs.declared.types.Place.TheVariants.{Const, Col, New}
 use Rattle.meaning.specs.declared.types.Step.{Step}
-use Rattle.meaning.specs.declared.types.Branch.{Branch}
-use Rattle.meaning.specs.declared.types.Plan.{Plan}
 use Rattle.meaning.specs.declared.types.Request.{Request}
 use Rattle.meaning.specs.declared.types.SchemaParts.{SchemaParts}
 use Rattle.meaning.specs.Plans.{IsMethod}
-use Rattle.meaning.specs.Requests.{AreStepsRequests, AreBranchesRequests, IsRound}
 use Rattle.access_schema.specs.declared.schema.Schema.{Schema}
 use Rattle.access_schema.specs.declared.schema.SourceLine.{SourceLine}
 use Rattle.source_trait.specs.Asking.{Seen}
@@ -56,35 +52,3 @@ pub record IsStepRequest (schema : SchemaParts) (step : Step) (request : Request
   pub of_relation : request.rel ≡ method.rel
   pub positions : request.positions ≡ method.inputs
   pub constants : AllZip (λ p value. HasConstant (slice_get step.places p) value) request.positions request.values
-
--- the branch and the step of these numbers
-pub record IsStepAt (plan : Plan) (branch step : ℕ) (its_branch : Branch) (its_step : Step) : Type 0 where
-  pub of_plan : slice_get plan.branches branch ≡ Some its_branch
-  pub of_branch : slice_get its_branch.steps step ≡ Some its_step
-
--- the steps of the branch of a number
-abbrev pub steps_of : Option Branch → List Step
-steps_of None = []
-steps_of (Some branch) = branch.steps
-
--- the requests of all rounds before that of a step: those of the branches before, and those of the branch's steps before
-pub record AreRoundsBefore (schema : SchemaParts) (plan : Plan) (instance : List Fact) (branch step : ℕ) (earlier : List Request)
-    : Type 0 where
-  pub of_branches : List Request
-  pub of_steps : List Request
-  pub branches_are : AreBranchesRequests schema instance (take branch plan.branches) of_branches
-  pub steps_are : AreStepsRequests schema instance [] (take step (steps_of (slice_get plan.branches branch))) of_steps
-  pub earlier_is : earlier ≡ of_branches ++ of_steps
-
--- the requests of all rounds before that of a step, and those of its own round
-pub record IsRoundAt (schema : SchemaParts) (plan : Plan) (instance : List Fact) (branch step : ℕ) (earlier now : List Request) : Type 0 where
-  pub its_branch : Branch
-  pub its_step : Step
-  pub there : IsStepAt plan branch step its_branch its_step
-  -- those of the branches before, and those of the branch's steps before
-  pub of_branches : List Request
-  pub of_steps : List Request
-  pub branches_are : AreBranchesRequests schema instance (take branch plan.branches) of_branches
-  pub steps_are : AreStepsRequests schema instance [] (take step its_branch.steps) of_steps
-  pub earlier_is : earlier ≡ of_branches ++ of_steps
-  pub now_is : IsRound schema instance (take step its_branch.steps) its_step now

@@ -1,5 +1,5 @@
 -- What the rounds of a branch, and of a plan, need and mean.
-use Rattle.std.specs.Prelude.{◌≡◌, ◌↔◌, ◌⊎◌, ℕ, ◌-◌, ◌^◌, ◌<◌, min, List, [], ◌∷◌, map, take, Contains, slice_get, Option, Some, None, Bool}
+use Rattle.std.specs.Prelude.{◌≡◌, ◌↔◌, ◌⊎◌, ℕ, ◌<◌, List, [], ◌∷◌, map, take, Contains, slice_get, Option, Some, None, Bool}
 use Rattle.meaning.specs.declared.types.Fact.{Fact}
 use Rattle.meaning.specs.declared.types.Method.{Method}
 use Rattle.meaning.specs.declared.types.SchemaParts.{SchemaParts}
@@ -21,19 +21,11 @@ use Rattle.source_trait.specs.Causes.{Rose}
 use Rattle.source_trait.specs.Lanes.{AtKind, SourceSteps}
 use Rattle.source_trait.specs.declared.lanes.Kind.{Kind}
 use Rattle.middleware.specs.PlanSources.{line_for}
-use Rattle.middleware.specs.Held.{HoldsRelation}
-use Rattle.middleware.specs.Asked.{IsStepRequest}
 use Rattle.middleware.specs.Joining.{text_or}
 use Rattle.middleware.specs.Rounds.{CanAskAll}
 use Rattle.middleware.specs.Naming.{AreNamed}
 use Rattle.middleware.specs.Blocks.{AreBlocks}
 use Rattle.middleware.specs.declared.blocks.Block.{Block}
-use Rattle.middleware.specs.declared.round.RoundFault.{RoundFault}
-use Rattle.middleware.specs.declared.branch.BranchFault.{BranchFault}
-use Rattle.middleware.specs.declared.branch.BranchFault.TheVariants as branch
-use Rattle.middleware.specs.declared.round.RoundFault.TheVariants as round
-use Rattle.middleware.specs.declared.fault.RunFault.{RunFault}
-use Rattle.middleware.specs.declared.fault.RunFault.TheVariants as fault
 
 -- ---- what lawfulness leaves for the rounds
 
@@ -96,11 +88,6 @@ pub record IsAskable {S : Type 0} (seen : S → Seen) (schema : Schema) (kinds :
 abbrev pub AreAskable : {S : Type 0} → (S → Seen) → Schema → List (Kind S) → List Step → Type 0
 AreAskable seen schema kinds steps = (step : Step) (method : Method) → Contains steps step → IsMethod (meaning_of schema) step.method method → IsAskable seen schema kinds method
 
--- the relations of the steps are held with just the facts of the instance
-abbrev pub HoldSteps : {S : Type 0} → (S → Seen) → Schema → List Step → List (Kind S) → List Fact → Type 0
-HoldSteps seen schema steps kinds instance = (step : Step) (method : Method) (line : SourceLine) → Contains steps step → IsMethod (meaning_of schema) step.method method →
-    line_for method.rel schema.sources ≡ Some line → HoldsRelation seen kinds line.kind method.rel instance
-
 -- the count of faults of the source of the relation's kind rose
 pub record RoseAt {S : Type 0} (seen : S → Seen) (schema : Schema) (rel : ℕ) (old new : List (Kind S)) : Type 0 where
   pub line : SourceLine
@@ -113,22 +100,12 @@ pub record RoseAt {S : Type 0} (seen : S → Seen) (schema : Schema) (rel : ℕ)
 abbrev pub ArePartial : SchemaParts → List Fact → List Step → RowList → Type 0
 ArePartial schema facts steps rows = (row : List (List ℕ)) → Contains rows row ↔ LeadsTo schema facts steps [] row
 
--- each request is one of a step
-abbrev pub AreOfSteps : SchemaParts → List Step → List Request → Type 0
-AreOfSteps schema steps requests = (request : Request) → Contains requests request → (step : Step) × Contains steps step × IsStepRequest schema step request
-
 -- on an instance: the partial rows of the steps, whose blocks these are, and their requests
 pub record Means (schema : SchemaParts) (facts : List Fact) (live : ℕ → Bool) (steps : List Step) (blocks : List Block) (requests : List Request) : Type 0 where
   pub partial : RowList
   pub partial_are : ArePartial schema facts steps partial
   pub blocks_are : AreBlocks live (columns_after 0 steps) partial blocks
   pub are : AreStepsRequests schema facts [] steps requests
-
--- a round's refusal as that of the branch
-abbrev pub stop_of : ℕ → ℕ → RoundFault → BranchFault
-stop_of step total round.NoMemory = branch.NoMemory
-stop_of step total round.Failed = branch.Failed step
-stop_of step total (round.OverCalls wanted) = branch.OverCalls total wanted
 
 -- ---- the branches of a plan
 
@@ -137,24 +114,7 @@ pub record AddsBranch (schema : SchemaParts) (facts : List Fact) (branch : Branc
   pub exactly : (row : List (List ℕ)) → Contains next row ↔ (Contains rows row ⊎ IsBranchRow schema branch facts row)
   pub are : AreStepsRequests schema facts [] branch.steps requests
 
--- each request is one of a step of a branch
-abbrev pub AreOfBranches : SchemaParts → List Branch → List Request → Type 0
-AreOfBranches schema branches requests = (request : Request) → Contains requests request →
-    (branch : Branch) × (step : Step) × Contains branches branch × Contains branch.steps step × IsStepRequest schema step request
-
 -- on an instance: the rows of the branches, and their requests
 pub record BranchesMean (schema : SchemaParts) (facts : List Fact) (branches : List Branch) (rows : RowList) (requests : List Request) : Type 0 where
   pub exactly : (row : List (List ℕ)) → Contains rows row ↔ ((branch : Branch) × Contains branches branch × IsBranchRow schema branch facts row)
   pub are : AreBranchesRequests schema facts branches requests
-
--- a branch's refusal as that of the plan
-abbrev pub fault_of : ℕ → ℕ → BranchFault → RunFault
-fault_of number cap branch.NoMemory = fault.NoMemory
-fault_of number cap (branch.Failed step) = fault.CallFailed number step
-fault_of number cap (branch.OverCalls total wanted) = fault.OverCalls total (min wanted (2 ^ 32 - 1)) cap
-
--- the number of a step fits 32 bits
-abbrev pub StepFits : BranchFault → Type 0
-StepFits branch.NoMemory = Unit {0}
-StepFits (branch.Failed step) = step < 2 ^ 32
-StepFits (branch.OverCalls total wanted) = Unit {0}

@@ -2,7 +2,6 @@
 use Rattle.std.specs.Prelude.{◌≡◌, ◌↔◌, ◌≤◌, ℕ, List, length, Contains, Some, Result, IfOk, IfErr, OnOk, IsErrOf, slice_get}
 use Rattle.meaning.specs.declared.types.Fact.{Fact}
 use Rattle.meaning.specs.declared.types.Method.{Method}
-use Rattle.meaning.specs.declared.types.Place.{Place}
 use Rattle.access_schema.specs.declared.schema.Schema.{Schema}
 use Rattle.access_schema.specs.declared.schema.SourceLine.{SourceLine}
 use Rattle.source_trait.specs.Asking.{RowList, Seen, pick}
@@ -12,10 +11,9 @@ use Rattle.source_trait.specs.declared.lanes.Lane.{Lane}
 use Rattle.source_trait.specs.declared.work.Ask.{Ask}
 use Rattle.middleware.specs.PlanSources.{line_for}
 use Rattle.middleware.specs.Held.{HoldsRelation}
-use Rattle.middleware.specs.Rounds.{requests_of, IsWanted, next_rows}
+use Rattle.middleware.specs.Rounds.{requests_of}
 use Rattle.middleware.specs.LaneRounds.{AsksEach, AsksSome, NoneStopped}
-use Rattle.middleware.specs.LaneBranches.{OnEach, FailsOnLane, HaltCause}
-use Rattle.middleware.specs.declared.round.RoundFault.{RoundFault}
+use Rattle.middleware.specs.LaneBranches.{OnEach, FailsOnLane}
 
 -- the request of the method with these values, for a source of the kind
 abbrev pub ask_of : List ℕ → Method → List (List ℕ) → Ask
@@ -42,18 +40,3 @@ module _ {S : Type 0} (seen : S → Seen) (schema : Schema) where
     pub refused : IfErr result (λ fault. AsksSome seen schema (requests_of method.rel method.inputs requests) old new)
     pub some : IsErrOf result call.Failed → 1 ≤ length requests
     pub failed : IsErrOf result call.Failed → FailsOnLane seen schema method.rel (requests_of method.rel method.inputs requests) old new
-
-  -- Each request of a round was asked once by one of the lanes, and the partial rows after it are those that the answers give.
-  pub record RoundShared (places : List Place) (method : Method) (rows requests next : RowList) (old new : List (Lane S)) : Type 0 where
-    pub wanted : IsWanted places method.inputs rows requests
-    pub asks : AsksEach seen schema (requests_of method.rel method.inputs requests) old new
-    pub rows_are : (instance : List Fact) → LanesHoldRelation method.rel old instance
-        → (row : List (List ℕ)) → Contains next row ↔ Contains (next_rows places method instance rows) row
-
-  -- A round stopped: each of its requests was asked at most once.
-  pub record RoundUnshared (places : List Place) (method : Method) (rows : RowList) (room : ℕ) (why : RoundFault) (old new : List (Lane S))
-      : Type 0 where
-    pub list : RowList
-    pub wanted : IsWanted places method.inputs rows list
-    pub asks : AsksSome seen schema (requests_of method.rel method.inputs list) old new
-    pub cause : HaltCause seen schema why room method.rel (requests_of method.rel method.inputs list) old new

@@ -19,4 +19,3 @@ pub mod LaneAsking
 pub mod Sources
 pub mod Needs
 pub mod LaneRunning
-pub mod Executing

@@ -1,135 +1,19 @@
-// The rounds of one branch.
-ghost use Rattle.std.specs.Prelude.{◌≡◌, ◌≤◌, ◌<◌, ◌∷◌, [], List, ℕ, Contains, IfOk, IfErr, OnOk, drop, length, map, true};
+// The outputs of a branch.
+ghost use Rattle.std.specs.Prelude.{◌≡◌, ◌∷◌, [], List, ℕ, Contains, IfOk, OnOk, map, true};
 ghost use Rattle.meaning.specs.declared.types.Out.{Out};
 ghost use Rattle.meaning.specs.declared.types.Out.TheVariants.{Col as Made};
-ghost use Rattle.access_schema.specs.Meaning.{meaning_of};
 ghost use Rattle.middleware.specs.Blocks.{AreTables, HaveLive};
 ghost use Rattle.middleware.specs.BlockRounds.{AddsOutputs, out_of};
-ghost use Rattle.middleware.specs.Branches.{AreReady, IsReadyBranch, IsReadyOut, AreAskable, columns_after, stop_of, out_value, output_of, HasAdded};
-ghost use Rattle.middleware.specs.LaneBranches.{OnEach, LanesReached, StepsHalt, LanesAdd};
-ghost use Rattle.middleware.specs.LaneRounds.{NoneStopped};
+ghost use Rattle.middleware.specs.Branches.{IsReadyOut, out_value, output_of, HasAdded};
 ghost use Rattle.middleware.specs.Live.{is_shown};
 
-use crate::block_round::{Blocks, next_blocks};
 use crate::blocks::{Block, Gathered, gather, no_columns};
 use crate::naming::{fitting, number_of};
 use crate::partial_rows::text_at;
-use crate::round::{Progress, RoundFault};
-use access_schema::Schema;
 use lists::{Copies, Seq};
-use meaning::types::{Branch, Out, Outs, Step};
+use meaning::types::{Out, Outs};
 use row_text::{LentRow, PackedRows, Recent};
-use source_trait::{Lane, Source};
 use std::alloc::{AllocError, Global};
-use std::thread::Threads;
-
-/// Why the rounds of a branch stop.
-#[derive(Clone, Copy, Debug, PartialEq, Eq)]
-pub enum BranchFault {
-    NoMemory,
-    Failed { step: usize },
-    OverCalls { made: u32, wanted: usize },
-}
-
-/// Executes one branch more on the lanes, and adds its rows.
-pub fn next_branch<R: Threads + Sync, S: Source + Send + Drop>(
-    rt: &R,
-    alloc: Global,
-    schema: &Schema,
-    lanes: &mut [Lane<S>],
-    branch: &Branch,
-    progress: Progress,
-    cap: u32,
-) -> Result<Progress, BranchFault>
-    requires lanes { (0 < length lanes.old) × (length lanes.old ≤ 8) }
-    requires ready { IsReadyBranch (meaning_of schema.now) branch.now }
-    requires askable { OnEach lanes.old (λ kinds. AreAskable S.seen schema.now kinds branch.now.steps) }
-    requires made { progress.made ≤ cap }
-    requires cap { cap ≤ 1_000_000 }
-    requires going { NoneStopped lanes.old }
-    ensures goes { IfOk result (λ p. LanesAdd S.seen schema.now branch.now progress.rows p.rows progress.made p.made lanes.old lanes.new) }
-    ensures within { IfOk result (λ p. p.made ≤ cap) }
-    ensures stops { IfErr result (λ fault. StepsHalt S.seen schema.now branch.now.steps progress.made cap fault lanes.old lanes.new) }
-    ensures going { OnOk result (NoneStopped lanes.new) }
-{
-    let Progress { rows, made } = progress;
-    let outs = branch.output.as_slice();
-    let steps = branch.steps.as_slice();
-    match run_steps(rt, alloc, schema, lanes, steps, outs, made, cap) {
-        Ok(reached) => {
-            let Blocks {
-                blocks,
-                count,
-                made,
-            } = reached;
-            match add_outputs(alloc, outs, count, blocks, rows) {
-                Ok(rows) => Ok(Progress { rows, made }),
-                Err(_) => Err(BranchFault::NoMemory),
-            }
-        }
-        Err(fault) => Err(fault),
-    }
-}
-
-// Asks the rounds of the steps in order, from the one partial row without columns, which needs no block.
-fn run_steps<R: Threads + Sync, S: Source + Send + Drop>(
-    rt: &R,
-    alloc: Global,
-    schema: &Schema,
-    lanes: &mut [Lane<S>],
-    steps: &[Step],
-    outs: &[Out],
-    made: u32,
-    cap: u32,
-) -> Result<Blocks, BranchFault>
-    requires lanes { (0 < length lanes.old) × (length lanes.old ≤ 8) }
-    requires ready { AreReady (meaning_of schema.now) steps.now }
-    requires askable { OnEach lanes.old (λ kinds. AreAskable S.seen schema.now kinds steps.now) }
-    requires made { made ≤ cap }
-    requires cap { cap ≤ 1_000_000 }
-    requires going { NoneStopped lanes.old }
-    ensures reached { IfOk result (λ b. LanesReached S.seen schema.now (is_shown outs.now) steps.now b.blocks.items made b.made lanes.old lanes.new) }
-    ensures count { IfOk result (λ b. b.count ≡ columns_after 0 steps.now) }
-    ensures within { IfOk result (λ b. b.made ≤ cap) }
-    ensures stops { IfErr result (λ fault. StepsHalt S.seen schema.now steps.now made cap fault lanes.old lanes.new) }
-    ensures going { OnOk result (NoneStopped lanes.new) }
-{
-    let mut reached = Blocks {
-        blocks: Vec::new(alloc),
-        count: 0,
-        made,
-    };
-    let mut number: usize = 0;
-    for step in steps {
-        let before = reached.made;
-        let rest = after(steps, number + 1);
-        reached = match next_blocks(rt, alloc, schema, lanes, step, rest, outs, reached, cap) {
-            Ok(next) => next,
-            Err(fault) => return Err(stop_at(number, before, fault)),
-        };
-        number += 1;
-    }
-    Ok(reached)
-}
-
-// The steps from a number on.
-fn after(steps: &[Step], number: usize) -> &[Step]
-    requires { number ≤ length steps.now }
-    ensures { result.now ≡ drop number steps.now }
-{
-    &steps[number..]
-}
-
-// A round's refusal as that of the branch.
-fn stop_at(step: usize, made: u32, fault: RoundFault) -> BranchFault
-    ensures { result ≡ stop_of step made fault }
-{
-    match fault {
-        RoundFault::NoMemory => BranchFault::NoMemory,
-        RoundFault::Failed => BranchFault::Failed { step },
-        RoundFault::OverCalls { wanted } => BranchFault::OverCalls { made, wanted },
-    }
-}
 
 /// Adds the outputs of the partial rows in blocks, but for most doubles. A block that the output does not name has a row, and adds nothing.
 pub fn add_outputs(

@@ -1,5 +1,5 @@
 // One round of requests, shared by several lanes.
-ghost use Rattle.std.specs.Prelude.{◌≡◌, ◌<◌, ◌≤◌, ℕ, List, IfOk, IfErr, OnOk, length, map};
+ghost use Rattle.std.specs.Prelude.{◌≡◌, ◌<◌, ◌≤◌, ◌∷◌, [], ℕ, List, All, IfOk, IfErr, OnOk, length, map};
 ghost use Rattle.meaning.specs.declared.types.Fact.{Fact};
 ghost use Rattle.access_schema.specs.declared.schema.Schema.{Schema};
 ghost use Rattle.lane_pool.specs.Work.{AllReady, FansOut};
@@ -8,7 +8,7 @@ ghost use Rattle.source_trait.specs.declared.work.Asked.TheVariants as asked;
 ghost use Rattle.middleware.specs.LaneRounds.{started, requests_in, HaveTheirKinds, AsksEach, AsksSome, AreAnswers, LanesHold, picked, NoneStopped, FirstRefused, AskCause, SkipsBehind};
 
 use crate::answers::Answers;
-use lane_pool::fan_out;
+use lane_pool::{Worker, fan_out};
 use lists::NoMemory;
 use source_trait::{Ask, Asked, Lane, Source};
 use std::alloc::Global;
@@ -72,11 +72,45 @@ fn ask_lanes<R: Threads + Sync, S: Source + Send + Drop>(
         return Ok(Vec::new(alloc));
     }
     let (used, _idle) = lanes.split_at_mut(count);
+    if count == 1 {
+        return work_alone(alloc, &mut used[0], asks);
+    }
     fan_out(rt, alloc, used, asks)
 }
 
-/// No lane is stopped as a round begins.
-pub fn start<S>(lanes: &mut [Lane<S>])
+// One worker works the items in their order, without a counter that others would share. All memory is taken before the first item is
+// worked.
+fn work_alone<W: Worker>(
+    alloc: Global,
+    worker: &mut W,
+    items: &[W::Item],
+) -> Result<Vec<W::Answer>, NoMemory>
+where
+    W::Answer: Drop,
+    requires few { length items.now ≤ 1_000_000 }
+    requires ready { All (W.ready worker.old) items.now }
+    ensures asked { IfOk result (λ answers. FansOut W.did items.now answers.items (worker.old ∷ []) (worker.new ∷ [])) }
+    ensures refused { IfErr result (λ _. worker.new ≡ worker.old) }
+{
+    let mut answers = Vec::with_capacity(alloc, items.len())?;
+    for item in items {
+        answers.push_reserved(worker.work(alloc, item));
+    }
+    Ok(answers)
+}
+
+/// No lane is stopped where there is a round. Without a round the lanes stay.
+pub fn start_for<S>(lanes: &mut [Lane<S>], rounds: usize)
+    ensures some { 0 < rounds → lanes.new ≡ map started lanes.old }
+    ensures none { rounds ≡ 0 → lanes.new ≡ lanes.old }
+{
+    if rounds > 0 {
+        start(lanes);
+    }
+}
+
+// No lane is stopped as a round begins.
+fn start<S>(lanes: &mut [Lane<S>])
     ensures { lanes.new ≡ map started lanes.old }
 {
     for lane in lanes.iter_mut() {

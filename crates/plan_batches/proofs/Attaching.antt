@@ -3,7 +3,7 @@ use Rattle.std.proofs.Common.{◌≡◌, ◌↔◌, ◌⊎◌, inl, inr, ⊎_eli
 use Rattle.std.specs.Prelude.{Contains, IsSome, slice_get, Result, Ok, Err, IfOk, OnOk}
 use Rattle.std.specs.List.{AllZip}
 use Rattle.std.proofs.lemmas.Option.{slice_get_within}
-use Rattle.lists.proofs.Members.{contains_got, contains_map, got_below}
+use Rattle.lists.proofs.Members.{contains_got, got_below}
 use Rattle.lists.proofs.Places.{got_member}
 use Rattle.meaning.specs.declared.types.Fact.{Fact}
 use Rattle.meaning.specs.declared.types.Plan.{Plan}
@@ -22,19 +22,21 @@ use Rattle.middleware.specs.Held.{HoldNeeded}
 use Rattle.middleware.specs.Needs.{needed, AttachBreaksAt, AttachesNeeded}
 use Rattle.middleware.specs.Needs.AttachesNeeded.{done, no_source, unknown_kind, refused, no_memory}
 use Rattle.middleware.specs.LaneBranches.{OnEach}
-use Rattle.middleware.specs.LaneRounds.{started, AsksEach, NoneStopped}
+use Rattle.middleware.specs.LaneRounds.{started, NoneStopped}
 use Rattle.middleware.specs.LaneRunning.{IsAttachedTo}
 use Rattle.middleware.specs.declared.fault.Run.{Run}
 use Rattle.middleware.specs.declared.fault.RunFault.{RunFault}
 use Rattle.middleware.specs.declared.fault.RunFault.TheVariants as fault
 use Rattle.middleware.proofs.Attached.{order_attached_to}
+use Rattle.middleware.proofs.Begun.{begun_started, from_started}
 use Rattle.middleware.proofs.Lacking.{rises_strictly, the_line}
 use Rattle.middleware.proofs.LaneBranching.{each_asked}
-use Rattle.middleware.proofs.LaneShares.{AsksEach-trans, only_asked}
-use Rattle.middleware.proofs.LaneStays.{asked_stay, attached_each, attach_long, attach_none, started_stay, unstarted}
+use Rattle.middleware.proofs.LaneShares.{only_asked}
+use Rattle.middleware.proofs.LaneStays.{asked_stay, attached_each, attach_long, attach_none, started_stay}
 use Rattle.middleware.proofs.Needing.{needed_alike}
 use Rattle.middleware.proofs.Starting.{all_ready, relation_of, accessed_there}
-use Rattle.plan_batches.specs.Batching.{NeedsOf, needed_by_all, CanNumber, Concerns, IsFirstOn, LanesHoldAll, RoundsAsked, RoundsHalt, RoundsDone, IsRunOf, ExecutesAll}
+use Rattle.plan_course.specs.Courses.{CanNumber}
+use Rattle.plan_batches.specs.Batching.{NeedsOf, needed_by_all, Concerns, IsFirstOn, LanesHoldAll, RoundsAsked, RoundsHalt, RoundsDone, IsRunOf, ExecutesAll}
 use Rattle.plan_batches.specs.Batching.AttachesAndAsksAll.{not_attached, attached}
 use Rattle.plan_batches.specs.Each.{Both}
 use Rattle.plan_batches.specs.Needing.{Accesses, StandsIn, IsFirstIn, HasRelation, IsNamedIn}
@@ -190,27 +192,16 @@ module _ (schema : Schema) (plans : List Plan) where
 
     -- ---- lanes that were started, or asked nothing
 
-    module _ (old begun : List (Lane S)) (is : (begun ≡ map started old) ⊎ (begun ≡ old)) where
-      from_started : (list : List Request) (new : List (Lane S)) → AsksEach seen schema list begun new → AsksEach seen schema list (map started old) new
-      from_started list new asks = ⊎_elim
-          (λ e. subst (λ (l : List (Lane S)). AsksEach seen schema list l new) e asks)
-          (λ e. AsksEach-trans seen schema [] list (map started old) old new (unstarted seen schema old)
-          (subst (λ (l : List (Lane S)). AsksEach seen schema list l new) e asks))
-          is
-
-      held_started : (instance : List Fact) → LanesHoldAll seen schema plans (map started old) instance → LanesHoldAll seen schema plans begun instance
-      held_started instance holds = ⊎_elim
-          (λ e. subst (λ (l : List (Lane S)). LanesHoldAll seen schema plans l instance) (sym e) holds)
-          (λ e. subst (λ (l : List (Lane S)). LanesHoldAll seen schema plans l instance) (sym e)
-          (λ lane among. holds (started lane) (contains_map started old lane among)))
-          is
+    module _ (old begun : List (Lane S)) (rounds : ℕ) (some : 0 < rounds → begun ≡ map started old) (none : rounds ≡ 0 → begun ≡ old) where
+      held_begun : (instance : List Fact) → LanesHoldAll seen schema plans (map started old) instance → LanesHoldAll seen schema plans begun instance
+      held_begun instance = begun_started old begun rounds some none (λ kinds. HoldNeeded seen schema (NeedsOf schema plans) kinds instance)
 
       pub rounds_started : (n : ℕ) (list : List Request) (new : List (Lane S)) → RoundsAsked seen schema plans n list begun new
           → RoundsAsked seen schema plans n list (map started old) new
       rounds_started n list new r = record {
-        asks = from_started list new r.asks;
+        asks = from_started old begun rounds some none seen schema list new r.asks;
         of_plans = r.of_plans;
-        are = λ instance holds. r.are instance (held_started instance holds);
+        are = λ instance holds. r.are instance (held_begun instance holds);
       }
 
       pub halts_started : (cap : ℕ) (why : BatchFault) (new : List (Lane S)) → RoundsHalt seen schema plans cap why begun new
@@ -223,6 +214,6 @@ module _ (schema : Schema) (plans : List Plan) where
         whole = rounds_started h.n h.earlier h.middle h.whole;
         part = h.part;
         of_plans = h.of_plans;
-        are = ⊎_elim inl (λ a. inr (λ instance holds. a instance (held_started instance holds))) h.are;
+        are = ⊎_elim inl (λ a. inr (λ instance holds. a instance (held_begun instance holds))) h.are;
         cause = h.cause;
       }

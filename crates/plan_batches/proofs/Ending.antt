@@ -22,7 +22,7 @@ use Rattle.middleware.specs.LaneBranches.{LanesHoldPlan}
 use Rattle.middleware.specs.LaneRounds.{at_numbers, with_request}
 use Rattle.middleware.specs.declared.fault.Run.{Run}
 use Rattle.middleware.proofs.LaneBranching.{each_asked}
-use Rattle.middleware.proofs.LanePlanning.{plan_held_earlier}
+use Rattle.middleware.proofs.PlanHeld.{plan_held_earlier}
 use Rattle.shared_rounds.specs.SharedRounds.{Anew, AreAskedAt, AreRounds, IsTurn, turns_of, wanted_in}
 use Rattle.shared_rounds.specs.Books.{AreNumbers, asked_in}
 use Rattle.shared_rounds.proofs.Counting.{all_long}

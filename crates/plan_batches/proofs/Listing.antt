@@ -1,23 +1,21 @@
 -- Numbers in lists, and members that are gone through one by one.
-use Rattle.std.proofs.Common.{◌≡◌, ◌↔◌, ⊎_elim, inl, inr, ℕ, ◌+◌, ◌*◌, ◌-◌, ◌<◌, ◌≤◌, ◌^◌, max, Bool, true, false, ◌||◌, nat_eq, List, [], ◌∷◌, ◌++◌, length, take, get_or, Some, refl, sym, ◌∙◌, ap, subst, arith}
+use Rattle.std.proofs.Common.{◌≡◌, ◌↔◌, ⊎_elim, inl, inr, ℕ, ◌+◌, ◌<◌, ◌≤◌, max, Bool, true, false, nat_eq, List, [], ◌∷◌, ◌++◌, length, take, get_or, Some, refl, sym, ◌∙◌, ap, subst, arith}
 use Rattle.std.specs.Prelude.{Contains, slice_get}
-use Rattle.std.specs.List.{AllByRecursion, list_any}
+use Rattle.std.specs.List.{list_any}
 use Rattle.std.specs.List.Sorted.{IsStrictlyIncreasing}
 use Rattle.std.proofs.lemmas.Bool.{both_ways, cases_lt}
-use Rattle.std.proofs.lemmas.Bool.Decides.{nat_tests}
-use Rattle.std.proofs.lemmas.List.{length-take, take_all}
+use Rattle.std.proofs.lemmas.List.{take_all}
 use Rattle.std.proofs.lemmas.Option.{slice_get_within}
-use Rattle.lists.proofs.Members.{contains_here, contains_there, contains_cases, contains_got, contains_none, contains_one, contains_take, some_injective}
+use Rattle.lists.proofs.Members.{contains_here, contains_there, contains_cases, contains_got, contains_none, contains_one, some_injective}
 use Rattle.lists.proofs.Places.{got_indexed, got_member, take_indexed}
-use Rattle.meaning.specs.declared.types.Branch.{Branch}
 use Rattle.meaning.specs.declared.types.Plan.{Plan}
 use Rattle.meaning.specs.Search.{AreDistinct}
 use Rattle.source_trait.specs.Asking.{Rises}
 use Rattle.middleware.proofs.Lacking.{above, rises_strictly}
-use Rattle.shared_rounds.specs.SharedRounds.{steps_in, turns_of}
-use Rattle.shared_rounds.proofs.Counting.{all_long}
+use Rattle.middleware.proofs.Needing.{any_of, any_to}
+use Rattle.shared_rounds.specs.SharedRounds.{turns_of}
 use Rattle.shared_rounds.proofs.Turning.{append_first, append_second, in_append}
-use Rattle.plan_batches.specs.Batching.{CanNumber, most_steps}
+use Rattle.plan_batches.specs.Batching.{most_steps}
 use Rattle.plan_batches.specs.Naming.{IsFirstGoing, WantsNumber}
 use Rattle.plan_batches.specs.Needing.{StandsIn, IsFirstIn}
 use Rattle.plan_batches.specs.declared.member.Going.{Going}
@@ -25,32 +23,12 @@ use Rattle.plan_batches.specs.declared.needs.Accessed.{Accessed}
 
 -- ---- whether a number is in a list
 
-any_in : (q : ℕ) (ks : List ℕ) → list_any (λ y. nat_eq y q) ks ≡ true → Contains ks q
-any_in q [] e = absurd (cc)
-any_in q (k ∷ ks) e = go (nat_eq k q) refl e (any_in q ks)
-  where
-    go : (b : Bool) → nat_eq k q ≡ b → (b || list_any (λ y. nat_eq y q) ks) ≡ true → (list_any (λ y. nat_eq y q) ks ≡ true → Contains ks q)
-        → Contains (k ∷ ks) q
-    go true test h later = let same : k ≡ q = grind (arith, nat_tests, test) in subst (λ n. Contains (k ∷ ks) n) same (contains_here k ks)
-    go false test h later = contains_there k ks q (later h)
-
-in_any : (q : ℕ) (ks : List ℕ) → Contains ks q → list_any (λ y. nat_eq y q) ks ≡ true
-in_any q [] c = absurd (contains_none q c)
-in_any q (k ∷ ks) c = ⊎_elim
-    (λ same. let test : nat_eq k q ≡ true = grind (arith, nat_tests, same) in ap (λ b. b || list_any (λ y. nat_eq y q) ks) test)
-    (λ more. either (nat_eq k q) (list_any (λ y. nat_eq y q) ks) (in_any q ks more))
-    (contains_cases k ks q c)
-  where
-    either : (a b : Bool) → b ≡ true → (a || b) ≡ true
-    either true b e = refl
-    either false b e = e
-
 -- the answer of a search in a list that is lent
 pub found_in : (q : ℕ) (ks lent : List ℕ) (b : Bool) → lent ≡ ks → b ≡ list_any (λ y. nat_eq y q) lent → b ≡ true → Contains ks q
-found_in q ks lent b same is test = subst (λ (l : List ℕ). Contains l q) same (any_in q lent (sym is ∙ test))
+found_in q ks lent b same is test = subst (λ (l : List ℕ). Contains l q) same (any_to q lent (sym is ∙ test))
 
 pub not_found_in : (q : ℕ) (ks lent : List ℕ) (b : Bool) → lent ≡ ks → b ≡ list_any (λ y. nat_eq y q) lent → b ≡ false → Contains ks q → ⊥
-not_found_in q ks lent b same is test c = both_ways b test (is ∙ in_any q lent (subst (λ (l : List ℕ). Contains l q) (sym same) c))
+not_found_in q ks lent b same is test c = both_ways b test (is ∙ any_of q lent (subst (λ (l : List ℕ). Contains l q) (sym same) c))
 
 -- ---- one member more, of which it does not hold
 
@@ -140,34 +118,6 @@ few_numbers xs most up under =
     let h = rises_short xs 0 most (rises_strictly xs up) (λ x c. omega arith) under (omega arith) in omega (arith, h)
 
 -- ---- how many steps
-
-steps_push : (branches : List Branch) (its : Branch) → steps_in (branches ++ its ∷ []) ≡ steps_in branches + length its.steps
-steps_push [] its = omega arith
-steps_push (b ∷ branches) its = let h = steps_push branches its in omega (arith, h)
-
-pub steps_more : (branches : List Branch) (i : ℕ) (its : Branch) → i < length branches → its ≡ get_or branches i its → (count : ℕ)
-    → count ≡ steps_in (take i branches) → count + length its.steps ≡ steps_in (take (i + 1) branches)
-steps_more branches i its under at count is =
-    let more = ap steps_in (take_indexed branches i its under at) in
-    let push = steps_push (take i branches) its in
-    omega (arith, more, push, is)
-
-steps_few : (branches : List Branch) → ((its : Branch) → Contains branches its → length its.steps < 2 ^ 32) → steps_in branches ≤ length branches * 4294967295
-steps_few [] short = omega arith
-steps_few (b ∷ branches) short =
-    let here = short b (contains_here b branches) in
-    let rest = steps_few branches (λ its c. short its (contains_there b branches its c)) in
-    omega (arith, here, rest)
-
-pub steps_fit : (plan : Plan) → CanNumber plan → (i : ℕ) → steps_in (take i plan.branches) < 2 ^ 64
-steps_fit plan can i =
-    let few = steps_few (take i plan.branches) (λ its c. can.1 its (contains_take i plan.branches its c)) in
-    let long = length-take i plan.branches in
-    let short = can.0 in
-    omega (arith, few, long, short)
-
-pub all_steps : (plan : Plan) (i : ℕ) → length plan.branches ≤ i → (count : ℕ) → count ≡ steps_in (take i plan.branches) → count ≡ length (turns_of plan)
-all_steps plan i over count is = is ∙ ap steps_in (take_all i plan.branches over) ∙ sym (all_long 0 plan.branches)
 
 most_push : (plans : List Plan) (plan : Plan) → most_steps (plans ++ plan ∷ []) ≡ max (most_steps plans) (length (turns_of plan))
 most_push [] plan = omega arith

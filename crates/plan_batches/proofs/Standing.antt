@@ -26,7 +26,8 @@ use Rattle.plan_course.specs.declared.turns.Next.{Next}
 use Rattle.plan_course.specs.declared.turns.Next.TheVariants.{Wants as Asks, Done}
 use Rattle.plan_course.specs.declared.turns.Pending.{Pending}
 use Rattle.plan_batches.specs.Asking.{WasNext}
-use Rattle.plan_batches.specs.Batching.{AreOfPlans, CanNumber, IsNumbered}
+use Rattle.plan_course.specs.Courses.{CanNumber}
+use Rattle.plan_batches.specs.Batching.{AreOfPlans, IsNumbered}
 use Rattle.plan_batches.specs.Each.{Both, Each}
 use Rattle.plan_batches.specs.Members.{Wants}
 use Rattle.plan_batches.specs.Naming.{CanName, CanNameBy}

@@ -3,7 +3,6 @@ use Rattle.std.specs.Prelude.{◌≡◌, ◌↔◌, ◌⊎◌, ◌+◌, ◌-◌,
 use Rattle.std.specs.List.{AllZip}
 use Rattle.std.specs.List.Sorted.{IsStrictlySortedBy}
 use Rattle.meaning.specs.declared.types.Fact.{Fact}
-use Rattle.meaning.specs.declared.types.Branch.{Branch}
 use Rattle.meaning.specs.declared.types.Plan.{Plan}
 use Rattle.meaning.specs.declared.types.Request.{Request}
 use Rattle.meaning.specs.Rows.{IsRow}
@@ -38,10 +37,6 @@ NeedsOf schema plans rel = (plan : Plan) × Contains plans plan × IsAccessed sc
 -- for plans that are executed together each lane needs the relations of all of them
 abbrev pub needed_by_all : Schema → List Plan → ℕ → ℕ → Type 0
 needed_by_all schema plans place rel = NeedsOf schema plans rel
-
--- branches and steps can be numbered
-abbrev pub CanNumber : Plan → Type 0
-CanNumber plan = (length plan.branches < 2 ^ 32) × ((branch : Branch) → Contains plan.branches branch → length branch.steps < 2 ^ 32)
 
 -- how many steps the longest of the plans has
 abbrev pub most_steps : List Plan → ℕ

@@ -13,9 +13,9 @@ use Rattle.middleware.specs.LaneRounds.{requests_in, HaveTheirKinds, AsksEach, A
 use Rattle.shared_rounds.specs.SharedRounds.{Once, to_ask, wanted_in}
 use Rattle.shared_rounds.specs.Books.{AreNumbers, IsBook, asked_in, with_asked}
 use Rattle.shared_rounds.specs.declared.book.Book.{Book}
-use Rattle.plan_course.specs.Courses.{AreReadyBranches, IsAt}
+use Rattle.plan_course.specs.Courses.{AreReadyBranches, CanNumber, IsAt}
 use Rattle.plan_course.specs.Turns.{asks_of}
-use Rattle.plan_batches.specs.Batching.{AreOfPlans, CanNumber, HaltsFor}
+use Rattle.plan_batches.specs.Batching.{AreOfPlans, HaltsFor}
 use Rattle.plan_batches.specs.Each.{Both, Each}
 use Rattle.plan_batches.specs.Members.{Wants, Takes}
 use Rattle.plan_batches.specs.declared.fault.BatchFault.{BatchFault}

@@ -7,7 +7,8 @@ ghost use Rattle.access_schema.specs.Meaning.{meaning_of};
 ghost use Rattle.middleware.specs.LaneBranches.{OnEach};
 ghost use Rattle.middleware.specs.LaneRounds.{started, NoneStopped};
 ghost use Rattle.middleware.specs.LaneRunning.{IsAttachedTo};
-ghost use Rattle.plan_batches.specs.Batching.{CanNumber, ExecutesAll, IsRunOf, NeedsOf, RoundsDone, RoundsHalt};
+ghost use Rattle.plan_course.specs.Courses.{CanNumber};
+ghost use Rattle.plan_batches.specs.Batching.{ExecutesAll, IsRunOf, NeedsOf, RoundsDone, RoundsHalt};
 ghost use Rattle.plan_batches.specs.Needing.{HasRelation, IsNamedIn};
 ghost use Rattle.plan_batches.specs.Rounding.{AreReadyPlans};
 
@@ -18,7 +19,7 @@ use crate::round::Progress;
 use crate::rounds::{all_rounds, end_all, most_steps};
 use access_schema::Schema;
 use meaning::types::Plan;
-use middleware::{Run, RunFault, attach_needed, start};
+use middleware::{Run, RunFault, attach_needed, start_for};
 use source_trait::{Lane, Source};
 use std::alloc::Global;
 use std::thread::Threads;
@@ -108,15 +109,5 @@ fn batch_attached<R: Threads + Sync, S: Source + Send + Drop>(
             }
         }
         Err(fault) => Err(fault),
-    }
-}
-
-// No lane is stopped where there is a round. Without a round the lanes stay.
-fn start_for<S>(lanes: &mut [Lane<S>], rounds: usize)
-    ensures some { 0 < rounds → lanes.new ≡ map started lanes.old }
-    ensures none { rounds ≡ 0 → lanes.new ≡ lanes.old }
-{
-    if rounds > 0 {
-        start(lanes);
     }
 }

@@ -4,9 +4,8 @@ ghost use Rattle.meaning.specs.declared.types.Plan.{Plan};
 ghost use Rattle.middleware.specs.LaneBranches.{OnEach};
 ghost use Rattle.middleware.specs.LaneRounds.{NoneStopped};
 ghost use Rattle.middleware.specs.LaneRunning.{IsAttachedTo};
-ghost use Rattle.plan_course.specs.Courses.{HaveOutputs};
-ghost use Rattle.shared_rounds.specs.SharedRounds.{turns_of};
-ghost use Rattle.plan_batches.specs.Batching.{CanNumber, NeedsOf, RoundsHalt, most_steps};
+ghost use Rattle.plan_course.specs.Courses.{CanNumber, HaveOutputs};
+ghost use Rattle.plan_batches.specs.Batching.{NeedsOf, RoundsHalt, most_steps};
 ghost use Rattle.plan_batches.specs.Coming.{HasCome};
 ghost use Rattle.plan_batches.specs.Each.{Both};
 ghost use Rattle.plan_batches.specs.Members.{Begins, Ends};
@@ -21,6 +20,7 @@ use access_schema::Schema;
 use lists::NoMemory;
 use meaning::types::Plan;
 use middleware::{Answers, Run};
+use plan_course::count_steps;
 use shared_rounds::Book;
 use source_trait::{Lane, Source};
 use std::alloc::Global;
@@ -97,15 +97,4 @@ pub fn most_steps(plans: &[Plan]) -> usize
         most = most.max(count_steps(plan));
     }
     most
-}
-
-fn count_steps(plan: &Plan) -> usize
-    requires { CanNumber plan.now }
-    ensures { result ≡ length (turns_of plan.now) }
-{
-    let mut count: usize = 0;
-    for branch in plan.branches.as_slice() {
-        count += branch.steps.as_slice().len();
-    }
-    count
 }

@@ -16,7 +16,7 @@ use Rattle.meaning.specs.Requests.{IsRound}
 use Rattle.access_schema.specs.declared.schema.Schema.{Schema}
 use Rattle.access_schema.specs.Meaning.{meaning_of}
 use Rattle.access_schema.proofs.Keeping.{well_formed}
-use Rattle.source_trait.specs.Asking.{RowList, Seen, pick}
+use Rattle.source_trait.specs.Asking.{RowList, pick}
 use Rattle.middleware.specs.Asked.{IsStepRequest}
 use Rattle.middleware.specs.Blocks.{AreTables, HaveLive, AreBlocks}
 use Rattle.middleware.specs.BlockRounds.{Checks}
@@ -40,10 +40,6 @@ use Rattle.plan_course.specs.declared.course.Course.{Course}
 use Rattle.plan_course.specs.declared.turns.Pending.{Pending}
 use Rattle.lists.proofs.Places.{take_got}
 use Rattle.plan_course.proofs.Standing.{IsAtStep, at_step, knows_at, knows_in, settled_at}
-
--- what a source tells is not spoken of here
-abbrev no_source : Seen → Seen
-no_source seen = seen
 
 abbrev pub asked : Pending → List Request
 asked pending = requests_of pending.method.rel pending.method.inputs pending.wanted.requests
@@ -83,7 +79,7 @@ module _ (schema : Schema) (its : Branch) (course : Course) (pending : Pending) 
 
   pub pending_below : (k : ℕ) → Contains pending.columns k → k < pending.count
   pending_below k c =
-      let l = asking_below no_source schema (well_formed schema) a.step rest its.output course.count course.blocks.items ready have
+      let l = asking_below schema (well_formed schema) a.step rest its.output course.count course.blocks.items ready have
       pending.method a.named a.asking a.asks k
       (subst (λ (l : List ℕ). Contains l k) a.columns_are c) in
       subst (λ n. k < n) (sym a.count_is) l
@@ -92,7 +88,7 @@ module _ (schema : Schema) (its : Branch) (course : Course) (pending : Pending) 
   pending_rest =
       subst (λ n. AreTables n pending.rest.items) (sym a.count_is)
       (subst (λ (b : List Block). AreTables a.asking.count b) (sym a.rest_are)
-      (rest_below no_source schema (well_formed schema) a.step rest its.output course.count course.blocks.items ready have pending.method
+      (rest_below schema (well_formed schema) a.step rest its.output course.count course.blocks.items ready have pending.method
       a.named a.asking a.asks))
 
   -- ---- the requests
@@ -102,7 +98,7 @@ module _ (schema : Schema) (its : Branch) (course : Course) (pending : Pending) 
       (wanted_same a.asking.rows pending.wanted.rows a.same pending.places pending.method.inputs pending.wanted.requests a.wanted)
 
   pub asked_of_step : (request : Request) → Contains (asked pending) request → IsStepRequest parts a.step request
-  asked_of_step = of_step no_source schema (well_formed schema) a.step rest its.output course.count course.blocks.items ready have
+  asked_of_step = of_step schema (well_formed schema) a.step rest its.output course.count course.blocks.items ready have
       pending.method a.named a.asking a.asks
       pending.wanted.requests at_asking
 
@@ -113,7 +109,7 @@ module _ (schema : Schema) (its : Branch) (course : Course) (pending : Pending) 
       → IsRound parts facts (take course.step its.steps) a.step (asked pending)
   asked_round facts m =
       let wanted : IsWanted a.step.places pending.method.inputs m.partial pending.wanted.requests =
-      wants no_source schema (well_formed schema) a.step rest its.output course.count course.blocks.items ready have pending.method
+      wants schema (well_formed schema) a.step rest its.output course.count course.blocks.items ready have pending.method
       a.named a.asking a.asks
       pending.wanted.requests at_asking m.partial (were facts m) in
       is_round parts (well_formed schema) facts (take course.step its.steps) a.step pending.method a.named inputs m.partial
@@ -153,12 +149,12 @@ module _ (schema : Schema) (its : Branch) (course : Course) (pending : Pending) 
           ∙ sym (columns_push 0 (take course.step its.steps) a.step)
           ∙ ap (λ (l : List Step). columns_after 0 l) (sym taken);
       tables = subst (λ n. AreTables n next.blocks.items) count_asking
-          (go_tables no_source schema (well_formed schema) a.step rest its.output course.count course.blocks.items ready have
+          (go_tables schema (well_formed schema) a.step rest its.output course.count course.blocks.items ready have
           pending.method a.named a.asking a.asks
           grown_block a.columns_are next.blocks.items checks);
       live_columns = subst (λ n. HaveLive (live_from its n) next.count next.blocks.items) (sym step_is)
           (subst (λ n. HaveLive (is_live rest its.output) n next.blocks.items) count_asking
-          (go_live no_source schema (well_formed schema) a.step rest its.output course.count course.blocks.items ready have pending.method
+          (go_live schema (well_formed schema) a.step rest its.output course.count course.blocks.items ready have pending.method
           a.named a.asking a.asks
           grown_block a.columns_are next.blocks.items checks));
     }
@@ -210,7 +206,7 @@ module _ (schema : Schema) (its : Branch) (course : Course) (pending : Pending) 
             (λ row. ((λ c. c), (λ c. c))));
         blocks_are = subst (λ n. AreBlocks (live_from its n) next.count others next.blocks.items) (sym step_is)
             (subst (λ n. AreBlocks (is_live rest its.output) n others next.blocks.items) count_asking
-            (go_blocks no_source schema (well_formed schema) a.step rest its.output course.count course.blocks.items ready have
+            (go_blocks schema (well_formed schema) a.step rest its.output course.count course.blocks.items ready have
             pending.method a.named a.asking a.asks
             grown_block a.columns_are next.blocks.items checks facts m.partial (were facts m) rows_asking));
       }

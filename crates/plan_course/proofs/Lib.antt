@@ -1,3 +1,4 @@
 pub mod Numbers
 pub mod Standing
 pub mod Growing
+pub mod Accessing

@@ -1,15 +1,16 @@
 -- The steps of a plan by the numbers of their branches and their numbers there.
-use Rattle.std.proofs.Common.{◌≡◌, ℕ, zero, suc, ◌+◌, ◌<◌, ◌≤◌, List, [], ◌∷◌, ◌++◌, length, take, None, Some, refl, sym, ◌∙◌, ap, subst, append_assoc, arith}
-use Rattle.std.specs.Prelude.{slice_get}
-use Rattle.std.proofs.lemmas.List.{append-nil, take_all}
+use Rattle.std.proofs.Common.{◌≡◌, ℕ, zero, suc, ◌+◌, ◌*◌, ◌<◌, ◌≤◌, ◌^◌, List, [], ◌∷◌, ◌++◌, length, take, get_or, None, Some, refl, sym, ◌∙◌, ap, subst, append_assoc, arith}
+use Rattle.std.specs.Prelude.{Contains, slice_get}
+use Rattle.std.proofs.lemmas.List.{append-nil, length-take, take_all}
 use Rattle.std.proofs.lemmas.Option.{slice_get_within}
-use Rattle.lists.proofs.Members.{got_before, some_injective}
-use Rattle.lists.proofs.Places.{got_after}
+use Rattle.lists.proofs.Members.{contains_here, contains_there, contains_take, got_before, some_injective}
+use Rattle.lists.proofs.Places.{got_after, got_indexed}
 use Rattle.meaning.specs.declared.types.Step.{Step}
 use Rattle.meaning.specs.declared.types.Branch.{Branch}
 use Rattle.meaning.specs.declared.types.Plan.{Plan}
 use Rattle.shared_rounds.specs.SharedRounds.{Turn, turns_from, turns_in, turns_of, steps_in}
 use Rattle.shared_rounds.proofs.Counting.{all_long, turns_long}
+use Rattle.plan_course.specs.Courses.{CanNumber}
 
 abbrev pub turn_of : ℕ → ℕ → List Step → Step → Turn
 turn_of branch step before its = record { branch = branch; step = step; before = before; its = its }
@@ -93,3 +94,29 @@ all_steps plan = ap steps_in (take_all (length plan.branches) plan.branches (ome
 pub take_none : {X : Type 0} (xs : List X) → take 0 xs ≡ []
 take_none [] = refl
 take_none (x ∷ xs) = refl
+
+-- ---- how many steps a plan has
+
+pub count_more : (branches : List Branch) (i : ℕ) (its : Branch) → i < length branches → its ≡ get_or branches i its → (count : ℕ)
+    → count ≡ steps_in (take i branches) → count + length its.steps ≡ steps_in (take (i + 1) branches)
+count_more branches i its under at count is =
+    let push = steps_push branches i its (got_indexed branches i its under at) in omega (arith, push, is)
+
+steps_few : (branches : List Branch) → ((its : Branch) → Contains branches its → length its.steps < 2 ^ 32)
+    → steps_in branches ≤ length branches * 4294967295
+steps_few [] short = omega arith
+steps_few (b ∷ branches) short =
+    let here = short b (contains_here b branches) in
+    let rest = steps_few branches (λ its c. short its (contains_there b branches its c)) in
+    omega (arith, here, rest)
+
+pub steps_fit : (plan : Plan) → CanNumber plan → (i : ℕ) → steps_in (take i plan.branches) < 2 ^ 64
+steps_fit plan can i =
+    let few = steps_few (take i plan.branches) (λ its c. can.1 its (contains_take i plan.branches its c)) in
+    let long = length-take i plan.branches in
+    let short = can.0 in
+    omega (arith, few, long, short)
+
+pub steps_counted : (plan : Plan) (i : ℕ) → length plan.branches ≤ i → (count : ℕ) → count ≡ steps_in (take i plan.branches)
+    → count ≡ length (turns_of plan)
+steps_counted plan i over count is = is ∙ ap steps_in (take_all i plan.branches over) ∙ sym (all_long 0 plan.branches)

@@ -1,5 +1,5 @@
 -- How far one plan has come.
-use Rattle.std.specs.Prelude.{◌≡◌, ◌↔◌, ◌≤◌, ◌<◌, ◌+◌, ℕ, List, [], Bool, Contains, Option, None, Some, drop, length, slice_get, take}
+use Rattle.std.specs.Prelude.{◌≡◌, ◌↔◌, ◌≤◌, ◌<◌, ◌+◌, ◌^◌, ℕ, List, [], Bool, Contains, Option, None, Some, drop, length, slice_get, take}
 use Rattle.meaning.specs.declared.types.SchemaParts.{SchemaParts}
 use Rattle.meaning.specs.declared.types.Fact.{Fact}
 use Rattle.meaning.specs.declared.types.Out.{Out}
@@ -26,6 +26,10 @@ HasOutputs branch = (out : Out) → Contains branch.output out → IsReadyOut (c
 
 abbrev pub HaveOutputs : Plan → Type 0
 HaveOutputs plan = (branch : Branch) → Contains plan.branches branch → HasOutputs branch
+
+-- branches and steps can be numbered
+abbrev pub CanNumber : Plan → Type 0
+CanNumber plan = (length plan.branches < 2 ^ 32) × ((branch : Branch) → Contains plan.branches branch → length branch.steps < 2 ^ 32)
 
 -- ---- where a course stands
 

@@ -4,7 +4,7 @@ use Rattle.meaning.specs.declared.types.Plan.{Plan}
 use Rattle.access_schema.specs.declared.schema.Schema.{Schema}
 use Rattle.source_trait.specs.Asking.{Seen}
 use Rattle.source_trait.specs.declared.lanes.Lane.{Lane}
-use Rattle.middleware.specs.Executing.{ExecutesAttached}
+use Rattle.plan_execution.specs.Executing.{ExecutesAttached}
 use Rattle.middleware.specs.declared.fault.Run.{Run}
 use Rattle.middleware.specs.declared.fault.RunFault.{RunFault}
 use Rattle.data_verify.specs.declared.broken.Broken.{Broken}

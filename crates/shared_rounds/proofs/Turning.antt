@@ -48,7 +48,7 @@ module _ (schema : SchemaParts) (facts : List Fact) where
   of_steps branch n before (step ∷ steps) requests (now, later, e, round, rest) =
       (now, later, e, round, of_steps branch (n + 1) (before ++ step ∷ []) steps later rest)
 
-  steps_of : (branch n : ℕ) (before steps : List Step) (requests : List Request) → AreOf (turns_from branch n before steps) requests
+  pub steps_of : (branch n : ℕ) (before steps : List Step) (requests : List Request) → AreOf (turns_from branch n before steps) requests
       → AreStepsRequests schema facts before steps requests
   steps_of branch n before [] requests e = e
   steps_of branch n before (step ∷ steps) requests (now, later, e, round, rest) =
@@ -59,7 +59,7 @@ module _ (schema : SchemaParts) (facts : List Fact) where
   of_append (turn ∷ first) second a b (now, later, e, round, more) rest =
       (now, later ++ b, ap (λ (l : List Request). l ++ b) e ∙ append_assoc now later b, round, of_append first second later b more rest)
 
-  of_split : (first second : List Turn) (list : List Request) → AreOf (first ++ second) list
+  pub of_split : (first second : List Turn) (list : List Request) → AreOf (first ++ second) list
       → (a b : List Request) × (list ≡ a ++ b) × AreOf first a × AreOf second b
   of_split [] second list are = ([], list, refl, refl, are)
   of_split (turn ∷ first) second list (now, later, e, round, more) =

@@ -1,4 +1,4 @@
-use Rattle.std.proofs.Common.{◌≡◌, ◌<◌, ℕ, false, true, length, get_or, rules, arith}
+use Rattle.std.proofs.Common.{◌≡◌, false, true, get_or, rules, arith}
 use Rattle.std.proofs.lemmas.Option.{slice_get-get_or}
 use Rattle.lists.proofs.Members.{contains_got}
 use Rattle.middleware.specs.Sources.{HavePlace}

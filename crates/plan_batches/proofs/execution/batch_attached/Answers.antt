@@ -2,7 +2,8 @@ use Rattle.std.proofs.Common.{◌≡◌, sym, subst, refl, arith}
 use Rattle.std.proofs.lemmas.Result.{IfOk-weaker}
 use Rattle.middleware.specs.LaneRunning.{IsAttachedTo}
 use Rattle.plan_batches.specs.Coming.{HasCome}
-use Rattle.plan_batches.proofs.Beginning.{begun_each, begun_going, begun_long, begun_some, done_so, going_so, halts_so, idle_so, runs_so}
+use Rattle.middleware.proofs.Begun.{begun_each, begun_going, begun_long}
+use Rattle.plan_batches.proofs.Beginning.{begun_some, done_so, going_so, halts_so, idle_so, runs_so}
 use Rattle.plan_batches.proofs.Coming.{halts_behind}
 use Rattle.plan_batches.proofs.Ending.{few_wanted}
 use Rattle.plan_batches.proofs.execution.batch_attached.Goals as goal
@@ -12,7 +13,7 @@ most_steps-most-requires g c = λ plan among. (c.requires.plans.0 plan among).1
 
 pub all_rounds-requires-clause-few : goal.all_rounds-requires-clause-few
 all_rounds-requires-clause-few g c κs within =
-    let long = begun_long g.S.Source.seen c.args.schema.now c.args.plans.now c.requires.plans.0 c.args.lanes.now c.start_for.new.lanes c.most_steps-most.result c.most_steps-most.ensures c.start_for.ensures.some c.start_for.ensures.none in
+    let long = begun_long c.args.lanes.now c.start_for.new.lanes c.most_steps-most.result c.start_for.ensures.some c.start_for.ensures.none in
     let few = c.requires.sizes.0 in
     omega (arith, long, few)
 
@@ -22,11 +23,11 @@ all_rounds-requires-clause-some g c κs within =
 
 pub all_rounds-requires-clause-going : goal.all_rounds-requires-clause-going
 all_rounds-requires-clause-going g c κs within =
-    begun_going g.S.Source.seen c.args.schema.now c.args.plans.now c.requires.plans.0 c.args.lanes.now c.start_for.new.lanes c.most_steps-most.result c.most_steps-most.ensures c.start_for.ensures.some c.start_for.ensures.none
+    begun_going c.args.lanes.now c.start_for.new.lanes c.most_steps-most.result c.start_for.ensures.some c.start_for.ensures.none
 
 pub all_rounds-requires-clause-attached : goal.all_rounds-requires-clause-attached
 all_rounds-requires-clause-attached g c κs within = λ rel need.
-    begun_each g.S.Source.seen c.args.schema.now c.args.plans.now c.requires.plans.0 c.args.lanes.now c.start_for.new.lanes c.most_steps-most.result c.most_steps-most.ensures c.start_for.ensures.some c.start_for.ensures.none
+    begun_each c.args.lanes.now c.start_for.new.lanes c.most_steps-most.result c.start_for.ensures.some c.start_for.ensures.none
     (IsAttachedTo g.S.Source.seen c.args.schema.now rel) (c.requires.attached rel need)
 
 pub end_all-requires : goal.end_all-requires

@@ -1,0 +1,4 @@
+pub mod PlanRounds
+pub mod Running
+pub mod Executing
+pub mod Rounding
