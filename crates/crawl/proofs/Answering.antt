@@ -1,11 +1,11 @@
 -- What the answers of a round are: rows of the arity of their relation, and just those of an instance that the lanes hold.
-use Rattle.std.proofs.Common.{◌≡◌, ◌↔◌, ◌∙◌, ◌⊎◌, ⊎_elim, ℕ, zero, suc, List, [], ◌∷◌, length, Option, None, Some, true, refl, sym, ap, subst, arith}
-use Rattle.std.specs.Prelude.{Contains, slice_get, IsSomeAnd, IfSome, map}
+use Rattle.std.proofs.Common.{◌≡◌, ◌↔◌, ◌∙◌, ⊎_elim, ℕ, suc, List, [], ◌∷◌, length, Option, None, Some, true, refl, sym, ap, subst, arith}
+use Rattle.std.specs.Prelude.{Contains, slice_get, IsSomeAnd, IfSome}
 use Rattle.std.specs.List.{AllByRecursion}
 use Rattle.lists.proofs.Members.{some_injective, contains_none, contains_cases, all_member}
 use Rattle.meaning.specs.declared.types.Fact.{Fact}
 use Rattle.meaning.specs.declared.types.Request.{Request}
-use Rattle.meaning.specs.Values.{Value, Row}
+use Rattle.meaning.specs.Values.{Row}
 use Rattle.meaning.specs.Instances.{FitsRelation}
 use Rattle.meaning.specs.Crawls.{IsPicked}
 use Rattle.access_schema.specs.declared.schema.Schema.{Schema}
@@ -15,7 +15,6 @@ use Rattle.source_trait.specs.Asking.{RowList, Seen, Attached, agrees, pick}
 use Rattle.source_trait.specs.Lanes.{source_of}
 use Rattle.source_trait.specs.declared.lanes.Lane.{Lane}
 use Rattle.source_trait.specs.declared.work.Ask.{Ask}
-use Rattle.middleware.specs.PlanSources.{line_for}
 use Rattle.middleware.specs.Held.{SameFacts}
 use Rattle.middleware.specs.LaneRounds.{requests_in, HasItsKind, IsAnswer, Gives}
 use Rattle.middleware.specs.LaneBranches.{OnEach}

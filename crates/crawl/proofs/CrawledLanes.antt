@@ -1,5 +1,5 @@
 -- A crawl on lanes: the attaches before it, what it leaves of the lanes, and all that it promises.
-use Rattle.std.proofs.Common.{◌≡◌, ◌↔◌, ◌∙◌, ◌⊎◌, ◌<◌, ◌≤◌, inl, inr, ⊎_elim, ℕ, zero, suc, List, [], ◌∷◌, ◌++◌, length, take, Option, None, Some, refl, sym, ap, subst, arith}
+use Rattle.std.proofs.Common.{◌≡◌, ◌↔◌, ◌∙◌, ◌<◌, inl, inr, ℕ, zero, suc, List, [], ◌∷◌, length, Option, None, Some, refl, sym, ap, subst, arith}
 use Rattle.std.specs.Prelude.{Contains, IsSome, IsSomeAnd, slice_get, map, Result, Ok, Err, IfOk, IfErr}
 use Rattle.lists.proofs.Members.{contains_here, contains_none, contains_got, contains_map, contains_mapped}
 use Rattle.meaning.specs.declared.types.Fact.{Fact}
@@ -12,7 +12,6 @@ use Rattle.meaning.specs.Instances.{IsInstance}
 use Rattle.meaning.specs.Search.{AreDistinct}
 use Rattle.meaning_laws.proofs.Crawling.{crawls_reach}
 use Rattle.access_schema.specs.declared.schema.Schema.{Schema}
-use Rattle.access_schema.specs.declared.schema.SourceLine.{SourceLine}
 use Rattle.access_schema.specs.Meaning.{meaning_of}
 use Rattle.source_trait.specs.Asking.{Seen}
 use Rattle.source_trait.specs.Lanes.{source_of, LanesStay}

@@ -1,6 +1,9 @@
 -- How what was received grows: by a row, by the rows of an answer, by the answers of a round.
-use Rattle.std.proofs.Common.{◌≡◌, ◌↔◌, ◌∙◌, ◌⊎◌, ◌+◌, ◌<◌, inl, inr, ⊎_elim, ℕ, List, [], ◌∷◌, ◌++◌, length, take, refl, sym, ap, subst, arith}
+use Rattle.std.proofs.Common.{◌≡◌, ◌↔◌, ◌∙◌, ◌⊎◌, ◌+◌, inl, inr, ⊎_elim, ℕ, List, [], ◌∷◌, ◌++◌, length, take, refl, sym, ap, subst, arith}
 use Rattle.std.specs.Prelude.{Contains, map, slice_get, Some}
+use Rattle.std.specs.List.Sorted.{IsStrictlySortedBy}
+use Rattle.std.specs.Ordering.{nat_cmp}
+use Rattle.std.specs.Cmp.Lexicographic.{slice_cmp}
 use Rattle.std.proofs.lemmas.List.{map-append, length-take-le}
 use Rattle.std.proofs.lemmas.List.Elements.{Contains-append_cases, Contains-append_left, Contains-append_right}
 use Rattle.std.proofs.lemmas.Option.{slice_get_within}
@@ -124,17 +127,19 @@ answered_long [] answers e = refl
 answered_long (a ∷ asks) [] e = absurd (omega arith)
 answered_long (a ∷ asks) (r ∷ answers) e = let rest = answered_long asks answers (omega arith) in omega (arith, rest)
 
-pub round_taken : (answers : List Answered) (old mid took new : Progress) → mid.known.all.keys ≡ old.known.all.keys → mid.known.fresh.keys ≡ [] → mid.received.items ≡ old.received.items
-    → Gains (StandsInAnswers answers) (IsAmong answers) mid took → new.known ≡ took.known → new.received ≡ took.received → new.made ≡ old.made + length answers → new.rounds ≡ old.rounds + 1 → TakesRound answers old new
-round_taken answers old mid took new all none received g known facts made rounds = record {
+pub round_taken : (answers : List Answered) (old mid took new : Progress) → mid.known.all.keys ≡ old.known.all.keys → mid.known.fresh.items ≡ [] → mid.received.items ≡ old.received.items
+    → Gains (StandsInAnswers answers) (IsAmong answers) mid took → new.known.all.keys ≡ took.known.all.keys → ((v : Value) → Contains new.known.fresh.items v ↔ Contains took.known.fresh.items v)
+    → IsStrictlySortedBy (slice_cmp nat_cmp) new.known.fresh.items → new.received ≡ took.received → new.made ≡ old.made + length answers → new.rounds ≡ old.rounds + 1 → TakesRound answers old new
+round_taken answers old mid took new all none received g known same up facts made rounds = record {
   all = λ v. (
-    (λ c. ⊎_elim (λ d. inl (subst (λ l. Contains l v) all d)) (λ p. inr p) ((g.values.all v).0 (subst (λ k. Contains k.all.keys v) known c))),
-    (λ c. subst (λ k. Contains k.all.keys v) (sym known) ((g.values.all v).1 (⊎_elim (λ d. inl (subst (λ l. Contains l v) (sym all) d)) (λ p. inr p) c))),
+    (λ c. ⊎_elim (λ d. inl (subst (λ l. Contains l v) all d)) (λ p. inr p) ((g.values.all v).0 (subst (λ l. Contains l v) known c))),
+    (λ c. subst (λ l. Contains l v) (sym known) ((g.values.all v).1 (⊎_elim (λ d. inl (subst (λ l. Contains l v) (sym all) d)) (λ p. inr p) c))),
   );
   fresh = λ v. (
-    (λ c. ⊎_elim (λ d. absurd (contains_none v (subst (λ l. Contains l v) none d))) (λ p. (p.0, λ d. p.1 (subst (λ l. Contains l v) (sym all) d))) ((g.values.fresh v).0 (subst (λ k. Contains k.fresh.keys v) known c))),
-    (λ p. subst (λ k. Contains k.fresh.keys v) (sym known) ((g.values.fresh v).1 (inr (p.0, λ d. p.1 (subst (λ l. Contains l v) all d))))),
+    (λ c. ⊎_elim (λ d. absurd (contains_none v (subst (λ l. Contains l v) none d))) (λ p. (p.0, λ d. p.1 (subst (λ l. Contains l v) (sym all) d))) ((g.values.fresh v).0 ((same v).0 c))),
+    (λ p. (same v).1 ((g.values.fresh v).1 (inr (p.0, λ d. p.1 (subst (λ l. Contains l v) all d))))),
   );
+  ascend = up;
   facts = λ f. (
     (λ c. ⊎_elim (λ d. inl (subst (λ l. Contains (map fact_of l) f) received d)) (λ q. inr q) ((g.facts f).0 (subst (λ r. Contains (map fact_of r.items) f) facts c))),
     (λ c. subst (λ r. Contains (map fact_of r.items) f) (sym facts) ((g.facts f).1 (⊎_elim (λ d. inl (subst (λ l. Contains (map fact_of l) f) (sym received) d)) (λ q. inr q) c))),
@@ -145,16 +150,18 @@ round_taken answers old mid took new all none received g known facts made rounds
 
 -- ---- before the first round
 
-pub begins : (constants : List Value) (none : KnownValues) → none.all.keys ≡ [] → none.fresh.keys ≡ [] → (progress : Progress) → TakesIn (Contains constants) none progress.known → progress.received.items ≡ [] → progress.made ≡ 0 → progress.rounds ≡ 0 → BeginsWith constants progress
-begins constants none no_value no_fresh progress takes received made rounds = record {
+pub begins : (constants : List Value) (none : KnownValues) → none.all.keys ≡ [] → none.fresh.items ≡ [] → (took : KnownValues) → TakesIn (Contains constants) none took → (progress : Progress)
+    → progress.known.all.keys ≡ took.all.keys → ((v : Value) → Contains progress.known.fresh.items v ↔ Contains took.fresh.items v) → IsStrictlySortedBy (slice_cmp nat_cmp) progress.known.fresh.items → progress.received.items ≡ [] → progress.made ≡ 0 → progress.rounds ≡ 0 → BeginsWith constants progress
+begins constants none no_value no_fresh took takes progress known same up received made rounds = record {
   all = λ v. (
-    (λ c. ⊎_elim (λ d. absurd (contains_none v (subst (λ l. Contains l v) no_value d))) (λ d. d) ((takes.all v).0 c)),
-    (λ c. (takes.all v).1 (inr c)),
+    (λ c. ⊎_elim (λ d. absurd (contains_none v (subst (λ l. Contains l v) no_value d))) (λ d. d) ((takes.all v).0 (subst (λ l. Contains l v) known c))),
+    (λ c. subst (λ l. Contains l v) (sym known) ((takes.all v).1 (inr c))),
   );
   fresh = λ v. (
-    (λ c. ⊎_elim (λ d. absurd (contains_none v (subst (λ l. Contains l v) no_fresh d))) (λ d. d.0) ((takes.fresh v).0 c)),
-    (λ c. (takes.fresh v).1 (inr (c, λ d. contains_none v (subst (λ l. Contains l v) no_value d)))),
+    (λ c. ⊎_elim (λ d. absurd (contains_none v (subst (λ l. Contains l v) no_fresh d))) (λ d. d.0) ((takes.fresh v).0 ((same v).0 c))),
+    (λ c. (same v).1 ((takes.fresh v).1 (inr (c, λ d. contains_none v (subst (λ l. Contains l v) no_value d))))),
   );
+  ascend = up;
   received = received;
   made = made;
   rounds = rounds;

@@ -1,22 +1,22 @@
 -- What a crawl knows after values were taken in.
-use Rattle.std.proofs.Common.{◌≡◌, ◌↔◌, ◌⊎◌, ◌∙◌, inl, inr, ⊎_elim, Bool, true, false, List, [], ◌∷◌, ◌++◌, take, refl, sym, ap, subst}
-use Rattle.std.specs.Prelude.{Contains, IsTrue}
-use Rattle.std.specs.BTreeMap.{is_at}
+use Rattle.std.proofs.Common.{◌≡◌, ◌↔◌, ◌⊎◌, ◌∙◌, inl, inr, ⊎_elim, Bool, true, false, List, [], ◌∷◌, ◌++◌, refl, sym, ap, subst}
+use Rattle.std.specs.Prelude.{Contains, IsTrue, nat_eq}
 use Rattle.std.specs.BTreeSet.{contains, insert_key}
 use Rattle.std.specs.Ordering.{nat_cmp, is_eq, match_ordering}
-use Rattle.std.specs.Cmp.Lexicographic.{slice_cmp, texts_ties}
+use Rattle.std.specs.Cmp.Lexicographic.{slice_cmp, pointwise, texts_ties}
 use Rattle.std.specs.declared.cmp.Ordering.{Ordering}
 use Rattle.std.specs.declared.cmp.Ordering.TheVariants.{Less, Equal, Greater}
-use Rattle.std.proofs.lemmas.Cmp.{nat_list_cmp_total}
+use Rattle.std.proofs.lemmas.Cmp.{nat_list_cmp_total, nat_list_eq_equiv}
 use Rattle.std.proofs.lemmas.Map.Views.{btree_set_contains_iff}
+use Rattle.std.proofs.lemmas.List.Folds.{Any-from_list_any, list_any-from_Any}
 use Rattle.std.proofs.lemmas.List.Elements.{Contains-append_cases, Contains-append_left, Contains-append_right}
 use Rattle.lists.proofs.Members.{contains_here, contains_there, contains_cases, contains_none, contains_one}
 use Rattle.lists.proofs.Orders.{text_is}
 use Rattle.meaning.specs.Values.{Value}
 use Rattle.crawl.specs.declared.known.KnownValues.{KnownValues}
-use Rattle.crawl.specs.Knowing.{TakesIn}
+use Rattle.crawl.specs.Knowing.{is_fresh, TakesIn}
 
-abbrev order : Value → Value → Ordering
+abbrev pub order : Value → Value → Ordering
 order = slice_cmp nat_cmp
 
 pub texts_equal : (a b : Value) → order a b ≡ Equal → a ≡ b
@@ -26,8 +26,13 @@ texts_equal a b e = text_is a b (texts_ties a b ∙ ap is_eq e)
 pub held_iff : (known : KnownValues) (v : Value) → IsTrue (contains order known.all v) ↔ Contains known.all.keys v
 held_iff known v = btree_set_contains_iff nat_list_cmp_total texts_equal known.all v
 
-pub fresh_iff : (known : KnownValues) (v : Value) → IsTrue (contains order known.fresh v) ↔ Contains known.fresh.keys v
-fresh_iff known v = btree_set_contains_iff nat_list_cmp_total texts_equal known.fresh v
+pub fresh_iff : (known : KnownValues) (v : Value) → IsTrue (is_fresh known v) ↔ Contains known.fresh.items v
+fresh_iff known v = (
+  (λ e.
+      let found = Any-from_list_any (λ (w : Value). pointwise nat_eq w v) known.fresh.items e in
+      subst (Contains known.fresh.items) (text_is found.1 v found.4) (found.0, found.2, found.3)),
+  (λ c. list_any-from_Any (λ (w : Value). pointwise nat_eq w v) known.fresh.items (c.0, v, c.1, c.2, nat_list_eq_equiv.refl v)),
+)
 
 pub held_or_not : (known : KnownValues) (v : Value) → Contains known.all.keys v ⊎ (Contains known.all.keys v → ⊥)
 held_or_not known v = go (contains order known.all v) refl
@@ -68,16 +73,32 @@ takes_known known value there = record {
   fresh = λ v. ((λ c. inl c), (λ c. ⊎_elim (λ d. d) (λ h. absurd (h.1 (subst (Contains known.all.keys) (sym h.0) there))) c));
 }
 
+-- a value that is inserted again
+pub takes_again : (old new : KnownValues) (value : Value) → Contains old.all.keys value → new.all.keys ≡ insert_key order old.all.keys value → new.fresh.items ≡ old.fresh.items
+    → TakesIn (λ v. v ≡ value) old new
+takes_again old new value there all fresh = record {
+  all = λ v. (
+    (λ c. (inserted old.all.keys value v).0 (subst (λ l. Contains l v) all c)),
+    (λ c. subst (λ l. Contains l v) (sym all) ((inserted old.all.keys value v).1 c)),
+  );
+  fresh = λ v. (
+    (λ c. inl (subst (λ l. Contains l v) fresh c)),
+    (λ c. subst (λ l. Contains l v) (sym fresh) (⊎_elim (λ d. d) (λ h. absurd (h.1 (subst (Contains old.all.keys) (sym h.0) there))) c)),
+  );
+}
+
 -- a value that was not known
-pub takes_new : (old new : KnownValues) (value : Value) → (Contains old.all.keys value → ⊥) → new.all.keys ≡ insert_key order old.all.keys value → new.fresh.keys ≡ insert_key order old.fresh.keys value → TakesIn (λ v. v ≡ value) old new
+pub takes_new : (old new : KnownValues) (value : Value) → (Contains old.all.keys value → ⊥) → new.all.keys ≡ insert_key order old.all.keys value → new.fresh.items ≡ old.fresh.items ++ value ∷ [] → TakesIn (λ v. v ≡ value) old new
 takes_new old new value none all fresh = record {
   all = λ v. (
     (λ c. (inserted old.all.keys value v).0 (subst (λ l. Contains l v) all c)),
     (λ c. subst (λ l. Contains l v) (sym all) ((inserted old.all.keys value v).1 c)),
   );
   fresh = λ v. (
-    (λ c. ⊎_elim (λ d. inl d) (λ e. inr (e, λ h. none (subst (Contains old.all.keys) e h))) ((inserted old.fresh.keys value v).0 (subst (λ l. Contains l v) fresh c))),
-    (λ c. subst (λ l. Contains l v) (sym fresh) ((inserted old.fresh.keys value v).1 (⊎_elim (λ d. inl d) (λ h. inr h.0) c))),
+    (λ c. ⊎_elim (λ d. inl d) (λ d. let e = sym (contains_one value v d) in inr (e, λ h. none (subst (Contains old.all.keys) e h)))
+        (Contains-append_cases old.fresh.items (value ∷ []) v (subst (λ l. Contains l v) fresh c))),
+    (λ c. subst (λ l. Contains l v) (sym fresh) (⊎_elim (λ d. Contains-append_left old.fresh.items (value ∷ []) v d)
+        (λ h. Contains-append_right old.fresh.items (value ∷ []) v (subst (Contains (value ∷ [])) (sym h.0) (contains_here value []))) c)),
   );
 }
 
@@ -101,7 +122,7 @@ takes_both P Q R both old mid new h k = record {
   );
 }
   where
-    one : (v : Value) → R v → (Contains old.all.keys v → ⊥) → Contains mid.fresh.keys v ⊎ (Q v × (Contains mid.all.keys v → ⊥))
+    one : (v : Value) → R v → (Contains old.all.keys v → ⊥) → Contains mid.fresh.items v ⊎ (Q v × (Contains mid.all.keys v → ⊥))
     one v r none = ⊎_elim (λ p. inl ((h.fresh v).1 (inr (p, none)))) (λ q. ⊎_elim (λ c. ⊎_elim (λ a. absurd (none a)) (λ p. inl ((h.fresh v).1 (inr (p, none)))) ((h.all v).0 c)) (λ n. inr (q, n)) (held_or_not mid v)) ((both v).0 r)
 
 -- one more of a list

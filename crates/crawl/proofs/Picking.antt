@@ -1,5 +1,5 @@
 -- What a source picks for a request is what the request receives.
-use Rattle.std.proofs.Common.{◌≡◌, ◌↔◌, ◌∙◌, ℕ, Bool, true, false, ◌&&◌, List, [], ◌∷◌, length, Option, Some, None, refl, sym, ap, subst, arith}
+use Rattle.std.proofs.Common.{◌≡◌, ◌↔◌, ◌∙◌, ℕ, Bool, true, ◌&&◌, List, [], ◌∷◌, length, Option, Some, None, refl, ap, subst, arith}
 use Rattle.std.specs.Prelude.{Contains, slice_get, nat_eq}
 use Rattle.std.specs.List.{AllZip, filter}
 use Rattle.std.specs.Cmp.Lexicographic.{pointwise, bytes_decides}

@@ -1,5 +1,5 @@
 -- How a crawl of lanes goes on by a round, ends, and stops.
-use Rattle.std.proofs.Common.{◌≡◌, ◌↔◌, ◌∙◌, ◌⊎◌, ◌+◌, ◌<◌, ◌≤◌, inl, inr, ⊎_elim, ℕ, suc, Bool, true, false, List, [], ◌∷◌, ◌++◌, length, length-append, nat_eq, Some, refl, sym, ap, subst, arith}
+use Rattle.std.proofs.Common.{◌≡◌, ◌↔◌, ◌∙◌, ◌⊎◌, ◌+◌, ◌<◌, inl, inr, ⊎_elim, ℕ, Bool, List, [], ◌∷◌, ◌++◌, length, length-append, nat_eq, Some, refl, sym, ap, subst, arith}
 use Rattle.std.specs.Prelude.{Contains, slice_get, map}
 use Rattle.std.proofs.lemmas.Bool.Decides.{nat_tests}
 use Rattle.std.proofs.lemmas.List.{length-map, length_push, append-nil}
@@ -10,7 +10,7 @@ use Rattle.meaning.specs.declared.types.Request.{Request}
 use Rattle.meaning.specs.declared.types.SchemaParts.{SchemaParts}
 use Rattle.meaning.specs.Values.{Value, Row}
 use Rattle.meaning.specs.Instances.{FitsRelation}
-use Rattle.meaning.specs.Crawls.{IsOfMethod, IsPicked, IsReceived, IsCrawlRound}
+use Rattle.meaning.specs.Crawls.{IsOfMethod, IsPicked, IsCrawlRound}
 use Rattle.access_schema.specs.declared.schema.Schema.{Schema}
 use Rattle.access_schema.specs.Meaning.{meaning_of}
 use Rattle.source_trait.specs.Asking.{RowList, Seen}
@@ -103,7 +103,7 @@ module _ {S : Type 0} (seen : S → Seen) (schema : Schema) where
     all = λ v. ((λ c. inl ((begin.all v).0 c)), (λ given. (begin.all v).1 (constant v given)));
     fresh = λ v c was. was;
     old_ones = λ v given. inl ((begin.fresh v).1 (constant v given));
-    within = λ v c. (begin.all v).1 ((begin.fresh v).0 c);
+    within = record { within = λ v c. (begin.all v).1 ((begin.fresh v).0 c); ascend = begin.ascend };
     facts = λ f. (
       (λ c. absurd (contains_none f (subst (λ l. Contains (map fact_of l) f) begin.received c))),
       (λ (a, c, e, d). absurd (contains_none a c)),
@@ -173,7 +173,7 @@ module _ {S : Type 0} (seen : S → Seen) (schema : Schema) where
         );
         fresh = λ v c was. ((g.takes.fresh v).0 c).1 ((h.all v).1 was);
         old_ones = λ v given. ⊎_elim (λ d. inr d) (λ s. ⊎_elim (λ there. inr ((h.all v).0 there)) (λ none. inl ((g.takes.fresh v).1 (s, none))) (held_or_not progress.known v)) ((given_more schema.constants (answers_of h.log) round v).0 given);
-        within = λ v c. (g.takes.all v).1 (inr ((g.takes.fresh v).0 c).0);
+        within = record { within = λ v c. (g.takes.all v).1 (inr ((g.takes.fresh v).0 c).0); ascend = g.takes.ascend };
         facts = λ f. (
           (λ c. (among_more (answers_of h.log) round f).1 (⊎_elim (λ d. inl ((h.facts f).0 d)) (λ s. inr s) ((g.takes.facts f).0 c))),
           (λ a. (g.takes.facts f).1 (⊎_elim (λ d. inl ((h.facts f).1 d)) (λ s. inr s) ((among_more (answers_of h.log) round f).0 a))),

@@ -1,5 +1,5 @@
 -- How one round of a crawl ends.
-use Rattle.std.proofs.Common.{◌≡◌, ◌∙◌, ◌+◌, ◌-◌, ◌^◌, ◌<◌, ◌≤◌, min, ℕ, suc, Bool, List, [], ◌∷◌, length, refl, sym, ap, subst, arith}
+use Rattle.std.proofs.Common.{◌≡◌, ◌∙◌, ◌+◌, ◌-◌, ◌^◌, ◌<◌, ◌≤◌, min, ℕ, List, [], ◌∷◌, length, refl, sym, ap, subst, arith}
 use Rattle.std.specs.Prelude.{Contains}
 use Rattle.std.proofs.lemmas.List.{length-map}
 use Rattle.lists.proofs.Members.{contains_here, contains_map, contains_got}
@@ -15,7 +15,7 @@ use Rattle.middleware.proofs.LaneShares.{AsksSome-none, each_some}
 use Rattle.crawl_rounds.specs.Rounds.{Class}
 use Rattle.crawl.specs.declared.progress.Progress.{Progress}
 use Rattle.crawl.specs.Progress.{answered_by, TakesRound}
-use Rattle.crawl.specs.Rounding.{AreOrdered, next_requests, IsLast, RoundGoes, RoundStops}
+use Rattle.crawl.specs.Rounding.{AreOrdered, next_requests, RoundGoes, RoundStops}
 
 -- nothing is wanted
 pub none_left : (xs : List Request) (n : ℕ) → n ≡ min (length xs) (2 ^ 32 - 1) → n ≡ 0 → xs ≡ []

@@ -1,5 +1,5 @@
 -- The requests of a round, each for the source of its relation.
-use Rattle.std.specs.Prelude.{◌≡◌, ℕ, Bool, List, [], map, flat_map, length, Option, None, Some, IsSome}
+use Rattle.std.specs.Prelude.{ℕ, Bool, List, [], map, flat_map, length, Option, None, Some}
 use Rattle.meaning.specs.Values.{Row}
 use Rattle.access_schema.specs.declared.schema.Schema.{Schema}
 use Rattle.access_schema.specs.declared.schema.SourceLine.{SourceLine}

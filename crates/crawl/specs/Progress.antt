@@ -1,11 +1,15 @@
 -- What a crawl has received, and how it goes on by answers.
 use Rattle.std.specs.Prelude.{◌≡◌, ◌↔◌, ◌⊎◌, ◌+◌, ℕ, List, [], ◌∷◌, Contains, length, map}
+use Rattle.std.specs.List.Sorted.{IsStrictlySortedBy}
+use Rattle.std.specs.Ordering.{nat_cmp}
+use Rattle.std.specs.Cmp.Lexicographic.{slice_cmp}
 use Rattle.meaning.specs.declared.types.Fact.{Fact}
 use Rattle.meaning.specs.Values.{Value, Row}
 use Rattle.source_trait.specs.Asking.{RowList}
 use Rattle.source_trait.specs.declared.work.Ask.{Ask}
 use Rattle.crawl_rounds.specs.Log.{Answered, IsAmong}
 use Rattle.crawl.specs.Knowing.{TakesIn}
+use Rattle.crawl.specs.declared.known.KnownValues.{KnownValues}
 use Rattle.crawl.specs.declared.progress.Progress.{Progress}
 
 -- a fact by its relation and its row
@@ -41,10 +45,15 @@ answered_by [] answers = []
 answered_by (ask ∷ asks) [] = []
 answered_by (ask ∷ asks) (rows ∷ answers) = record { request = ask.request; rows = rows } ∷ answered_by asks answers
 
+-- the values of the requests are known
+abbrev pub AreKnownTo : List Ask → KnownValues → Type 0
+AreKnownTo asks known = (ask : Ask) → Contains asks ask → (v : Value) → Contains ask.request.values v → Contains known.all.keys v
+
 -- A round was answered: just what its answers brought is new now.
 pub record TakesRound (answers : List Answered) (old new : Progress) : Type 0 where
   pub all : (v : Value) → Contains new.known.all.keys v ↔ (Contains old.known.all.keys v ⊎ StandsInAnswers answers v)
-  pub fresh : (v : Value) → Contains new.known.fresh.keys v ↔ (StandsInAnswers answers v × (Contains old.known.all.keys v → ⊥))
+  pub fresh : (v : Value) → Contains new.known.fresh.items v ↔ (StandsInAnswers answers v × (Contains old.known.all.keys v → ⊥))
+  pub ascend : IsStrictlySortedBy (slice_cmp nat_cmp) new.known.fresh.items
   pub facts : (fact : Fact) → Contains (facts_of new) fact ↔ (Contains (facts_of old) fact ⊎ IsAmong answers fact)
   pub made : new.made ≡ old.made + length answers
   pub rounds : new.rounds ≡ old.rounds + 1
@@ -52,7 +61,8 @@ pub record TakesRound (answers : List Answered) (old new : Progress) : Type 0 wh
 -- Before the first round these constants are known, and all of them are new.
 pub record BeginsWith (constants : List Value) (progress : Progress) : Type 0 where
   pub all : (v : Value) → Contains progress.known.all.keys v ↔ Contains constants v
-  pub fresh : (v : Value) → Contains progress.known.fresh.keys v ↔ Contains constants v
+  pub fresh : (v : Value) → Contains progress.known.fresh.items v ↔ Contains constants v
+  pub ascend : IsStrictlySortedBy (slice_cmp nat_cmp) progress.known.fresh.items
   pub received : progress.received.items ≡ []
   pub made : progress.made ≡ 0
   pub rounds : progress.rounds ≡ 0

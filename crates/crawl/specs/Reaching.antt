@@ -26,8 +26,8 @@ pub record HasReached {S : Type 0} (seen : S → Seen) (schema : Schema) (cap : 
   pub few : progress.rounds ≤ progress.made
   pub within_cap : progress.made ≤ cap
   pub all : (v : Value) → Contains progress.known.all.keys v ↔ IsGiven schema.constants (answers_of log) v
-  pub fresh : (v : Value) → Contains progress.known.fresh.keys v → WasGiven schema.constants log v → ⊥
-  pub old_ones : (v : Value) → IsGiven schema.constants (answers_of log) v → Contains progress.known.fresh.keys v ⊎ WasGiven schema.constants log v
+  pub fresh : (v : Value) → Contains progress.known.fresh.items v → WasGiven schema.constants log v → ⊥
+  pub old_ones : (v : Value) → IsGiven schema.constants (answers_of log) v → Contains progress.known.fresh.items v ⊎ WasGiven schema.constants log v
   pub within : FreshWithin progress.known
   pub facts : (fact : Fact) → Contains (facts_of progress) fact ↔ IsAmong (answers_of log) fact
   pub fits : (fact : Fact) → IsAmong (answers_of log) fact → FitsRelation (meaning_of schema) fact.rel fact.row

@@ -1,6 +1,7 @@
 -- One round of a crawl: what it asks and takes, or why it stops.
-use Rattle.std.specs.Prelude.{◌≡◌, ◌+◌, ◌-◌, ◌^◌, ◌<◌, ◌≤◌, ℕ, Bool, min, List, [], ◌∷◌, Contains, length, nat_eq}
+use Rattle.std.specs.Prelude.{◌≡◌, ◌+◌, ◌-◌, ◌^◌, ◌<◌, ◌≤◌, ℕ, min, List, [], ◌∷◌, Contains, length, nat_eq}
 use Rattle.std.specs.BTreeSet.{IsOrdered}
+use Rattle.std.specs.List.Sorted.{IsStrictlySortedBy}
 use Rattle.std.specs.Ordering.{nat_cmp}
 use Rattle.std.specs.Cmp.Lexicographic.{slice_cmp}
 use Rattle.meaning.specs.declared.types.Request.{Request}
@@ -19,9 +20,10 @@ use Rattle.crawl.specs.declared.progress.Progress.{Progress}
 use Rattle.crawl.specs.Knowing.{marked_of}
 use Rattle.crawl.specs.Progress.{answered_by, TakesRound}
 
--- each new value is a known one
-abbrev pub FreshWithin : KnownValues → Type 0
-FreshWithin known = (v : Value) → Contains known.fresh.keys v → Contains known.all.keys v
+-- the new values are known ones, each once and in ascending order
+pub record FreshWithin (known : KnownValues) : Type 0 where
+  pub within : (v : Value) → Contains known.fresh.items v → Contains known.all.keys v
+  pub ascend : IsStrictlySortedBy (slice_cmp nat_cmp) known.fresh.items
 
 -- the known values ascend, as they do in each ordered set
 abbrev pub AreOrdered : KnownValues → Type 0

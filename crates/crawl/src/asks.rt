@@ -46,17 +46,17 @@ pub fn find_asks(
     progress: &Progress,
 ) -> Result<Vec<Ask>, NoMemory>
     requires lines { (class : Class) → Contains (map lent_class classes.now) class → IsSome (line_for class.0 schema.now.sources) }
-    requires fresh { fresh_of (marked_of progress.now.known) ≡ progress.now.known.fresh.keys }
+    requires fresh { fresh_of (marked_of progress.now.known) ≡ progress.now.known.fresh.items }
     ensures { IfOk result (λ asks. asks.items ≡ round_asks schema.now (nat_eq progress.now.rounds 0) (marked_of progress.now.known) (map lent_class classes.now)) }
 {
-    let fresh = progress.known.fresh(alloc)?;
+    let fresh = progress.known.fresh();
     asks_of(
         alloc,
         schema,
         classes,
         progress.rounds == 0,
         &progress.known,
-        fresh.as_slice(),
+        fresh,
     )
 }
 

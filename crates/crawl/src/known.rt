@@ -1,11 +1,14 @@
 // The values that are known, and those of them that are new.
-ghost use Rattle.std.specs.Prelude.{◌≡◌, [], Contains, IfOk, OnOk, length};
+ghost use Rattle.std.specs.Prelude.{◌≡◌, ◌↔◌, ◌<◌, [], Contains, IfOk, IfSome, OnOk, Some, length, slice_get};
 ghost use Rattle.std.specs.BTreeSet.{IsOrdered};
+ghost use Rattle.std.specs.List.Sorted.{IsStrictlySortedBy};
 ghost use Rattle.std.specs.Ordering.{nat_cmp};
 ghost use Rattle.std.specs.Cmp.Lexicographic.{slice_cmp};
-ghost use Rattle.crawl.specs.Knowing.{marked_of, TakesIn};
+ghost use Rattle.meaning.specs.Values.{Value};
+ghost use Rattle.crawl.specs.Knowing.{is_fresh, marked_of, TakesIn};
 
-use lists::{Copies, NoMemory, Text};
+use lists::{Copies, NoMemory, Row, Text};
+use row_text::LentRow;
 use std::alloc::Global;
 use std::collections::BTreeSet;
 
@@ -13,18 +16,18 @@ use std::collections::BTreeSet;
 #[derive(Drop)]
 pub struct KnownValues {
     all: BTreeSet<Text>,
-    fresh: BTreeSet<Text>,
+    fresh: Vec<Text>,
 }
 
 impl KnownValues {
     /// No value. Takes no memory.
     pub fn new(alloc: Global) -> KnownValues
         ensures all { result.all.keys ≡ [] }
-        ensures fresh { result.fresh.keys ≡ [] }
+        ensures fresh { result.fresh.items ≡ [] }
     {
         KnownValues {
             all: BTreeSet::new(alloc),
-            fresh: BTreeSet::new(alloc),
+            fresh: Vec::new(alloc),
         }
     }
 
@@ -38,8 +41,7 @@ impl KnownValues {
 
     /// How many of them are new.
     pub fn fresh_len(&self) -> usize
-        ensures len { result ≡ length self.now.fresh.keys }
-        ensures ordered { IsOrdered (slice_cmp nat_cmp) self.now.fresh }
+        ensures { result ≡ length self.now.fresh.items }
     {
         self.fresh.len()
     }
@@ -57,41 +59,108 @@ impl KnownValues {
     fn take_one(&mut self, alloc: Global, value: &Text) -> Result<(), NoMemory>
         ensures { OnOk result (TakesIn (λ v. v ≡ value.now) self.old self.new) }
     {
-        if self.all.contains(value) {
+        if !self.all.insert(value.copy(alloc)?)? {
             return Ok(());
         }
-        self.all.insert(value.copy(alloc)?)?;
-        self.fresh.insert(value.copy(alloc)?)?;
+        self.fresh.push(value.copy(alloc)?)?;
         Ok(())
+    }
+
+    /// Takes the values of a row in, and copies the row. A value that is one of these known ones shares its bytes. Where memory is
+    /// refused, some of the values may have been taken in.
+    pub fn take_row(
+        &mut self,
+        alloc: Global,
+        shared: &[Text],
+        row: &LentRow<'_>,
+    ) -> Result<Row, NoMemory>
+        requires { (v : Value) → Contains shared.now v → Contains self.old.all.keys v }
+        ensures takes { OnOk result (TakesIn (Contains row.now) self.old self.new) }
+        ensures row { IfOk result (λ copy. copy ≡ row.now) }
+    {
+        let mut copy = Vec::with_capacity(alloc, row.len())?;
+        for column in 0..row.len() {
+            copy.push(self.take_text(alloc, shared, value_at(row, column))?)?;
+        }
+        Ok(Row::from_vec(copy))
+    }
+
+    fn take_text(&mut self, alloc: Global, shared: &[Text], value: &str) -> Result<Text, NoMemory>
+        requires { (v : Value) → Contains shared.now v → Contains self.old.all.keys v }
+        ensures takes { OnOk result (TakesIn (λ v. v ≡ value.now) self.old self.new) }
+        ensures text { IfOk result (λ text. text ≡ value.now) }
+    {
+        if let Some(text) = find(shared, value) {
+            return text.copy(alloc);
+        }
+        let text = Text::from_str(alloc, value)?;
+        self.take_one(alloc, &text)?;
+        Ok(text)
     }
 
     /// No value is new any more.
     pub fn settle(&mut self)
         ensures all { self.new.all.keys ≡ self.old.all.keys }
-        ensures none { self.new.fresh.keys ≡ [] }
+        ensures none { self.new.fresh.items ≡ [] }
     {
         self.fresh.clear();
     }
 
-    /// The new values, in ascending order.
-    pub fn fresh(&self, alloc: Global) -> Result<Vec<Text>, NoMemory>
-        ensures { IfOk result (λ values. values.items ≡ self.now.fresh.keys) }
+    /// Puts the new values into ascending order, each once.
+    pub fn arrange(&mut self)
+        ensures all { self.new.all.keys ≡ self.old.all.keys }
+        ensures same { (v : Value) → Contains self.new.fresh.items v ↔ Contains self.old.fresh.items v }
+        ensures ascend { IsStrictlySortedBy (slice_cmp nat_cmp) self.new.fresh.items }
     {
-        let mut values = Vec::with_capacity(alloc, self.fresh.len())?;
-        for value in &self.fresh {
-            values.push(value.copy(alloc)?)?;
-        }
-        Ok(values)
+        self.fresh.sort_unstable();
+        self.fresh.dedup();
     }
 
-    /// All values in ascending order, each with whether it is new.
+    /// The new values, lent.
+    pub fn fresh(&self) -> &[Text]
+        ensures { result.now ≡ self.now.fresh.items }
+    {
+        self.fresh.as_slice()
+    }
+
+    /// All values in ascending order, each with whether it is new. Each is compared with the new ones, which takes fewer steps than a
+    /// round with two inputs has requests.
     pub fn marked(&self, alloc: Global) -> Result<Vec<(Text, bool)>, NoMemory>
         ensures { IfOk result (λ values. values.items ≡ marked_of self.now) }
     {
         let mut values = Vec::with_capacity(alloc, self.all.len())?;
         for value in &self.all {
-            values.push((value.copy(alloc)?, self.fresh.contains(value)))?;
+            values.push((value.copy(alloc)?, self.is_fresh(value)))?;
         }
         Ok(values)
+    }
+
+    fn is_fresh(&self, value: &Text) -> bool
+        ensures { result ≡ is_fresh self.now value.now }
+    {
+        self.fresh.as_slice().contains(value)
+    }
+}
+
+// The first of the texts with these characters.
+fn find<'a>(texts: &'a [Text], value: &str) -> Option<&'a Text>
+    ensures { IfSome result (λ text. (text.now ≡ value.now) × Contains texts.now text.now) }
+{
+    for text in texts {
+        if text.as_str() == value {
+            return Some(text);
+        }
+    }
+    None
+}
+
+// The value in a column that the row has.
+fn value_at<'a>(row: &LentRow<'a>, column: usize) -> &'a str
+    requires { column < length row.now }
+    ensures { slice_get row.now column ≡ Some result.now }
+{
+    match row.value(column) {
+        Some(value) => value,
+        None => unreachable!(),
     }
 }

@@ -1,10 +1,11 @@
 // What a crawl has received, round by round.
 ghost use Rattle.std.specs.Prelude.{◌≡◌, ◌++◌, ◌∷◌, [], Contains, OnOk, IfOk};
-ghost use Rattle.crawl.specs.Knowing.{TakesIn};
+ghost use Rattle.meaning.specs.Values.{Value};
 ghost use Rattle.crawl.specs.Progress.{BeginsWith, Gains, StandsIn, IsRowOf};
 
 use crate::known::KnownValues;
 use lists::{NoMemory, Row, Text};
+use meaning::types::Request;
 use row_text::{LentRow, LentRows};
 use std::alloc::Global;
 
@@ -24,37 +25,46 @@ impl Progress {
     {
         let mut known = KnownValues::new(alloc);
         match known.take_in(alloc, constants) {
-            Ok(()) => Ok(Progress {
-                known,
-                received: Vec::new(alloc),
-                made: 0,
-                rounds: 0,
-            }),
+            Ok(()) => {
+                known.arrange();
+                Ok(Progress {
+                    known,
+                    received: Vec::new(alloc),
+                    made: 0,
+                    rounds: 0,
+                })
+            }
             Err(_) => Err(NoMemory),
         }
     }
 
-    /// Takes the rows of an answer. Where memory is refused, a part of them may have been taken.
+    /// Takes the rows of the answer to a request of known values. Where memory is refused, a part of them may have been taken.
     pub fn take_rows(
         &mut self,
         alloc: Global,
-        rel: u32,
+        request: &Request,
         rows: &LentRows<'_>,
     ) -> Result<(), NoMemory>
-        ensures { OnOk result (Gains (StandsIn rows.now) (IsRowOf rel rows.now) self.old self.new) }
+        requires { (v : Value) → Contains request.now.values v → Contains self.old.known.all.keys v }
+        ensures { OnOk result (Gains (StandsIn rows.now) (IsRowOf request.now.rel rows.now) self.old self.new) }
     {
         for number in 0..rows.len() {
-            self.take_row(alloc, rel, &rows.at(number))?;
+            self.take_row(alloc, request, &rows.at(number))?;
         }
         Ok(())
     }
 
-    fn take_row(&mut self, alloc: Global, rel: u32, lent: &LentRow<'_>) -> Result<(), NoMemory>
-        ensures { OnOk result (Gains (Contains lent.now) (λ fact. fact ≡ record { rel = rel; row = lent.now }) self.old self.new) }
+    fn take_row(
+        &mut self,
+        alloc: Global,
+        request: &Request,
+        lent: &LentRow<'_>,
+    ) -> Result<(), NoMemory>
+        requires { (v : Value) → Contains request.now.values v → Contains self.old.known.all.keys v }
+        ensures { OnOk result (Gains (Contains lent.now) (λ fact. fact ≡ record { rel = request.now.rel; row = lent.now }) self.old self.new) }
     {
-        let row = lent.copy(alloc)?;
-        self.known.take_in(alloc, row.as_slice())?;
-        self.received.push((rel, row))?;
+        let row = self.known.take_row(alloc, request.values.as_slice(), lent)?;
+        self.received.push((request.rel, row))?;
         Ok(())
     }
 }

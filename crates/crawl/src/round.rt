@@ -12,7 +12,7 @@ ghost use Rattle.crawl_rounds.specs.Rows.{fresh_of};
 ghost use Rattle.crawl.specs.Knowing.{marked_of};
 ghost use Rattle.middleware.specs.declared.fault.RunFault.TheVariants as fault;
 ghost use Rattle.crawl.specs.Crawling.{IsReachable};
-ghost use Rattle.crawl.specs.Progress.{answered_by, TakesRound};
+ghost use Rattle.crawl.specs.Progress.{AreKnownTo, answered_by, TakesRound};
 ghost use Rattle.crawl.specs.Rounding.{FreshWithin, AreOrdered, next_requests, IsLast, RoundGoes, RoundStops};
 
 use crate::asks::find_asks;
@@ -82,7 +82,7 @@ fn ask_next<R: Threads + Sync, S: Source + Send + Drop>(
     requires fits { (progress.old.made + length (next_requests (map lent_class classes.now) progress.old) ≤ cap) × (cap ≤ 1_000_000) }
     requires rounds { progress.old.rounds ≤ progress.old.made }
     requires ordered { AreOrdered progress.old.known }
-    requires fresh { fresh_of (marked_of progress.old.known) ≡ progress.old.known.fresh.keys }
+    requires fresh { fresh_of (marked_of progress.old.known) ≡ progress.old.known.fresh.items }
     ensures goes { IfOk result (λ more. (more ≡ true) × RoundGoes S.seen schema.now (map lent_class classes.now) cap progress.old progress.new lanes.old lanes.new) }
     ensures stops { IfErr result (λ fault. RoundStops S.seen schema.now (map lent_class classes.now) cap fault progress.old lanes.old lanes.new) }
 {
@@ -140,6 +140,7 @@ fn take_all(
     answers: &Answers,
     progress: &mut Progress,
 ) -> Result<bool, RunFault>
+    requires known { AreKnownTo asks.now progress.old.known }
     requires answered { length answers.now ≡ length asks.now }
     requires made { progress.old.made + length asks.now < 2 ^ 32 }
     requires rounds { progress.old.rounds + 1 < 2 ^ 32 }
@@ -157,7 +158,7 @@ fn count_wanted(progress: &Progress, classes: &[(u32, &Places)]) -> Result<u64, 
     requires { FreshWithin progress.now.known }
     ensures count { IfOk result (λ wanted. wanted ≡ min (length (next_requests (map lent_class classes.now) progress.now)) (2 ^ 32 - 1)) }
     ensures ordered { AreOrdered progress.now.known }
-    ensures fresh { fresh_of (marked_of progress.now.known) ≡ progress.now.known.fresh.keys }
+    ensures fresh { fresh_of (marked_of progress.now.known) ≡ progress.now.known.fresh.items }
 {
     let known = progress.known.len();
     let fresh = progress.known.fresh_len();

@@ -1,7 +1,7 @@
 // The answers of a round, taken into what was received.
 ghost use Rattle.std.specs.Prelude.{◌≡◌, ◌+◌, ◌<◌, ◌^◌, OnOk, Some, length, slice_get};
 ghost use Rattle.crawl_rounds.specs.Log.{IsAmong};
-ghost use Rattle.crawl.specs.Progress.{Gains, StandsInAnswers, answered_by, TakesRound};
+ghost use Rattle.crawl.specs.Progress.{AreKnownTo, Gains, StandsInAnswers, answered_by, TakesRound};
 
 use crate::progress::Progress;
 use lists::NoMemory;
@@ -17,6 +17,7 @@ pub fn take_round(
     answers: &Answers,
     progress: &mut Progress,
 ) -> Result<(), NoMemory>
+    requires known { AreKnownTo asks.now progress.old.known }
     requires answered { length answers.now ≡ length asks.now }
     requires made { progress.old.made + length asks.now < 2 ^ 32 }
     requires rounds { progress.old.rounds + 1 < 2 ^ 32 }
@@ -24,6 +25,7 @@ pub fn take_round(
 {
     progress.known.settle();
     take_answers(alloc, asks, answers, progress)?;
+    progress.known.arrange();
     progress.made += asks.len() as u32;
     progress.rounds += 1;
     Ok(())
@@ -36,13 +38,14 @@ fn take_answers(
     answers: &Answers,
     progress: &mut Progress,
 ) -> Result<(), NoMemory>
-    requires { length answers.now ≡ length asks.now }
+    requires known { AreKnownTo asks.now progress.old.known }
+    requires answered { length answers.now ≡ length asks.now }
     ensures { OnOk result (Gains (StandsInAnswers (answered_by asks.now answers.now)) (IsAmong (answered_by asks.now answers.now)) progress.old progress.new) }
 {
     let mut number: usize = 0;
     for ask in asks {
         let rows = rows_at(answers, number);
-        progress.take_rows(alloc, ask.request.rel, &rows)?;
+        progress.take_rows(alloc, &ask.request, &rows)?;
         number += 1;
     }
     Ok(())

@@ -165,7 +165,11 @@ fn with_fresh(
 fn one_longer(alloc: Global, row: &Row, value: &Text) -> Result<Row, NoMemory>
     ensures { IfOk result (λ longer. longer ≡ row.now ++ value.now ∷ []) }
 {
-    let mut longer = row.copy(alloc)?;
+    let values = row.as_slice();
+    let mut longer = Vec::with_capacity(alloc, values.len().saturating_add(1))?;
+    for known in values {
+        longer.push(known.copy(alloc)?)?;
+    }
     longer.push(value.copy(alloc)?)?;
-    Ok(longer)
+    Ok(Row::from_vec(longer))
 }

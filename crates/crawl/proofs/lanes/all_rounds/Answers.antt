@@ -1,4 +1,4 @@
-use Rattle.std.proofs.Common.{◌≡◌, List, map, subst, arith}
+use Rattle.std.proofs.Common.{List, map, subst, arith}
 use Rattle.meaning.specs.Values.{Value}
 use Rattle.crawl_rounds.specs.Lent.{lent_class}
 use Rattle.crawl_rounds.specs.Log.{requests_of, answers_of}

@@ -1,4 +1,4 @@
-use Rattle.std.proofs.Common.{◌≡◌, ◌↔◌, ◌∙◌, List, sym, subst}
+use Rattle.std.proofs.Common.{◌↔◌, ◌∙◌, List, sym, subst}
 use Rattle.std.specs.Prelude.{Contains}
 use Rattle.std.proofs.lemmas.List.Filters.{dedup_is}
 use Rattle.meaning.specs.declared.types.Fact.{Fact}

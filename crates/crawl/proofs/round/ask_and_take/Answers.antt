@@ -1,11 +1,16 @@
-use Rattle.std.proofs.Common.{◌≡◌, true, map, sym, subst}
+use Rattle.std.proofs.Common.{◌≡◌, map, nat_eq, sym, subst}
 use Rattle.std.proofs.lemmas.Result.{IfErr-weaker}
 use Rattle.middleware.specs.declared.fault.RunFault.{RunFault}
 use Rattle.middleware.specs.declared.fault.RunFault.TheVariants as fault
 use Rattle.crawl_rounds.specs.Lent.{lent_class}
 use Rattle.crawl.specs.Rounding.{RoundStops}
+use Rattle.crawl.proofs.Wanting.{asked_known}
 use Rattle.crawl.proofs.Rounding.{stops_behind, stops_failed}
 use Rattle.crawl.proofs.round.ask_and_take.Goals as goal
+
+pub take_all-requires-clause-known : goal.take_all-requires-clause-known
+take_all-requires-clause-known g c =
+    asked_known c.args.progress.now.known (nat_eq c.args.progress.now.rounds 0) (map lent_class c.args.classes.now) c.args.asks.now c.requires.are
 
 pub returns-in-Ok-clause-stops : goal.returns-in-Ok-clause-stops
 returns-in-Ok-clause-stops g c =

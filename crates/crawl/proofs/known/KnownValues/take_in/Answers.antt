@@ -1,4 +1,4 @@
-use Rattle.std.proofs.Common.{◌≡◌, ◌+◌, ◌++◌, ◌∷◌, [], List, take, sym, subst}
+use Rattle.std.proofs.Common.{take, sym, subst}
 use Rattle.std.specs.Prelude.{Contains}
 use Rattle.lists.proofs.Places.{take_indexed}
 use Rattle.crawl.specs.Knowing.{TakesIn}
