@@ -60,7 +60,7 @@ module _ (schema : Schema) (statement : Statement) (firings search number : ℕ)
       where
         go : IsDecided schema statement firings search (NoPlan pair) → IsNumbered number schema (NoPlan pair) text →
             EndsAt schema firings search number statement names old new before_faults after_faults (Ok outcome.No)
-        go (right_pair of for) its = refuted its.behind (refutation_told schema statement pair its.behind fits for its.is its.utf8)
+        go (right_pair of for) its = refuted its.behind (refutation_told schema statement firings pair its.behind fits for its.is its.utf8)
             (subst (TookAll old new) its.whole took)
 
     -- and so does the log of spent firings

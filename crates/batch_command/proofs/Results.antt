@@ -14,7 +14,8 @@ use Rattle.source_trait.specs.Asking.{Seen}
 use Rattle.source_trait.specs.Causes.{Rose}
 use Rattle.source_trait.specs.declared.lanes.Lane.{Lane}
 use Rattle.middleware.specs.declared.fault.Run.{Run}
-use Rattle.plan_batches.specs.Batching.{IsRunOf, CanNumber}
+use Rattle.plan_course.specs.Courses.{CanNumber}
+use Rattle.plan_batches.specs.Batching.{IsRunOf}
 use Rattle.command_io.specs.declared.stop.Stop.{Stop}
 use Rattle.command_io.specs.declared.outcome.Outcome.{Outcome}
 use Rattle.command_io.specs.FaultLines.{Names}

@@ -69,7 +69,7 @@ pub data EndsAt (schema : Schema) (firings search number : ℕ) (statement : Sta
       StopsFor (DecisionStop (Rose before_faults count.faults)) names middle after (Rose count.faults after_faults) end →
       EndsAt schema firings search number statement names before after before_faults after_faults (Err end)
   -- there is no plan: the refutation was written whole
-  refuted : (text : List ℕ) → IsRefuted schema statement text → TookAll before after (query_line number ++ text) →
+  refuted : (text : List ℕ) → IsRefuted schema statement firings text → TookAll before after (query_line number ++ text) →
       EndsAt schema firings search number statement names before after before_faults after_faults (Ok outcome.No)
   -- the firings were spent: their log was written whole
   undecided : (select : ℕ) (log : List Firing) → IsUndecided schema statement firings select log →

@@ -8,7 +8,7 @@ ghost use Rattle.sql_select.specs.Statements.{result_names as names_of};
 ghost use Rattle.source_trait.specs.Causes.{Rose};
 ghost use Rattle.source_trait.specs.Lanes.{LanesStay};
 ghost use Rattle.row_text.specs.RowText.{IsRowText};
-ghost use Rattle.plan_batches.specs.Batching.{CanNumber};
+ghost use Rattle.plan_course.specs.Courses.{CanNumber};
 ghost use Rattle.command_io.specs.Executing.{Delivers};
 ghost use Rattle.batch_command.specs.Ends.{answer_line, AreParts, IsGiven, ExecutesOrStops};
 

@@ -99,6 +99,7 @@ query_line (query.Syntax offset) = codes "query: syntax at byte " ++ decimal off
 query_line (query.Unsupported word offset) = codes "query: unsupported " ++ word ++ codes " at byte " ++ decimal offset ++ codes "\n"
 query_line (query.UnknownName offset) = codes "query: unknown name at byte " ++ decimal offset ++ codes "\n"
 query_line (query.Ambiguous offset) = codes "query: ambiguous name at byte " ++ decimal offset ++ codes "\n"
+query_line (query.WrongWidth offset) = codes "query: wrong width at byte " ++ decimal offset ++ codes "\n"
 query_line (query.OverLimit limit) = codes "query: " ++ (codes "over the limit of " ++ limit_name limit) ++ codes "\n"
 query_line (query.Lex fault) = lex_line fault
 

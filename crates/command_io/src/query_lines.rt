@@ -42,6 +42,12 @@ pub fn query_line(alloc: Global, fault: &SqlFault) -> Result<Vec<u8>, AllocError
             *offset,
             b"\n",
         ),
+        SqlFault::WrongWidth { offset } => number_line(
+            alloc,
+            b"query: wrong width at byte ",
+            *offset,
+            b"\n",
+        ),
         SqlFault::OverLimit(limit) => limit_line(alloc, *limit),
         SqlFault::Lex(fault) => lex_line(alloc, *fault),
     }

@@ -18,15 +18,15 @@ use Rattle.middleware.specs.Attaching.{AllAttached}
 use Rattle.middleware.specs.Needs.{LanesAttach, EachAttached}
 use Rattle.middleware.specs.Needs.AttachesNeeded.{done}
 use Rattle.middleware.specs.LaneRounds.{started}
-use Rattle.middleware.specs.LaneBranches.{CallFails, CapFills, PlanHalts}
-use Rattle.middleware.specs.LaneRunning.{needed_by, AsksRounds, AttachesAndAsks}
-use Rattle.middleware.specs.LaneRunning.AttachesAndAsks.{not_attached, attached}
-use Rattle.middleware.specs.Executing.{Executes}
+use Rattle.plan_execution.specs.PlanRounds.{CallFails, CapFills, PlanHalts}
+use Rattle.plan_execution.specs.Running.{needed_by, AsksRounds, AttachesAndAsks}
+use Rattle.plan_execution.specs.Running.AttachesAndAsks.{not_attached, attached}
+use Rattle.plan_execution.specs.Executing.{Executes}
 use Rattle.middleware.proofs.Attached.{order_attached, attached_after}
 use Rattle.middleware.proofs.Lacking.{rises_strictly}
 use Rattle.middleware.proofs.LaneShares.{OnlyAsked}
 use Rattle.middleware.proofs.LaneBranching.{each_asked}
-use Rattle.middleware.proofs.LanePlanning.{plan_held_earlier}
+use Rattle.middleware.proofs.PlanHeld.{plan_held_earlier}
 use Rattle.middleware.proofs.LaneStays.{started_stay, asked_stay, attach_stay}
 use Rattle.command_io.specs.declared.stop.Stop.{Stop}
 use Rattle.command_io.specs.declared.stop.Stop.TheVariants as stop

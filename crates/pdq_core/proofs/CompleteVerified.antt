@@ -18,7 +18,7 @@ use Rattle.middleware.specs.PlanSources.{line_for, IsAccessed}
 use Rattle.middleware.specs.Held.{HoldPlan}
 use Rattle.middleware.specs.Needs.{IsWanted, IsFirstKindless, AttachBreaksAt, AttachesNeeded}
 use Rattle.middleware.specs.Needs.AttachesNeeded.{done as all_attached, no_source, unknown_kind, refused, no_memory as attach_memory}
-use Rattle.middleware.specs.Executing.{ExecutesAttached}
+use Rattle.plan_execution.specs.Executing.{ExecutesAttached}
 use Rattle.middleware.proofs.Lacking.{rises_strictly}
 use Rattle.middleware.proofs.LaneStays.{attach_stay, started_each}
 use Rattle.rule_rows.specs.RuleRelations.{needed_verified}

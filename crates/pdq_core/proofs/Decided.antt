@@ -14,17 +14,17 @@ use Rattle.pdq_core.specs.Statuses.{HasPlan, RunsOn}
 pub longer : (schema : Schema) (statement : Statement) (firings select : ℕ) (log : List Firing) →
     IsUndecided schema statement firings select log → RunsOn firings schema statement
 longer schema statement firings select log is =
-    let (firing, next, more) = is.goes_on in
-    let count = is.count in
+    let (firing, next, more) = is.spent.goes_on in
+    let count = is.spent.count in
     let one_more = length-append log (firing ∷ []) in
     record {
-      select = is.chosen;
-      query = is.query;
+      select = is.select;
+      query = is.spent.query;
       log = log ++ firing ∷ [];
       end = next;
-      of_statement = contains_got statement.selects select is.chosen is.of_statement;
-      form = is.form;
-      numbered = is.numbered;
+      of_statement = contains_got statement.selects select is.select is.of_statement;
+      form = is.spent.form;
+      numbered = is.spent.numbered;
       run = more;
       long = omega (arith, count, one_more);
     }

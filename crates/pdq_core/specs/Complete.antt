@@ -25,7 +25,7 @@ use Rattle.source_trait.specs.declared.lanes.Kind.{Kind}
 use Rattle.source_trait.specs.declared.lanes.Lane.{Lane}
 use Rattle.middleware.specs.PlanSources.{line_for, IsAccessed}
 use Rattle.middleware.specs.Attaching.{AttachesInOrder, AllAttached}
-use Rattle.middleware.specs.Asked.{IsRoundAt}
+use Rattle.plan_execution.specs.PlanRounds.{IsRoundAt}
 use Rattle.middleware.specs.Held.{SameFacts}
 use Rattle.middleware.specs.LaneBranches.{LanesHoldPlan}
 use Rattle.middleware.specs.Needs.{AttachesNeeded}

@@ -97,7 +97,7 @@ plan_fits schema statement plan fits is few_planned = of_selects statement.selec
     }
 
     of_selects : (selects : List Select) → statement.selects ≡ selects → PlanFits plan
-    of_selects [] are = let none : length statement.selects ≡ 0 = ap length are in let some = fits.count in absurd (omega (arith, none, some))
+    of_selects [] are = let none : length statement.selects ≡ 0 = ap length are in let one = fits.some in absurd (omega (arith, none, one))
     of_selects (select ∷ selects) are =
         let among : Contains statement.selects select = subst (λ list. Contains list select) (sym are) (contains_here select selects) in
         let wide = is.wide select among in

@@ -105,7 +105,7 @@ module _ (schema : Schema) (statement : Statement) (firings search : ℕ) (decis
       where
         go : IsDecided schema statement firings search (NoPlan pair) → Written schema (NoPlan pair) before.err after.err →
             StatementEnds schema statement firings search Ran IsText names before after old new (Ok outcome.No)
-        go (right_pair of for) told = refuted told.text (refutation_told schema statement pair told.text fits for told.is told.utf8) told.took out lanes
+        go (right_pair of for) told = refuted told.text (refutation_told schema statement firings pair told.text fits for told.is told.utf8) told.took out lanes
 
     -- the log of spent firings
     pub log_told : (select : ℕ) (log : List Firing) → decision ≡ Undecided select log → Written schema decision before.err after.err →

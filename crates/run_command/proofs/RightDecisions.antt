@@ -2,7 +2,7 @@
 use Rattle.std.proofs.Common.{◌≡◌, ◌≢◌, ℕ, List, [], ◌∷◌, length, refl, sym, ap, ◌∙◌, subst, arith}
 use Rattle.std.specs.Prelude.{Contains}
 use Rattle.std.specs.Str.{IsUtf8}
-use Rattle.lists.proofs.Members.{contains_here}
+use Rattle.lists.proofs.Members.{contains_here, contains_one}
 use Rattle.meaning.specs.declared.types.Fact.{Fact}
 use Rattle.meaning.specs.declared.types.Plan.{Plan as PlanOf}
 use Rattle.meaning.specs.declared.types.Select.{Select}
@@ -10,7 +10,8 @@ use Rattle.meaning.specs.declared.types.Statement.{Statement}
 use Rattle.meaning.specs.Values.{Value}
 use Rattle.meaning.specs.Instances.{IsWithin}
 use Rattle.meaning.specs.Claims.{Refutes}
-use Rattle.meaning_laws.proofs.Members.{refutes_alike}
+use Rattle.meaning.specs.Answers.{AnswersSelect}
+use Rattle.meaning_laws.proofs.Members.{answers_within, refutes_alike}
 use Rattle.access_schema.specs.declared.schema.Schema.{Schema}
 use Rattle.access_schema.specs.Meaning.{meaning_of}
 use Rattle.sql_select.specs.Statements.{StatementFits}
@@ -51,7 +52,7 @@ some_answer : (schema : Schema) (statement : Statement) (answer : List Value) �
 some_answer schema statement answer fits wide none = of_selects statement.selects refl
   where
     of_selects : (selects : List Select) → statement.selects ≡ selects → ⊥
-    of_selects [] are = let short : length statement.selects ≡ 0 = ap length are in let some = fits.count in absurd (omega (arith, short, some))
+    of_selects [] are = let short : length statement.selects ≡ 0 = ap length are in let one = fits.some in absurd (omega (arith, short, one))
     of_selects (select ∷ selects) are =
         let among : Contains statement.selects select = subst (λ list. Contains list select) (sym are) (contains_here select selects) in
         let empty : length answer ≡ 0 = ap length none in
@@ -78,10 +79,16 @@ printed_alike schema pair other text same is = record {
   text_is = is.text_is;
 }
 
+-- an answer of a select is one wherever its facts are
+answered_within : (select : Select) (first other : List Fact) (row : List Value) → IsWithin first other → AnswersSelect select first row → AnswersSelect select other row
+answered_within select first other row within answer =
+    let (same, among, its) = answers_within first other (record { selects = select ∷ [] }) row within (select, contains_here select [], answer) in
+    subst (λ (s : Select). AnswersSelect s other row) (sym (contains_one select same among)) its
+
 -- what is read of a refutation refutes
-pub refuted : (schema : Schema) (statement : Statement) (pair : Witness) (text : List ℕ) → StatementFits schema statement → IsRefutation schema statement pair →
-    IsDecisionText schema (NoPlan pair) text → IsUtf8 text → IsRefuted schema statement text
-refuted schema statement pair text fits is of utf8 =
+pub refuted : (schema : Schema) (statement : Statement) (firings : ℕ) (pair : Witness) (text : List ℕ) → StatementFits schema statement →
+    IsRefutation schema statement firings pair → IsDecisionText schema (NoPlan pair) text → IsUtf8 text → IsRefuted schema statement firings text
+refuted schema statement firings pair text fits is of utf8 =
     let fitting : FitsSchema schema pair = record {
       first = is.refutes.first_meets.fits;
       second = is.refutes.second_meets.fits;
@@ -98,6 +105,12 @@ refuted schema statement pair text fits is of utf8 =
             again.same.first_there again.same.first_only again.same.second_there again.same.second_only is.refutes);
         none = is.none;
         wide = λ select among. ap length again.same.answer ∙ is.wide select among;
+        number = is.number;
+        select = is.select;
+        of_statement = is.of_statement;
+        answered = subst (AnswersSelect is.select again.read.first) (sym again.same.answer)
+            (answered_within is.select pair.first again.read.first pair.answer again.same.first_there is.answered);
+        before = is.before;
       };
     }
 
@@ -107,5 +120,5 @@ pub shown : (schema : Schema) (statement : Statement) (firings search : ℕ) (de
     Shows schema statement firings search text (outcome_of decision)
 shown schema statement firings search decision text fits (plan of entries is can chosen) said utf8 =
     shows_plan of entries (planned schema statement firings search of entries is can chosen (subst IsUtf8 said utf8)) said
-shown schema statement firings search decision text fits (no_plan pair is) said utf8 = shows_none (refuted schema statement pair text fits is said utf8)
+shown schema statement firings search decision text fits (no_plan pair is) said utf8 = shows_none (refuted schema statement firings pair text fits is said utf8)
 shown schema statement firings search decision text fits (undecided select log is) said utf8 = shows_log select log is said

@@ -33,24 +33,24 @@ pub record IsPlanned (schema : Schema) (statement : Statement) (firings search :
 pub data IsDecided (schema : Schema) (statement : Statement) (firings search : ℕ) : Decision → Type 0 where
   plan : (plan : PlanOf) (entries : List Chosen) → IsPlanFor schema statement plan → PlanFits plan →
       AreChosen schema statement firings search statement.selects plan.branches entries → IsDecided schema statement firings search (Plan plan entries)
-  no_plan : (pair : Witness) → IsRefutation schema statement pair → IsDecided schema statement firings search (NoPlan pair)
+  no_plan : (pair : Witness) → IsRefutation schema statement firings pair → IsDecided schema statement firings search (NoPlan pair)
   undecided : (select : ℕ) (log : List Firing) → IsUndecided schema statement firings select log →
       IsDecided schema statement firings search (Undecided select log)
 
 -- The text is that of two instances and a row, with the facts of each instance once and in ascending order, and reads as them. They
--- refute, so that no lawful plan is equivalent to the statement.
-pub record IsRefuted (schema : Schema) (statement : Statement) (text : List ℕ) : Type 0 where
+-- refute by the first select that does, so that no lawful plan is equivalent to the statement.
+pub record IsRefuted (schema : Schema) (statement : Statement) (firings : ℕ) (text : List ℕ) : Type 0 where
   pub pair : Witness
   pub printed : IsPrintedWitness schema pair text
   pub reads : IsWitnessText schema text pair
-  pub refutes : IsRefutation schema statement pair
+  pub refutes : IsRefutation schema statement firings pair
 
 -- What the text of a decision shows, by the outcome: it reads as a plan for the statement, and says what is so of each select; it is that
 -- of a refutation; or it is that of spent firings.
 pub data Shows (schema : Schema) (statement : Statement) (firings search : ℕ) (text : List ℕ) : Outcome → Type 0 where
   plan : (plan : PlanOf) (entries : List Chosen) → IsPlanned schema statement firings search plan entries → text ≡ planned_text entries plan →
       Shows schema statement firings search text outcome.Done
-  no_plan : IsRefuted schema statement text → Shows schema statement firings search text outcome.No
+  no_plan : IsRefuted schema statement firings text → Shows schema statement firings search text outcome.No
   undecided : (select : ℕ) (log : List Firing) → IsUndecided schema statement firings select log →
       text ≡ undecided_text schema select log → Shows schema statement firings search text outcome.Undecided
 

@@ -73,7 +73,7 @@ pub data StatementEnds {S : Type 0} (schema : Schema) (statement : Statement) (f
       after.out ≡ before.out → new ≡ old → StatementEnds schema statement firings search Ran IsText names
       before after old new (Err end)
   -- there is no plan: the refutation was written whole, and nothing else was touched
-  refuted : (text : List ℕ) → IsRefuted schema statement text → TookAll before.err after.err text →
+  refuted : (text : List ℕ) → IsRefuted schema statement firings text → TookAll before.err after.err text →
       after.out ≡ before.out → new ≡ old → StatementEnds schema statement firings search Ran IsText names
       before after old new (Ok outcome.No)
   -- the firings were spent: their log was written whole, and nothing else was touched

@@ -169,15 +169,16 @@ module _ (n : ℕ) (schema : Schema) (is : IsWorldSchema n schema) where
     one_branch (branch ∷ b ∷ bs) (chosen.Branch cost least ∷ []) only are = absurd are.3
     one_branch (branch ∷ b ∷ bs) (chosen.Branch cost least ∷ e ∷ entries) only are = absurd are.3
 
-  pub never_refuted : (pair : Witness) → IsRefutation schema world_statement pair → ⊥
+  pub never_refuted : (pair : Witness) → IsRefutation schema world_statement FIRINGS pair → ⊥
   never_refuted pair refutation = refutation.none world_plan
       (subst (λ (s : SchemaParts). IsLawful world_plan s (known_of schema world_statement)) (sym meant) (subst (λ (cs : List Value). IsLawful world_plan world cs) (sym known) plan_lawful))
       (subst (λ (s : SchemaParts). IsEquivalent world_plan world_statement s) (sym meant) plan_equivalent)
 
   pub never_undecided : (select : ℕ) (log : List Firing) → IsUndecided schema world_statement FIRINGS select log → ⊥
-  never_undecided select log spent =
-      let same : world_select ≡ spent.chosen = contains_one world_select spent.chosen (contains_got world_statement.selects select spent.chosen spent.of_statement) in
-      let form = subst (λ (s : Select). IsConjunctive world s spent.query) (sym same) (subst (λ (s : SchemaParts). IsConjunctive s spent.chosen spent.query) meant spent.form) in
+  never_undecided select log is =
+      let spent = is.spent in
+      let same : world_select ≡ is.select = contains_one world_select is.select (contains_got world_statement.selects select is.select is.of_statement) in
+      let form = subst (λ (s : Select). IsConjunctive world s spent.query) (sym same) (subst (λ (s : SchemaParts). IsConjunctive s is.select spent.query) meant spent.form) in
       let run = ordered_is_run (meaning_of schema) (known_of schema world_statement) 0 (opening spent.query) log spent.end spent.run in
       let own : IsRun world [] 0 (opening spent.query) log spent.end = subst (λ (cs : List Value). IsRun world cs 0 (opening spent.query) log spent.end) known (subst (λ (s : SchemaParts). IsRun s (known_of schema world_statement) 0 (opening spent.query) log spent.end) meant run) in
       let short = (runs_short spent.query form log spent.end own).0 in

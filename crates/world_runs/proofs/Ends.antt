@@ -27,8 +27,8 @@ use Rattle.middleware.specs.PlanSources.{IsAccessed}
 use Rattle.middleware.specs.LaneRounds.{started}
 use Rattle.middleware.specs.LaneBranches.{OnEach, LanesHoldPlan}
 use Rattle.middleware.specs.Needs.AttachesNeeded.{done as all_done}
-use Rattle.middleware.specs.LaneRunning.{AttachesAndAsks}
-use Rattle.middleware.specs.LaneRunning.AttachesAndAsks.{attached}
+use Rattle.plan_execution.specs.Running.{AttachesAndAsks}
+use Rattle.plan_execution.specs.Running.AttachesAndAsks.{attached}
 use Rattle.middleware.proofs.LaneBranching.{each_asked}
 use Rattle.command_io.specs.declared.delivery.TheConstants.{CALLS}
 use Rattle.command_io.specs.declared.stop.Stop.{Stop}
