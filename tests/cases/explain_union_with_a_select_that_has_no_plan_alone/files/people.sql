@@ -1,0 +1,3 @@
+SELECT DISTINCT eid, lname FROM profinfo
+UNION
+SELECT DISTINCT eid, lname FROM udirect

@@ -1,0 +1,1 @@
+SELECT DISTINCT eid, lname FROM udirect UNION SELECT DISTINCT eid, lname FROM udirect WHERE '1' = '2' UNION SELECT DISTINCT eid, onum FROM profinfo WHERE lname = 'smith' UNION SELECT DISTINCT eid, onum FROM profinfo WHERE lname = 'jones'

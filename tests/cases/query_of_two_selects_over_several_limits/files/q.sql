@@ -1,0 +1,1 @@
+SELECT DISTINCT a, a, a, a, a, a, a, a, a, a, a, a, a, a, a, a, a, a, a, a, a, a, a, a, a, a, a, a, a, a, a, a, a, a, a, a, a, a, a, a, a, a, a, a, a, a, a, a, a, a, a, a, a, a, a, a, a, a, a, a, a, a, a, a, a FROM s UNION SELECT DISTINCT a FROM s, s, s, s, s, s, s, s, s, s, s, s, s, s, s, s, s

@@ -1,0 +1,1 @@
+SELECT DISTINCT a AS "union" FROM "union" UNION SELECT DISTINCT "union".a FROM "union" WHERE a = 'union'
