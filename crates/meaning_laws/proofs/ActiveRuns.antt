@@ -1,5 +1,6 @@
--- Runs that fire active triggers alone, and a round of them, after which each match that there was is met.
-use Rattle.std.proofs.Common.{◌≡◌, ℕ, ◌+◌, ◌<◌, List, [], ◌∷◌, ◌++◌, length, Option, Some, None, refl, sym, ap, ◌∙◌, subst, ⊎_elim, arith}
+-- Runs that fire active triggers alone, and a round of them, after which each match that there was is met. The next label
+-- after a firing is behind the labels that it gave, or the same, so that the next firing gives them again.
+use Rattle.std.proofs.Common.{◌≡◌, ℕ, ◌+◌, ◌-◌, ◌<◌, List, [], ◌∷◌, ◌++◌, length, Option, Some, None, refl, sym, ap, ◌∙◌, subst, ⊎_elim, arith}
 use Rattle.std.proofs.Math.Decide.{ℕ_discrete}
 use Rattle.std.specs.Prelude.{Contains, slice_get, slice_index_or, map}
 use Rattle.std.proofs.lemmas.Option.{slice_get-get_or}
@@ -14,14 +15,31 @@ use Rattle.meaning.specs.declared.types.Val.TheVariants.{Const, Label}
 use Rattle.meaning.specs.declared.types.Rule.{Rule}
 use Rattle.meaning.specs.declared.types.Ground.{Ground}
 use Rattle.meaning.specs.declared.types.Trigger.{Trigger}
+use Rattle.meaning.specs.Added.{with_facts}
 use Rattle.meaning.specs.Matching.{AreFacts, OccursIn, Extends, GroundsOf}
 use Rattle.meaning.specs.Triggers.{bound, AreNumbered, State, assigned, ground, IsActive, fired, IsFiringRun}
 use Rattle.meaning_laws.specs.Trims.{AreIn}
 
+-- the next label after a firing: behind its labels, or the first of them
+abbrev pub behind : Trigger → Rule → ℕ
+behind trigger rule = trigger.fresh + (bound rule.head - bound rule.body)
+
+abbrev pub again : Trigger → Rule → ℕ
+again trigger rule = trigger.fresh
+
+-- the state after a firing, with that next label
+abbrev pub fired_to : (Trigger → Rule → ℕ) → State → Trigger → Rule → State
+fired_to after state trigger rule = record {
+  facts = with_facts state.facts (map (ground (assigned trigger)) rule.head);
+  next = after trigger rule;
+}
+
 -- firings of active triggers lead from a state to another
-abbrev pub IsActiveRun : List Rule → State → List Trigger → State → Type 0
-IsActiveRun rules state [] end = end ≡ state
-IsActiveRun rules state (trigger ∷ log) end = (rule : Rule) × IsActive rules state trigger rule × IsActiveRun rules (fired state trigger rule) log end
+abbrev pub IsActiveRun : (Trigger → Rule → ℕ) → List Rule → State → List Trigger → State → Type 0
+IsActiveRun after rules state [] end = end ≡ state
+IsActiveRun after rules state (trigger ∷ log) end =
+    (rule : Rule) × IsActive rules state trigger rule
+    × IsActiveRun after rules (fired_to after state trigger rule) log end
 
 -- some assignment that extends this one makes the head facts
 abbrev pub IsMetAt : List Ground → Rule → (ℕ → Val) → Type 0
@@ -54,19 +72,22 @@ alike c next rule long x occurs =
     let l : x < length c.values = omega arith in
     value_at (labelled c next) x l ∙ sym (value_at c x l)
 
-module _ (rules : List Rule) where
-  pub active_fires : (log : List Trigger) (state end : State) → IsActiveRun rules state log end → IsFiringRun rules state log end
-  active_fires [] state end run = run
-  active_fires (trigger ∷ log) state end (rule, active, more) = (rule, active.trigger_is, active_fires log (fired state trigger rule) end more)
+-- with labels of their own they are a run of firings
+pub active_fires : (rules : List Rule) (log : List Trigger) (state end : State) →
+    IsActiveRun behind rules state log end → IsFiringRun rules state log end
+active_fires rules [] state end run = run
+active_fires rules (trigger ∷ log) state end (rule, active, more) =
+    (rule, active.trigger_is, active_fires rules log (fired state trigger rule) end more)
 
-  pub active_on : (log rest : List Trigger) (state middle end : State) → IsActiveRun rules state log middle → IsActiveRun rules middle rest end → IsActiveRun rules state (log ++ rest) end
-  active_on [] rest state middle end e run = subst (λ s. IsActiveRun rules s rest end) e run
-  active_on (trigger ∷ log) rest state middle end (rule, active, more) run = (rule, active, active_on log rest (fired state trigger rule) middle end more run)
+module _ (after : Trigger → Rule → ℕ) (rules : List Rule) where
+  pub active_on : (log rest : List Trigger) (state middle end : State) → IsActiveRun after rules state log middle → IsActiveRun after rules middle rest end → IsActiveRun after rules state (log ++ rest) end
+  active_on [] rest state middle end e run = subst (λ s. IsActiveRun after rules s rest end) e run
+  active_on (trigger ∷ log) rest state middle end (rule, active, more) run = (rule, active, active_on log rest (fired_to after state trigger rule) middle end more run)
 
-  active_grows : (log : List Trigger) (state end : State) → IsActiveRun rules state log end → AreIn state.facts end.facts
+  active_grows : (log : List Trigger) (state end : State) → IsActiveRun after rules state log end → AreIn state.facts end.facts
   active_grows [] state end e fact c = subst (λ (s : State). Contains s.facts fact) (sym e) c
   active_grows (trigger ∷ log) state end (rule, active, more) fact c =
-      active_grows log (fired state trigger rule) end more fact (added_left state.facts (map (ground (assigned trigger)) rule.head) fact c)
+      active_grows log (fired_to after state trigger rule) end more fact (added_left state.facts (map (ground (assigned trigger)) rule.head) fact c)
 
   -- a candidate that makes the body facts and is not met is active once it has the next labels
   is_active : (state : State) (c : Trigger) (rule : Rule) → slice_get rules c.rule ≡ Some rule → length c.values ≡ bound rule.body → AreFacts Const (GroundsOf state.facts) (assigned c) rule.body → (IsMetAt state.facts rule (assigned c) → ⊥) → IsActive rules state (labelled c state.next) rule
@@ -86,9 +107,9 @@ module _ (rules : List Rule) where
   IsSettled state end c =
       (rule : Rule) → slice_get rules c.rule ≡ Some rule → length c.values ≡ bound rule.body → AreFacts Const (GroundsOf state.facts) (assigned c) rule.body → IsMetAt end.facts rule (assigned c)
 
-module _ (rules : List Rule) (numbered : AreNumbered rules) where
+module _ (after : Trigger → Rule → ℕ) (rules : List Rule) (numbered : AreNumbered rules) where
   -- at most one firing settles a candidate
-  settle_rule : (state : State) (c : Trigger) (rule : Rule) → slice_get rules c.rule ≡ Some rule → (log : List Trigger) × (end : State) × IsActiveRun rules state log end × (length c.values ≡ bound rule.body → AreFacts Const (GroundsOf state.facts) (assigned c) rule.body → IsMetAt end.facts rule (assigned c))
+  settle_rule : (state : State) (c : Trigger) (rule : Rule) → slice_get rules c.rule ≡ Some rule → (log : List Trigger) × (end : State) × IsActiveRun after rules state log end × (length c.values ≡ bound rule.body → AreFacts Const (GroundsOf state.facts) (assigned c) rule.body → IsMetAt end.facts rule (assigned c))
   settle_rule state c rule got =
       elim (ℕ_discrete (length c.values) (bound rule.body)) [
         | no n ↦ ([], state, refl, (λ long body. absurd (n long)))
@@ -98,18 +119,18 @@ module _ (rules : List Rule) (numbered : AreNumbered rules) where
             | yes met ↦ ([], state, refl, (λ long body. met))
             | no n ↦ (
               labelled c state.next ∷ [],
-              fired state (labelled c state.next) rule,
-              (rule, is_active rules state c rule got wide are n, refl),
+              fired_to after state (labelled c state.next) rule,
+              (rule, is_active after rules state c rule got wide are n, refl),
               (λ long body. let (b, ext) = fired_met state (labelled c state.next) rule in (b, record { agrees = λ x occurs. ext.agrees x occurs ∙ alike c state.next rule wide x occurs; head = ext.head })),
             )
           ]
         ]
       ]
 
-  settle : (state : State) (c : Trigger) → (log : List Trigger) × (end : State) × IsActiveRun rules state log end × IsSettled rules state end c
+  settle : (state : State) (c : Trigger) → (log : List Trigger) × (end : State) × IsActiveRun after rules state log end × IsSettled after rules state end c
   settle state c = by (slice_get rules c.rule) refl
     where
-      by : (found : Option Rule) → slice_get rules c.rule ≡ found → (log : List Trigger) × (end : State) × IsActiveRun rules state log end × IsSettled rules state end c
+      by : (found : Option Rule) → slice_get rules c.rule ≡ found → (log : List Trigger) × (end : State) × IsActiveRun after rules state log end × IsSettled after rules state end c
       by None e = ([], state, refl, (λ rule got long body. let clash : None ≡ Some rule = sym e ∙ got in absurd (cc)))
       by (Some rule) e =
           let (log, end, run, met) = settle_rule state c rule e in (
@@ -121,21 +142,21 @@ module _ (rules : List Rule) (numbered : AreNumbered rules) where
                 subst (λ (r : Rule). IsMetAt end.facts r (assigned c)) same (met (long ∙ ap (λ (r : Rule). bound r.body) (sym same)) (subst (λ (r : Rule). AreFacts Const (GroundsOf state.facts) (assigned c) r.body) (sym same) body))),
           )
 
-  settle_all : (cs : List Trigger) (state : State) → (log : List Trigger) × (end : State) × IsActiveRun rules state log end × ((c : Trigger) → Contains cs c → IsSettled rules state end c)
+  settle_all : (cs : List Trigger) (state : State) → (log : List Trigger) × (end : State) × IsActiveRun after rules state log end × ((c : Trigger) → Contains cs c → IsSettled after rules state end c)
   settle_all [] state = ([], state, refl, (λ c among rule got long body. absurd (omega arith)))
   settle_all (first ∷ cs) state =
       let (log, middle, run, settled) = settle state first in
       let (rest, end, more, all) = settle_all cs middle in (
         log ++ rest,
         end,
-        active_on rules log rest state middle end run more,
+        active_on after rules log rest state middle end run more,
         (λ c among rule got long body. ⊎_elim
-            (λ same. met_grows middle.facts end.facts rule (assigned c) (active_grows rules rest middle end more) (subst (λ d. IsSettled rules state middle d) same settled rule got long body))
-            (λ later. all c later rule got long (λ atom d. active_grows rules log state middle run (ground (assigned c) atom) (body atom d))) (contains_cases first cs c among)),
+            (λ same. met_grows middle.facts end.facts rule (assigned c) (active_grows after rules rest middle end more) (subst (λ d. IsSettled after rules state middle d) same settled rule got long body))
+            (λ later. all c later rule got long (λ atom d. active_grows after rules log state middle run (ground (assigned c) atom) (body atom d))) (contains_cases first cs c among)),
       )
 
   -- a round leaves each match that there was before it met
-  pub round : (state : State) → (log : List Trigger) × (end : State) × IsActiveRun rules state log end
+  pub round : (state : State) → (log : List Trigger) × (end : State) × IsActiveRun after rules state log end
       × ((rule : Rule) (a : ℕ → Val) → Contains rules rule → AreFacts Const (GroundsOf state.facts) a rule.body → IsMetAt end.facts rule a)
   round state =
       let (log, end, run, settled) = settle_all (candidates rules state.facts) state in (

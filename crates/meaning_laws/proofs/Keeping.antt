@@ -26,39 +26,67 @@ pub named_more : (constants : List (List ℕ)) (m n : ℕ) (v : Val) → m ≤ n
 named_more constants m n (Const c) l is = is
 named_more constants m n (Label k) l is = omega arith
 
-module _ (constants : List (List ℕ)) (rules : List Rule) (state : State) (trigger : Trigger) (rule : Rule) (is : IsTrigger rules state trigger rule) (numbered : IsNumbered rule) where
-  fired_named : HaveConstants constants rule.head → AreNamed constants state.next state.facts → AreNamed constants (fired state trigger rule).next (fired state trigger rule).facts
-  fired_named have named fact v c inside =
-      ⊎_elim (λ old. named_more constants state.next (fired state trigger rule).next v (up is.fresh) (named fact v old inside))
-      (λ new. let (atom, among, e) = contains_mapped (ground (assigned trigger)) rule.head fact new in
-      let (term, has, same) = contains_mapped (value_of Const (assigned trigger)) atom.terms v (subst (λ (f : Ground). Contains f.vals v) (sym e) inside) in
-      subst (λ w. IsNamed constants (fired state trigger rule).next w) same (term_named term atom among has))
-      (added_cases state.facts (map (ground (assigned trigger)) rule.head) fact c)
+module _ (rules : List Rule) (state : State) (trigger : Trigger) (rule : Rule)
+    (is : IsTrigger rules state trigger rule) (numbered : IsNumbered rule) where
+  -- what holds of the values of the facts, of the head's constants and of the trigger's labels holds of all values
+  -- that the head gets
+  pub head_values : (P : Val → Type 0) →
+      ((fact : Ground) (v : Val) → Contains state.facts fact → Contains fact.vals v → P v) →
+      ((atom : Atom) (t : List ℕ) → Contains rule.head atom → Contains atom.terms (Said t) → P (Const t)) →
+      ((i : ℕ) → i < bound rule.head - bound rule.body → P (Label (trigger.fresh + i))) →
+      (fact : Ground) (v : Val) → Contains (map (ground (assigned trigger)) rule.head) fact → Contains fact.vals v → P v
+  head_values P old said new fact v c inside =
+      let (atom, among, e) = contains_mapped (ground (assigned trigger)) rule.head fact c in
+      let (term, has, same) = contains_mapped (value_of Const (assigned trigger)) atom.terms v
+      (subst (λ (f : Ground). Contains f.vals v) (sym e) inside) in
+      subst P same (each term atom among has)
     where
-      up : state.next ≤ trigger.fresh → state.next ≤ trigger.fresh + (bound rule.head - bound rule.body)
-      up l = omega arith
-
-      term_named : (term : Term) (atom : Atom) → Contains rule.head atom → Contains atom.terms term → IsNamed constants (fired state trigger rule).next (value_of Const (assigned trigger) term)
-      term_named (Said t) atom among has = have atom t among has
-      term_named (Var x) atom among has =
+      each : (term : Term) (atom : Atom) → Contains rule.head atom → Contains atom.terms term →
+          P (value_of Const (assigned trigger) term)
+      each (Said t) atom among has = said atom t among has
+      each (Var x) atom among has =
           let top : x < bound rule.head = occurs_below rule.head x (atom, among, has) in
-          ⊎_elim (λ l. let (b, within, occurs) = numbered.body x l in
-          named_more constants state.next (fired state trigger rule).next (assigned trigger x) (up is.fresh) (named (ground (assigned trigger) b) (assigned trigger x) (is.body b within) (contains_map (value_of Const (assigned trigger)) b.terms (Var x) occurs)))
-          (λ l. let split : bound rule.body + (x - bound rule.body) ≡ x = omega arith in
-          let fresh : Label (trigger.fresh + (x - bound rule.body)) ≡ assigned trigger x = sym (fresh_is' (x - bound rule.body)) ∙ ap (assigned trigger) split in
-          subst (λ w. IsNamed constants (fired state trigger rule).next w) fresh (low x top l)) (cases_lt x (bound rule.body))
-        where
-          low : (x : ℕ) → x < bound rule.head → bound rule.body ≤ x → trigger.fresh + (x - bound rule.body) < trigger.fresh + (bound rule.head - bound rule.body)
-          low x top l = omega arith
+          ⊎_elim
+          (λ l.
+          let (b, within, occurs) = numbered.body x l in
+          old (ground (assigned trigger) b) (assigned trigger x) (is.body b within)
+          (contains_map (value_of Const (assigned trigger)) b.terms (Var x) occurs))
+          (λ l.
+          let split : bound rule.body + (x - bound rule.body) ≡ x = omega arith in
+          let made = fresh_is rules state trigger rule is (x - bound rule.body) in
+          let label : Label (trigger.fresh + (x - bound rule.body)) ≡ assigned trigger x =
+          sym made ∙ ap (assigned trigger) split in
+          subst P label (new (x - bound rule.body) (omega arith)))
+          (cases_lt x (bound rule.body))
 
-          fresh_is' : (i : ℕ) → assigned trigger (bound rule.body + i) ≡ Label (trigger.fresh + i)
-          fresh_is' i = fresh_is rules state trigger rule is i
+-- the facts of the head have the arities of its atoms
+pub head_fits : (schema : SchemaParts) (trigger : Trigger) (rule : Rule) →
+    ((atom : Atom) → Contains rule.head atom → FitsRelation schema atom.rel atom.terms) →
+    Fit schema (map (ground (assigned trigger)) rule.head)
+head_fits schema trigger rule heads fact c =
+    let (atom, among, e) = contains_mapped (ground (assigned trigger)) rule.head fact c in
+    let as_long = ap (λ (f : Ground). length f.vals) (sym e) ∙ length-map atom.terms (value_of Const (assigned trigger)) in
+    fits_alike schema atom.rel fact.rel atom.terms fact.vals (ap (λ (f : Ground). f.rel) e) as_long (heads atom among)
 
-  fired_fits : (schema : SchemaParts) → ((atom : Atom) → Contains rule.head atom → FitsRelation schema atom.rel atom.terms) → Fit schema state.facts → Fit schema (fired state trigger rule).facts
+module _ (constants : List (List ℕ)) (rules : List Rule) (state : State) (trigger : Trigger) (rule : Rule)
+    (is : IsTrigger rules state trigger rule) (numbered : IsNumbered rule) where
+  fired_named : HaveConstants constants rule.head → AreNamed constants state.next state.facts →
+      AreNamed constants (fired state trigger rule).next (fired state trigger rule).facts
+  fired_named have named fact v c inside =
+      let after : ℕ = (fired state trigger rule).next in
+      let up : state.next ≤ trigger.fresh = is.fresh in
+      let later : state.next ≤ (fired state trigger rule).next = omega arith in
+      ⊎_elim (λ old. named_more constants state.next after v later (named fact v old inside))
+      (λ new. head_values rules state trigger rule is numbered (IsNamed constants after)
+      (λ f w a h. named_more constants state.next after w later (named f w a h)) have (λ i l. omega arith) fact v new
+      inside)
+      (added_cases state.facts (map (ground (assigned trigger)) rule.head) fact c)
+
+  fired_fits : (schema : SchemaParts) →
+      ((atom : Atom) → Contains rule.head atom → FitsRelation schema atom.rel atom.terms) → Fit schema state.facts →
+      Fit schema (fired state trigger rule).facts
   fired_fits schema heads fit fact c =
-      ⊎_elim (λ old. fit fact old)
-      (λ new. let (atom, among, e) = contains_mapped (ground (assigned trigger)) rule.head fact new in
-      fits_alike schema atom.rel fact.rel atom.terms fact.vals (ap (λ (f : Ground). f.rel) e) (ap (λ (f : Ground). length f.vals) (sym e) ∙ length-map atom.terms (value_of Const (assigned trigger))) (heads atom among))
+      ⊎_elim (λ old. fit fact old) (λ new. head_fits schema trigger rule heads fact new)
       (added_cases state.facts (map (ground (assigned trigger)) rule.head) fact c)
 
 -- what a whole run keeps

@@ -33,6 +33,7 @@ pub mod Running
 pub mod Candidates
 pub mod ActiveRuns
 pub mod Quieting
+pub mod Resting
 pub mod Trimming
 pub mod Everywhere
 pub mod Costing

@@ -1,4 +1,4 @@
--- A rival's partial row over the base facts is a list of exposures that costs no more, and from which the copy has a goal.
+-- A rival's partial row over the base facts is a list of exposures that costs no more, and whose facts have a goal.
 use Rattle.std.proofs.Common.{◌≡◌, ℕ, ◌+◌, ◌<◌, ◌≤◌, List, [], ◌∷◌, ◌++◌, length, Some, sym, ap, ◌∙◌, subst, inl, inr, ⊎_elim, arith, append_assoc}
 use Rattle.std.specs.Prelude.{Contains, slice_get, map}
 use Rattle.std.proofs.lemmas.List.Elements.{Contains-append_left, Contains-append_right, Contains-append_cases, Contains-push}
@@ -6,7 +6,7 @@ use Rattle.lists.proofs.Members.{contains_here, contains_cases, contains_got, co
 use Rattle.meaning_laws.proofs.Monotone.{joins_inputs, joins_values, joins_length}
 use Rattle.meaning_laws.proofs.Deciding.{dec_contains, quiet_meets}
 use Rattle.meaning_laws.proofs.Renaming.{naming_exists, back, back_named, renamed_meets, answer_renamed, answer_back}
-use Rattle.meaning_laws.proofs.Keeping.{run_keeps, named_more}
+use Rattle.meaning_laws.proofs.Keeping.{named_more}
 use Rattle.meaning_laws.proofs.Witness.{renamed_fits}
 use Rattle.meaning.specs.declared.types.Val.{Val}
 use Rattle.meaning.specs.declared.types.Val.TheVariants.{Const}
@@ -29,12 +29,13 @@ use Rattle.meaning.specs.Homomorphisms.{image, fact_of, renamed}
 use Rattle.meaning.specs.Triggers.{State}
 use Rattle.meaning.specs.Runs.{IsKnownValue}
 use Rattle.meaning.specs.Naming.{IsNaming, IsNamed, AreNamed}
-use Rattle.meaning.specs.Fitting.{RulesFit, QueryHasConstants, Fit}
+use Rattle.meaning.specs.Fitting.{RulesFit, QueryHasConstants}
 use Rattle.meaning.specs.Conjunctive.{StandFor}
-use Rattle.meaning.specs.Extract.{Exposure, exposed_facts, IsExposing, exposures_cost, IsBase, IsQueryRival, HasGoalAfter}
+use Rattle.meaning.specs.Extract.{Exposure, exposed_facts, IsExposing, exposures_cost, IsBase, IsQueryRival}
 use Rattle.meaning.specs.declared.types.Statement.{Statement}
 use Rattle.meaning.specs.declared.types.Select.{Select}
 use Rattle.meaning.proofs.Steps.{cost_once}
+use Rattle.meaning_laws.specs.Rests.{HasGoalOver}
 
 -- rows grow with the facts
 pub steps_grow : (schema : SchemaParts) (first second : List Fact) → ((fact : Fact) → Contains first fact → Contains second fact) → (steps : List Step) (row last : List (List ℕ)) → LeadsTo schema first steps row last → LeadsTo schema second steps row last
@@ -126,15 +127,9 @@ module _ (schema : SchemaParts) (well : IsWellFormed schema) (constants : List (
       no_fact : (f : Ground) → Contains [] f → ⊥
       no_fact f c = omega arith
 
--- a list of exposures of base facts has facts of the base alone
-exposing_base : (schema : SchemaParts) (constants : List (List ℕ)) (base exposed : List Ground) (exposures : List Exposure) → IsExposing schema constants base exposed exposures → (f : Ground) → Contains (exposed_facts exposures) f → Contains base f
-exposing_base schema constants base exposed [] is f c = absurd (omega arith)
-exposing_base schema constants base exposed (e ∷ exposures) (first, rest) f c =
-    ⊎_elim (λ same. subst (λ g. Contains base g) same first.of_base) (λ i. exposing_base schema constants base (exposed ++ e.fact ∷ []) exposures rest f i) (contains_cases e.fact (exposed_facts exposures) f c)
-
--- a rival gives exposures in order that cost no more, and whose copy has the goal
+-- a rival gives exposures in order that cost no more, and whose facts have the goal
 pub rival_exposes : (schema : SchemaParts) (constants : List (List ℕ)) (queries : List Query) (query : Query) (base : State) (head : List Val) (rival : Branch) (cost : ℕ) → IsWellFormed schema → RulesFit schema constants → ((q : Query) → Contains queries q → QueryHasConstants constants q) → IsBase schema constants query base head → IsQueryRival schema constants queries query rival → IsStepsCost schema rival.steps cost →
-    (exposures : List Exposure) × IsExposing schema constants base.facts [] exposures × (exposures_cost exposures ≤ cost) × HasGoalAfter schema queries head base.next exposures
+    (exposures : List Exposure) × IsExposing schema constants base.facts [] exposures × (exposures_cost exposures ≤ cost) × ((most : ℕ) → HasGoalOver schema constants queries head base.next most (exposed_facts exposures))
 rival_exposes schema constants queries query base head rival cost well rules have is_base is_rival is_cost =
     let (h, naming) = naming_exists constants in
     let model : IsModel schema (renamed h base.facts) = record {
@@ -146,30 +141,26 @@ rival_exposes schema constants queries query base head rival cost well rules hav
       exposures,
       exposing,
       cheap,
-      λ copy end run quiet.
-          let start_named : AreNamed constants base.next (exposed_facts exposures) = λ f v c i. is_base.named f v (exposing_base schema constants base.facts [] exposures exposing f c) i in
-          let start_fits : Fit schema (exposed_facts exposures) = λ f c. is_base.fits f (exposing_base schema constants base.facts [] exposures exposing f c) in
-          let kept = run_keeps schema constants copy (record { facts = exposed_facts exposures; next = base.next }) end rules start_named start_fits run in
+      λ most end rest.
           let end_model : IsModel schema (renamed h end.facts) = record {
-            fits = renamed_fits schema h end.facts kept.fit;
-            meets = renamed_meets constants end.next h (naming end.next) end.facts kept.named schema.rules rules.have (quiet_meets schema.rules end rules.numbered quiet);
+            fits = renamed_fits schema h end.facts rest.fits;
+            meets = renamed_meets constants end.next h (naming end.next) end.facts rest.named schema.rules rules.have (quiet_meets schema.rules end rules.numbered rest.quiet);
           } in
           let within : (fact : Fact) → Contains (renamed h (exposed_facts exposures)) fact → Contains (renamed h end.facts) fact =
-          λ fact c. let (g, i, e) = contains_mapped (fact_of h) (exposed_facts exposures) fact c in subst (λ f. Contains (renamed h end.facts) f) e (contains_map (fact_of h) end.facts g (kept.grows g i)) in
+          λ fact c. let (g, i, e) = contains_mapped (fact_of h) (exposed_facts exposures) fact c in subst (λ f. Contains (renamed h end.facts) f) e (contains_map (fact_of h) end.facts g (rest.grows g i)) in
           let (goal, among, answer) = is_rival.sound (renamed h end.facts) (map (image h) head) end_model (last, steps_grow schema (renamed h (exposed_facts exposures)) (renamed h end.facts) within rival.steps [] last rows, outs) in
           let its = have goal among in
-          (goal, among, answer_back constants end.next h (naming end.next) end.facts kept.named goal head its.atoms its.head (λ v c. named_more constants base.next end.next v kept.next (is_base.head_named v c)) answer),
+          (goal, among, answer_back constants end.next h (naming end.next) end.facts rest.named goal head its.atoms its.head (λ v c. named_more constants base.next end.next v rest.low (is_base.head_named v c)) answer),
     )
 
--- a list of steps has one cost
 -- where no exposures with a goal cost less, no rival costs less
-pub least_by_exposures : (schema : SchemaParts) (constants : List (List ℕ)) (statement : Statement) (select : Select) (queries : List Query) (query : Query) (base : State) (head : List Val) (branch : Branch) (best : ℕ) →
+pub least_by_exposures : (schema : SchemaParts) (constants : List (List ℕ)) (statement : Statement) (select : Select) (queries : List Query) (query : Query) (base : State) (head : List Val) (branch : Branch) (best most : ℕ) →
     IsWellFormed schema → RulesFit schema constants → ((q : Query) → Contains queries q → QueryHasConstants constants q) → StandFor schema queries statement →
     ((facts : List Fact) (row : List (List ℕ)) → IsInstance schema facts → AnswersQuery query facts row → AnswersSelect select facts row) →
     IsBase schema constants query base head → IsCost schema branch best →
-    ((exposures : List Exposure) → IsExposing schema constants base.facts [] exposures → HasGoalAfter schema queries head base.next exposures → best ≤ exposures_cost exposures) →
+    ((exposures : List Exposure) → IsExposing schema constants base.facts [] exposures → HasGoalOver schema constants queries head base.next most (exposed_facts exposures) → best ≤ exposures_cost exposures) →
     IsLeast schema constants statement select branch
-least_by_exposures schema constants statement select queries query base head branch best well rules have stand selects is_base is_best least rival cost other is_rival is_cost is_other =
+least_by_exposures schema constants statement select queries query base head branch best most well rules have stand selects is_base is_best least rival cost other is_rival is_cost is_other =
     let as_query : IsQueryRival schema constants queries query rival = record {
       lawful = is_rival.lawful;
       sound = λ facts row model rows. stand.complete facts row model.fits (is_rival.sound facts row model rows);
@@ -177,5 +168,5 @@ least_by_exposures schema constants statement select queries query base head bra
     } in
     let (exposures, exposing, cheap, goal) = rival_exposes schema constants queries query base head rival other well rules have is_base as_query is_other in
     let same : cost ≡ best = cost_once schema well branch.steps cost best is_cost is_best in
-    let low : best ≤ exposures_cost exposures = least exposures exposing goal in
+    let low : best ≤ exposures_cost exposures = least exposures exposing (goal most) in
     omega arith

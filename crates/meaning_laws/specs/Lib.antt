@@ -1,3 +1,4 @@
 pub mod Small
 pub mod Staff
 pub mod Trims
+pub mod Rests

@@ -1,6 +1,6 @@
 // Laws of the definitions: each is the contract of a function that does nothing.
 
-ghost use Rattle.std.specs.Prelude.{◌≡◌, ◌↔◌, ◌++◌, ◌∷◌, ◌^◌, ◌<◌, ◌≤◌, List, [], ℕ, Bool, Contains, length, map, slice_index_or, take};
+ghost use Rattle.std.specs.Prelude.{◌≡◌, ◌↔◌, ◌+◌, ◌++◌, ◌∷◌, ◌^◌, ◌<◌, ◌≤◌, List, [], ℕ, Bool, Contains, length, map, slice_index_or, take};
 ghost use Rattle.std.specs.List.{AllZip};
 ghost use Rattle.meaning.specs.declared.types.Rule.{Rule};
 ghost use Rattle.meaning.specs.declared.types.SchemaParts.{SchemaParts};
@@ -33,10 +33,11 @@ ghost use Rattle.meaning.specs.Runs.{IsBaseRun, Proof, NoExposure, Fires, part_o
 ghost use Rattle.meaning.specs.Naming.{IsNaming, IsNamed, AreNamed};
 ghost use Rattle.meaning.specs.Fitting.{QueryHasConstants, Fit, RulesFit, QueryFits, IsKept};
 ghost use Rattle.meaning.specs.Conjunctive.{SelectFits, IsConjunctive, StandFor};
-ghost use Rattle.meaning.specs.Extract.{Exposure, exposed_facts, branch_of, IsDerivation, IsHeadKnown, IsExposing, exposures_cost, IsBase, IsQueryRival, HasGoalAfter, HasGoalFrom};
+ghost use Rattle.meaning.specs.Extract.{Exposure, exposed_facts, branch_of, IsDerivation, IsHeadKnown, IsExposing, exposures_cost, IsBase, IsQueryRival};
 ghost use Rattle.meaning.specs.Judge.{IsBranchQuery};
 ghost use Rattle.meaning.specs.Search.{AreDistinct, AreSets};
-ghost use Rattle.meaning_laws.specs.Trims.{AreIn, Serves, IsNeeded, AreClosed};
+ghost use Rattle.meaning_laws.specs.Trims.{AreIn, Serves, IsNeeded, BodiesFollow, AreClosed};
+ghost use Rattle.meaning_laws.specs.Rests.{IsRest, HasGoalOver, new_labels, MakersAreMet};
 
 /// The rows of a lawful plan depend on the accessible part alone, and grow with it.
 pub fn rows_grow()
@@ -224,7 +225,7 @@ pub fn plan_from_branches()
         IsLawful plan schema constants × IsEquivalent plan statement schema }
 {}
 
-/// A rival of any length gives exposures in order that cost no more, and whose copy has the goal.
+/// A rival of any length gives exposures in order that cost no more, and whose facts have the goal, however many labels a state has.
 pub fn rival_exposes()
     ensures { (schema : SchemaParts) (constants : List Value) (queries : List Query) (query : Query) (base : State)
         (head : List Val) (rival : Branch) (cost : ℕ) →
@@ -233,30 +234,31 @@ pub fn rival_exposes()
         IsBase schema constants query base head → IsQueryRival schema constants queries query rival →
         IsCost schema rival cost →
         (exposures : List Exposure) × IsExposing schema constants base.facts [] exposures
-        × (exposures_cost exposures ≤ cost) × HasGoalAfter schema queries head base.next exposures }
+        × (exposures_cost exposures ≤ cost)
+        × ((most : ℕ) → HasGoalOver schema constants queries head base.next most (exposed_facts exposures)) }
 {}
 
 /// Where no exposures with a goal cost less than the branch, no rival does.
 pub fn least_by_exposures()
     ensures { (schema : SchemaParts) (constants : List Value) (statement : Statement) (select : Select)
-        (queries : List Query) (query : Query) (base : State) (head : List Val) (branch : Branch) (best : ℕ) →
-        IsWellFormed schema → RulesFit schema constants →
+        (queries : List Query) (query : Query) (base : State) (head : List Val) (branch : Branch)
+        (best most : ℕ) → IsWellFormed schema → RulesFit schema constants →
         ((q : Query) → Contains queries q → QueryHasConstants constants q) → StandFor schema queries statement →
         ((facts : List Fact) (row : Row) → IsInstance schema facts →
         AnswersQuery query facts row → AnswersSelect select facts row) →
         IsBase schema constants query base head → IsCost schema branch best →
         ((exposures : List Exposure) → IsExposing schema constants base.facts [] exposures →
-        HasGoalAfter schema queries head base.next exposures → best ≤ exposures_cost exposures) →
+        HasGoalOver schema constants queries head base.next most (exposed_facts exposures) →
+        best ≤ exposures_cost exposures) →
         IsLeast schema constants statement select branch }
 {}
 
-/// A goal after one order of the exposures is one after every order, so a search may look at sets.
-pub fn goal_alike()
-    ensures { (schema : SchemaParts) (queries : List Query) (head : List Val) (next : ℕ)
-        (first second : List Exposure) →
-        ((fact : Ground) → (Contains (exposed_facts first) fact → Contains (exposed_facts second) fact)
-        × (Contains (exposed_facts second) fact → Contains (exposed_facts first) fact)) →
-        HasGoalAfter schema queries head next first → HasGoalAfter schema queries head next second }
+/// A goal of facts is one of all facts that have them, and with fewer labels; so a search may look at sets.
+pub fn goal_stays()
+    ensures { (schema : SchemaParts) (constants : List Value) (queries : List Query) (head : List Val)
+        (next most less : ℕ) (facts larger : List Ground) → less ≤ most → AreIn facts larger →
+        HasGoalOver schema constants queries head next most facts →
+        HasGoalOver schema constants queries head next less larger }
 {}
 
 /// Distinct sets of n facts are at most 2 ^ n.
@@ -372,16 +374,16 @@ pub fn match_trims()
         × IsQueryAnswer Const (GroundsOf last.facts) goal head × (exposures_cost kept ≤ exposures_cost exposures) }
 {}
 
-/// A match in some run of firings is one in every run that ends in a quiet state.
+/// A match in some run of firings is one in every state at rest.
 pub fn goal_everywhere()
     ensures { (schema : SchemaParts) (constants : List Value) (queries : List Query) (state : State)
-        (head : List Val) (log : List Trigger) (some : State) (goal : Query) →
+        (head : List Val) (log : List Trigger) (some : State) (goal : Query) (most : ℕ) →
         RulesFit schema constants → ((q : Query) → Contains queries q → QueryHasConstants constants q) →
-        AreNamed constants state.next state.facts → Fit schema state.facts →
+        AreNamed constants state.next state.facts →
         ((v : Val) → Contains head v → IsNamed constants state.next v) →
         IsFiringRun schema.rules state log some → Contains queries goal →
         IsQueryAnswer Const (GroundsOf some.facts) goal head →
-        HasGoalFrom schema queries head state.next state.facts }
+        HasGoalOver schema constants queries head state.next most state.facts }
 {}
 
 /// The branch that is read off exposures costs what they cost.
@@ -396,6 +398,19 @@ pub fn quiet_is_reached()
     ensures { (rules : List Rule) (limit : ℕ) (state : State) → AreNumbered rules →
         ((rel n : ℕ) → IsFed rules rel n → n ≤ limit) →
         (log : List Trigger) × (end : State) × IsFiringRun rules state log end × IsQuiet rules end }
+{}
+
+/// Over facts where the makers of needed facts are met, a state is at rest that has no needed fact more, and only as many labels more as
+/// one firing gives. Where no chain of feeding has more than so many steps, and the facts have names and arities.
+pub fn rest_is_reached()
+    ensures { (schema : SchemaParts) (constants : List Value) (queries : List Query) (head : List Val) (wanted : List ℕ)
+        (first limit : ℕ) (start : State) → RulesFit schema constants →
+        BodiesFollow schema.rules first (IsNeeded queries head wanted) → first ≤ start.next →
+        MakersAreMet schema.rules first (IsNeeded queries head wanted) start.facts →
+        ((rel n : ℕ) → IsFed schema.rules rel n → n ≤ limit) →
+        AreNamed constants start.next start.facts → Fit schema start.facts →
+        (end : State) × IsRest schema constants start.next (start.next + new_labels schema.rules) start.facts end
+        × ((fact : Ground) → IsNeeded queries head wanted fact → Contains end.facts fact → Contains start.facts fact) }
 {}
 
 /// Where what a match makes is needed, with what makes it, and the needed base facts are relevant, with what they ask for, the
