@@ -1,31 +1,27 @@
--- Matches that stand for all others with the same values at the frontier.
+-- Matches that stand for others, as those with the same values at the frontier do.
 use Rattle.std.proofs.Common.{refl, append_assoc, ◌≡◌, ◌⊎◌, ℕ, ◌+◌, ◌-◌, ◌<◌, ◌≤◌, List, [], ◌∷◌, ◌++◌, length, Some, None, Option, sym, ap, ◌∙◌, subst, inl, inr, ⊎_elim, arith, Contains, map, take, drop, slice_get, slice_index_or}
-use Rattle.std.proofs.lemmas.Bool.{cases_lt}
 use Rattle.std.proofs.lemmas.List.{take_all, append-nil}
 use Rattle.std.proofs.lemmas.List.Elements.{Contains-append_left, Contains-append_right, Contains-append_cases, Contains-push_cases}
 use Rattle.std.proofs.lemmas.Option.{slice_get-get_or}
 use Rattle.lists.proofs.Members.{contains_here, contains_there, contains_cases, contains_none}
 use Rattle.lists.proofs.Places.{take_indexed}
-use Rattle.meaning_laws.proofs.Carrying.{occurs_below}
-use Rattle.meaning_laws.proofs.Deciding.{same_facts}
-use Rattle.meaning_laws.proofs.Joined.{joined_below, joined_above}
 use Rattle.meaning.specs.declared.types.Term.TheVariants.{Var}
 use Rattle.meaning.specs.declared.types.Val.{Val}
 use Rattle.meaning.specs.declared.types.Val.TheVariants.{Const}
 use Rattle.meaning.specs.declared.types.Atom.{Atom}
 use Rattle.meaning.specs.declared.types.Ground.{Ground}
 use Rattle.meaning.specs.declared.types.Rule.{Rule}
-use Rattle.meaning.specs.Matching.{AreFacts, OccursIn, GroundsOf, Extends, MeetsRule}
-use Rattle.meaning.specs.Triggers.{ground, bound, joined, IsNumbered}
+use Rattle.meaning.specs.Matching.{AreFacts, OccursIn, GroundsOf, MeetsRule}
+use Rattle.meaning.specs.Triggers.{ground}
 use Rattle.homomorphism.specs.declared.assignment.Assignment.{Assignment}
 use Rattle.homomorphism.specs.Bindings.{Agrees, IsBound, at}
-use Rattle.homomorphism.specs.Narrowing.{Gives, value_or_none}
+use Rattle.homomorphism.specs.Narrowing.{value_or_none}
 use Rattle.homomorphism.specs.Ways.{IsWay}
 use Rattle.homomorphism.specs.Matches.{IsMatch, NoMatch, AreCovered}
 use Rattle.homomorphism.specs.Listed.{AreCandidates}
 use Rattle.homomorphism.specs.Rules.{IsMet, IsUnmet, IsUnmetMatch}
 use Rattle.homomorphism.specs.Widening.{taken}
-use Rattle.homomorphism.specs.Frontier.{HasLike, AreFrontier, AreFrontierMatches}
+use Rattle.homomorphism.specs.Frontier.{HasLike, AreFrontier, StandForAll}
 use Rattle.homomorphism.proofs.AtomByAtom.{match_none}
 use Rattle.homomorphism.proofs.Binding.{apart}
 use Rattle.homomorphism.proofs.Choosing.{picked, picked_has, length_picked}
@@ -122,39 +118,19 @@ module _ (facts : List Ground) (atoms : List Atom) (order : List ℕ) (place : �
   })
 
 -- a body without a match
-pub frontier_absent : (facts : List Ground) (rule : Rule) (fixed : List (Option Val)) → Gives [] (bound rule.body) fixed → NoMatch facts rule.body fixed → AreFrontierMatches facts rule []
-frontier_absent facts rule fixed g none = record {
+pub frontier_absent : (facts : List Ground) (rule : Rule) → ((a : ℕ → Val) → AreFacts Const (GroundsOf facts) a rule.body → ⊥) →
+    StandForAll facts rule []
+frontier_absent facts rule none = record {
   width = λ m c. absurd (contains_none m c);
   each = λ m c. absurd (contains_none m c);
-  all = λ a are. absurd (none a (g.complete a (λ x l. absurd (omega arith))) are);
+  all = λ now met a are. absurd (none a are);
 }
 
--- a rule that is met at values is met at each assignment that has them at the frontier
-pub met_along : (facts : List Ground) (rule : Rule) (values : List Val) (a : ℕ → Val) → IsNumbered rule → IsMet facts rule values → ((x : ℕ) → OccursIn rule.head x → x < bound rule.body → a x ≡ at values x) →
-    (b : ℕ → Val) × Extends Const (GroundsOf facts) rule a b
-met_along facts rule values a numbered (b, ext) like = (
-  both,
-  record {
-    agrees = λ x occurs. low x (occurs_below rule.body x occurs);
-    head = same_facts facts b both rule.head (λ x occurs. ⊎_elim (λ l. ext.agrees x (numbered.body x l) ∙ sym (like x occurs l) ∙ sym (low x l)) (λ h. sym (high x h)) (cases_lt x (bound rule.body))) ext.head;
-  },
-)
-  where
-    both : ℕ → Val
-    both = joined (bound rule.body) a (λ i. b (bound rule.body + i))
+pub frontier_met : (facts : List Ground) (rule : Rule) (found : List Assignment) → StandForAll facts rule found →
+    ((one : Assignment) → Contains found one → IsMet facts rule one.vals) → MeetsRule Const (GroundsOf facts) rule
+frontier_met facts rule found m met a body = m.all facts met a body
 
-    low : (x : ℕ) → x < bound rule.body → both x ≡ a x
-    low x l = joined_below (bound rule.body) a (λ i. b (bound rule.body + i)) x l
-
-    high : (x : ℕ) → bound rule.body ≤ x → both x ≡ b x
-    high x l =
-        let e : bound rule.body + (x - bound rule.body) ≡ x = omega arith in
-        subst (λ y. both y ≡ b y) e (joined_above (bound rule.body) a (λ i. b (bound rule.body + i)) (x - bound rule.body))
-
-pub frontier_met : (facts : List Ground) (rule : Rule) (found : List Assignment) → IsNumbered rule → AreFrontierMatches facts rule found → ((one : Assignment) → Contains found one → IsMet facts rule one.vals) → MeetsRule Const (GroundsOf facts) rule
-frontier_met facts rule found numbered m met a body = let (one, among, like) = m.all a body in met_along facts rule one.vals a numbered (met one among) like
-
-pub unmet_frontier : (facts : List Ground) (rule : Rule) (found : List Assignment) (one : Assignment) → AreFrontierMatches facts rule found → Contains found one → IsUnmet facts rule one.vals → IsUnmetMatch facts rule one.vals
+pub unmet_frontier : (facts : List Ground) (rule : Rule) (found : List Assignment) (one : Assignment) → StandForAll facts rule found → Contains found one → IsUnmet facts rule one.vals → IsUnmetMatch facts rule one.vals
 unmet_frontier facts rule found one m c u = record { width = m.width one c; body = m.each one c; unmet = u }
 
 -- a walk through matches, of which those that were met are done
@@ -162,10 +138,10 @@ pub record IsWalked (facts : List Ground) (rule : Rule) (left : List Assignment)
   pub found : List Assignment
   pub done : List Assignment
   pub whole : found ≡ done ++ left
-  pub matches : AreFrontierMatches facts rule found
+  pub matches : StandForAll facts rule found
   pub met : (one : Assignment) → Contains done one → IsMet facts rule one.vals
 
-pub walked_start : (facts : List Ground) (rule : Rule) (left : List Assignment) → AreFrontierMatches facts rule left → IsWalked facts rule left
+pub walked_start : (facts : List Ground) (rule : Rule) (left : List Assignment) → StandForAll facts rule left → IsWalked facts rule left
 walked_start facts rule left m = record { found = left; done = []; whole = refl; matches = m; met = λ one c. absurd (contains_none one c) }
 
 pub walked_among : (facts : List Ground) (rule : Rule) (left more : List Assignment) (one : Assignment) (w : IsWalked facts rule left) → left ≡ one ∷ more → Contains w.found one
@@ -180,5 +156,5 @@ walked_more facts rule left more one e m w = record {
   met = λ other c. ⊎_elim (λ h. w.met other h) (λ same. subst (λ (n : Assignment). IsMet facts rule n.vals) same m) (Contains-push_cases w.done one other c);
 }
 
-pub walked_all : (facts : List Ground) (rule : Rule) (left : List Assignment) → IsNumbered rule → left ≡ [] → IsWalked facts rule left → MeetsRule Const (GroundsOf facts) rule
-walked_all facts rule left numbered e w = frontier_met facts rule w.found numbered w.matches (λ one c. w.met one (subst (λ z. Contains z one) (w.whole ∙ ap (λ z. w.done ++ z) e ∙ append-nil w.done) c))
+pub walked_all : (facts : List Ground) (rule : Rule) (left : List Assignment) → left ≡ [] → IsWalked facts rule left → MeetsRule Const (GroundsOf facts) rule
+walked_all facts rule left e w = frontier_met facts rule w.found w.matches (λ one c. w.met one (subst (λ z. Contains z one) (w.whole ∙ ap (λ z. w.done ++ z) e ∙ append-nil w.done) c))

@@ -11,7 +11,7 @@ use Rattle.meaning.specs.declared.types.Val.{Val}
 use Rattle.meaning.specs.declared.types.Val.TheVariants.{Const}
 use Rattle.meaning.specs.declared.types.Atom.{Atom}
 use Rattle.meaning.specs.declared.types.Ground.{Ground}
-use Rattle.meaning.specs.Matching.{AreFacts, GroundsOf}
+use Rattle.meaning.specs.Matching.{AreFacts, OccursIn, GroundsOf}
 use Rattle.homomorphism.specs.Bindings.{Agrees}
 use Rattle.homomorphism.specs.Matches.{NoMatch}
 use Rattle.homomorphism.specs.Widening.{Widens, AreUntouched, AreRuns, taken}
@@ -148,16 +148,24 @@ none_before facts atoms given now width kept free none a ag are =
     (same_facts facts a (λ x. chosen (slice_get now x) (a x)) atoms (λ x occurs. stays given now width kept a ag x (free x occurs)) are)
 
 -- one atom more whose free variables have still no value
-pub untouched_more : (atoms : List Atom) (run : List ℕ) (i n : ℕ) (atom : Atom) (given now : List (Option Val)) → i < length run → n ≡ slice_index_or run i n → n < length atoms → atom ≡ slice_index_or atoms n atom →
-    AreUntouched (taken atoms (take i run)) given now → ((x : ℕ) → Contains atom.terms (Var x) → slice_get given x ≡ Some None → slice_get now x ≡ Some None) → AreUntouched (taken atoms (take (i + 1) run)) given now
-untouched_more atoms run i n atom given now l is low here before one x (other, c, o) e =
+-- what holds of the variables of the atoms of a run holds with one atom more
+pub occurs_more : (P : ℕ → Type 0) (atoms : List Atom) (run : List ℕ) (i n : ℕ) (atom : Atom) → i < length run →
+    n ≡ slice_index_or run i n → n < length atoms → atom ≡ slice_index_or atoms n atom →
+    ((x : ℕ) → OccursIn (taken atoms (take i run)) x → P x) → ((x : ℕ) → Contains atom.terms (Var x) → P x) →
+    (x : ℕ) → OccursIn (taken atoms (take (i + 1) run)) x → P x
+occurs_more P atoms run i n atom l is low here before one x (other, c, o) =
     let (k, among, same) = contains_mapped (λ m. slice_index_or atoms m (record { rel = 0; terms = [] })) (take (i + 1) run) other c in
-    ⊎_elim (λ h. before x (other, subst (Contains (taken atoms (take i run))) same (contains_map (λ m. slice_index_or atoms m (record { rel = 0; terms = [] })) (take i run) k h), o) e)
-    (λ last. one x (subst (λ (t : Atom). Contains t.terms (Var x)) (sym same ∙ ap (λ m. slice_index_or atoms m (record { rel = 0; terms = [] })) (sym last) ∙ default atoms n (record { rel = 0; terms = [] }) atom low ∙ sym here) o) e)
+    ⊎_elim (λ h. before x (other, subst (Contains (taken atoms (take i run))) same (contains_map (λ m. slice_index_or atoms m (record { rel = 0; terms = [] })) (take i run) k h), o))
+    (λ last. one x (subst (λ (t : Atom). Contains t.terms (Var x)) (sym same ∙ ap (λ m. slice_index_or atoms m (record { rel = 0; terms = [] })) (sym last) ∙ default atoms n (record { rel = 0; terms = [] }) atom low ∙ sym here) o))
     (Contains-push_cases (take i run) n k (subst (λ z. Contains z k) one_more among))
   where
     one_more : take (i + 1) run ≡ take i run ++ n ∷ []
     one_more = take_indexed run i n l is
+
+pub untouched_more : (atoms : List Atom) (run : List ℕ) (i n : ℕ) (atom : Atom) (given now : List (Option Val)) → i < length run → n ≡ slice_index_or run i n → n < length atoms → atom ≡ slice_index_or atoms n atom →
+    AreUntouched (taken atoms (take i run)) given now → ((x : ℕ) → Contains atom.terms (Var x) → slice_get given x ≡ Some None → slice_get now x ≡ Some None) → AreUntouched (taken atoms (take (i + 1) run)) given now
+untouched_more atoms run i n atom given now l is low here before one =
+    occurs_more (λ x. slice_get given x ≡ Some None → slice_get now x ≡ Some None) atoms run i n atom l is low here before one
 
 -- the runs that were gone through
 pub record Searched (facts : List Ground) (atoms : List Atom) (done : List (List ℕ)) (given now : List (Option Val)) : Type 0 where

@@ -16,10 +16,10 @@ use Rattle.homomorphism.proofs.Extending.{wider}
 use Rattle.homomorphism.proofs.Runs.{chosen, past, stays, below_or_last}
 
 -- one atom among others
-in_one : (atom : Atom) (x : ℕ) → OccursIn (atom ∷ []) x → Contains atom.terms (Var x)
+pub in_one : (atom : Atom) (x : ℕ) → OccursIn (atom ∷ []) x → Contains atom.terms (Var x)
 in_one atom x (other, c, o) = ⊎_elim (λ e. subst (λ (t : Atom). Contains t.terms (Var x)) (sym e) o) (λ h. absurd (contains_none other h)) (contains_cases atom [] other c)
 
-only : (facts : List Ground) (a : ℕ → Val) (atoms : List Atom) (atom : Atom) → Contains atoms atom → AreFacts Const (GroundsOf facts) a atoms → AreFacts Const (GroundsOf facts) a (atom ∷ [])
+pub only : (facts : List Ground) (a : ℕ → Val) (atoms : List Atom) (atom : Atom) → Contains atoms atom → AreFacts Const (GroundsOf facts) a atoms → AreFacts Const (GroundsOf facts) a (atom ∷ [])
 only facts a atoms atom among are other c = are other (⊎_elim (λ e. subst (Contains atoms) e among) (λ h. absurd (contains_none other h)) (contains_cases atom [] other c))
 
 -- an assignment with the values that are given

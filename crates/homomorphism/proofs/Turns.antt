@@ -1,9 +1,11 @@
--- Choices of a member of each of several lists, by their numbers, one after another.
-use Rattle.std.proofs.Common.{append_assoc, inl, inr, ◌≡◌, ◌⊎◌, ℕ, zero, suc, ◌+◌, ◌-◌, ◌<◌, ◌≤◌, List, [], ◌∷◌, ◌++◌, length, refl, sym, ap, ◌∙◌, subst, ⊎_elim, arith, Contains, map, replicate}
+-- Choices of a number below each of several counts, one after another.
+use Rattle.std.proofs.Common.{append_assoc, inl, inr, ◌≡◌, ◌⊎◌, ℕ, zero, suc, ◌+◌, ◌-◌, ◌<◌, ◌≤◌, List, [], ◌∷◌, ◌++◌, length, refl, sym, ap, ◌∙◌, subst, ⊎_elim, arith, Contains, map, replicate, slice_index_or}
 use Rattle.std.specs.List.{range_with_len}
 use Rattle.std.proofs.lemmas.List.Elements.{Contains-append_left, Contains-append_right, Contains-append_cases}
+use Rattle.std.proofs.lemmas.List.{append-nil}
 use Rattle.lists.proofs.Members.{contains_here, contains_there, contains_cases, contains_map, contains_mapped, contains_none}
-use Rattle.homomorphism.specs.Walks.{spread, turns, AreWithin, Advances}
+use Rattle.homomorphism.specs.declared.turning.Turning.{Turning}
+use Rattle.homomorphism.specs.Walks.{spread, turns, AreWithin, Advances, begun, choices}
 
 -- numbers from one to a count
 range_step : (n count : ℕ) → n < count → range_with_len n (count - n) ≡ n ∷ range_with_len (n + 1) (count - (n + 1))
@@ -46,100 +48,123 @@ spread_has count (others ∷ more) n numbers l c = ⊎_elim
     (contains_cases others more numbers c)
 
 -- all choices are those from the first on
-pub turns_within : {X : Type 0} (lists : List (List X)) (one : List ℕ) →
-    Contains (turns lists (replicate (length lists) 0)) one → AreWithin lists one
-turns_within {X} [] one c = ⊎_elim (λ e. subst (AreWithin {X = X} []) e tt) (λ h. absurd (contains_none one h)) (contains_cases [] [] one c)
-turns_within (xs ∷ lists) one c =
-    let (n, numbers, e, l, among) = in_spread (length xs) (turns lists (replicate (length lists) 0)) one c in
-    subst (AreWithin (xs ∷ lists)) e (l, turns_within lists numbers among)
+pub turns_within : (counts one : List ℕ) → Contains (turns counts (replicate (length counts) 0)) one → AreWithin counts one
+turns_within [] one c = ⊎_elim (λ e. subst (AreWithin []) e tt) (λ h. absurd (contains_none one h)) (contains_cases [] [] one c)
+turns_within (count ∷ counts) one c =
+    let (n, numbers, e, l, among) = in_spread count (turns counts (replicate (length counts) 0)) one c in
+    subst (AreWithin (count ∷ counts)) e (l, turns_within counts numbers among)
 
-pub turns_has : {X : Type 0} (lists : List (List X)) (one : List ℕ) → AreWithin lists one →
-    Contains (turns lists (replicate (length lists) 0)) one
+pub turns_has : (counts one : List ℕ) → AreWithin counts one → Contains (turns counts (replicate (length counts) 0)) one
 turns_has [] [] w = contains_here [] []
 turns_has [] (n ∷ numbers) w = absurd w
-turns_has (xs ∷ lists) [] w = absurd w
-turns_has (xs ∷ lists) (n ∷ numbers) (l, w) = spread_has (length xs) (turns lists (replicate (length lists) 0)) n numbers l (turns_has lists numbers w)
+turns_has (count ∷ counts) [] w = absurd w
+turns_has (count ∷ counts) (n ∷ numbers) (l, w) =
+    spread_has count (turns counts (replicate (length counts) 0)) n numbers l (turns_has counts numbers w)
 
-pub first_within : {X : Type 0} (lists : List (List X)) → ((xs : List X) → Contains lists xs → 0 < length xs) →
-    AreWithin lists (replicate (length lists) 0)
-first_within [] filled = tt
-first_within (xs ∷ lists) filled = (filled xs (contains_here xs lists), first_within lists (λ ys c. filled ys (contains_there xs lists ys c)))
+pub first_within : (counts : List ℕ) → ((i : ℕ) → i < length counts → 0 < slice_index_or counts i 0) →
+    AreWithin counts (replicate (length counts) 0)
+first_within [] positive = tt
+first_within (count ∷ counts) positive = (positive 0 (omega arith), first_within counts (λ i l. positive (suc i) (omega arith)))
 
--- where a list is empty there is no choice
-pub turns_none : {X : Type 0} (lists : List (List X)) → Contains lists [] →
-    turns lists (replicate (length lists) 0) ≡ []
-turns_none [] c = absurd (contains_none [] c)
-turns_none {X} (xs ∷ lists) c = ⊎_elim (λ e. ap (λ (z : List X). spread 0 (length z) (turns lists (replicate (length lists) 0))) e ∙ nothing (turns lists (replicate (length lists) 0)))
-    (λ h. ap (spread 0 (length xs)) (turns_none lists h)) (contains_cases xs lists [] c)
-  where
-    nothing : (more : List (List ℕ)) → spread 0 0 more ≡ []
-    nothing [] = refl
-    nothing (numbers ∷ more) = nothing more
+-- a number of a choice is below the count at its place
+pub within_at : (counts numbers : List ℕ) → AreWithin counts numbers → (i : ℕ) → i < length counts →
+    slice_index_or numbers i 0 < slice_index_or counts i 0
+within_at [] numbers w i l = absurd (omega arith)
+within_at (count ∷ counts) [] w i l = absurd w
+within_at (count ∷ counts) (n ∷ numbers) (low, w) zero l = low
+within_at (count ∷ counts) (n ∷ numbers) (low, w) (suc i) l = within_at counts numbers w i (omega arith)
 
 -- a choice is followed by others
-pub turns_first : {X : Type 0} (lists : List (List X)) (numbers : List ℕ) → AreWithin lists numbers →
-    (more : List (List ℕ)) × (turns lists numbers ≡ numbers ∷ more)
+pub turns_first : (counts numbers : List ℕ) → AreWithin counts numbers →
+    (more : List (List ℕ)) × (turns counts numbers ≡ numbers ∷ more)
 turns_first [] [] w = ([], refl)
 turns_first [] (n ∷ numbers) w = absurd w
-turns_first (xs ∷ lists) [] w = absurd w
-turns_first (xs ∷ lists) (n ∷ numbers) (l, w) =
-    let (more, e) = turns_first lists numbers w in
-    (_, ap (spread n (length xs)) e ∙ ap (λ (r : List ℕ). map (λ (k : ℕ). k ∷ numbers) r ++ spread 0 (length xs) more) (range_step n (length xs) l))
+turns_first (count ∷ counts) [] w = absurd w
+turns_first (count ∷ counts) (n ∷ numbers) (l, w) =
+    let (more, e) = turns_first counts numbers w in
+    (_, ap (spread n count) e ∙ ap (λ (r : List ℕ). map (λ (k : ℕ). k ∷ numbers) r ++ spread 0 count more) (range_step n count l))
 
--- the next number in the first list
-pub turns_next : {X : Type 0} (lists : List (List X)) (xs : List X) (n : ℕ) (numbers : List ℕ) → n + 1 < length xs →
-    AreWithin lists numbers →
-    turns (xs ∷ lists) (n ∷ numbers) ≡ (n ∷ numbers) ∷ turns (xs ∷ lists) ((n + 1) ∷ numbers)
-turns_next lists xs n numbers l w =
-    let (more, e) = turns_first lists numbers w in
-    ap (spread n (length xs)) e ∙ ap (λ (r : List ℕ). map (λ (k : ℕ). k ∷ numbers) r ++ spread 0 (length xs) more) (range_step n (length xs) (omega arith))
-    ∙ sym (ap (λ (z : List (List ℕ)). (n ∷ numbers) ∷ spread (n + 1) (length xs) z) e)
+-- the next number below the first count
+pub turns_next : (counts : List ℕ) (count n : ℕ) (numbers : List ℕ) → n + 1 < count → AreWithin counts numbers →
+    turns (count ∷ counts) (n ∷ numbers) ≡ (n ∷ numbers) ∷ turns (count ∷ counts) ((n + 1) ∷ numbers)
+turns_next counts count n numbers l w =
+    let (more, e) = turns_first counts numbers w in
+    ap (spread n count) e ∙ ap (λ (r : List ℕ). map (λ (k : ℕ). k ∷ numbers) r ++ spread 0 count more) (range_step n count (omega arith))
+    ∙ sym (ap (λ (z : List (List ℕ)). (n ∷ numbers) ∷ spread (n + 1) count z) e)
 
--- the last number in the first list
-pub turns_last : {X : Type 0} (lists : List (List X)) (xs : List X) (n : ℕ) (numbers : List ℕ) (more : List (List ℕ)) → n < length xs → length xs ≤ n + 1 → turns lists numbers ≡ numbers ∷ more →
-    turns (xs ∷ lists) (n ∷ numbers) ≡ (n ∷ numbers) ∷ spread 0 (length xs) more
-turns_last lists xs n numbers more l h e =
-    ap (spread n (length xs)) e ∙ ap (λ (r : List ℕ). map (λ (k : ℕ). k ∷ numbers) r ++ spread 0 (length xs) more) (range_last n (length xs) l h)
+-- the last number below the first count
+pub turns_last : (counts : List ℕ) (count n : ℕ) (numbers : List ℕ) (more : List (List ℕ)) → n < count → count ≤ n + 1 →
+    turns counts numbers ≡ numbers ∷ more →
+    turns (count ∷ counts) (n ∷ numbers) ≡ (n ∷ numbers) ∷ spread 0 count more
+turns_last counts count n numbers more l h e =
+    ap (spread n count) e ∙ ap (λ (r : List ℕ). map (λ (k : ℕ). k ∷ numbers) r ++ spread 0 count more) (range_last n count l h)
 
--- without a list, or without a number, there is one choice
-pub ends_alone : {X : Type 0} (lists : List (List X)) (numbers : List ℕ) → AreWithin lists numbers →
-    (numbers ≡ []) ⊎ (lists ≡ []) → turns lists numbers ≡ numbers ∷ []
+-- without a count, or without a number, there is one choice
+pub ends_alone : (counts numbers : List ℕ) → AreWithin counts numbers → (numbers ≡ []) ⊎ (counts ≡ []) →
+    turns counts numbers ≡ numbers ∷ []
 ends_alone [] [] w e = refl
 ends_alone [] (n ∷ numbers) w e = absurd w
-ends_alone (xs ∷ lists) [] w e = absurd w
-ends_alone (xs ∷ lists) (n ∷ numbers) w e = ⊎_elim (λ h. absurd (some n numbers h)) (λ h. absurd (some xs lists h)) e
+ends_alone (count ∷ counts) [] w e = absurd w
+ends_alone (count ∷ counts) (n ∷ numbers) w e = ⊎_elim (λ h. absurd (some n numbers h)) (λ h. absurd (some count counts h)) e
   where
-    some : {Y : Type 0} (y : Y) (ys : List Y) → y ∷ ys ≡ [] → ⊥
+    some : (y : ℕ) (ys : List ℕ) → y ∷ ys ≡ [] → ⊥
     some y ys h = cc
 
--- the first list and the first number, and the others
-module _ {X : Type 0} (lists others : List (List X)) (xs : List X) (numbers later : List ℕ) (n : ℕ) (e : lists ≡ xs ∷ others) (f : numbers ≡ n ∷ later) (w : AreWithin lists numbers) where
-  pub split_within : (n < length xs) × AreWithin others later
-  split_within = subst (λ (z : List (List X)). AreWithin z (n ∷ later)) e (subst (AreWithin lists) f w)
+-- the first count and the first number, and the others
+module _ (counts others : List ℕ) (count : ℕ) (numbers later : List ℕ) (n : ℕ) (e : counts ≡ count ∷ others) (f : numbers ≡ n ∷ later) (w : AreWithin counts numbers) where
+  pub split_within : (n < count) × AreWithin others later
+  split_within = subst (λ (z : List ℕ). AreWithin z (n ∷ later)) e (subst (AreWithin counts) f w)
 
-  pub advances_here : (before after : List ℕ) → n + 1 < length xs → after ≡ (before ++ (n + 1) ∷ []) ++ later →
-      Advances lists numbers before after
+  pub advances_here : (before after : List ℕ) → n + 1 < count → after ≡ (before ++ (n + 1) ∷ []) ++ later →
+      Advances counts numbers before after
   unfolding split_within
   advances_here before after l is = (
     (n + 1) ∷ later,
     is ∙ append_assoc before ((n + 1) ∷ []) later,
-    subst (λ (z : List (List X)). AreWithin z ((n + 1) ∷ later)) (sym e) (l, split_within.1),
-    subst (λ (z : List (List X)). turns z numbers ≡ numbers ∷ turns z ((n + 1) ∷ later)) (sym e)
-        (subst (λ (ns : List ℕ). turns (xs ∷ others) ns ≡ ns ∷ turns (xs ∷ others) ((n + 1) ∷ later)) (sym f) (turns_next others xs n later l split_within.1)),
+    subst (λ (z : List ℕ). AreWithin z ((n + 1) ∷ later)) (sym e) (l, split_within.1),
+    subst (λ (z : List ℕ). turns z numbers ≡ numbers ∷ turns z ((n + 1) ∷ later)) (sym e)
+        (subst (λ (ns : List ℕ). turns (count ∷ others) ns ≡ ns ∷ turns (count ∷ others) ((n + 1) ∷ later)) (sym f) (turns_next others count n later l split_within.1)),
   )
 
-  pub advances_later : (before after : List ℕ) → length xs ≤ n + 1 → Advances others later (before ++ 0 ∷ []) after →
-      Advances lists numbers before after
+  pub advances_later : (before after : List ℕ) → count ≤ n + 1 → Advances others later (before ++ 0 ∷ []) after →
+      Advances counts numbers before after
   unfolding split_within
   advances_later before after h (next, is, within, t) = (
     0 ∷ next,
     is ∙ append_assoc before (0 ∷ []) next,
-    subst (λ (z : List (List X)). AreWithin z (0 ∷ next)) (sym e) (let l = split_within.0 in omega arith, within),
-    subst (λ (z : List (List X)). turns z numbers ≡ numbers ∷ turns z (0 ∷ next)) (sym e)
-        (subst (λ (ns : List ℕ). turns (xs ∷ others) ns ≡ ns ∷ turns (xs ∷ others) (0 ∷ next)) (sym f) (turns_last others xs n later (turns others next) split_within.0 h t)),
+    subst (λ (z : List ℕ). AreWithin z (0 ∷ next)) (sym e) (let l = split_within.0 in omega arith, within),
+    subst (λ (z : List ℕ). turns z numbers ≡ numbers ∷ turns z (0 ∷ next)) (sym e)
+        (subst (λ (ns : List ℕ). turns (count ∷ others) ns ≡ ns ∷ turns (count ∷ others) (0 ∷ next)) (sym f) (turns_last others count n later (turns others next) split_within.0 h t)),
   )
 
-  pub last_later : length xs ≤ n + 1 → turns others later ≡ later ∷ [] → turns lists numbers ≡ numbers ∷ []
+  pub last_later : count ≤ n + 1 → turns others later ≡ later ∷ [] → turns counts numbers ≡ numbers ∷ []
   unfolding split_within
-  last_later h t = subst (λ (z : List (List X)). turns z numbers ≡ numbers ∷ []) (sym e)
-      (subst (λ (ns : List ℕ). turns (xs ∷ others) ns ≡ ns ∷ []) (sym f) (turns_last others xs n later [] split_within.0 h t))
+  last_later h t = subst (λ (z : List ℕ). turns z numbers ≡ numbers ∷ []) (sym e)
+      (subst (λ (ns : List ℕ). turns (count ∷ others) ns ≡ ns ∷ []) (sym f) (turns_last others count n later [] split_within.0 h t))
+
+-- ---- several turnings
+
+pub choices_append : (turnings : List Turning) (one : Turning) →
+    choices (turnings ++ one ∷ []) ≡ turns one.counts one.numbers ++ choices turnings
+choices_append [] one = sym (append-nil (turns one.counts one.numbers))
+choices_append (first ∷ turnings) one =
+    ap (λ z. z ++ turns first.counts first.numbers) (choices_append turnings one)
+    ∙ append_assoc (turns one.counts one.numbers) (choices turnings) (turns first.counts first.numbers)
+
+-- the choices of turnings that begin are those below the counts of one of them
+pub begun_from : (groups : List (List ℕ)) (one : List ℕ) → Contains (choices (map begun groups)) one →
+    (counts : List ℕ) × Contains groups counts × AreWithin counts one
+begun_from [] one c = absurd (contains_none one c)
+begun_from (counts ∷ groups) one c = ⊎_elim
+    (λ h. let (more, among, w) = begun_from groups one h in (more, contains_there counts groups more among, w))
+    (λ h. (counts, contains_here counts groups, turns_within counts one h))
+    (Contains-append_cases (choices (map begun groups)) (turns counts (replicate (length counts) 0)) one c)
+
+pub begun_has : (groups : List (List ℕ)) (counts one : List ℕ) → Contains groups counts → AreWithin counts one →
+    Contains (choices (map begun groups)) one
+begun_has [] counts one c w = absurd (contains_none counts c)
+begun_has (first ∷ groups) counts one c w = ⊎_elim
+    (λ e. Contains-append_right (choices (map begun groups)) (turns first (replicate (length first) 0)) one
+    (turns_has first one (subst (λ (z : List ℕ). AreWithin z one) (sym e) w)))
+    (λ h. Contains-append_left (choices (map begun groups)) (turns first (replicate (length first) 0)) one (begun_has groups counts one h w))
+    (contains_cases first groups counts c)

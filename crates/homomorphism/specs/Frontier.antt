@@ -7,11 +7,12 @@ use Rattle.meaning.specs.declared.types.Rule.{Rule}
 use Rattle.meaning.specs.declared.types.Val.{Val}
 use Rattle.meaning.specs.declared.types.Val.TheVariants.{Const}
 use Rattle.meaning.specs.declared.types.Ground.{Ground}
-use Rattle.meaning.specs.Matching.{AreFacts, OccursIn, GroundsOf}
+use Rattle.meaning.specs.Matching.{AreFacts, OccursIn, GroundsOf, Extends}
 use Rattle.meaning.specs.Triggers.{bound}
 use Rattle.homomorphism.specs.declared.assignment.Assignment.{Assignment}
 use Rattle.homomorphism.specs.Bindings.{Agrees, at}
 use Rattle.homomorphism.specs.Matches.{IsMatch}
+use Rattle.homomorphism.specs.Rules.{IsMet}
 
 -- One of the matches has the values of an assignment at each variable of the head that is below the width.
 abbrev pub HasLike : List Assignment → List Atom → ℕ → (ℕ → Val) → Type 0
@@ -29,12 +30,14 @@ abbrev pub AddsFrontier : List Ground → List Atom → List Atom → List (Opti
 AddsFrontier facts atoms head given before after =
     (matches : List Assignment) × (after ≡ before ++ matches) × AreFrontier facts atoms head given matches
 
--- The matches make the body facts, and one of them is like each assignment that does.
-pub record AreFrontierMatches (facts : List Ground) (rule : Rule) (matches : List Assignment) : Type 0 where
+-- The matches make the body facts, and stand for all assignments that do: where a rule is met at each of the matches, in
+-- whatever facts, it is met at each such assignment.
+pub record StandForAll (facts : List Ground) (rule : Rule) (matches : List Assignment) : Type 0 where
   pub width : (m : Assignment) → Contains matches m → length m.vals ≡ bound rule.body
   pub each : (m : Assignment) → Contains matches m → AreFacts Const (GroundsOf facts) (at m.vals) rule.body
-  pub all : (a : ℕ → Val) → AreFacts Const (GroundsOf facts) a rule.body →
-      HasLike matches rule.head (bound rule.body) a
+  pub all : (now : List Ground) → ((m : Assignment) → Contains matches m → IsMet now rule m.vals) →
+      (a : ℕ → Val) → AreFacts Const (GroundsOf facts) a rule.body →
+      (b : ℕ → Val) × Extends Const (GroundsOf now) rule a b
 
 -- ---- parts of a body that name no variable of the head
 

@@ -1,5 +1,5 @@
 // The head of a rule, made ready to be looked for at one match of the body after another.
-ghost use Rattle.std.specs.Prelude.{◌≡◌, ◌↔◌, ◌<◌, ◌≤◌, IsTrue, Contains, length, true, false, IfOk};
+ghost use Rattle.std.specs.Prelude.{◌≡◌, ◌↔◌, ◌<◌, ◌≤◌, ℕ, IsTrue, Contains, Some, None, length, slice_get, true, false, IfOk};
 ghost use Rattle.meaning.specs.declared.types.Val.TheVariants.{Const};
 ghost use Rattle.meaning.specs.Matching.{AreFacts, GroundsOf};
 ghost use Rattle.meaning.specs.Triggers.{terms_bound, bound, ground, IsNumbered};
@@ -83,12 +83,24 @@ fn runs_of(alloc: Global, atoms: &[Atom], body: usize, width: usize) -> Result<V
 }
 
 /// A value for each variable of the body, and none for others below the width.
-fn all_known(alloc: Global, body: usize, width: usize) -> Result<Bindings, NoMemory> {
-    let mut values = Vec::new(alloc);
-    for _ in 0..body {
-        values.push(Val::Label(0))?;
+pub fn all_known(alloc: Global, body: usize, width: usize) -> Result<Bindings, NoMemory>
+    ensures { IfOk result (λ values. (x : ℕ) → body ≤ x → x < width → slice_get values x ≡ Some None) }
+{
+    let mut values = Seq::new(alloc);
+    for variable in 0..width {
+        values.push(any_if(variable < body))?;
     }
-    Ok(given(alloc, values.as_slice(), width)?)
+    Ok(values)
+}
+
+/// Any value, or none.
+fn any_if(is_known: bool) -> Option<Val>
+    ensures { is_known ≡ false → result ≡ None }
+{
+    if is_known {
+        return Some(Val::Label(0));
+    }
+    None
 }
 
 /// Whether all facts that the atoms are under the values are there.

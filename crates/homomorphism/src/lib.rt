@@ -15,6 +15,7 @@ mod fact_index;
 mod find;
 mod frontier;
 mod grounding;
+mod groups;
 mod head;
 mod instance;
 mod key;
@@ -29,6 +30,7 @@ mod search;
 mod start;
 mod store;
 mod texts;
+mod turning;
 mod walk;
 
 pub use assignment::{Assignment, Assignments, Bindings};

@@ -1,20 +1,21 @@
 // The matches of a rule's body, one after another.
-ghost use Rattle.std.specs.Prelude.{◌≡◌, ◌<◌, ◌≤◌, ◌∷◌, [], ℕ, List, Contains, length, map, replicate, slice_index_or, true, false, IfOk, IfSome, IfNone};
+ghost use Rattle.std.specs.Prelude.{◌≡◌, ◌<◌, ◌≤◌, ◌∷◌, [], ℕ, List, Contains, length, map, slice_index_or, true, false, IfOk, IfSome, IfNone};
 ghost use Rattle.meaning.specs.Triggers.{bound, IsNumbered};
 ghost use Rattle.homomorphism.specs.Bindings.{at};
-ghost use Rattle.homomorphism.specs.Frontier.{AreFrontierMatches};
+ghost use Rattle.homomorphism.specs.Frontier.{StandForAll};
 ghost use Rattle.homomorphism.specs.Matches.{AreCovered};
-ghost use Rattle.homomorphism.specs.Walks.{Advances, AreListed, AreWithin, left_of, picked_of, together, turns};
+ghost use Rattle.homomorphism.specs.Walks.{AreListed, begun, left_of, picked_of, together};
 ghost use Rattle.homomorphism.specs.Widening.{taken};
-ghost use Rattle.homomorphism.specs.declared.assignment.Assignment.{Assignment as TheAssignment};
 
 use crate::arrange::Run;
 use crate::assignment::{Assignment, Assignments, Bindings};
 use crate::frontier::{copied, frontier};
+use crate::groups::groups;
 use crate::parts::parts_of;
 use crate::rules::{given, variables_width};
 use crate::start::start;
 use crate::store::Store;
+use crate::turning::{Counts, Turning, number_of};
 use lists::{Copies, NoMemory, Seq};
 use meaning::types::{Atom, Rule, Val};
 use std::alloc::Global;
@@ -23,37 +24,39 @@ use std::marker::Model;
 /// Matches of a rule's body, made one after another. Contracts see the list of those that are left.
 ///
 /// The matches of each part that shares no variable with the others are listed once, and one of each make a match of
-/// the body: so those of the body, of which there are as many as the product, are never listed.
+/// the body. For each group of the head's atoms only the matches of the parts that it names are put together in all
+/// ways: so their product is never listed, and that of all parts never gone through, unless a group names them all.
 #[derive(Drop)]
 pub struct Walk {
     /// The matches of each part, the last part first.
     lists: Seq<Assignments>,
     /// For each variable the part that owns it.
     owners: Seq<usize>,
-    /// For each part the number of its match in the next match of the body.
-    numbers: Seq<usize>,
-    is_over: bool,
+    /// The choices that are left for each group, the next group last.
+    left: Vec<Turning>,
 }
 
 impl Model for Walk {
-    ghost use Rattle.std.specs.Prelude.{◌≡◌, List, false};
+    ghost use Rattle.std.specs.Prelude.{List, Contains};
     ghost use Rattle.homomorphism.specs.declared.assignment.Assignment.{Assignment};
+    ghost use Rattle.homomorphism.specs.declared.turning.Turning.{Turning};
     ghost use Rattle.homomorphism.specs.Walks.{AreWithin, left_of};
 
     ghost Value = { List Assignment };
 
-    ghost view = { λ w. left_of w.is_over w.lists w.owners w.numbers };
+    ghost view = { λ w. left_of w.lists w.owners w.left.items };
 
-    ghost invariant = { λ w. w.is_over ≡ false → AreWithin w.lists w.numbers };
+    ghost invariant = { λ w. (one : Turning) → Contains w.left.items one → AreWithin one.counts one.numbers };
 }
 
 impl Walk {
-    /// Matches of the rule's body: for each match one that gives the variables of the head the same values.
+    /// Matches of the rule's body that stand for all: for each match, and each group of the head's atoms, one that gives the
+    /// variables of the group the same values.
     ///
-    /// A rule that is met at the one is met at the other.
+    /// A rule that is met at the one is met for that group at the other.
     pub fn over(alloc: Global, rule: &Rule, store: &Store) -> Result<Walk, NoMemory>
         requires { IsNumbered rule.now }
-        ensures { IfOk result (λ walk. AreFrontierMatches store.now rule.now walk) }
+        ensures { IfOk result (λ walk. StandForAll store.now rule.now walk) }
     {
         let body = rule.body.as_slice();
         let head = rule.head.as_slice();
@@ -71,7 +74,12 @@ impl Walk {
             parts.runs.as_slice(),
             parts.givens.as_slice(),
         )?;
-        Ok(Walk::begin(alloc, lists, parts.owners)?)
+        let whole = lengths(alloc, lists.as_slice())?;
+        if !are_positive(whole.as_slice()) {
+            return Ok(Walk::ended(alloc));
+        }
+        let groups = groups(alloc, rule, parts.owners.as_slice(), whole)?;
+        Ok(Walk::begin(alloc, lists, parts.owners, groups)?)
     }
 
     /// The walk without matches. Takes no memory.
@@ -81,22 +89,25 @@ impl Walk {
         Walk {
             lists: Seq::new(alloc),
             owners: Seq::new(alloc),
-            numbers: Seq::new(alloc),
-            is_over: true,
+            left: Vec::new(alloc),
         }
     }
 
-    /// The walk through the matches that these matches of parts make.
-    fn begin(alloc: Global, lists: Vec<Assignments>, owners: Seq<usize>) -> Result<Walk, NoMemory>
-        ensures { IfOk result (λ walk. walk ≡ left_of false lists.items owners (replicate (length lists.items) 0)) }
+    /// The walk through the matches that these matches of parts make, as many of each part as each of the counts says.
+    fn begin(
+        alloc: Global,
+        lists: Vec<Assignments>,
+        owners: Seq<usize>,
+        groups: Vec<Counts>,
+    ) -> Result<Walk, NoMemory>
+        requires { (counts : List ℕ) (i : ℕ) → Contains groups.items counts → i < length counts → 0 < slice_index_or counts i 0 }
+        ensures { IfOk result (λ walk. walk ≡ left_of lists.items owners (map begun groups.items)) }
     {
-        let numbers = vec![in alloc; 0; lists.len()]?;
-        let is_over = !are_filled(lists.as_slice());
+        let left = turnings_of(alloc, groups)?;
         Ok(Walk {
             lists: Seq::from_vec(lists),
             owners,
-            numbers: Seq::from_vec(numbers),
-            is_over,
+            left,
         })
     }
 
@@ -105,7 +116,7 @@ impl Walk {
         ensures over { result ≡ true → self.now ≡ [] }
         ensures left { result ≡ false → 0 < length self.now }
     {
-        self.is_over
+        self.left.is_empty()
     }
 
     /// The next match, if one is left.
@@ -113,20 +124,29 @@ impl Walk {
         ensures some { IfOk result (λ found. IfSome found (λ one. self.old ≡ one ∷ self.new)) }
         ensures none { IfOk result (λ found. IfNone found (self.old ≡ [])) }
     {
-        if self.is_over {
+        let Some(turning) = self.left.pop() else {
             return Ok(None);
-        }
+        };
         let lists = self.lists.as_slice();
-        let numbers = self.numbers.as_slice();
+        let numbers = turning.numbers.as_slice();
         let one = brought_together(alloc, lists, self.owners.as_slice(), numbers)?;
-        let mut next = Vec::new(alloc);
-        if advanced(lists, numbers, &mut next)? {
-            self.numbers = Seq::from_vec(next);
+        if let Some(later) = turning.later(alloc)? {
+            self.left.push(later)?;
             return Ok(Some(one));
         }
-        self.is_over = true;
         Ok(Some(one))
     }
+}
+
+/// All choices below each of the counts.
+fn turnings_of(alloc: Global, groups: Vec<Counts>) -> Result<Vec<Turning>, NoMemory>
+    ensures { IfOk result (λ turnings. turnings.items ≡ map begun groups.items) }
+{
+    let mut turnings = Vec::with_capacity(alloc, groups.len())?;
+    for counts in groups {
+        turnings.push(Turning::begin(alloc, counts)?)?;
+    }
+    Ok(turnings)
 }
 
 /// The matches of each part.
@@ -163,13 +183,24 @@ fn listed(
     Ok(lists)
 }
 
-/// Whether each part has a match.
-fn are_filled(lists: &[Assignments]) -> bool
-    ensures yes { result ≡ true → (list : List TheAssignment) → Contains lists.now list → 0 < length list }
-    ensures no { result ≡ false → Contains lists.now [] }
+/// How many matches each part has.
+fn lengths(alloc: Global, lists: &[Assignments]) -> Result<Vec<usize>, NoMemory>
+    ensures { IfOk result (λ whole. whole.items ≡ map length lists.now) }
 {
+    let mut whole = Vec::with_capacity(alloc, lists.len())?;
     for list in lists {
-        if list.is_empty() {
+        whole.push(list.len())?;
+    }
+    Ok(whole)
+}
+
+/// Whether no number is 0. Takes no memory.
+fn are_positive(numbers: &[usize]) -> bool
+    ensures yes { result ≡ true → (i : ℕ) → i < length numbers.now → 0 < slice_index_or numbers.now i 0 }
+    ensures no { result ≡ false → Contains numbers.now 0 }
+{
+    for number in numbers {
+        if *number == 0 {
             return false;
         }
     }
@@ -227,41 +258,4 @@ fn picked<'a>(lists: &'a [Assignments], numbers: &[usize], part: usize) -> Optio
         return None;
     };
     Some(one)
-}
-
-/// The number of the part's match.
-fn number_of(numbers: &[usize], part: usize) -> usize
-    ensures { result ≡ slice_index_or numbers.now part 0 }
-{
-    match numbers.get(part) {
-        Some(number) => *number,
-        None => 0,
-    }
-}
-
-/// Adds the numbers of the next choice, if there is one; the number in the first list changes first.
-fn advanced(
-    lists: &[Assignments],
-    numbers: &[usize],
-    next: &mut Vec<usize>,
-) -> Result<bool, NoMemory>
-    requires { AreWithin lists.now numbers.now }
-    ensures more { IfOk result (λ more. more ≡ true → Advances lists.now numbers.now next.old.items next.new.items) }
-    ensures last { IfOk result (λ more. more ≡ false → turns lists.now numbers.now ≡ numbers.now ∷ []) }
-{
-    let [number, later @ ..] = numbers else {
-        return Ok(false);
-    };
-    let [list, others @ ..] = lists else {
-        return Ok(false);
-    };
-    let count = list.len();
-    let following = *number + 1;
-    if following < count {
-        next.push(following)?;
-        next.extend_from_slice(later)?;
-        return Ok(true);
-    }
-    next.push(0)?;
-    advanced(others, later, next)
 }

@@ -11,9 +11,9 @@ use Rattle.meaning.specs.declared.types.Val.TheVariants.{Const, Label}
 use Rattle.meaning.specs.declared.types.Ground.{Ground}
 use Rattle.meaning.specs.declared.types.Rule.{Rule}
 use Rattle.meaning.specs.declared.types.Trigger.{Trigger}
-use Rattle.meaning.specs.Matching.{OccursIn, AreFacts, GroundsOf, MeetsRule, MeetsAll}
+use Rattle.meaning.specs.Matching.{OccursIn, AreFacts, Extends, GroundsOf, MeetsRule, MeetsAll}
 use Rattle.meaning.specs.Added.{with_facts}
-use Rattle.meaning.specs.Triggers.{State, ground, bound, assigned, fired, IsActive, IsQuiet, IsNumbered}
+use Rattle.meaning.specs.Triggers.{State, ground, bound, assigned, fired, IsActive, IsQuiet}
 use Rattle.meaning.specs.RuleOrder.{StandsBefore}
 use Rattle.meaning.specs.Runs.{IsFirstActive, IsBaseRun}
 use Rattle.meaning_laws.proofs.Joined.{joined_below}
@@ -23,8 +23,7 @@ use Rattle.meaning_laws.proofs.Deciding.{same_facts}
 use Rattle.homomorphism.specs.declared.assignment.Assignment.{Assignment}
 use Rattle.homomorphism.specs.Bindings.{at}
 use Rattle.homomorphism.specs.Rules.{IsMet, IsUnmet, IsUnmetMatch}
-use Rattle.homomorphism.specs.Frontier.{HasLike, AreFrontierMatches}
-use Rattle.homomorphism.proofs.FrontierMatches.{met_along}
+use Rattle.homomorphism.specs.Frontier.{StandForAll}
 use Rattle.access_schema.specs.declared.limits.TheConstants.{MOST_VARIABLES}
 use Rattle.rule_pass.specs.Orderly.{AreOrderly}
 use Rattle.rule_pass.specs.Order.{IsRuleOrder}
@@ -125,13 +124,14 @@ pub record Passing {L : Type 0} (logged : L → Trigger → ℕ → L) (size : L
   pub before : AreMet rules now.facts (take k order)
   pub width : (m : Assignment) → Contains found m → length m.vals ≡ bound rule.body
   pub each : (m : Assignment) → Contains found m → AreFacts Const (GroundsOf now.facts) (at m.vals) rule.body
-  pub all : (a : ℕ → Val) → AreFacts Const (GroundsOf now.facts) a rule.body → HasLike found rule.head (bound rule.body) a
+  pub all : (later : List Ground) → ((m : Assignment) → Contains found m → IsMet later rule m.vals) →
+      (a : ℕ → Val) → AreFacts Const (GroundsOf now.facts) a rule.body → (b : ℕ → Val) × Extends Const (GroundsOf later) rule a b
   pub met : (m : Assignment) → Contains done m → IsMet now.facts rule m.vals
   pub budget_kept : size log ≤ max (size begun) budget
   pub labels_kept : now.next + size begun * MOST_VARIABLES ≤ first.next + size log * MOST_VARIABLES
 
 pub passing_start : {L : Type 0} (logged : L → Trigger → ℕ → L) (size : L → ℕ) (rules : List Rule) (order : List ℕ) (first : State) (begun : L) (k budget : ℕ) (rule : Rule) (found : List Assignment) →
-    AreMet rules first.facts (take k order) → AreFrontierMatches first.facts rule found → Passing logged size rules order first begun k budget rule found [] begun first
+    AreMet rules first.facts (take k order) → StandForAll first.facts rule found → Passing logged size rules order first begun k budget rule found [] begun first
 passing_start logged size rules order first begun k budget rule found m b = record {
   goes = ([], (refl, refl));
   before = m;
@@ -179,7 +179,7 @@ module _ {L : Type 0} (logged : L → Trigger → ℕ → L) (size : L → ℕ) 
         before = λ j other c e. met_stays now.facts plain rule other (feeds_no_earlier rules order ordered k (slice_index_or order k 0) j rule other l refl (earlier j c) numbered e) (p.before j other c e);
         width = p.width;
         each = λ m c atom d. added_left now.facts (made plain rule) (ground (at m.vals) atom) (p.each m c atom d);
-        all = λ a are. p.all a (pull now.facts plain rule rule a (feeds_no_earlier rules order ordered k (slice_index_or order k 0) (slice_index_or order k 0) rule rule l refl self numbered numbered) are);
+        all = λ later met a are. p.all later met a (pull now.facts plain rule rule a (feeds_no_earlier rules order ordered k (slice_index_or order k 0) (slice_index_or order k 0) rule rule l refl self numbered numbered) are);
         met = λ m c. ⊎_elim (λ h. is_met_stays now.facts (made plain rule) rule m.vals (p.met m h))
             (λ e. subst (λ (x : Assignment). IsMet (with_facts now.facts (made plain rule)) rule x.vals) e (fired_met now.facts plain rule (p.width one among))) (Contains-push_cases done one m c);
         budget_kept = let n = grows log plain (length now.facts) in omega arith;
@@ -201,7 +201,7 @@ pub record IsPassing {L : Type 0} (logged : L → Trigger → ℕ → L) (size :
   pub passing : Passing logged size rules order first begun k budget rule found done log now
 
 pub passing_begin : {L : Type 0} (logged : L → Trigger → ℕ → L) (size : L → ℕ) (rules : List Rule) (order : List ℕ) (first : State) (begun : L) (k budget : ℕ) (rule : Rule) (left : List Assignment) →
-    AreMet rules first.facts (take k order) → AreFrontierMatches first.facts rule left → IsPassing logged size rules order first begun k budget rule left begun first
+    AreMet rules first.facts (take k order) → StandForAll first.facts rule left → IsPassing logged size rules order first begun k budget rule left begun first
 passing_begin logged size rules order first begun k budget rule left m b = record {
   found = left;
   done = [];
@@ -228,9 +228,8 @@ module _ {L : Type 0} (logged : L → Trigger → ℕ → L) (size : L → ℕ) 
 
 -- after all matches the rule is met
 pub passing_all : {L : Type 0} (logged : L → Trigger → ℕ → L) (size : L → ℕ) (rules : List Rule) (order : List ℕ) (first : State) (begun : L) (k budget : ℕ) (rule : Rule) (found : List Assignment) (log : L) (now : State) →
-    IsNumbered rule → Passing logged size rules order first begun k budget rule found found log now → MeetsRule Const (GroundsOf now.facts) rule
-passing_all logged size rules order first begun k budget rule found log now numbered p a body =
-    let (m, among, like) = p.all a body in met_along now.facts rule m.vals a numbered (p.met m among) like
+    Passing logged size rules order first begun k budget rule found found log now → MeetsRule Const (GroundsOf now.facts) rule
+passing_all logged size rules order first begun k budget rule found log now p a body = p.all now.facts p.met a body
 
 -- one rule more of the order is met
 pub met_more : (rules : List Rule) (order : List ℕ) (facts : List Ground) (k : ℕ) (rule : Rule) → k < length order → slice_get rules (slice_index_or order k 0) ≡ Some rule →

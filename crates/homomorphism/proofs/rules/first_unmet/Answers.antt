@@ -33,4 +33,4 @@ loop-walk-smaller c =
 pub returns-clause-none : goal.returns-clause-none
 returns-clause-none c =
     let none : c.loop-walk.walk ≡ [] = rw c.in_default.is at c.in_ok-one.ensures.none in
-    walked_all c.args.store.now c.args.rule.now c.loop-walk.walk c.requires none c.loop-walk.invariant
+    walked_all c.args.store.now c.args.rule.now c.loop-walk.walk none c.loop-walk.invariant

@@ -1,7 +1,7 @@
 use Rattle.std.proofs.Common.{◌≡◌, ◌∷◌, [], ◌<◌, ◌≤◌, Some, Contains, slice_get, slice_index_or, refl, subst, arith}
 use Rattle.lists.proofs.Members.{contains_none}
 use Rattle.homomorphism.specs.Rules.{IsMet, IsUnmet}
-use Rattle.homomorphism.specs.Frontier.{AreFrontierMatches}
+use Rattle.homomorphism.specs.Frontier.{StandForAll}
 use Rattle.homomorphism.proofs.AtomByAtom.{is_among}
 use Rattle.homomorphism.proofs.FrontierMatches.{frontier_met}
 use Rattle.rule_pass.proofs.Ordered.{order_below}
@@ -17,14 +17,14 @@ over-requires g c = c.requires.orderly.numbered c.index-as_slice-number.result (
 pub returns-then-is_over-clause-ended : goal.returns-then-is_over-clause-ended
 returns-then-is_over-clause-ended g c = λ e.
     let numbered : slice_get c.args.rules.now (slice_index_or c.args.order.now c.args.place 0) ≡ Some c.index-as_slice-number.result = rule_at c.args.rules.now c.args.order.now c.args.place c.index-as_slice-number.result c.requires.ordered c.requires.place (rw c.as_slice.ensures at c.index-as_slice-number.is) in
-    let found : AreFrontierMatches c.args.state.now.facts c.index-as_slice-number.result c.in_ok-walk.walk = rw c.store.ensures at c.in_ok-walk.ensures in
+    let found : StandForAll c.args.state.now.facts c.index-as_slice-number.result c.in_ok-walk.walk = rw c.store.ensures at c.in_ok-walk.ensures in
     let none : c.in_ok-walk.walk ≡ [] = c.is_over.ensures.over c.if-is_over.true in
     met_more c.args.rules.now c.args.order.now c.args.state.now.facts c.args.place c.index-as_slice-number.result c.requires.place numbered c.requires.met
-    (frontier_met c.args.state.now.facts c.index-as_slice-number.result c.in_ok-walk.walk (c.requires.orderly.numbered c.index-as_slice-number.result (is_among c.args.rules.now (slice_index_or c.args.order.now c.args.place 0) c.index-as_slice-number.result (order_below c.args.rules.now c.args.order.now c.args.place c.requires.ordered c.requires.place) (rw c.as_slice.ensures at c.index-as_slice-number.is))) found (λ one among. absurd (contains_none one (subst (λ z. Contains z one) none among))))
+    (frontier_met c.args.state.now.facts c.index-as_slice-number.result c.in_ok-walk.walk found (λ one among. absurd (contains_none one (subst (λ z. Contains z one) none among))))
 
 pub loop-head-init : goal.loop-head-init
 loop-head-init g c =
-    let found : AreFrontierMatches c.args.state.now.facts c.index-as_slice-number.result c.in_ok-walk.walk = rw c.store.ensures at c.in_ok-walk.ensures in
+    let found : StandForAll c.args.state.now.facts c.index-as_slice-number.result c.in_ok-walk.walk = rw c.store.ensures at c.in_ok-walk.ensures in
     passing_begin g.L.Log.logged g.L.Log.size c.args.rules.now c.args.order.now c.args.state.now c.args.log.now c.args.place c.args.budget c.index-as_slice-number.result c.in_ok-walk.walk c.requires.met found
 
 pub is_met-requires-clause-numbered : goal.is_met-requires-clause-numbered
@@ -93,4 +93,4 @@ returns-clause-ended g c = λ e.
     let none : c.loop-head.walk ≡ [] = rw c.in_default.is at c.in_ok-one.ensures.none in
     let p : Passing g.L.Log.logged g.L.Log.size c.args.rules.now c.args.order.now c.args.state.now c.args.log.now c.args.place c.args.budget c.index-as_slice-number.result w.found w.found c.loop-head.log c.loop-head.state = passing_end g.L.Log.logged g.L.Log.size c.args.rules.now c.args.order.now c.args.state.now c.args.log.now c.args.place c.args.budget c.index-as_slice-number.result c.loop-head.walk c.loop-head.log c.loop-head.state w none in
     met_more c.args.rules.now c.args.order.now c.loop-head.state.facts c.args.place c.index-as_slice-number.result c.requires.place numbered p.before
-    (passing_all g.L.Log.logged g.L.Log.size c.args.rules.now c.args.order.now c.args.state.now c.args.log.now c.args.place c.args.budget c.index-as_slice-number.result w.found c.loop-head.log c.loop-head.state (c.requires.orderly.numbered c.index-as_slice-number.result (is_among c.args.rules.now (slice_index_or c.args.order.now c.args.place 0) c.index-as_slice-number.result (order_below c.args.rules.now c.args.order.now c.args.place c.requires.ordered c.requires.place) (rw c.as_slice.ensures at c.index-as_slice-number.is))) p)
+    (passing_all g.L.Log.logged g.L.Log.size c.args.rules.now c.args.order.now c.args.state.now c.args.log.now c.args.place c.args.budget c.index-as_slice-number.result w.found c.loop-head.log c.loop-head.state p)

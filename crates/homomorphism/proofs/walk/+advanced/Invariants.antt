@@ -1,5 +1,0 @@
-use Rattle.std.proofs.Common.{length}
-use Rattle.homomorphism.proofs.walk.+advanced.Given as goal
-
-abbrev pub decreases-advanced : goal.decreases-advanced
-decreases-advanced l = length l.lists.now
