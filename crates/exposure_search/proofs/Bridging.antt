@@ -4,14 +4,14 @@ use Rattle.std.specs.Prelude.{Contains, slice_get, slice_set}
 use Rattle.std.proofs.lemmas.List.{append-nil, length-set}
 use Rattle.std.proofs.lemmas.Option.{slice_get_within}
 use Rattle.lists.proofs.Members.{got_below, contains_here, contains_there, contains_cases}
-use Rattle.meaning_laws.proofs.SameSets.{run_alike, active_alike}
+use Rattle.meaning_laws.proofs.Resting.{goal_stays}
+use Rattle.meaning_laws.specs.Rests.{HasGoalOver}
 use Rattle.meaning.specs.declared.types.Val.{Val}
 use Rattle.meaning.specs.declared.types.Ground.{Ground}
 use Rattle.meaning.specs.declared.types.Query.{Query}
 use Rattle.meaning.specs.declared.types.SchemaParts.{SchemaParts}
 use Rattle.meaning.specs.Search.{AreDistinct}
-use Rattle.meaning.specs.Triggers.{ground}
-use Rattle.meaning.specs.Extract.{Exposure, exposed_facts, IsExposing, exposures_cost, HasGoalFrom, HasGoalAfter}
+use Rattle.meaning.specs.Extract.{Exposure, exposed_facts, IsExposing, exposures_cost}
 use Rattle.accessible_copy.specs.Known.{known_values}
 use Rattle.accessible_copy.proofs.Listed.{known_to}
 use Rattle.least_search.specs.declared.space.Move.{Move}
@@ -59,18 +59,21 @@ module _ (schema : SchemaParts) (constants : List (List ℕ)) (base : List Groun
       marked_at : (set : List Bool) (fact : Ground) (k : ℕ) → slice_get base k ≡ Some fact → Contains (picked base set) fact → IsMarked set k
       marked_at set fact k at c = let (j, there, on) = picked_back base set fact c in subst (λ n. IsMarked set n) (got_once base fact j k once there at) on
 
--- a goal belongs to the facts, whatever their order
-pub goal_same : (schema : SchemaParts) (queries : List Query) (head : List Val) (next : ℕ) (first second : List Ground) → AreSame first second → HasGoalFrom schema queries head next first → HasGoalFrom schema queries head next second
-goal_same schema queries head next first second same has copy end run quiet =
-    let (other, its, alike) = run_alike schema.rules copy (record { facts = second; next = next }) end (record { facts = first; next = next }) (record { to = same.from; from = same.to; next = refl }) run in
-    let (goal, among, (a, are, e)) = has copy other its (λ trigger rule active. quiet trigger rule (active_alike schema.rules other end trigger rule (record { to = alike.from; from = alike.to; next = sym alike.next }) active)) in
-    (goal, among, (a, (λ atom c. alike.from (ground a atom) (are atom c)), e))
-
 -- a cost that is least over walks is so over exposures of relevant facts that gain something
-pub least_exposing : (schema : SchemaParts) (constants : List (List ℕ)) (base : List Ground) (marks : Marks) (queries : List Query) (head : List Val) (next best : ℕ) → AreDistinct base →
-    IsLeastCost (length base) (CanGo schema constants base marks) (λ set. HasGoalFrom schema queries head next (picked base set)) best →
-    (exposures : List Exposure) → ((e : Exposure) → Contains exposures e → Contains (picked base marks.relevant.items) e.fact) → AreGains constants (picked base marks.needed.items) [] exposures → IsExposing schema constants base [] exposures → HasGoalAfter schema queries head next exposures → best ≤ exposures_cost exposures
-least_exposing schema constants base marks queries head next best once least exposures matter gains exposing goal =
-    let (moves, end, walk, cost, ends) = exposing_walk schema constants base marks once exposures [] (no_facts (length base)) matter gains (none_length (length base)) (none_same base) exposing in
-    let low : best ≤ walk_cost moves = least moves end walk (goal_same schema queries head next (exposed_facts exposures) (picked base end) (record { to = ends.from; from = ends.to }) goal) in
+pub least_exposing : (schema : SchemaParts) (constants : List (List ℕ)) (base : List Ground) (marks : Marks)
+    (queries : List Query) (head : List Val) (next most best : ℕ) → AreDistinct base →
+    IsLeastCost (length base) (CanGo schema constants base marks)
+    (λ set. HasGoalOver schema constants queries head next most (picked base set)) best →
+    (exposures : List Exposure) →
+    ((e : Exposure) → Contains exposures e → Contains (picked base marks.relevant.items) e.fact) →
+    AreGains constants (picked base marks.needed.items) [] exposures →
+    IsExposing schema constants base [] exposures →
+    HasGoalOver schema constants queries head next most (exposed_facts exposures) → best ≤ exposures_cost exposures
+least_exposing schema constants base marks queries head next most best once least exposures matter gains exposing goal =
+    let (moves, end, walk, cost, ends) =
+    exposing_walk schema constants base marks once exposures [] (no_facts (length base)) matter gains
+    (none_length (length base)) (none_same base) exposing in
+    let low : best ≤ walk_cost moves = least moves end walk
+    (goal_stays schema constants queries head next most most (exposed_facts exposures) (picked base end) (omega arith)
+    ends.from goal) in
     omega arith

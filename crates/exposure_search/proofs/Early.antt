@@ -1,32 +1,33 @@
 -- What is seen of a set before its facts are exposed.
-use Rattle.std.proofs.Common.{◌≡◌, ◌↔◌, ℕ, ◌<◌, List, [], length, Bool, refl, sym, ap, ◌∙◌, subst, inl, inr, ⊎_elim, arith}
+use Rattle.std.proofs.Common.{◌≡◌, ◌↔◌, ℕ, ◌^◌, ◌<◌, ◌≤◌, List, [], length, Bool, refl, sym, ap, ◌∙◌, subst, inl, inr, ⊎_elim, arith}
 use Rattle.std.specs.Prelude.{Contains, slice_get}
-use Rattle.lists.proofs.Members.{some_injective}
-use Rattle.meaning_laws.proofs.Quieting.{quiet_is_reached}
+use Rattle.lists.proofs.Members.{contains_got, some_injective}
+use Rattle.meaning_laws.specs.Trims.{AreIn}
+use Rattle.meaning_laws.specs.Rests.{HasGoalOver, MakersAreMet}
+use Rattle.meaning_laws.proofs.Resting.{goal_stays, goal_lies}
 use Rattle.meaning.specs.declared.types.SchemaParts.{SchemaParts}
 use Rattle.meaning.specs.declared.types.Ground.{Ground}
 use Rattle.meaning.specs.declared.types.Query.{Query}
 use Rattle.meaning.specs.declared.types.Val.{Val}
-use Rattle.meaning.specs.Triggers.{State, ground}
-use Rattle.meaning.specs.Extract.{HasGoalFrom}
+use Rattle.meaning.specs.Triggers.{ground}
 use Rattle.rule_pass.specs.Levels.{AreShort}
-use Rattle.accessible_copy.specs.Proving.{Proving, IsProofOf, log_of}
+use Rattle.accessible_copy.specs.Proving.{Proving, IsProofOf}
 use Rattle.least_search.specs.declared.space.Move.{Move}
 use Rattle.least_search.specs.declared.space.End.TheVariants as end
 use Rattle.least_search.specs.Walks.{IsWalk, no_facts}
 use Rattle.exposure_search.specs.declared.marks.Marks.{Marks}
 use Rattle.exposure_search.specs.declared.candidates.Candidate.{Candidate}
 use Rattle.exposure_search.specs.Tries.{picked, IsOpen, IsMarked, IsRelevantMove}
-use Rattle.exposure_search.specs.Making.{bases_of, CannotMake, IsServed}
+use Rattle.exposure_search.specs.Making.{CannotMake, IsServed}
 use Rattle.exposure_search.specs.Ahead.{facts_along, CannotMatch}
 use Rattle.exposure_search.specs.Candidates.{IsCandidate, AreCandidates, CanBeMade, AreMovesFrom, IsOpenFrom}
 use Rattle.exposure_search.specs.Relevance.{AreRelevant, IsWanted}
-use Rattle.exposure_search.specs.Exploring.{exploring_of, CanExpose, GainsAt}
+use Rattle.exposure_search.specs.Exploring.{exploring_of, most_labels, CanExpose, GainsAt, HasGoalAt}
+use Rattle.exposure_search.specs.Aims.{AreNamedFor}
 use Rattle.exposure_search.specs.Visiting.{IsVisitEnd, AreMovesAt}
-use Rattle.exposure_search.specs.Sets.{AreSame, none_same}
+use Rattle.exposure_search.specs.Sets.{AreSame, none_same, picked_back}
 use Rattle.exposure_search.specs.Spaces.{is_space}
-use Rattle.exposure_search.proofs.Still.{needed_stay}
-use Rattle.exposure_search.proofs.Bridging.{goal_same}
+use Rattle.exposure_search.proofs.Still.{makers_still}
 use Rattle.exposure_search.proofs.Serving.{adds_same}
 use Rattle.exposure_search.proofs.Opened.{opened, candidate_for, open_exactly}
 use Rattle.exposure_search.proofs.Steps.{walked}
@@ -40,30 +41,50 @@ module _ (schema : SchemaParts) (proof : Proving) (path : List Move) (set : List
       let its = walked schema proof.constants proof.end.base path (no_facts (length proof.end.base)) set [] (none_same proof.end.base) walk in
       subst (λ gs. AreSame (picked proof.end.base set) gs) (sym its.facts) its.same
 
+  -- which are base facts
+  pub along_base : AreIn (facts_along proof.end.base path) proof.end.base
+  along_base fact among =
+      let (k, at, marked) = picked_back proof.end.base set fact (along_same.from fact among) in
+      contains_got proof.end.base k fact at
+
   -- the moves that are possible are those of candidates
   pub open_along : IsProofOf schema proof → (marks : Marks) (candidates : List Candidate) → AreCandidates schema.methods proof.constants proof.end.base marks candidates → (move : Move) →
       IsOpenFrom (facts_along proof.end.base path) set candidates move ↔ IsRelevantMove schema proof.constants proof.end.base marks.relevant.items set move
   open_along is marks candidates are move = open_exactly schema proof is marks candidates are set (facts_along proof.end.base path) along_same move
 
   module _ (queries : List Query) (head : List Val) (budget : ℕ) (marks : Marks) where
-    -- a run that ends quiet has no match
-    pub none_bare : IsProofOf schema proof → AreShort schema.rules → AreRelevant schema proof.constants proof.end.base proof.end.next queries head marks → CannotMake schema.rules marks.makers.items (facts_along proof.end.base path) → CannotMatch queries (facts_along proof.end.base path) →
-        HasGoalFrom schema queries head proof.end.next (picked proof.end.base set) → ⊥
-    none_bare is short relevant cannot unmatched has =
-        let facts = facts_along proof.end.base path in
-        let begun : State = record { facts = facts; next = proof.end.next } in
-        let (log, last, run, quiet) = quiet_is_reached schema.rules (length schema.rules) begun is.numbered short in
-        let (goal, among, (a, are, e)) = goal_same schema queries head proof.end.next (picked proof.end.base set) facts along_same has log last run quiet in
+    -- a goal would be a match of the path's facts, which lack one
+    pub none_bare : AreNamedFor schema proof.constants proof.end.base proof.end.next queries head →
+        proof.end.next ≤ 2 ^ 32 → AreShort schema.rules →
+        AreRelevant schema proof.constants proof.end.base proof.end.next queries head marks →
+        CannotMake schema.rules marks.makers.items (facts_along proof.end.base path) →
+        CannotMatch queries (facts_along proof.end.base path) →
+        HasGoalAt (exploring_of schema proof queries head budget marks) set → ⊥
+    none_bare named few short relevant cannot unmatched has =
+        let facts : List Ground = facts_along proof.end.base path in
+        let Wants : Ground → Type 0 = IsWanted queries head relevant.wanted in
+        let met : MakersAreMet schema.rules proof.end.next Wants facts =
+        makers_still schema.rules proof.end.next Wants marks.makers.items relevant.makers facts cannot in
+        let (goal, among, (a, are, e)) =
+        goal_lies schema proof.constants queries head proof.end.next (most_labels schema.rules) (length schema.rules)
+        Wants (picked proof.end.base set) (record { facts = facts; next = proof.end.next }) named.rules short
+        relevant.closed.bodies met (λ f v c i. named.facts f v (along_base f c) i)
+        (λ f c. named.fits f (along_base f c)) (omega arith) (omega arith) along_same.to relevant.closed.images has in
         let (atom, of_goal, missing) = unmatched goal among in
-        missing (ground a atom)
-        (needed_stay schema.rules proof.end.next (IsWanted queries head relevant.wanted) relevant.closed.bodies marks.makers.items relevant.makers facts cannot log begun last (omega arith) (λ f wants there. there) run
-        (ground a atom) (inl (goal, among, (atom, of_goal, record { assignment = a; heads = e; makes = refl }))) (are atom of_goal)) refl
+        missing (ground a atom) (are atom of_goal) refl
 
     -- where the facts of the path have no goal, the set has none
-    pub none_along : (HasGoalFrom schema queries head proof.end.next (facts_along proof.end.base path) → ⊥) → HasGoalFrom schema queries head proof.end.next (picked proof.end.base set) → ⊥
-    none_along none has = none (goal_same schema queries head proof.end.next (picked proof.end.base set) (facts_along proof.end.base path) along_same has)
+    pub none_along :
+        (HasGoalOver schema proof.constants queries head proof.end.next (most_labels schema.rules)
+        (facts_along proof.end.base path) → ⊥) →
+        HasGoalAt (exploring_of schema proof queries head budget marks) set → ⊥
+    none_along none has =
+        none (goal_stays schema proof.constants queries head proof.end.next (most_labels schema.rules)
+        (most_labels schema.rules) (picked proof.end.base set) (facts_along proof.end.base path) (omega arith)
+        along_same.to has)
 
-    pub bare_end : (HasGoalFrom schema queries head proof.end.next (picked proof.end.base set) → ⊥) → IsVisitEnd (exploring_of schema proof queries head budget marks) path set end.NoGoal 0
+    pub bare_end : (HasGoalAt (exploring_of schema proof queries head budget marks) set → ⊥) →
+        IsVisitEnd (exploring_of schema proof queries head budget marks) path set end.NoGoal 0
     bare_end none =
         record {
           goal = λ e. absurd (cc);

@@ -1,20 +1,15 @@
 -- Exposures without those that gain nothing.
 use Rattle.std.proofs.Common.{◌≡◌, ◌⊎◌, ℕ, ◌≤◌, List, [], ◌∷◌, ◌++◌, refl, sym, subst, inl, inr, ⊎_elim, arith, append_assoc}
-use Rattle.std.specs.Prelude.{Contains, map}
+use Rattle.std.specs.Prelude.{Contains}
 use Rattle.std.proofs.lemmas.List.{append-nil}
 use Rattle.std.proofs.lemmas.List.Elements.{Contains-append_left, Contains-push, Contains-push_cases}
-use Rattle.lists.proofs.Members.{contains_here, contains_there, contains_cases, contains_mapped, contains_map}
-use Rattle.meaning_laws.specs.Trims.{AreIn, AreClosed}
+use Rattle.lists.proofs.Members.{contains_here, contains_there, contains_cases}
+use Rattle.meaning_laws.specs.Trims.{AreIn}
 use Rattle.meaning_laws.proofs.Deciding.{dec_contains, dec_some, Val-discrete}
-use Rattle.meaning_laws.proofs.Trimming.{kinds_trim, known_or}
+use Rattle.meaning_laws.proofs.Trimming.{known_or}
 use Rattle.meaning.specs.declared.types.SchemaParts.{SchemaParts}
 use Rattle.meaning.specs.declared.types.Ground.{Ground}
-use Rattle.meaning.specs.declared.types.Query.{Query}
-use Rattle.meaning.specs.declared.types.Trigger.{Trigger}
 use Rattle.meaning.specs.declared.types.Val.{Val}
-use Rattle.meaning.specs.declared.types.Val.TheVariants.{Const}
-use Rattle.meaning.specs.Matching.{GroundsOf, IsQueryAnswer}
-use Rattle.meaning.specs.Triggers.{State, ground, IsFiringRun}
 use Rattle.meaning.specs.Runs.{IsKnownValue}
 use Rattle.meaning.specs.Extract.{Exposure, exposed_facts, Exposes, IsExposing, exposures_cost}
 use Rattle.accessible_copy.specs.Known.{known_values}
@@ -38,7 +33,7 @@ pub record Thinned (schema : SchemaParts) (constants : List (List ℕ)) (base ne
   pub within : (e : Exposure) → Contains kept e → Contains exposures e
   pub holds : (f : Ground) → Contains needs f → Contains (wide ++ exposed_facts exposures) f → Contains (narrow ++ exposed_facts kept) f
 
-dec_value : (vals : List Val) (v : Val) → Dec (Contains vals v)
+pub dec_value : (vals : List Val) (v : Val) → Dec (Contains vals v)
 dec_value vals v = elim (dec_some (λ u. u ≡ v) (λ u. Val-discrete u v) vals) [ yes (u, c, e) ↦ yes (subst (λ w. Contains vals w) e c) | no n ↦ no (λ c. n (v, c, refl)) ]
 
 -- whether all values of a fact are known
@@ -114,15 +109,3 @@ module _ (schema : SchemaParts) (constants : List (List ℕ)) (base needs : List
             (λ f n c. ⊎_elim (λ old. holds f n old) (λ same. absurd (out (subst (λ g. Contains needs g) (sym same) n))) (Contains-push_cases wide e.fact f c)) rest))
             (λ new. thin_keep wide narrow e exposures among known first (inr new) with_it) (all_known constants narrow e.fact.vals)
       ]
-
--- a match of some facts is one of others that have the needed ones
-pub needed_match : (schema : SchemaParts) (constants : List (List ℕ)) (base : List Ground) (next : ℕ) (queries : List Query) (head : List Val) (Needed Relevant : Ground → Type 0) → AreClosed schema constants base next queries head Needed Relevant →
-    (facts more : List Ground) (copy : List Trigger) (end : State) (goal : Query) → ((f : Ground) → Needed f → Contains facts f → Contains more f) →
-    IsFiringRun schema.rules (record { facts = facts; next = next }) copy end → Contains queries goal → IsQueryAnswer Const (GroundsOf end.facts) goal head →
-    (less : List Trigger) × (last : State) × IsFiringRun schema.rules (record { facts = more; next = next }) less last × IsQueryAnswer Const (GroundsOf last.facts) goal head
-needed_match schema constants base next queries head Needed Relevant closed facts more copy end goal into run matched (a, are, e) =
-    let (less, needed, from, kinds, serves) = kinds_trim schema.rules next Needed closed.bodies (record { facts = facts; next = next }) end copy (map (ground a) goal.atoms) (omega arith) run
-    (λ f c. let (atom, among, same) = contains_mapped (ground a) goal.atoms f c in subst (λ g. Contains end.facts g) same (are atom among))
-    (λ f c. let (atom, among, same) = contains_mapped (ground a) goal.atoms f c in closed.images goal atom f matched among (record { assignment = a; heads = e; makes = same })) in
-    let (last, its, leaves) = serves (record { facts = more; next = next }) (omega arith) (λ f c. into f (kinds f c) (from f c)) in
-    (less, last, its, (a, (λ atom c. leaves (ground a atom) (contains_map (ground a) goal.atoms atom c)), e))

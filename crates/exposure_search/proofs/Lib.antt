@@ -1,4 +1,5 @@
 pub mod Gaining
+pub mod Sparing
 pub mod Bridging
 pub mod Trying
 pub mod Wanting
@@ -19,5 +20,4 @@ pub mod Early
 pub mod Refuted
 pub mod Visited
 pub mod Explored
-pub mod Growing
 pub mod Spending

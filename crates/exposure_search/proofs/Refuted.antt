@@ -2,7 +2,7 @@
 use Rattle.std.proofs.Common.{◌≡◌, ◌<◌, ℕ, List, [], ◌∷◌, Option, Some, None, Bool, false, length, subst, ⊎_elim}
 use Rattle.std.specs.Prelude.{Contains, IfNone, is_some}
 use Rattle.std.proofs.lemmas.Option.{slice_get_within}
-use Rattle.lists.proofs.Members.{contains_cases, contains_got, contains_none}
+use Rattle.lists.proofs.Members.{contains_cases, contains_none}
 use Rattle.meaning.specs.declared.types.SchemaParts.{SchemaParts}
 use Rattle.meaning.specs.declared.types.Ground.{Ground}
 use Rattle.meaning.specs.declared.types.Val.TheVariants.{Label}
@@ -13,8 +13,7 @@ use Rattle.least_search.specs.declared.space.Move.{Move}
 use Rattle.least_search.specs.Walks.{IsWalk, no_facts, with_fact}
 use Rattle.exposure_search.specs.Tries.{IsOpen}
 use Rattle.exposure_search.specs.Ahead.{facts_along}
-use Rattle.exposure_search.specs.Sets.{picked_back}
-use Rattle.exposure_search.proofs.Early.{along_same}
+use Rattle.exposure_search.proofs.Early.{along_base}
 
 -- none, and so what none says
 pub none_said : {X : Type 0} (found : Option X) (P : Type 0) → is_some found ≡ false → IfNone found P → P
@@ -32,9 +31,7 @@ module _ (schema : SchemaParts) (proof : Proving) (path : List Move) (set : List
     (named : AreNamed proof.constants proof.end.next proof.end.base) where
   -- the values of the path's facts have names, as those of the base facts
   pub along_named : AreNamed proof.constants proof.end.next (facts_along proof.end.base path)
-  along_named fact v among there =
-      let (k, at, marked) = picked_back proof.end.base set fact ((along_same schema proof path set walk).from fact among) in
-      named fact v (contains_got proof.end.base k fact at) there
+  along_named fact v among there = named fact v (along_base schema proof path set walk fact among) there
 
   pub along_below : LabelsBelow (facts_along proof.end.base path) proof.end.next
   along_below fact k among there = along_named fact (Label k) among there

@@ -1,14 +1,18 @@
 -- What settling the copy of exposures shows.
-use Rattle.std.proofs.Common.{◌≡◌, ◌⊎◌, ℕ, ◌+◌, ◌<◌, ◌≤◌, List, [], ◌∷◌, ◌++◌, length, map, Bool, true, false, Option, Some, None, refl, sym, ap, ◌∙◌, subst, inl, inr, ⊎_elim, arith}
+use Rattle.std.proofs.Common.{◌≡◌, ◌⊎◌, ℕ, ◌+◌, ◌^◌, ◌<◌, ◌≤◌, List, [], ◌∷◌, ◌++◌, length, map, Bool, true, false, Option, Some, None, refl, sym, ap, ◌∙◌, subst, inl, inr, ⊎_elim, arith}
 use Rattle.std.specs.Prelude.{Contains, is_some, option_map, IfSome, IfNone}
 use Rattle.std.specs.Bool.{then_some}
 use Rattle.std.specs.List.{AllZip}
 use Rattle.std.proofs.lemmas.List.{append-nil, length-map, length_push}
 use Rattle.lists.proofs.Members.{contains_got}
 use Rattle.meaning_laws.proofs.SameSets.{run_alike}
-use Rattle.meaning_laws.proofs.Quieting.{quiet_is_reached}
+use Rattle.meaning_laws.specs.Trims.{AreIn}
+use Rattle.meaning_laws.specs.Rests.{MakersAreMet}
+use Rattle.meaning_laws.proofs.Keeping.{Keeps, run_keeps}
+use Rattle.meaning_laws.proofs.Resting.{goal_lies}
 use Rattle.meaning_laws.proofs.Carrying.{run_fires}
 use Rattle.meaning.specs.declared.types.SchemaParts.{SchemaParts}
+use Rattle.meaning.specs.declared.types.Ground.{Ground}
 use Rattle.meaning.specs.declared.types.Query.{Query}
 use Rattle.meaning.specs.declared.types.Rule.{Rule}
 use Rattle.meaning.specs.declared.types.Trigger.{Trigger}
@@ -16,7 +20,7 @@ use Rattle.meaning.specs.declared.types.Val.{Val}
 use Rattle.meaning.specs.declared.types.Firing.TheVariants.{Base}
 use Rattle.meaning.specs.Triggers.{State, IsQuiet, IsFiringRun, ground, fired}
 use Rattle.meaning.specs.Runs.{Proof, base_state, copy_state, HasGoal, IsBaseRun, IsFirstActive, IsRun}
-use Rattle.meaning.specs.Extract.{exposed_facts, HasGoalFrom}
+use Rattle.meaning.specs.Extract.{exposed_facts}
 use Rattle.homomorphism.specs.Bindings.{at}
 use Rattle.rule_pass.specs.Levels.{AreShort}
 use Rattle.rule_pass.specs.States.{SomeActive}
@@ -41,11 +45,12 @@ use Rattle.exposure_search.specs.Tries.{picked, IsOpen, IsMarked, Adds, HasMatch
 use Rattle.exposure_search.specs.Making.{bases_of, GoesBeyond, OnlyExposes, SameBase, all_made, IsExposedBy, IsActiveMove, IsServed, IsStill}
 use Rattle.exposure_search.specs.Relevance.{AreRelevant, IsWanted}
 use Rattle.exposure_search.specs.Trials.{IsTrialAlong}
-use Rattle.exposure_search.specs.Exploring.{exploring_of, HasGoalAt, HasRunBeyond}
+use Rattle.exposure_search.specs.Exploring.{exploring_of, most_labels, HasGoalAt, HasRunBeyond}
+use Rattle.exposure_search.specs.Aims.{AreNamedFor}
 use Rattle.exposure_search.specs.Visiting.{IsVisitEnd, AreMovesAt, IsReached}
 use Rattle.exposure_search.specs.Sets.{AreSame, none_same}
-use Rattle.exposure_search.proofs.Still.{run_rises, run_joined, needed_stay}
-use Rattle.exposure_search.proofs.Bridging.{goal_same}
+use Rattle.exposure_search.proofs.Still.{makers_still}
+use Rattle.exposure_search.proofs.Bridging.{exposed_base}
 use Rattle.exposure_search.proofs.Logs.{lies, settled_run, settled_long, settled_on}
 use Rattle.exposure_search.proofs.Steps.{IsWalked, walked}
 use Rattle.exposure_search.proofs.Serving.{active_open, open_active, adds_same}
@@ -150,28 +155,51 @@ module _ (schema : SchemaParts) (queries : List Query) (head : List Val) (budget
       (record { to = same.from; from = same.to; next = refl }) copy_run in
       record { copy = settles.more; end = other; goal = goal; run = run; among = among; answer = (a, (λ atom c. alike.to (ground a atom) (are atom c)), e) }
 
-  -- a settled copy without a match
-  pub none_goal : IsQuiet schema.rules (copy_state settled.end) → (HasGoal queries settled.end head → ⊥) → HasGoalFrom schema queries head proof.end.next (picked proof.end.base set) → ⊥
-  none_goal quiet none has = none (goal_same schema queries head proof.end.next (picked proof.end.base set) (exposed_facts trail.made) trail.same has settles.more (copy_state settled.end) copy_run quiet)
+  -- where names and arities are those that a search needs, and a proof can number the labels of the copy
+  module _ (named : AreNamedFor schema proof.constants proof.end.base proof.end.next queries head)
+      (few : settled.end.next ≤ 2 ^ 32) where
+    -- what is exposed are base facts
+    made_base : AreIn (exposed_facts trail.made) proof.end.base
+    made_base f c = exposed_base schema proof.constants proof.end.base trail.made [] trail.exposing f c
 
-  -- a copy without a match in which nothing is active, or no rule that can make what a match rests on can fire
-  pub none_still : AreShort schema.rules → AreRelevant schema proof.constants proof.end.base proof.end.next queries head marks → IsStill schema.rules marks.makers.items (copy_state settled.end) → (HasGoal queries settled.end head → ⊥) → HasGoalFrom schema queries head proof.end.next (picked proof.end.base set) → ⊥
-  none_still short relevant still none has = ⊎_elim (λ quiet. none_goal quiet none has)
-      (λ cannot.
-      let (log, last, run, quiet) = quiet_is_reached schema.rules (length schema.rules) (copy_state settled.end) its.numbered short in
-      let whole = run_joined schema.rules settles.more log (record { facts = exposed_facts trail.made; next = proof.end.next }) (copy_state settled.end) last copy_run run in
-      let low : proof.end.next ≤ settled.end.next = run_rises schema.rules settles.more (record { facts = exposed_facts trail.made; next = proof.end.next }) (copy_state settled.end) copy_run in
-      let (goal, among, (a, are, e)) = goal_same schema queries head proof.end.next (picked proof.end.base set) (exposed_facts trail.made) trail.same has (settles.more ++ log) last whole quiet in
-      none (
-        goal,
-        among,
-        (
-          a,
-          (λ atom c. needed_stay schema.rules proof.end.next (IsWanted queries head relevant.wanted) relevant.closed.bodies marks.makers.items relevant.makers settled.end.copy cannot log (copy_state settled.end) last low (λ f wants there. there) run
-              (ground a atom) (inl (goal, among, (atom, c, record { assignment = a; heads = e; makes = refl }))) (are atom c)),
-          e,
-        ),
-      )) still
+    copy_keeps : Keeps schema proof.constants (record { facts = exposed_facts trail.made; next = proof.end.next })
+        (copy_state settled.end)
+    copy_keeps =
+        run_keeps schema proof.constants settles.more
+        (record { facts = exposed_facts trail.made; next = proof.end.next }) (copy_state settled.end) named.rules
+        (λ f v c i. named.facts f v (made_base f c) i) (λ f c. named.fits f (made_base f c)) copy_run
+
+    -- the copy has the facts of the set
+    set_copied : AreIn (picked proof.end.base set) settled.end.copy
+    set_copied f c = copy_keeps.grows f (trail.same.to f c)
+
+    -- a settled copy without a match
+    none_goal : IsQuiet schema.rules (copy_state settled.end) → (HasGoal queries settled.end head → ⊥) →
+        HasGoalAt (exploring_of schema proof queries head budget marks) set → ⊥
+    none_goal quiet none has =
+        none (has (copy_state settled.end) (record {
+          grows = set_copied;
+          low = copy_keeps.next;
+          few = omega arith;
+          named = copy_keeps.named;
+          fits = copy_keeps.fit;
+          quiet = quiet;
+        }))
+
+    -- a copy without a match in which nothing is active, or no rule that can make what a match rests on can fire
+    none_still : AreShort schema.rules →
+        AreRelevant schema proof.constants proof.end.base proof.end.next queries head marks →
+        IsStill schema.rules marks.makers.items (copy_state settled.end) → (HasGoal queries settled.end head → ⊥) →
+        HasGoalAt (exploring_of schema proof queries head budget marks) set → ⊥
+    none_still short relevant still none has = ⊎_elim (λ quiet. none_goal quiet none has)
+        (λ cannot.
+        let Wants : Ground → Type 0 = IsWanted queries head relevant.wanted in
+        let met : MakersAreMet schema.rules proof.end.next Wants settled.end.copy =
+        makers_still schema.rules proof.end.next Wants marks.makers.items relevant.makers settled.end.copy cannot in
+        none (goal_lies schema proof.constants queries head proof.end.next (most_labels schema.rules)
+        (length schema.rules) Wants (picked proof.end.base set) (copy_state settled.end) named.rules short
+        relevant.closed.bodies met copy_keeps.named copy_keeps.fit copy_keeps.next (omega arith) set_copied
+        relevant.closed.images has)) still
 
   -- what was tried
   tried : (count : ℕ) → count ≡ length settles.more → IsTrialAlong schema proof.constants (base_state proof.end) path count
@@ -216,14 +244,14 @@ module _ (schema : SchemaParts) (queries : List Query) (head : List Val) (budget
       let (log, last, run, long) = settled_on schema proof settled is its settles some in
       record { log = log; end = last; run = run; beyond = omega arith }) far
 
-  pub visit_end : AreShort schema.rules → AreRelevant schema proof.constants proof.end.base proof.end.next queries head marks → (ended : End) (fired : ℕ) → (ended ≡ end.Goal → HasGoal queries settled.end head) → (ended ≡ end.NoGoal → IsStill schema.rules marks.makers.items (copy_state settled.end)) → (ended ≡ end.NoGoal → HasGoal queries settled.end head → ⊥) →
+  pub visit_end : AreNamedFor schema proof.constants proof.end.base proof.end.next queries head → AreShort schema.rules → AreRelevant schema proof.constants proof.end.base proof.end.next queries head marks → (ended : End) (fired : ℕ) → (ended ≡ end.Goal → HasGoal queries settled.end head) → (ended ≡ end.NoGoal → IsStill schema.rules marks.makers.items (copy_state settled.end)) → (ended ≡ end.NoGoal → HasGoal queries settled.end head → ⊥) → (ended ≡ end.NoGoal → settled.end.next ≤ 2 ^ 32) →
       (ended ≡ end.FiringsSpent → GoesBeyond schema budget settled) → (ended ≡ end.UnitsSpent → SomeActive schema.rules (copy_state settled.end)) → length proof.entries + fired ≡ length settled.entries →
       IsVisitEnd (exploring_of schema proof queries head budget marks) path set ended fired
-  visit_end short relevant ended fired goal still none long due counted =
+  visit_end named short relevant ended fired goal still none few long due counted =
       let added = settled_long schema proof settled settles in
       record {
         goal = λ e. goal_matches (goal e);
-        none = λ e. none_still short relevant (still e) (none e);
+        none = λ e. none_still named (few e) short relevant (still e) (none e);
         long = λ e. runs_beyond (long e);
         due = λ e. tried_on (due e) fired (omega arith);
         run = tried fired (omega arith);
@@ -247,10 +275,11 @@ module _ (schema : SchemaParts) (queries : List Query) (head : List Val) (budget
 
   -- where there is no match, some run is longer or there is no goal
   pub none_reached : (ended : Round) → (ended ≡ Done → ⊥) → (ended ≡ Quiet → IsQuiet schema.rules (copy_state settled.end)) → (ended ≡ Spent → (budget ≤ length settled.entries) × SomeActive schema.rules (copy_state settled.end)) → (HasGoal queries settled.end head → ⊥) →
+      AreNamedFor schema proof.constants proof.end.base proof.end.next queries head → settled.end.next ≤ 2 ^ 32 →
       HasRunBeyond (exploring_of schema proof queries head budget marks) ⊎ (HasGoalAt (exploring_of schema proof queries head budget marks) set → ⊥)
-  none_reached Quiet going quiet spent none = inr (none_goal (quiet refl) none)
-  none_reached Done going quiet spent none = absurd (going refl)
-  none_reached Spent going quiet spent none = inl (runs_beyond (inr (spent refl)))
+  none_reached Quiet going quiet spent none named few = inr (none_goal named few (quiet refl) none)
+  none_reached Done going quiet spent none named few = absurd (going refl)
+  none_reached Spent going quiet spent none named few = inl (runs_beyond (inr (spent refl)))
 
 -- a proof without copy firings, as one that was settled by none
 pub unsettled : (schema : SchemaParts) (proof : Proving) → Settles schema true proof proof

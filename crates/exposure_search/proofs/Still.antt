@@ -1,18 +1,16 @@
--- Where no rule that can make a needed fact can fire, no needed fact is new.
+-- Rules that can make a needed fact, and what is so where none of them can fire.
 use Rattle.std.proofs.Common.{◌≡◌, ℕ, ◌+◌, ◌<◌, ◌≤◌, List, [], ◌∷◌, ◌++◌, length, take, Bool, true, false, Some, refl, sym, ap, ◌∙◌, subst, ⊎_elim, arith}
-use Rattle.std.specs.Prelude.{Contains, slice_get, map}
+use Rattle.std.specs.Prelude.{slice_get}
 use Rattle.std.proofs.lemmas.Bool.{cases_eq}
 use Rattle.std.proofs.lemmas.Option.{slice_get_within}
 use Rattle.std.proofs.lemmas.List.{length_push}
-use Rattle.lists.proofs.Members.{contains_mapped, some_injective, got_push}
-use Rattle.meaning_laws.specs.Trims.{BodiesFollow}
-use Rattle.meaning_laws.proofs.Added.{added_cases}
+use Rattle.lists.proofs.Members.{some_injective, got_push}
+use Rattle.meaning_laws.specs.Rests.{MakersAreMet}
 use Rattle.meaning.specs.declared.types.Ground.{Ground}
 use Rattle.meaning.specs.declared.types.Query.{Query}
 use Rattle.meaning.specs.declared.types.Rule.{Rule}
-use Rattle.meaning.specs.declared.types.Trigger.{Trigger}
 use Rattle.meaning.specs.declared.types.Val.{Val}
-use Rattle.meaning.specs.Triggers.{State, ground, assigned, fired, IsFiringRun}
+use Rattle.meaning.specs.Triggers.{ground, assigned}
 use Rattle.exposure_search.specs.Tries.{IsMarked}
 use Rattle.exposure_search.specs.Making.{CannotMake}
 use Rattle.exposure_search.specs.Relevance.{Makes, MakersMarked, IsImageAmong, IsImageOf}
@@ -20,36 +18,21 @@ use Rattle.exposure_search.specs.Sets.{truth}
 use Rattle.exposure_search.proofs.Wanting.{keeps_push}
 use Rattle.exposure_search.proofs.Imaging.{image_next}
 
--- labels go up along a run
-pub run_rises : (rules : List Rule) (log : List Trigger) (state end : State) → IsFiringRun rules state log end → state.next ≤ end.next
-run_rises rules [] state end run = subst (λ (s : State). state.next ≤ s.next) (sym run) (omega arith)
-run_rises rules (trigger ∷ log) state end (rule, is, more) =
-    let up : state.next ≤ trigger.fresh = is.fresh in
-    let rests : (fired state trigger rule).next ≤ end.next = run_rises rules log (fired state trigger rule) end more in
-    omega arith
-
--- one run after another
-pub run_joined : (rules : List Rule) (first second : List Trigger) (state middle end : State) → IsFiringRun rules state first middle → IsFiringRun rules middle second end → IsFiringRun rules state (first ++ second) end
-run_joined rules [] second state middle end run more = subst (λ s. IsFiringRun rules s second end) run more
-run_joined rules (trigger ∷ first) second state middle end (rule, is, run) more = (rule, is, run_joined rules first second (fired state trigger rule) middle end run more)
-
-module _ (rules : List Rule) (next : ℕ) (Needed : Ground → Type 0) (follow : BodiesFollow rules next Needed) (makers : List Bool) (marked : MakersMarked rules next Needed makers) (facts : List Ground) (cannot : CannotMake rules makers facts) where
-  -- what is needed stands among these facts, also at the end of a run
-  pub needed_stay : (log : List Trigger) (state end : State) → next ≤ state.next → ((f : Ground) → Needed f → Contains state.facts f → Contains facts f) → IsFiringRun rules state log end → (f : Ground) → Needed f → Contains end.facts f → Contains facts f
-  needed_stay [] state end low old run f needs c = old f needs (subst (λ (s : State). Contains s.facts f) run c)
-  needed_stay (trigger ∷ log) state end low old (rule, is, more) f needs c =
-      let up : state.next ≤ trigger.fresh = is.fresh in
-      needed_stay log (fired state trigger rule) end (omega arith)
-      (λ g wants among. ⊎_elim (λ was. old g wants was) (λ made. absurd (never g wants made)) (added_cases state.facts (map (ground (assigned trigger)) rule.head) g among)) more f needs c
-    where
-      never : (g : Ground) → Needed g → Contains (map (ground (assigned trigger)) rule.head) g → ⊥
-      never g wants made =
-          let up : state.next ≤ trigger.fresh = is.fresh in
-          let (head, of_head, makes) = contains_mapped (ground (assigned trigger)) rule.head g made in
-          let on : IsMarked makers trigger.rule = marked trigger.rule rule g is.numbered (record { trigger = trigger; head = head; width = is.width; fresh = omega arith; of_rule = of_head; makes = makes }) wants in
-          let (atom, of_body, missing) = cannot trigger.rule rule is.numbered on in
-          let wants_body : Needed (ground (assigned trigger) atom) = follow trigger rule head atom (record { numbered = is.numbered; width = is.width; fresh = omega arith }) of_head of_body (subst Needed (sym makes) wants) in
-          missing (ground (assigned trigger) atom) (old (ground (assigned trigger) atom) wants_body (is.body atom of_body)) refl
+-- where no marked rule can fire, the makers of needed facts are met, as they have no match
+pub makers_still : (rules : List Rule) (next : ℕ) (Needed : Ground → Type 0) (makers : List Bool) →
+    MakersMarked rules next Needed makers → (facts : List Ground) → CannotMake rules makers facts →
+    MakersAreMet rules next Needed facts
+makers_still rules next Needed makers marked facts cannot trigger rule head is of_head wants body =
+    let on : IsMarked makers trigger.rule = marked trigger.rule rule (ground (assigned trigger) head) is.numbered (record {
+      trigger = trigger;
+      head = head;
+      width = is.width;
+      fresh = is.fresh;
+      of_rule = of_head;
+      makes = refl;
+    }) wants in
+    let (atom, of_body, missing) = cannot trigger.rule rule is.numbered on in
+    absurd (missing (ground (assigned trigger) atom) (body atom of_body) refl)
 
 -- ---- marks for rules
 

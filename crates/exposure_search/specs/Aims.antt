@@ -6,7 +6,7 @@ use Rattle.meaning.specs.declared.types.SchemaParts.{SchemaParts}
 use Rattle.meaning.specs.declared.types.Val.{Val}
 use Rattle.meaning.specs.Values.{Value}
 use Rattle.meaning.specs.Naming.{IsNamed, AreNamed}
-use Rattle.meaning.specs.Fitting.{RulesFit, QueryHasConstants}
+use Rattle.meaning.specs.Fitting.{Fit, RulesFit, QueryHasConstants}
 use Rattle.access_schema.specs.Meaning.{meaning_of}
 use Rattle.accessible_copy.specs.Proving.{Proving}
 use Rattle.least_search.specs.declared.space.Move.{Move}
@@ -22,17 +22,18 @@ use Rattle.exposure_search.specs.Exploring.{Exploring, exploring_of, space_size}
 abbrev pub space_of : Aim → Proving → Exploring
 space_of aim proof = exploring_of (meaning_of aim.schema.now) proof aim.queries.now aim.head.now aim.budget aim.marks
 
--- The rules fit and, as the queries, have known constants, and the values of the base facts and of the head are known constants or labels
--- below the next one.
+-- The rules fit and, as the queries, have known constants, the values of the base facts and of the head are known constants or labels
+-- below the next one, and the base facts have the relations' arities.
 pub record AreNamedFor (schema : SchemaParts) (constants : List Value) (base : List Ground) (next : ℕ) (queries : List Query)
     (head : List Val) : Type 0 where
   pub rules : RulesFit schema constants
   pub asked : (query : Query) → Contains queries query → QueryHasConstants constants query
   pub facts : AreNamed constants next base
+  pub fits : Fit schema base
   pub values : (v : Val) → Contains head v → IsNamed constants next v
 
 -- The proof can be visited, and what is kept is right for it: the numbers are those of the marked rules, and the candidates expose the
--- relevant base facts and are listed by fact. The values of these facts have names.
+-- relevant base facts and are listed by fact. The values of these facts have names, and as many as their relations have columns.
 pub record IsAimed (aim : Aim) (proof : Proving) : Type 0 where
   pub ready : IsReady (meaning_of aim.schema.now) proof aim.facts.items aim.methods aim.bases aim.queries.now aim.head.now aim.budget
       aim.marks

@@ -1,5 +1,6 @@
 -- What contracts see of the space of a proof, and what a search asks of it.
-use Rattle.std.specs.Prelude.{◌≡◌, ◌<◌, ℕ, List, [], Bool, length}
+use Rattle.std.specs.Prelude.{◌≡◌, ◌<◌, ◌+◌, ◌^◌, ℕ, List, [], Bool, length}
+use Rattle.meaning.specs.declared.types.Rule.{Rule}
 use Rattle.meaning.specs.declared.types.SchemaParts.{SchemaParts}
 use Rattle.meaning.specs.declared.types.Trigger.{Trigger}
 use Rattle.meaning.specs.declared.types.Firing.{Firing}
@@ -9,7 +10,7 @@ use Rattle.meaning.specs.Values.{Value}
 use Rattle.meaning.specs.Search.{AreDistinct}
 use Rattle.meaning.specs.Triggers.{State, IsQuiet}
 use Rattle.meaning.specs.Runs.{Proof, base_state, IsBaseRun, IsRun}
-use Rattle.meaning.specs.Extract.{HasGoalFrom}
+use Rattle.meaning_laws.specs.Rests.{HasGoalOver, new_labels}
 use Rattle.accessible_copy.specs.Known.{known_values}
 use Rattle.accessible_copy.specs.Proving.{Proving, log_of}
 use Rattle.least_search.specs.declared.space.Move.{Move}
@@ -59,9 +60,14 @@ abbrev pub GainsAt : Exploring → List Bool → Move → Type 0
 GainsAt space set move =
     Adds (known_values space.constants (picked space.base.facts set)) space.base.facts space.marks.needed.items move.fact
 
--- Every run of firings from the facts of the set, after which nothing is active, has a match.
+-- The most labels of the states of which a goal is asked: those that a proof can number, and those that one firing gives.
+abbrev pub most_labels : List Rule → ℕ
+most_labels rules = 2 ^ 32 + new_labels rules
+
+-- Every state at rest over the facts of the set, with no more labels, has a match.
 abbrev pub HasGoalAt : Exploring → List Bool → Type 0
-HasGoalAt space set = HasGoalFrom space.schema space.queries space.head space.base.next (picked space.base.facts set)
+HasGoalAt space set = HasGoalOver space.schema space.constants space.queries space.head space.base.next
+    (most_labels space.schema.rules) (picked space.base.facts set)
 
 -- Some run of firings from the facts of the set has a match.
 abbrev pub HasMatchAt : Exploring → List Bool → Type 0

@@ -1,5 +1,5 @@
 //! What a search over the space of a proof shows of exposures and runs.
-ghost use Rattle.std.specs.Prelude.{◌≡◌, ◌≤◌, ℕ, List, [], Bool, Contains, length};
+ghost use Rattle.std.specs.Prelude.{◌≡◌, ◌≤◌, ◌+◌, ℕ, List, [], Bool, Contains, length};
 ghost use Rattle.meaning.specs.declared.types.Trigger.{Trigger};
 ghost use Rattle.meaning.specs.declared.types.Firing.{Firing};
 ghost use Rattle.meaning.specs.declared.types.Query.{Query};
@@ -10,7 +10,8 @@ ghost use Rattle.meaning.specs.Triggers.{State, IsFiringRun};
 ghost use Rattle.meaning.specs.Runs.{Proof, IsRun};
 ghost use Rattle.meaning.specs.Naming.{IsNamed, AreNamed};
 ghost use Rattle.meaning.specs.Fitting.{QueryHasConstants, Fit, RulesFit};
-ghost use Rattle.meaning.specs.Extract.{Exposure, exposed_facts, exposures_cost, IsExposing, HasGoalAfter};
+ghost use Rattle.meaning.specs.Extract.{Exposure, exposed_facts, exposures_cost, IsExposing};
+ghost use Rattle.meaning_laws.specs.Rests.{HasGoalOver, new_labels};
 ghost use Rattle.rule_pass.specs.Levels.{AreShort};
 ghost use Rattle.least_search.specs.declared.node.Node.{Node};
 ghost use Rattle.least_search.specs.Walks.{CanGain, IsNode, GoalsGrow};
@@ -18,7 +19,7 @@ ghost use Rattle.least_search.specs.declared.cuts.Cut.{Cut};
 ghost use Rattle.least_search.specs.Costs.{IsLeastCost, AreRunsWithin, IsSpent};
 ghost use Rattle.exposure_search.specs.Tries.{exposures_in};
 ghost use Rattle.exposure_search.specs.Trials.{HasMoreToDo};
-ghost use Rattle.exposure_search.specs.Exploring.{Exploring, space_size, CanExpose, GainsAt, HasGoalAt, HasMatchAt, HasTry, IsFounded};
+ghost use Rattle.exposure_search.specs.Exploring.{Exploring, space_size, most_labels, CanExpose, GainsAt, HasGoalAt, HasMatchAt, HasTry, IsFounded};
 
 /// A match at the set of a node gives exposures in order at the node's cost, and copy firings after which there is a match.
 pub fn match_exposes()
@@ -30,17 +31,18 @@ pub fn match_exposes()
         × (exposures_cost made ≡ node.cost) }
 {}
 
-/// A cost that no walk to a goal is below is one that no exposures with a goal are below, though walks are of relevant facts alone,
-/// each of which gains something: where rules are not recursive, and rules and queries have known constants, and the base facts are named and fit.
+/// A cost that no walk to a goal is below is one that no exposures with a goal are below, though walks are of relevant facts alone, each of
+/// which gains something: where rules are not recursive and have known constants, and the base facts are named and fit. The exposures' goal
+/// is of states that may have as many labels more as one firing gives.
 pub fn least_by_walks()
     ensures { (space : Exploring) (best : ℕ) → IsFounded space → AreShort space.schema.rules →
         RulesFit space.schema space.constants →
-        ((query : Query) → Contains space.queries query → QueryHasConstants space.constants query) →
         AreNamed space.constants space.base.next space.base.facts → Fit space.schema space.base.facts →
-        ((v : Val) → Contains space.head v → IsNamed space.constants space.base.next v) →
         IsLeastCost (space_size space) (CanGain (CanExpose space) (GainsAt space)) (HasGoalAt space) best →
         (exposures : List Exposure) → IsExposing space.schema space.constants space.base.facts [] exposures →
-        HasGoalAfter space.schema space.queries space.head space.base.next exposures → best ≤ exposures_cost exposures }
+        HasGoalOver space.schema space.constants space.queries space.head space.base.next
+        (most_labels space.schema.rules + new_labels space.schema.rules) (exposed_facts exposures) →
+        best ≤ exposures_cost exposures }
 {}
 
 /// What bounds the firings and exposures of all runs from the start bounds those of all tries.
@@ -58,21 +60,16 @@ pub fn spent_has_more()
         HasMoreToDo space.schema space.constants space.base bound units }
 {}
 
-/// A match at a set is a goal of it, where rules and queries have known constants and the base facts are named and fit.
+/// A match at a set is a goal of it, where rules and queries have known constants and the base facts and the head are named.
 pub fn match_is_goal()
     ensures { (space : Exploring) (set : List Bool) → RulesFit space.schema space.constants →
         ((query : Query) → Contains space.queries query → QueryHasConstants space.constants query) →
-        AreNamed space.constants space.base.next space.base.facts → Fit space.schema space.base.facts →
+        AreNamed space.constants space.base.next space.base.facts →
         ((v : Val) → Contains space.head v → IsNamed space.constants space.base.next v) →
         HasMatchAt space set → HasGoalAt space set }
 {}
 
-/// A goal of a set is one of each larger set, where rules are not recursive, rules and queries have known constants, and the base facts
-/// are named and fit.
+/// A goal of a set is one of each larger set.
 pub fn goals_grow()
-    ensures { (space : Exploring) → AreShort space.schema.rules → RulesFit space.schema space.constants →
-        ((query : Query) → Contains space.queries query → QueryHasConstants space.constants query) →
-        AreNamed space.constants space.base.next space.base.facts → Fit space.schema space.base.facts →
-        ((v : Val) → Contains space.head v → IsNamed space.constants space.base.next v) →
-        GoalsGrow (HasGoalAt space) }
+    ensures { (space : Exploring) → GoalsGrow (HasGoalAt space) }
 {}

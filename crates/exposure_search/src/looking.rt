@@ -44,6 +44,7 @@ pub(crate) fn look(
     ensures still { IfOk result (λ seen. seen.0 ≡ end.NoGoal →
         IsQuiet schema.now.rules (copy_state proof.new.end) ⊎ ((fires ≡ false) × (proof.new ≡ proof.old))) }
     ensures none { IfOk result (λ seen. seen.0 ≡ end.NoGoal → HasGoal queries.now proof.new.end head.now → ⊥) }
+    ensures labels { IfOk result (λ seen. seen.0 ≡ end.NoGoal → proof.new.end.next ≤ 2 ^ 32) }
     ensures long { IfOk result (λ seen. seen.0 ≡ end.FiringsSpent → GoesBeyond (meaning_of schema.now) budget proof.new) }
     ensures few { IfOk result (λ seen. seen.0 ≡ end.Goal → length proof.new.entries ≤ budget) }
     ensures fired { IfOk result (λ seen. length proof.old.entries + seen.1 ≡ length proof.new.entries) }
@@ -62,6 +63,8 @@ pub(crate) fn look(
         fires,
         most_firings(before, room, budget),
     )?;
+    // read for its proof, as in `is_refuted`
+    let _next = proof.next();
     let after = mark(proof).firings;
     let found = goal(alloc, proof, queries, head)?;
     let end = end_of(&ended, found.is_some(), after >= u64::from(budget));

@@ -3,11 +3,12 @@ ghost use Rattle.std.specs.Prelude.{◌≡◌, ◌<◌, Contains, IfOk, Ok, leng
 ghost use Rattle.meaning.specs.declared.types.Query.{Query as TheQuery};
 ghost use Rattle.meaning.specs.declared.types.Val.TheVariants.{Const};
 ghost use Rattle.meaning.specs.Matching.{IsQueryAnswer, GroundsOf};
-ghost use Rattle.meaning.specs.Extract.{HasGoalFrom};
+ghost use Rattle.meaning_laws.specs.Rests.{HasGoalOver};
 ghost use Rattle.access_schema.specs.Meaning.{meaning_of};
 ghost use Rattle.accessible_copy.specs.Goals.{IsCounted};
 ghost use Rattle.least_search.specs.declared.space.Move.{Move};
 ghost use Rattle.exposure_search.specs.Ahead.{facts_along};
+ghost use Rattle.exposure_search.specs.Exploring.{most_labels};
 ghost use Rattle.exposure_search.specs.Aims.{space_of, IsAimed, LeadsTo};
 
 use crate::aiming::Aim;
@@ -35,13 +36,15 @@ pub(crate) fn is_refuted(
     requires aimed { IsAimed aim.now proof.now }
     requires walk { LeadsTo (space_of aim.now proof.now) path.now set.now }
     ensures { result ≡ Ok true →
-        HasGoalFrom (meaning_of aim.now.schema.now) aim.now.queries.now aim.now.head.now proof.now.end.next
-        (facts_along proof.now.end.base path.now) → ⊥ }
+        HasGoalOver (meaning_of aim.now.schema.now) proof.now.constants aim.now.queries.now aim.now.head.now proof.now.end.next
+        (most_labels aim.now.schema.now.rules) (facts_along proof.now.end.base path.now) → ⊥ }
 {
     let facts = facts_along(aim.alloc, aim.facts.as_slice(), path)?;
     let Some(state) = closing(aim.alloc, aim.schema, facts, proof.next(), MOST_CLOSED)? else {
         return Ok(false);
     };
+    // read for its proof: a closing with labels of 32 bits is one of the states of which a goal is asked
+    let _next = state.next();
     let found = has_head(aim.alloc, aim.queries, state.store(), aim.head);
     // a drop that is written out is proved as one call, and one at the end of a scope as a call for each list in the value
     drop(state);

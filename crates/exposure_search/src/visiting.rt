@@ -86,6 +86,8 @@ fn is_bare(
     if fires {
         return is_refuted(aim, proof, path, set);
     }
+    // read for its proof, as in `is_refuted`
+    let _next = proof.next();
     Ok(!needs_look(aim, path))
 }
 
@@ -222,5 +224,7 @@ pub(crate) fn reach_set(
         return Ok(None);
     }
     settle(aim.alloc, proof, aim.schema, true, aim.budget)?;
+    // read for its proof, as in `is_refuted`
+    let _next = proof.next();
     Ok(goal(aim.alloc, proof, aim.queries, aim.head)?)
 }

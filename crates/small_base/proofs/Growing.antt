@@ -1,34 +1,29 @@
 -- How facts grow by firings with shared labels.
-use Rattle.std.proofs.Common.{◌≡◌, ℕ, ◌+◌, ◌-◌, ◌<◌, ◌≤◌, List, [], ◌∷◌, length, slice_get, slice_index_or, Some, refl, sym, ap, ◌∙◌, subst, ⊎_elim, arith}
+use Rattle.std.proofs.Common.{◌≡◌, ℕ, ◌+◌, ◌-◌, ◌<◌, ◌≤◌, List, [], ◌∷◌, length, slice_get, slice_index_or, Some, refl, sym, ◌∙◌, subst, ⊎_elim, arith}
 use Rattle.std.specs.Prelude.{Contains, map}
-use Rattle.std.proofs.lemmas.Bool.{cases_lt}
-use Rattle.std.proofs.lemmas.List.{length-map}
 use Rattle.std.proofs.lemmas.Option.{slice_get_within}
-use Rattle.lists.proofs.Members.{contains_here, contains_there, contains_map, contains_mapped, some_injective}
-use Rattle.meaning.specs.declared.types.Term.{Term}
-use Rattle.meaning.specs.declared.types.Term.TheVariants.{Var, Const as Said}
+use Rattle.lists.proofs.Members.{contains_here, contains_there, some_injective}
+use Rattle.meaning.specs.declared.types.Term.TheVariants.{Const as Said}
 use Rattle.meaning.specs.declared.types.Val.{Val}
-use Rattle.meaning.specs.declared.types.Val.TheVariants.{Const, Label}
+use Rattle.meaning.specs.declared.types.Val.TheVariants.{Label}
 use Rattle.meaning.specs.declared.types.Atom.{Atom}
 use Rattle.meaning.specs.declared.types.Rule.{Rule}
 use Rattle.meaning.specs.declared.types.Ground.{Ground}
 use Rattle.meaning.specs.declared.types.SchemaParts.{SchemaParts}
 use Rattle.meaning.specs.declared.types.Trigger.{Trigger}
 use Rattle.meaning.specs.Added.{with_facts}
-use Rattle.meaning.specs.Matching.{value_of}
 use Rattle.meaning.specs.Triggers.{bound, IsNumbered, State, LabelsBelow, assigned, ground, IsTrigger}
 use Rattle.meaning.specs.Naming.{IsNamed, AreNamed}
 use Rattle.meaning.specs.Fitting.{RulesFit, Fit}
 use Rattle.meaning_laws.specs.Trims.{AreIn}
 use Rattle.meaning_laws.proofs.Added.{added_left, added_right, added_cases}
-use Rattle.meaning_laws.proofs.Carrying.{occurs_below, fresh_is}
+use Rattle.meaning_laws.proofs.Carrying.{occurs_below}
 use Rattle.meaning_laws.proofs.Deciding.{same_facts}
-use Rattle.meaning_laws.proofs.Fits.{fits_alike}
 use Rattle.meaning_laws.proofs.Joined.{joined_below}
-use Rattle.meaning_laws.proofs.Keeping.{named_more}
+use Rattle.meaning_laws.proofs.Keeping.{named_more, head_values, head_fits}
 use Rattle.homomorphism.specs.declared.assignment.Assignment.{Assignment}
 use Rattle.homomorphism.specs.Bindings.{at}
-use Rattle.homomorphism.specs.Frontier.{AreFrontierMatches}
+use Rattle.homomorphism.specs.Frontier.{StandForAll}
 use Rattle.access_schema.specs.declared.limits.TheConstants.{MOST_VARIABLES}
 use Rattle.access_schema.specs.declared.schema.Schema.{Schema}
 use Rattle.rule_pass.proofs.Bounds.{orderly}
@@ -65,28 +60,10 @@ grows_start schema facts next = record {
     from fact c = ⊎_elim (λ none. absurd (omega arith)) (λ h. h) (added_cases [] facts fact c)
 
 module _ (rules : List Rule) (facts : List Ground) (trigger : Trigger) (rule : Rule) (is : IsTrigger rules (record { facts = facts; next = trigger.fresh }) trigger rule) (numbered : IsNumbered rule) where
-  -- what holds of the values of the facts, of the head's constants and of the trigger's labels holds of all values that the head gets
-  head_values : (P : Val → Type 0) → ((fact : Ground) (v : Val) → Contains facts fact → Contains fact.vals v → P v) → ((atom : Atom) (t : List ℕ) → Contains rule.head atom → Contains atom.terms (Said t) → P (Const t)) →
-      ((i : ℕ) → i < bound rule.head - bound rule.body → P (Label (trigger.fresh + i))) → (fact : Ground) (v : Val) → Contains (map (ground (assigned trigger)) rule.head) fact → Contains fact.vals v → P v
-  head_values P old said new fact v c inside =
-      let (atom, among, e) = contains_mapped (ground (assigned trigger)) rule.head fact c in
-      let (term, has, same) = contains_mapped (value_of Const (assigned trigger)) atom.terms v (subst (λ (f : Ground). Contains f.vals v) (sym e) inside) in
-      subst P same (each term atom among has)
-    where
-      each : (term : Term) (atom : Atom) → Contains rule.head atom → Contains atom.terms term → P (value_of Const (assigned trigger) term)
-      each (Said t) atom among has = said atom t among has
-      each (Var x) atom among has =
-          let top : x < bound rule.head = occurs_below rule.head x (atom, among, has) in
-          ⊎_elim (λ l. let (b, within, occurs) = numbered.body x l in
-          old (ground (assigned trigger) b) (assigned trigger x) (is.body b within) (contains_map (value_of Const (assigned trigger)) b.terms (Var x) occurs))
-          (λ l. let split : bound rule.body + (x - bound rule.body) ≡ x = omega arith in
-          let label : Label (trigger.fresh + (x - bound rule.body)) ≡ assigned trigger x = sym (fresh_is rules (record { facts = facts; next = trigger.fresh }) trigger rule is (x - bound rule.body)) ∙ ap (assigned trigger) split in
-          subst P label (new (x - bound rule.body) (omega arith))) (cases_lt x (bound rule.body))
-
   -- the labels of the head's facts
   pub shared_below : (old next : ℕ) → LabelsBelow facts old → old ≤ next → trigger.fresh + (bound rule.head - bound rule.body) ≤ next → LabelsBelow (map (ground (assigned trigger)) rule.head) next
   shared_below old next below later enough fact k c inside =
-      head_values (λ v. (j : ℕ) → v ≡ Label j → j < next) (λ f v a h j e. let l : j < old = below f j a (subst (λ w. Contains f.vals w) e h) in omega arith) (λ atom t a h j e. absurd (cc))
+      head_values rules (record { facts = facts; next = trigger.fresh }) trigger rule is numbered (λ v. (j : ℕ) → v ≡ Label j → j < next) (λ f v a h j e. let l : j < old = below f j a (subst (λ w. Contains f.vals w) e h) in omega arith) (λ atom t a h j e. absurd (cc))
       (λ i l j e. let same : trigger.fresh + i ≡ j = label_is e in omega arith) fact (Label k) c inside k refl
     where
       label_is : {m n : ℕ} → Label m ≡ Label n → m ≡ n
@@ -96,7 +73,7 @@ module _ (rules : List Rule) (facts : List Ground) (trigger : Trigger) (rule : R
     shared_named : (constants : List (List ℕ)) → ((atom : Atom) (t : List ℕ) → Contains rule.head atom → Contains atom.terms (Said t) → Contains constants t) → state.next ≤ now.next → trigger.fresh + (bound rule.head - bound rule.body) ≤ now.next → AreNamed constants state.next state.facts → AreNamed constants now.next now.facts
     shared_named constants have later enough named fact v c inside =
         ⊎_elim (λ old. was fact v old inside)
-        (λ new. head_values (λ w. IsNamed constants now.next w) was have (λ i l. omega arith) fact v new inside)
+        (λ new. head_values rules (record { facts = facts; next = trigger.fresh }) trigger rule is numbered (λ w. IsNamed constants now.next w) was have (λ i l. omega arith) fact v new inside)
         (added_cases facts (map (ground (assigned trigger)) rule.head) fact (subst (λ fs. Contains fs fact) news c))
       where
         was : (f : Ground) (w : Val) → Contains facts f → Contains f.vals w → IsNamed constants now.next w
@@ -105,8 +82,7 @@ module _ (rules : List Rule) (facts : List Ground) (trigger : Trigger) (rule : R
     shared_fits : RulesFit schema schema.constants → Contains schema.rules rule → Fit schema state.facts → Fit schema now.facts
     shared_fits fits of_rules fit fact c =
         ⊎_elim (λ old. fit fact (subst (λ fs. Contains fs fact) (sym from) old))
-        (λ new. let (atom, among, e) = contains_mapped (ground (assigned trigger)) rule.head fact new in
-        fits_alike schema atom.rel fact.rel atom.terms fact.vals (ap (λ (f : Ground). f.rel) e) (ap (λ (f : Ground). length f.vals) (sym e) ∙ length-map atom.terms (value_of Const (assigned trigger))) (fits.heads rule atom of_rules among))
+        (λ new. head_fits schema trigger rule (λ atom among. fits.heads rule atom of_rules among) fact new)
         (added_cases facts (map (ground (assigned trigger)) rule.head) fact (subst (λ fs. Contains fs fact) news c))
 
     -- a firing with shared labels
@@ -121,10 +97,10 @@ module _ (rules : List Rule) (facts : List Ground) (trigger : Trigger) (rule : R
 -- matches that are left of those that were found in earlier facts
 pub record AreLeft (first : List Ground) (rule : Rule) (left : List Assignment) : Type 0 where
   pub found : List Assignment
-  pub matches : AreFrontierMatches first rule found
+  pub matches : StandForAll first rule found
   pub among : (one : Assignment) → Contains left one → Contains found one
 
-pub left_all : (first : List Ground) (rule : Rule) (left : List Assignment) → AreFrontierMatches first rule left → AreLeft first rule left
+pub left_all : (first : List Ground) (rule : Rule) (left : List Assignment) → StandForAll first rule left → AreLeft first rule left
 left_all first rule left m = record { found = left; matches = m; among = λ one c. c }
 
 pub left_first : (first : List Ground) (rule : Rule) (left more : List Assignment) (one : Assignment) (a : AreLeft first rule left) →
@@ -140,7 +116,7 @@ left_more first rule left more one e a = record {
 }
 
 -- the trigger of a match of the body, found in earlier facts
-pub match_trigger : (rules : List Rule) (first facts : List Ground) (number fresh : ℕ) (rule : Rule) (found : List Assignment) (one : Assignment) → slice_get rules number ≡ Some rule → AreFrontierMatches first rule found → Contains found one → AreIn first facts →
+pub match_trigger : (rules : List Rule) (first facts : List Ground) (number fresh : ℕ) (rule : Rule) (found : List Assignment) (one : Assignment) → slice_get rules number ≡ Some rule → StandForAll first rule found → Contains found one → AreIn first facts →
     IsTrigger rules (record { facts = facts; next = fresh }) (record { rule = number; values = one.vals; fresh = fresh }) rule
 match_trigger rules first facts number fresh rule found one numbered matches among within = record {
   numbered = numbered;

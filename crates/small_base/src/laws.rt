@@ -1,5 +1,5 @@
 //! What a closing of facts and a query with more atoms show.
-ghost use Rattle.std.specs.Prelude.{◌≡◌, ℕ, List, Contains};
+ghost use Rattle.std.specs.Prelude.{◌≤◌, ℕ, List, Contains};
 ghost use Rattle.meaning.specs.declared.types.Branch.{Branch};
 ghost use Rattle.meaning.specs.declared.types.Ground.{Ground};
 ghost use Rattle.meaning.specs.declared.types.Query.{Query};
@@ -9,10 +9,10 @@ ghost use Rattle.meaning.specs.declared.types.Val.TheVariants.{Const};
 ghost use Rattle.meaning.specs.Values.{Value};
 ghost use Rattle.meaning.specs.Matching.{IsQueryAnswer, GroundsOf};
 ghost use Rattle.meaning.specs.Triggers.{State};
-ghost use Rattle.meaning.specs.Naming.{IsNamed, AreNamed};
-ghost use Rattle.meaning.specs.Fitting.{RulesFit, QueryHasConstants};
-ghost use Rattle.meaning.specs.Extract.{IsQueryRival, HasGoalFrom};
-ghost use Rattle.rule_pass.specs.Levels.{AreShort};
+ghost use Rattle.meaning.specs.Naming.{AreNamed};
+ghost use Rattle.meaning.specs.Fitting.{RulesHaveConstants, Fit};
+ghost use Rattle.meaning.specs.Extract.{IsQueryRival};
+ghost use Rattle.meaning_laws.specs.Rests.{HasGoalOver};
 ghost use Rattle.small_base.specs.Closing.{IsClosing};
 ghost use Rattle.small_base.specs.Closed.{HasMore};
 
@@ -23,14 +23,12 @@ pub fn rivals_of_more()
         IsQueryRival schema constants queries more branch }
 {}
 
-/// Facts with a closing in which no query has the head have no goal: where rules are not recursive, rules and queries have known
-/// constants, and the facts and the head are named.
+/// Facts with a closing in which no query has the head have no goal, where states may have as many labels as it has: rules have known
+/// constants, and the facts are named and fit.
 pub fn closed_refutes()
-    ensures { (schema : SchemaParts) (constants : List Value) (queries : List Query) (facts : List Ground) (next : ℕ)
-        (state : State) (head : List Val) → RulesFit schema constants → AreShort schema.rules →
-        ((query : Query) → Contains queries query → QueryHasConstants constants query) →
-        AreNamed constants next facts → ((v : Val) → Contains head v → IsNamed constants next v) →
-        IsClosing schema facts next state →
+    ensures { (schema : SchemaParts) (constants : List Value) (queries : List Query) (facts : List Ground) (next most : ℕ)
+        (state : State) (head : List Val) → RulesHaveConstants constants schema.rules →
+        AreNamed constants next facts → Fit schema facts → IsClosing schema facts next state → state.next ≤ most →
         ((query : Query) → Contains queries query → IsQueryAnswer Const (GroundsOf state.facts) query head → ⊥) →
-        HasGoalFrom schema queries head next facts → ⊥ }
+        HasGoalOver schema constants queries head next most facts → ⊥ }
 {}

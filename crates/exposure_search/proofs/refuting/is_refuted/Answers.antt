@@ -1,4 +1,4 @@
-use Rattle.std.proofs.Common.{◌≡◌, ◌<◌, ◌∙◌, List, Ok, false, length, ap, sym, subst, rules}
+use Rattle.std.proofs.Common.{◌≡◌, ◌<◌, ◌∙◌, List, Ok, false, length, ap, sym, subst, rules, arith}
 use Rattle.std.specs.Prelude.{Contains}
 use Rattle.meaning.specs.declared.types.Ground.{Ground}
 use Rattle.meaning.specs.declared.types.Query.{Query}
@@ -6,12 +6,12 @@ use Rattle.meaning.specs.declared.types.Val.TheVariants.{Const}
 use Rattle.meaning.specs.Matching.{IsQueryAnswer, GroundsOf}
 use Rattle.meaning.specs.Triggers.{LabelsBelow}
 use Rattle.access_schema.specs.Meaning.{meaning_of}
-use Rattle.rule_pass.proofs.Bounds.{orderly}
-use Rattle.rule_pass.proofs.Chains.{are_short}
 use Rattle.small_base.specs.Closing.{IsClosing}
 use Rattle.small_base.proofs.Refuting.{closed_refutes}
 use Rattle.least_search.specs.Walks.{no_facts}
 use Rattle.exposure_search.specs.Ahead.{facts_along}
+use Rattle.exposure_search.specs.Exploring.{most_labels}
+use Rattle.exposure_search.proofs.Early.{along_base}
 use Rattle.exposure_search.proofs.Refuted.{walk_within, along_named, along_below}
 use Rattle.exposure_search.proofs.refuting.is_refuted.Goals as goal
 
@@ -42,6 +42,7 @@ returns c e =
     let off : c.in_ok-found.field-0 ≡ false = search (e, rules) in
     let none : (query : Query) → Contains c.args.aim.now.queries.now query → IsQueryAnswer Const (GroundsOf c.in-Some.state.facts) query c.args.aim.now.head.now → ⊥ =
     subst (λ (facts : List Ground). (query : Query) → Contains c.args.aim.now.queries.now query → IsQueryAnswer Const (GroundsOf facts) query c.args.aim.now.head.now → ⊥) c.store.ensures (c.in_ok-found.ensures (ap Ok off)) in
-    closed_refutes schema proof.constants c.args.aim.now.queries.now along proof.end.next c.in-Some.state c.args.aim.now.head.now named.rules
-    (are_short c.args.aim.now.schema.now.rules (orderly c.args.aim.now.schema.now).non_recursive) named.asked
-    (along_named schema proof c.args.path.now c.args.set.now c.requires.walk named.facts) named.values closed none
+    closed_refutes schema proof.constants c.args.aim.now.queries.now along proof.end.next (most_labels c.args.aim.now.schema.now.rules) c.in-Some.state
+    c.args.aim.now.head.now named.rules.have (along_named schema proof c.args.path.now c.args.set.now c.requires.walk named.facts)
+    (λ f among. named.fits f (along_base schema proof c.args.path.now c.args.set.now c.requires.walk f among)) closed
+    (let next = c.next-next.ensures.next in omega arith) none

@@ -24,7 +24,7 @@ returns-clause-made c =
 pub returns-clause-ended : goal.returns-clause-ended
 returns-clause-ended c =
     end_if (meaning_of c.args.aim.now.schema.now) c.args.aim.now.queries.now c.args.aim.now.head.now c.args.aim.now.budget c.args.aim.now.marks c.args.proof.now c.go_along.new.proof c.args.path.now c.args.set.now c.in_ok-go_along.ensures.exposes c.in_ok-go_along.ensures.same c.in_ok-go_along.ensures.made c.requires.walk
-    c.look-seen.new.proof c.look-seen.ensures.run c.look-seen.ensures.settles (are_short c.args.aim.now.schema.now.rules (orderly c.args.aim.now.schema.now).non_recursive) c.requires.aimed.ready.relevant c.look-seen.result c.look-seen.ensures.goal
+    c.look-seen.new.proof c.look-seen.ensures.run c.look-seen.ensures.settles c.requires.aimed.named (are_short c.args.aim.now.schema.now.rules (orderly c.args.aim.now.schema.now).non_recursive) c.requires.aimed.ready.relevant c.look-seen.result c.look-seen.ensures.goal
     (IfOk-weaker c.look-seen.result _ _ (λ seen still e. still_seen (meaning_of c.args.aim.now.schema.now) c.args.aim.now.queries.now c.args.aim.now.head.now c.args.aim.now.budget c.args.aim.now.marks c.args.proof.now c.go_along.new.proof c.args.path.now c.args.set.now c.in_ok-go_along.ensures.exposes c.in_ok-go_along.ensures.same c.in_ok-go_along.ensures.made c.requires.walk
     c.look-seen.new.proof c.look-seen.ensures.run c.look-seen.ensures.settles c.args.aim.now.facts.items c.requires.aimed.ready.facts_are c.args.fires c.requires.still (still e)) c.look-seen.ensures.still)
-    c.look-seen.ensures.none c.look-seen.ensures.long c.look-seen.ensures.due c.look-seen.ensures.fired
+    c.look-seen.ensures.none c.look-seen.ensures.labels c.look-seen.ensures.long c.look-seen.ensures.due c.look-seen.ensures.fired

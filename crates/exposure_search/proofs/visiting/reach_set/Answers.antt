@@ -16,7 +16,7 @@ pub returns-clause-none : goal.returns-clause-none
 returns-clause-none c =
     none_then _ _ c.in_ok-goal.field-0
     (λ none. none_there (meaning_of c.args.aim.now.schema.now) c.args.aim.now.queries.now c.args.aim.now.head.now c.args.aim.now.budget c.args.aim.now.marks c.args.proof.now c.go_along.new.proof c.args.path.now c.args.set.now c.in_ok-go_along.ensures.exposes c.in_ok-go_along.ensures.same c.in_ok-go_along.ensures.made c.requires.walk
-    c.settle.new.proof c.settle.ensures.run c.settle.ensures.more c.in_ok-settle.field-0 (λ e. c.in_ok-settle.ensures.going (ap (λ r. Ok r) e)) (λ e. c.in_ok-settle.ensures.quiet (ap (λ r. Ok r) e)) (λ e. c.in_ok-settle.ensures.spent (ap (λ r. Ok r) e)) none)
+    c.settle.new.proof c.settle.ensures.run c.settle.ensures.more c.in_ok-settle.field-0 (λ e. c.in_ok-settle.ensures.going (ap (λ r. Ok r) e)) (λ e. c.in_ok-settle.ensures.quiet (ap (λ r. Ok r) e)) (λ e. c.in_ok-settle.ensures.spent (ap (λ r. Ok r) e)) none c.requires.aimed.named (let next = c.next-next.ensures in omega arith))
     c.in_ok-goal.ensures.none
 
 pub returns-then-mark-from-clause-none : goal.returns-then-mark-from-clause-none
