@@ -1,5 +1,6 @@
 -- The base state of a query, and the names of what stands in it.
 use Rattle.std.proofs.Common.{◌≡◌, List, sym, subst}
+use Rattle.std.specs.Prelude.{Contains}
 use Rattle.meaning.specs.declared.types.SchemaParts.{SchemaParts}
 use Rattle.meaning.specs.declared.types.Query.{Query}
 use Rattle.meaning.specs.declared.types.Trigger.{Trigger}
@@ -43,19 +44,21 @@ module _ (schema : SchemaParts) (constants : List Value) (query : Query) (rules 
       let run = run_fires schema.rules bases (base_state proof.start) (base_state proof.end) (lies schema proof (begins_only schema proof is)).base in
       base_from bases (base_state proof.end) (subst (λ (p : Proof). IsFiringRun schema.rules (base_state p) bases (base_state proof.end)) start run) is.quiet
 
--- what stands in the base of a query with the head of a question, and the question's queries, have names
+-- what stands in the base of a query with the head of a question, and these of the question's queries, have names
 pub named_for : (question : Question) → IsQuestion question → (query : Query) → QueryFits (meaning_of question.schema.now) query → QueryHasConstants question.known.now query → question.head.now ≡ frozen_head query →
     (proof : Proving) → IsBaseProof (meaning_of question.schema.now) proof → proof.start ≡ opening query → proof.constants ≡ question.known.now →
-    AreNamedFor (meaning_of question.schema.now) proof.constants proof.end.base proof.end.next question.queries.now question.head.now
-named_for question is query fits its head proof bases start constants =
+    (goals : List Query) → ((q : Query) → Contains goals q → Contains question.queries.now q) →
+    AreNamedFor (meaning_of question.schema.now) proof.constants proof.end.base proof.end.next goals question.head.now
+named_for question is query fits its head proof bases start constants goals within =
     let schema = meaning_of question.schema.now in
     let rules : RulesFit schema question.known.now = rules_fit question.schema.now question.known.now is.known in
     let base = base_of schema question.known.now query rules fits its proof bases start in
-    let named : AreNamedFor schema question.known.now proof.end.base proof.end.next question.queries.now (frozen_head query) = record {
+    let named : AreNamedFor schema question.known.now proof.end.base proof.end.next goals (frozen_head query) = record {
       rules = rules;
-      asked = λ q among. (is.queries q among).constants;
+      asked = λ q among. (is.queries q (within q among)).constants;
       facts = base.named;
+      fits = base.fits;
       values = base.head_named;
     } in
-    subst (λ (known : List Value). AreNamedFor schema known proof.end.base proof.end.next question.queries.now question.head.now) (sym constants)
-    (subst (λ (vals : List Val). AreNamedFor schema question.known.now proof.end.base proof.end.next question.queries.now vals) (sym head) named)
+    subst (λ (known : List Value). AreNamedFor schema known proof.end.base proof.end.next goals question.head.now) (sym constants)
+    (subst (λ (vals : List Val). AreNamedFor schema question.known.now proof.end.base proof.end.next goals vals) (sym head) named)

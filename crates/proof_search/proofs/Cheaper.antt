@@ -1,5 +1,5 @@
 -- What a search over the space of a query's base firings says of the query's branches.
-use Rattle.std.proofs.Common.{◌≡◌, ◌⊎◌, ℕ, ◌<◌, ◌≤◌, List, [], Bool, length, refl, sym, ap, ◌∙◌, subst, ⊎_elim, arith}
+use Rattle.std.proofs.Common.{◌≡◌, ◌⊎◌, ℕ, ◌+◌, ◌<◌, ◌≤◌, List, [], Bool, length, refl, sym, ap, ◌∙◌, subst, ⊎_elim, arith}
 use Rattle.std.specs.Prelude.{Contains}
 use Rattle.std.specs.List.{AllZip}
 use Rattle.meaning.specs.declared.types.SchemaParts.{SchemaParts}
@@ -13,7 +13,8 @@ use Rattle.meaning.specs.Triggers.{IsFiringRun, IsQuiet}
 use Rattle.meaning.specs.Runs.{Proof, IsRun, IsBaseRun, base_state, opening, frozen_head}
 use Rattle.meaning.specs.Costs.{IsCost}
 use Rattle.meaning.specs.Fitting.{Fit, RulesFit, QueryFits, QueryHasConstants}
-use Rattle.meaning.specs.Extract.{IsBase, IsExposing, HasGoalAfter, exposures_cost}
+use Rattle.meaning.specs.Extract.{IsBase, IsExposing, exposed_facts, exposures_cost}
+use Rattle.meaning_laws.specs.Rests.{HasGoalOver, new_labels}
 use Rattle.meaning.proofs.Steps.{cost_once}
 use Rattle.meaning_laws.proofs.Carrying.{run_fires}
 use Rattle.meaning_laws.proofs.Rivals.{rival_exposes}
@@ -28,12 +29,12 @@ use Rattle.access_cost.specs.declared.least.Least.TheVariants as known_cost
 use Rattle.least_search.specs.declared.space.Move.{Move}
 use Rattle.least_search.specs.declared.search.Ended.{Ended}
 use Rattle.least_search.specs.declared.search.Ended.TheVariants as ended
-use Rattle.least_search.specs.Walks.{CanGain, GoalsGrow, IsNode, walk_cost}
+use Rattle.least_search.specs.Walks.{CanGain, IsNode, walk_cost}
 use Rattle.least_search.specs.Costs.{IsLeastCost, IsEnough as ServesRuns}
 use Rattle.exposure_search.specs.Trials.{HasMoreToDo}
-use Rattle.exposure_search.specs.Exploring.{Exploring, exploring_of, IsFounded, space_size, CanExpose, GainsAt, HasGoalAt, HasMatchAt, HasTry, HasRunBeyond}
+use Rattle.exposure_search.specs.Exploring.{Exploring, exploring_of, IsFounded, space_size, most_labels, CanExpose, GainsAt, HasGoalAt, HasMatchAt, HasTry, HasRunBeyond}
+use Rattle.exposure_search.proofs.Bridging.{exposed_base}
 use Rattle.exposure_search.proofs.Explored.{least_found, tries_within, match_goal}
-use Rattle.exposure_search.proofs.Growing.{goals_grown}
 use Rattle.accessible_copy.specs.Proving.{Proving, IsProofOf}
 use Rattle.accessible_copy.specs.Goals.{IsGoal}
 use Rattle.exposure_search.specs.Visiting.{IsReached}
@@ -44,7 +45,8 @@ use Rattle.plan_extract.proofs.Shown.{same_shown}
 use Rattle.proof_search.specs.Searches.{AreSearchable}
 use Rattle.proof_search.specs.Chosen.{IsRunOf, NoneIsEnough, HasMoreFor, HasLongRun}
 use Rattle.proof_search.proofs.Based.{base_from}
-use Rattle.proof_search.specs.Choices.{IsLeastFor, CostsAtMost, IsSpaceOf, IsSaidFor}
+use Rattle.proof_search.proofs.PossibleGoals.{possible_from}
+use Rattle.proof_search.specs.Choices.{ArePossibleGoals, IsLeastFor, CostsAtMost, IsSpaceOf, IsSaidFor}
 use Rattle.proof_search.specs.declared.question.Question.{Question}
 use Rattle.proof_search.specs.Questions.{IsQuestion, IsBranchOn, IsSpaceOn, IsChoiceOn}
 
@@ -99,41 +101,49 @@ module _ (schema : SchemaParts) (queries : List Query) (query : Query) (firings 
         let (exposures, exposing, few, goal) = rival_exposes schema space.constants queries query space.base (frozen_head query) rival other well rules have base_is is_rival other_is in
         let same : cost ≡ low = cost_once schema well branch.steps cost low cost_is costs in
         let here : IsExposing space.schema space.constants space.base.facts [] exposures = subst (λ s. IsExposing s space.constants space.base.facts [] exposures) (sym is.schema_is) exposing in
-        let there : HasGoalAfter space.schema space.queries space.head space.base.next exposures =
-        subst (λ s. HasGoalAfter s space.queries space.head space.base.next exposures) (sym is.schema_is)
-        (subst (λ list. HasGoalAfter schema list space.head space.base.next exposures) (sym is.queries_are) (subst (λ head. HasGoalAfter schema queries head space.base.next exposures) (sym is.head) goal)) in
+        let Goal : SchemaParts → List Val → Type 0 =
+        λ s vals. HasGoalOver s space.constants space.queries vals space.base.next (most_labels s.rules + new_labels s.rules)
+        (exposed_facts exposures) in
+        let possible : Goal schema (frozen_head query) =
+        possible_from schema space.constants space.base (frozen_head query) rules base_is.named base_is.fits base_is.head_named base_is.quiet
+        (exposed_facts exposures) (exposed_base schema space.constants space.base.facts exposures [] exposing) (length schema.rules) short
+        queries space.queries have (subst (λ vals. ArePossibleGoals queries vals space.base.facts space.queries) is.head is.goals) goal
+        (most_labels schema.rules + new_labels schema.rules) in
+        let there : Goal space.schema space.head =
+        subst (λ s. Goal s space.head) (sym is.schema_is) (subst (λ vals. Goal schema vals) (sym is.head) possible) in
         let most : best ≤ exposures_cost exposures =
-        least_found space best is.founded (subst (λ (s : SchemaParts). AreShort s.rules) (sym is.schema_is) short) (subst (λ s. RulesFit s space.constants) (sym is.schema_is) rules) (λ q among. have q (subst (λ list. Contains list q) is.queries_are among))
-        base_is.named (subst (λ s. Fit s space.base.facts) (sym is.schema_is) base_is.fits) (λ v c. base_is.head_named v (subst (λ head. Contains head v) is.head c)) least exposures here there in
+        least_found space best is.founded (subst (λ (s : SchemaParts). AreShort s.rules) (sym is.schema_is) short)
+        (subst (λ s. RulesFit s space.constants) (sym is.schema_is) rules) base_is.named
+        (subst (λ s. Fit s space.base.facts) (sym is.schema_is) base_is.fits) least exposures here there in
         omega arith
 
     goal_at : (set : List Bool) → HasMatchAt space set → HasGoalAt space set
     goal_at set has =
-        match_goal space set (subst (λ s. RulesFit s space.constants) (sym is.schema_is) rules) (λ q among. have q (subst (λ list. Contains list q) is.queries_are among)) base_is.named
-        (subst (λ s. Fit s space.base.facts) (sym is.schema_is) base_is.fits) (λ v c. base_is.head_named v (subst (λ head. Contains head v) is.head c)) has
-
-    -- a goal of a set is one of each larger set
-    pub goals_at : AreShort schema.rules → GoalsGrow (HasGoalAt space)
-    goals_at short =
-        goals_grown space (subst (λ (s : SchemaParts). AreShort s.rules) (sym is.schema_is) short) (subst (λ s. RulesFit s space.constants) (sym is.schema_is) rules) (λ q among. have q (subst (λ list. Contains list q) is.queries_are among)) base_is.named
-        (subst (λ s. Fit s space.base.facts) (sym is.schema_is) base_is.fits) (λ v c. base_is.head_named v (subst (λ head. Contains head v) is.head c))
+        match_goal space set (subst (λ s. RulesFit s space.constants) (sym is.schema_is) rules) (λ q among. have q (is.goals.within q among)) base_is.named
+        (λ v c. base_is.head_named v (subst (λ head. Contains head v) is.head c)) has
 
     -- where a set with a match is not reached, some run is too long
     pub not_reached : (set : List Bool) → HasMatchAt space set → HasRunBeyond space ⊎ (HasGoalAt space set → ⊥) → HasLongRun schema space.constants firings query
     not_reached set has none = ⊎_elim long_run (λ refuted. absurd (refuted (goal_at set has))) none
 
--- ---- runs that are too long
-
 -- ---- what a search says of a branch
+
+-- the goals that are possible over a proof's base facts are those of its space
+pub goals_in : (schema : SchemaParts) (base : Proving) (queries goals : List Query) (head : List Val) (budget : ℕ) →
+    ArePossibleGoals queries head base.end.base goals → (space : Exploring) → space ≡ exploring_of schema base goals head budget space.marks →
+    ArePossibleGoals queries space.head space.base.facts space.queries
+goals_in schema base queries goals head budget are space e =
+    subst (λ (x : Exploring). ArePossibleGoals queries x.head x.base.facts x.queries) (sym e) are
 
 -- the space of a proof of base firings
 pub space_on : (question : Question) → IsQuestion question → (base : Proving) → base.start ≡ opening question.query.now → base.constants ≡ question.known.now →
-    (space : Exploring) → space ≡ exploring_of (meaning_of question.schema.now) base question.queries.now question.head.now question.firings space.marks → IsFounded space → IsSpaceOn question space
-space_on question is base start constants space e founded = record {
+    (goals : List Query) → ArePossibleGoals question.queries.now question.head.now base.end.base goals → (space : Exploring) →
+    space ≡ exploring_of (meaning_of question.schema.now) base goals question.head.now question.firings space.marks → IsFounded space → IsSpaceOn question space
+space_on question is base start constants goals are space e founded = record {
   of_query = record {
     schema_is = ap (λ (x : Exploring). x.schema) e;
     start = ap (λ (x : Exploring). x.start) e ∙ start;
-    queries_are = ap (λ (x : Exploring). x.queries) e;
+    goals = goals_in (meaning_of question.schema.now) base question.queries.now goals question.head.now question.firings are space e;
     head = ap (λ (x : Exploring). x.head) e ∙ is.head;
     budget = ap (λ (x : Exploring). x.budget) e;
     founded = founded;
@@ -189,17 +199,16 @@ module _ (question : Question) (is : IsQuestion question) (space : Exploring) (i
         (said_here search branch best costs end least shown spent long is_least none more beyond);
   }
 
-  pub goals_here : GoalsGrow (HasGoalAt space)
-  goals_here =
-      let can = searchable question.query.now is.among in
-      goals_at (meaning_of question.schema.now) question.queries.now question.query.now question.firings space its.of_query fits_rules (λ q there. (searchable q there).constants) can.fits can.constants (are_short question.schema.now.rules (orderly question.schema.now).non_recursive)
-
   -- a set with a match that is not reached
   pub not_reached_here : (set : List Bool) → HasMatchAt space set → HasRunBeyond space ⊎ (HasGoalAt space set → ⊥) → HasLongRun (meaning_of question.schema.now) question.known.now question.firings question.query.now
   not_reached_here set has none =
       let can = searchable question.query.now is.among in
       subst (λ known. HasLongRun (meaning_of question.schema.now) known question.firings question.query.now) its.constants
       (not_reached (meaning_of question.schema.now) question.queries.now question.query.now question.firings space its.of_query fits_rules (λ q there. (searchable q there).constants) can.fits can.constants set has none)
+
+  -- the goals of the space are some of the queries
+  pub goals_within : (goals : List Query) → space.queries ≡ goals → (q : Query) → Contains goals q → Contains question.queries.now q
+  goals_within goals same q among = its.of_query.goals.within q (subst (λ list. Contains list q) (sym same) among)
 
   module _ (path : List Move) (proof : Proving) (reached : IsReached space path proof) where
     reached_run : IsProofOf (meaning_of question.schema.now) proof
@@ -222,13 +231,13 @@ module _ (question : Question) (is : IsQuestion question) (space : Exploring) (i
           head_is = is.head;
         }
 
-    pub reached_goal : (number : ℕ) (values : List Val) → IsGoal space.queries proof.end.copy space.head number values → IsGoal question.queries.now proof.end.copy question.head.now number values
-    reached_goal number values found =
-        subst (λ vals. IsGoal question.queries.now proof.end.copy vals number values) (its.of_query.head ∙ sym is.head) (subst (λ list. IsGoal list proof.end.copy space.head number values) its.of_query.queries_are found)
+    pub reached_goal : (goals : List Query) → space.queries ≡ goals → (number : ℕ) (values : List Val) → IsGoal space.queries proof.end.copy space.head number values → IsGoal goals proof.end.copy question.head.now number values
+    reached_goal goals same number values found =
+        subst (λ vals. IsGoal goals proof.end.copy vals number values) (its.of_query.head ∙ sym is.head) (subst (λ list. IsGoal list proof.end.copy space.head number values) same found)
 
-    pub reached_cost : (node : Node) → IsNode (space_size space) (CanExpose space) node → path ≡ node.path.items → (values : List Val) (number : ℕ) (branch : Branch) →
-        IsArrangedBranch (meaning_of question.schema.now) proof question.queries.now question.head.now number values branch → CostsAtMost (meaning_of question.schema.now) branch node.cost
-    reached_cost node node_is same values number branch arranged =
+    pub reached_cost : (node : Node) → IsNode (space_size space) (CanExpose space) node → path ≡ node.path.items → (goals : List Query) (values : List Val) (number : ℕ) (branch : Branch) →
+        IsArrangedBranch (meaning_of question.schema.now) proof goals question.head.now number values branch → CostsAtMost (meaning_of question.schema.now) branch node.cost
+    reached_cost node node_is same goals values number branch arranged =
         let shown : AllZip (IsShown (meaning_of question.schema.now)) proof.exposed reached.made = subst (λ s. AllZip (IsShown s) proof.exposed reached.made) its.of_query.schema_is reached.shown in
         let made : arranged.exposures ≡ reached.made = same_shown (meaning_of question.schema.now) proof.exposed arranged.exposures reached.made arranged.shown shown in
         let all : exposures_cost arranged.exposures ≡ node.cost = ap exposures_cost made ∙ reached.cost ∙ ap walk_cost same ∙ sym node_is.cost in

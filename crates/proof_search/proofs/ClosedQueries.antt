@@ -1,5 +1,6 @@
 -- What a search over a query closed under the rules says of the query.
-use Rattle.std.proofs.Common.{◌≡◌, ℕ, map, sym, ap, ◌∙◌, subst}
+use Rattle.std.proofs.Common.{◌≡◌, ℕ, List, map, sym, ap, ◌∙◌, subst}
+use Rattle.std.specs.Prelude.{Contains}
 use Rattle.meaning.specs.declared.types.Branch.{Branch}
 use Rattle.meaning.specs.declared.types.Query.{Query}
 use Rattle.meaning.specs.declared.types.Val.TheVariants.{Const, Label}
@@ -10,7 +11,7 @@ use Rattle.access_schema.specs.Meaning.{meaning_of}
 use Rattle.access_schema.proofs.Keeping.{well_formed, rules_fit}
 use Rattle.rule_pass.proofs.Bounds.{orderly}
 use Rattle.rule_pass.proofs.Chains.{are_short}
-use Rattle.least_search.specs.Walks.{CanGain, GoalsGrow}
+use Rattle.least_search.specs.Walks.{CanGain}
 use Rattle.least_search.specs.Costs.{IsLeastCost}
 use Rattle.accessible_copy.specs.Proving.{Proving}
 use Rattle.exposure_search.specs.Making.{IsBaseProof}
@@ -18,11 +19,11 @@ use Rattle.exposure_search.specs.Aims.{AreNamedFor}
 use Rattle.exposure_search.specs.Exploring.{Exploring, exploring_of, IsFounded, space_size, CanExpose, GainsAt, HasGoalAt}
 use Rattle.small_base.specs.Closed.{IsClosed}
 use Rattle.small_base.proofs.Refuting.{rivals_of_more}
-use Rattle.proof_search.specs.Choices.{IsLeastFor, CostsAtMost, IsSpaceOf}
+use Rattle.proof_search.specs.Choices.{ArePossibleGoals, IsLeastFor, CostsAtMost, IsSpaceOf}
 use Rattle.proof_search.specs.declared.question.Question.{Question}
 use Rattle.proof_search.specs.Questions.{IsQuestion}
 use Rattle.proof_search.proofs.Based.{named_for}
-use Rattle.proof_search.proofs.Cheaper.{goals_at, least_for}
+use Rattle.proof_search.proofs.Cheaper.{goals_in, least_for}
 
 module _ (question : Question) (is : IsQuestion question) (more : Query) (closed : IsClosed (meaning_of question.schema.now) question.query.now more) where
   pub fits_more : QueryFits (meaning_of question.schema.now) more
@@ -40,16 +41,18 @@ module _ (question : Question) (is : IsQuestion question) (more : Query) (closed
 
   -- what stands in its base has names
   pub named_over : (base : Proving) → IsBaseProof (meaning_of question.schema.now) base → base.start ≡ opening more → base.constants ≡ question.known.now →
-      AreNamedFor (meaning_of question.schema.now) base.constants base.end.base base.end.next question.queries.now question.head.now
+      (goals : List Query) → ((q : Query) → Contains goals q → Contains question.queries.now q) →
+      AreNamedFor (meaning_of question.schema.now) base.constants base.end.base base.end.next goals question.head.now
   named_over = named_for question is more fits_more known_more head_more
 
-  module _ (base : Proving) (start : base.start ≡ opening more) (constants : base.constants ≡ question.known.now) (space : Exploring)
-      (e : space ≡ exploring_of (meaning_of question.schema.now) base question.queries.now question.head.now question.firings space.marks) (founded : IsFounded space) where
+  module _ (base : Proving) (start : base.start ≡ opening more) (constants : base.constants ≡ question.known.now) (goals : List Query)
+      (are : ArePossibleGoals question.queries.now question.head.now base.end.base goals) (space : Exploring)
+      (e : space ≡ exploring_of (meaning_of question.schema.now) base goals question.head.now question.firings space.marks) (founded : IsFounded space) where
     space_over : IsSpaceOf (meaning_of question.schema.now) question.queries.now more question.firings space
     space_over = record {
       schema_is = ap (λ (x : Exploring). x.schema) e;
       start = ap (λ (x : Exploring). x.start) e ∙ start;
-      queries_are = ap (λ (x : Exploring). x.queries) e;
+      goals = goals_in (meaning_of question.schema.now) base question.queries.now goals question.head.now question.firings are space e;
       head = ap (λ (x : Exploring). x.head) e ∙ head_more;
       budget = ap (λ (x : Exploring). x.budget) e;
       founded = founded;
@@ -57,13 +60,6 @@ module _ (question : Question) (is : IsQuestion question) (more : Query) (closed
 
     known_is : question.known.now ≡ space.constants
     known_is = sym (ap (λ (x : Exploring). x.constants) e ∙ constants)
-
-    -- a goal of a set is one of each larger set
-    pub goals_over : GoalsGrow (HasGoalAt space)
-    goals_over =
-        goals_at (meaning_of question.schema.now) question.queries.now more question.firings space space_over (subst (λ known. RulesFit (meaning_of question.schema.now) known) known_is known_rules)
-        (λ q among. subst (λ known. QueryHasConstants known q) known_is (is.queries q among).constants) fits_more (subst (λ known. QueryHasConstants known more) known_is known_more)
-        (are_short question.schema.now.rules (orderly question.schema.now).non_recursive)
 
     -- over the closed query, and so over the query
     pub least_over : (best : ℕ) → IsLeastCost (space_size space) (CanGain (CanExpose space) (GainsAt space)) (HasGoalAt space) best → (branch : Branch) → CostsAtMost (meaning_of question.schema.now) branch best →

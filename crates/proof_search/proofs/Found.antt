@@ -1,6 +1,6 @@
 -- What the search of a query comes to.
 use Rattle.std.proofs.Common.{◌≡◌, ℕ, ◌+◌, ◌<◌, ◌≤◌, List, [], ◌∷◌, ◌++◌, length, take, Option, Some, None, sym, ap, ◌∙◌, subst, inl, inr, ⊎_elim, arith}
-use Rattle.std.specs.Prelude.{slice_get, slice_index_or}
+use Rattle.std.specs.Prelude.{Contains, slice_get, slice_index_or}
 use Rattle.std.specs.List.{AllZip}
 use Rattle.std.specs.Option.{option_or}
 use Rattle.std.proofs.lemmas.List.{length-map, take_all}
@@ -61,18 +61,22 @@ module _ (question : Question) (is : IsQuestion question) where
         head_is = is.head;
       }
 
-  -- a goal: the branch that is extracted is a rival
-  pub goal_branch : (proof : Proving) → proof.constants ≡ question.known.now → length proof.entries ≤ question.firings → IsProofFor (meaning_of question.schema.now) proof question.head.now question.query.now →
-      (values : List Val) (number : ℕ) (branch : Branch) → IsGoal question.queries.now proof.end.copy question.head.now number values →
-      ((query goal : Query) → IsProofFor (meaning_of question.schema.now) proof question.head.now query → slice_get question.queries.now number ≡ Some goal → IsBranchFor (meaning_of question.schema.now) proof.constants query goal branch) →
+  -- a goal: the branch that is extracted is a rival. The goals are some of the queries
+  pub goal_branch : (proof : Proving) → proof.constants ≡ question.known.now → length proof.entries ≤ question.firings →
+      IsProofFor (meaning_of question.schema.now) proof question.head.now question.query.now →
+      (goals : List Query) → ((q : Query) → Contains goals q → Contains question.queries.now q) →
+      (values : List Val) (number : ℕ) (branch : Branch) → IsGoal goals proof.end.copy question.head.now number values →
+      ((query goal : Query) → IsProofFor (meaning_of question.schema.now) proof question.head.now query → slice_get goals number ≡ Some goal →
+      IsBranchFor (meaning_of question.schema.now) proof.constants query goal branch) →
       length branch.steps ≤ length proof.entries → IsBranchOn question branch
-  goal_branch proof constants most of_query values number branch (goal, got, match) read few =
-      let its = subst (λ known. IsBranchFor (meaning_of question.schema.now) known question.query.now goal branch) constants (read question.query.now goal of_query got) in
+  goal_branch proof constants most of_query goals within values number branch (goal, got, match) read few =
+      let its = subst (λ known. IsBranchFor (meaning_of question.schema.now) known question.query.now goal branch) constants
+      (read question.query.now goal of_query got) in
       let low = is.firings in
       record {
         rival = record {
           lawful = its.lawful;
-          sound = λ facts row model rows. (goal, contains_got question.queries.now number goal got, its.sound facts row model.meets rows);
+          sound = λ facts row model rows. (goal, within goal (contains_got goals number goal got), its.sound facts row model.meets rows);
           complete = λ facts row model answer. its.complete facts row model.meets answer;
         };
         width = its.width;

@@ -1,9 +1,13 @@
 -- The branch that is chosen for a query, and what is known of its cost.
-use Rattle.std.specs.Prelude.{◌≡◌, ℕ, ◌<◌, ◌≤◌, List, None}
+use Rattle.std.specs.Prelude.{◌≡◌, ℕ, ◌<◌, ◌≤◌, List, Contains, None, length}
 use Rattle.std.specs.Option.{IfSome}
 use Rattle.meaning.specs.declared.types.SchemaParts.{SchemaParts}
 use Rattle.meaning.specs.declared.types.Query.{Query}
 use Rattle.meaning.specs.declared.types.Branch.{Branch}
+use Rattle.meaning.specs.declared.types.Ground.{Ground}
+use Rattle.meaning.specs.declared.types.Val.{Val}
+use Rattle.meaning.specs.declared.types.Val.TheVariants.{Const}
+use Rattle.meaning.specs.Matching.{IsQueryAnswer, GroundsOf}
 use Rattle.meaning.specs.Values.{Value}
 use Rattle.meaning.specs.Costs.{IsCost}
 use Rattle.meaning.specs.Extract.{IsQueryRival}
@@ -30,11 +34,18 @@ IsLeastFor schema known queries query branch =
 abbrev pub CostsAtMost : SchemaParts → Branch → ℕ → Type 0
 CostsAtMost schema branch most = (cost : ℕ) × IsCost schema branch cost × (cost ≤ most)
 
--- The space is that of the query's base firings, for these queries with the query's frozen head, in runs of so many firings.
+-- The goals that are possible over these facts: some of the queries, among them each that has an answer with this head in the facts.
+pub record ArePossibleGoals (queries : List Query) (head : List Val) (facts : List Ground) (goals : List Query) : Type 0 where
+  pub within : (query : Query) → Contains goals query → Contains queries query
+  pub answered : (query : Query) → Contains queries query → IsQueryAnswer Const (GroundsOf facts) query head → Contains goals query
+  pub few : length goals ≤ length queries
+
+-- The space is that of the query's base firings, for the goals that are possible over its base facts among these queries, with the query's
+-- frozen head, in runs of so many firings.
 pub record IsSpaceOf (schema : SchemaParts) (queries : List Query) (query : Query) (firings : ℕ) (space : Exploring) : Type 0 where
   pub schema_is : space.schema ≡ schema
   pub start : space.start ≡ opening query
-  pub queries_are : space.queries ≡ queries
+  pub goals : ArePossibleGoals queries space.head space.base.facts space.queries
   pub head : space.head ≡ frozen_head query
   pub budget : space.budget ≡ firings
   pub founded : IsFounded space

@@ -1,5 +1,6 @@
 // Branches of queries by proofs over some of the rules.
-ghost use Rattle.std.specs.Prelude.{◌≡◌, length, IfOk, IfSome, OnOk};
+ghost use Rattle.std.specs.Prelude.{◌≡◌, length, Contains, IfOk, IfSome, OnOk};
+ghost use Rattle.meaning.specs.declared.types.Ground.{Ground as TheGround};
 ghost use Rattle.access_schema.specs.Meaning.{meaning_of};
 ghost use Rattle.schema_parts.specs.Parts.{with_rules, marked};
 ghost use Rattle.proof_search.specs.Questions.{IsQuestion, IsSearchFor, IsBranchOn};
@@ -7,6 +8,7 @@ ghost use Rattle.proof_search.specs.Attempts.{AreAttempts, IsAttempt};
 
 use crate::choosing::choose;
 use crate::exposing::Turn;
+use crate::goals::answered;
 use crate::outcome::Choice;
 use crate::proving::prove;
 use crate::question::Question;
@@ -144,6 +146,8 @@ impl Attempts {
 }
 
 /// An attempt with more rules, if there are any that leave it within its firings. Whether one was made.
+///
+/// Rules are added for the queries that have an answer in the facts so far.
 fn attempt_more(
     alloc: Global,
     question: &Question<'_>,
@@ -155,17 +159,24 @@ fn attempt_more(
     requires attempts { AreAttempts question.now attempts.old }
     ensures { OnOk result (AreAttempts question.now attempts.new) }
 {
-    let Some(more) = grown(
+    let goals = answered(
+        alloc,
+        question.queries.as_slice(),
+        &attempts.facts,
+        question.head,
+    )?;
+    let found = grown(
         alloc,
         question.schema,
-        question.queries,
+        &goals,
         &attempts.facts,
         attempts.opening,
         attempts.kept.as_slice(),
         phase,
         &mut attempts.copied,
-    )?
-    else {
+    );
+    drop(goals);
+    let Some(more) = found? else {
         return Ok(false);
     };
     let Some(Attempt { facts, branch }) = attempt_with(alloc, question, more.as_slice(), search)?
@@ -274,7 +285,9 @@ fn attempt_in(
 }
 
 /// The base facts of a proof, found by all of their values.
-fn base_facts(alloc: Global, proof: &Proof) -> Result<Store, NoMemory> {
+pub(crate) fn base_facts(alloc: Global, proof: &Proof) -> Result<Store, NoMemory>
+    ensures { IfOk result (λ facts. (fact : TheGround) → Contains proof.now.end.base fact → Contains facts fact) }
+{
     let mut facts = Store::new(alloc);
     for number in 0..proof.sizes().base {
         if let Some(fact) = proof.base(number) {

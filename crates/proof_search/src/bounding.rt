@@ -1,20 +1,24 @@
 // A lower bound for the cost of a query's branches, over a small base.
 ghost use Rattle.std.specs.Prelude.{◌≡◌, ◌≤◌, IfOk, Ok, None, true};
 ghost use Rattle.access_schema.specs.Meaning.{meaning_of};
+ghost use Rattle.meaning.specs.Runs.{opening};
 ghost use Rattle.rule_pass.specs.declared.pass.TheConstants.{HIGHEST_FIRST_LABEL};
 ghost use Rattle.least_search.specs.declared.search.Ended.TheVariants as ended;
+ghost use Rattle.exposure_search.specs.Making.{IsBaseProof};
 ghost use Rattle.small_base.specs.Closed.{IsClosed};
-ghost use Rattle.proof_search.specs.Choices.{IsLeastFor};
+ghost use Rattle.proof_search.specs.Choices.{ArePossibleGoals, IsLeastFor};
 ghost use Rattle.proof_search.specs.Questions.{IsQuestion, IsBranchOn, IsChoiceOn};
 
 use crate::choosing::{choose, search_below};
+use crate::goals::possible_goals;
 use crate::outcome::Choice;
 use crate::question::Question;
 use access_cost::{Least, cost};
+use accessible_copy::Proof;
 use exposure_search::{ExposureSpace, base_proof};
 use least_search::{Ended, Outcome};
 use lists::NoMemory;
-use meaning::types::{Branch, Query};
+use meaning::types::{Branch, Queries, Query};
 use small_base::closed_query;
 use std::alloc::Global;
 
@@ -108,24 +112,54 @@ fn is_least_over(
     ensures { result ≡ Ok true →
         IsLeastFor (meaning_of question.now.schema.now) question.now.known.now question.now.queries.now question.now.query.now branch.now }
 {
-    let firings = question.firings;
     let made = base_proof(
         alloc,
         question.schema,
         more,
         question.queries,
         question.known,
-        firings,
+        question.firings,
     )?;
     let Some(base) = made else {
         return Ok(false);
     };
+    // written out for their proofs, as in `is_least`
+    let Ok(goals) = possible_goals(alloc, question, &base) else {
+        drop(base);
+        return Err(NoMemory);
+    };
+    let shown = is_least_among(alloc, question, more, &goals, base, branch, search);
+    drop(goals);
+    shown
+}
+
+/// The same, over the proof of its opening, where these are the goals that are possible over the proof's base facts.
+fn is_least_among(
+    alloc: Global,
+    question: &Question<'_>,
+    more: &Query,
+    goals: &Queries,
+    base: Proof,
+    branch: &Branch,
+    search: u32,
+) -> Result<bool, NoMemory>
+    requires question { IsQuestion question.now }
+    requires closed { IsClosed (meaning_of question.now.schema.now) question.now.query.now more.now }
+    requires goals { ArePossibleGoals question.now.queries.now question.now.head.now base.end.base goals.now }
+    requires base { IsBaseProof (meaning_of question.now.schema.now) base }
+    requires start { base.start ≡ opening more.now }
+    requires constants { base.constants ≡ question.now.known.now }
+    requires branch { IsBranchOn question.now branch.now }
+    ensures { result ≡ Ok true →
+        IsLeastFor (meaning_of question.now.schema.now) question.now.known.now question.now.queries.now question.now.query.now branch.now }
+{
+    let firings = question.firings;
     let bound = cost(branch, question.schema);
     let mut space = ExposureSpace::new(
         alloc,
         question.schema,
         base,
-        question.queries,
+        goals,
         question.head,
         firings,
     )?;

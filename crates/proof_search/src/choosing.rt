@@ -9,9 +9,10 @@ ghost use Rattle.least_search.specs.Walks.{GoalsGrow, IsNode};
 ghost use Rattle.exposure_search.specs.Making.{IsBaseProof};
 ghost use Rattle.exposure_search.specs.Exploring.{space_size, CanExpose, HasGoalAt, HasMatchAt, IsFounded};
 ghost use Rattle.proof_search.specs.Chosen.{HasLongRun};
-ghost use Rattle.proof_search.specs.Choices.{CostsAtMost, IsFound};
+ghost use Rattle.proof_search.specs.Choices.{ArePossibleGoals, CostsAtMost, IsFound};
 ghost use Rattle.proof_search.specs.Questions.{IsQuestion, IsBranchOn, IsSpaceOn, IsChoiceOn};
 
+use crate::goals::possible_goals;
 use crate::outcome::Choice;
 use crate::question::Question;
 use access_cost::{Least, cost};
@@ -19,7 +20,7 @@ use accessible_copy::Proof;
 use exposure_search::{ExposureSpace, base_proof};
 use least_search::{Ended, Node, Outcome, cheapest, find_cuts};
 use lists::NoMemory;
-use meaning::types::Branch;
+use meaning::types::{Branch, Queries};
 use plan_extract::extract_arranged;
 use std::alloc::Global;
 
@@ -68,17 +69,44 @@ fn choose_over(
     requires constants { base.constants ≡ question.now.known.now }
     ensures { IfOk result (IsChoiceOn question.now search) }
 {
+    // a drop that is written out is proved as one call, and one at the end of a scope as a call for each list in the value
+    let Ok(goals) = possible_goals(alloc, question, &base) else {
+        drop(base);
+        return Err(NoMemory);
+    };
+    let choice = choose_among(alloc, question, &goals, first, base, search);
+    drop(goals);
+    choice
+}
+
+/// The same, where these are the goals that are possible over the proof's base facts.
+fn choose_among(
+    alloc: Global,
+    question: &Question<'_>,
+    goals: &Queries,
+    first: Branch,
+    base: Proof,
+    search: u32,
+) -> Result<Choice, NoMemory>
+    requires question { IsQuestion question.now }
+    requires goals { ArePossibleGoals question.now.queries.now question.now.head.now base.end.base goals.now }
+    requires first { IsBranchOn question.now first }
+    requires base { IsBaseProof (meaning_of question.now.schema.now) base }
+    requires start { base.start ≡ opening question.now.query.now }
+    requires constants { base.constants ≡ question.now.known.now }
+    ensures { IfOk result (IsChoiceOn question.now search) }
+{
     let firings = question.firings;
     let bound = cost(&first, question.schema);
     let mut space = ExposureSpace::new(
         alloc,
         question.schema,
         base,
-        question.queries,
+        goals,
         question.head,
         firings,
     )?;
-    // a drop that is written out is proved as one call, and one at the end of a scope as a call for each list in the value
+    // written out for their proofs, as in `choose_over`
     let Ok(Outcome { better, ended }) = search_below(alloc, &mut space, bound, search as u64) else {
         drop(space);
         return Err(NoMemory);
@@ -91,7 +119,7 @@ fn choose_over(
             least,
         });
     };
-    match cheaper(alloc, question, space, &node)? {
+    match cheaper(alloc, question, goals, space, &node)? {
         Some(branch) => Ok(Choice { branch, least }),
         None => Ok(Choice {
             branch: first,
@@ -137,11 +165,13 @@ fn least_of(end: Ended, firings: u32, search: u32) -> Least
 fn cheaper(
     alloc: Global,
     question: &Question<'_>,
+    goals: &Queries,
     space: ExposureSpace<'_>,
     node: &Node,
 ) -> Result<Option<Branch>, NoMemory>
     requires question { IsQuestion question.now }
     requires space { IsSpaceOn question.now space }
+    requires goals { space.queries ≡ goals.now }
     requires node { IsNode (space_size space) (CanExpose space) node.now }
     requires goal { HasMatchAt space node.now.set.items }
     ensures branch { IfOk result (λ found. IfSome found (IsBranchOn question.now)) }
@@ -151,14 +181,7 @@ fn cheaper(
     let Some((proof, found)) = space.reach(&node.path, &node.set)? else {
         return Ok(None);
     };
-    let read = extract_arranged(
-        alloc,
-        &proof,
-        question.schema,
-        question.queries,
-        question.head,
-        &found,
-    );
+    let read = extract_arranged(alloc, &proof, question.schema, goals, question.head, &found);
     // written out for their proofs, as in `choose_over`
     drop(proof);
     drop(found);

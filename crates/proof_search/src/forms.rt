@@ -22,7 +22,7 @@ pub fn queries_of(alloc: Global, forms: &[Option<Query>]) -> Result<Queries, NoM
 }
 
 /// A copy of a query.
-fn copied(alloc: Global, query: &Query) -> Result<Query, NoMemory>
+pub(crate) fn copied(alloc: Global, query: &Query) -> Result<Query, NoMemory>
     ensures { IfOk result (λ copy. copy ≡ query.now) }
 {
     Ok(Query {

@@ -11,6 +11,7 @@ mod choosing;
 mod deciding;
 mod exposing;
 mod forms;
+mod goals;
 mod outcome;
 mod planning;
 mod proving;

@@ -20,5 +20,5 @@ pub returns-clause-branch : goal.returns-clause-branch
 returns-clause-branch c =
     let question = c.args.question.now in
     let found : IsGoal question.queries.now c.args.proof.now.end.copy question.head.now c.in-Some.found.select c.in-Some.found.assignment.vals = rw c.in-Some.is at c.in_ok-found.ensures.some in
-    goal_branch question c.requires.question c.args.proof.now c.requires.search.constants c.requires.search.few (proof_for question c.requires.question c.args.proof.now c.requires.search)
+    goal_branch question c.requires.question c.args.proof.now c.requires.search.constants c.requires.search.few (proof_for question c.requires.question c.args.proof.now c.requires.search) question.queries.now (λ q among. among)
     c.in-Some.found.assignment.vals c.in-Some.found.select c.in_ok-branch.branch found c.in_ok-branch.ensures.branch c.in_ok-branch.ensures.few

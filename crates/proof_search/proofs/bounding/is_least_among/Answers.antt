@@ -5,9 +5,10 @@ use Rattle.least_search.specs.declared.node.Node.{Node}
 use Rattle.least_search.specs.Walks.{CanGain}
 use Rattle.least_search.specs.Costs.{IsLeastCost, best_cost}
 use Rattle.exposure_search.specs.Exploring.{space_size, CanExpose, GainsAt, HasGoalAt}
+use Rattle.exposure_search.proofs.Explored.{goals_grown}
 use Rattle.proof_search.specs.Choices.{CostsAtMost}
-use Rattle.proof_search.proofs.ClosedQueries.{named_over, goals_over, least_over}
-use Rattle.proof_search.proofs.bounding.is_least_over.Goals as goal
+use Rattle.proof_search.proofs.ClosedQueries.{named_over, least_over}
+use Rattle.proof_search.proofs.bounding.is_least_among.Goals as goal
 
 pub cost-bound-requires-clause-named : goal.cost-bound-requires-clause-named
 cost-bound-requires-clause-named c =
@@ -15,12 +16,16 @@ cost-bound-requires-clause-named c =
 
 pub new-requires-clause-named : goal.new-requires-clause-named
 new-requires-clause-named c =
-    named_over c.args.question.now c.requires.question c.args.more.now c.requires.closed c.in-Some.base (rw c.in-Some.is at c.in_ok-made.ensures.base) (rw c.in-Some.is at c.in_ok-made.ensures.start) (rw c.in-Some.is at c.in_ok-made.ensures.constants)
+    named_over c.args.question.now c.requires.question c.args.more.now c.requires.closed c.args.base c.requires.base c.requires.start c.requires.constants c.args.goals.now c.requires.goals.within
+
+pub new-requires-clause-counted : goal.new-requires-clause-counted
+new-requires-clause-counted c goal among = (c.requires.question.queries goal (c.requires.goals.within goal among)).counted
+
+pub new-requires-clause-few : goal.new-requires-clause-few
+new-requires-clause-few c = let most = c.requires.question.few in let few = c.requires.goals.few in omega arith
 
 pub search_below-found-requires-clause-grow : goal.search_below-found-requires-clause-grow
-search_below-found-requires-clause-grow c =
-    goals_over c.args.question.now c.requires.question c.args.more.now c.requires.closed c.in-Some.base (rw c.in-Some.is at c.in_ok-made.ensures.start) (rw c.in-Some.is at c.in_ok-made.ensures.constants)
-    c.in_ok-space.space c.in_ok-space.ensures.space c.in_ok-space.ensures.founded
+search_below-found-requires-clause-grow c = goals_grown c.in_ok-space.space
 
 pub returns : goal.returns
 returns c e =
@@ -31,5 +36,5 @@ returns c e =
     let costs : CostsAtMost (meaning_of question.schema.now) c.args.branch.now c.cost-bound.result = (c.cost-bound.result, c.cost-bound.ensures, omega arith) in
     let least : IsLeastCost (space_size space) (CanGain (CanExpose space) (GainsAt space)) (HasGoalAt space) c.cost-bound.result =
     subst (λ (better : Option Node). IsLeastCost (space_size space) (CanGain (CanExpose space) (GainsAt space)) (HasGoalAt space) (best_cost c.cost-bound.result better)) said.1 (c.in_ok-outcome.ensures.found.shown said.0) in
-    least_over question c.requires.question c.args.more.now c.requires.closed c.in-Some.base (rw c.in-Some.is at c.in_ok-made.ensures.start) (rw c.in-Some.is at c.in_ok-made.ensures.constants) space c.in_ok-space.ensures.space c.in_ok-space.ensures.founded
+    least_over question c.requires.question c.args.more.now c.requires.closed c.args.base c.requires.start c.requires.constants c.args.goals.now c.requires.goals space c.in_ok-space.ensures.space c.in_ok-space.ensures.founded
     c.cost-bound.result least c.args.branch.now costs
