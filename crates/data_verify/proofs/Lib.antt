@@ -1,6 +1,5 @@
 pub mod Texts
 pub mod Choosing
-pub mod Pairing
 pub mod First
 pub mod Written
 pub mod Terms
@@ -8,3 +7,6 @@ pub mod Including
 pub mod Held
 pub mod KeySets
 pub mod Lowest
+pub mod Splitting
+pub mod Stepping
+pub mod Remembering

@@ -7,7 +7,6 @@ use Rattle.std.specs.declared.cmp.Ordering.TheVariants.{Less, Equal, Greater}
 use Rattle.std.proofs.lemmas.Cmp.{upto, tied_itself}
 use Rattle.std.proofs.lemmas.List.Elements.{Contains-append_left, Contains-push, Contains-push_cases}
 use Rattle.lists.proofs.Orders.{rows_total}
-use Rattle.lists.proofs.Members.{contains_none}
 use Rattle.lists.proofs.Places.{take_indexed}
 use Rattle.meaning.specs.declared.types.Fact.{Fact}
 use Rattle.data_verify.specs.Inclusion.{IsLeastOf, IsLeastIf, IsBelow}

@@ -4,3 +4,5 @@ pub mod Unmet
 pub mod Keys
 pub mod Inclusion
 pub mod Finding
+pub mod Remaining
+pub mod Settling

@@ -10,8 +10,10 @@ mod inclusion;
 mod key_set;
 mod keys;
 mod least;
+mod remaining;
 mod row_key;
 mod rows;
+mod settling;
 mod text;
 mod verifying;
 
