@@ -1,0 +1,1 @@
+SELECT DISTINCT t1.a FROM t t1, s6 t2 WHERE t2.a = '8' AND t2.b = '8'

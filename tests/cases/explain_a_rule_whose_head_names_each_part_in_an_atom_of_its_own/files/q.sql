@@ -1,0 +1,1 @@
+SELECT DISTINCT a1.x FROM a a1, a a2, b b1, b b2
