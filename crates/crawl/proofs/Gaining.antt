@@ -18,16 +18,15 @@ use Rattle.crawl.specs.declared.known.KnownValues.{KnownValues}
 use Rattle.crawl.specs.declared.progress.Progress.{Progress}
 use Rattle.crawl.specs.Knowing.{TakesIn}
 use Rattle.crawl.specs.Progress.{fact_of, facts_of, Gains, StandsIn, IsRowOf, StandsInAnswers, answered_by, TakesRound, BeginsWith}
-use Rattle.crawl.proofs.Knowing.{takes_both}
+use Rattle.crawl.specs.Finding.{Finds}
+use Rattle.crawl.proofs.Finding.{finds_nothing, finds_both}
 
 -- ---- nothing, and one after another
 
 pub gains_none : (P : Value → Type 0) (Q : Fact → Type 0) → ((v : Value) → P v → ⊥) → ((f : Fact) → Q f → ⊥) → (progress : Progress) → Gains P Q progress progress
 gains_none P Q not_taken none progress = record {
-  values = record {
-    all = λ v. ((λ c. inl c), (λ c. ⊎_elim (λ d. d) (λ p. absurd (not_taken v p)) c));
-    fresh = λ v. ((λ c. inl c), (λ c. ⊎_elim (λ d. d) (λ p. absurd (not_taken v p.0)) c));
-  };
+  known = refl;
+  values = finds_nothing progress.known.all.keys P not_taken progress.found.list.items;
   facts = λ f. ((λ c. inl c), (λ c. ⊎_elim (λ d. d) (λ q. absurd (none f q)) c));
   made = refl;
   rounds = refl;
@@ -35,7 +34,10 @@ gains_none P Q not_taken none progress = record {
 
 pub gains_both : (P P2 R : Value → Type 0) (Q Q2 S : Fact → Type 0) → ((v : Value) → R v ↔ (P v ⊎ P2 v)) → ((f : Fact) → S f ↔ (Q f ⊎ Q2 f)) → (old mid new : Progress) → Gains P Q old mid → Gains P2 Q2 mid new → Gains R S old new
 gains_both P P2 R Q Q2 S values facts old mid new h k = record {
-  values = takes_both P P2 R values old.known mid.known new.known h.values k.values;
+  known = k.known ∙ h.known;
+  values = finds_both old.known.all.keys P P2 R values old.found.list.items mid.found.list.items new.found.list.items
+      h.values (subst (λ (known : KnownValues). Finds known.all.keys P2 mid.found.list.items new.found.list.items)
+      h.known k.values);
   facts = λ f. (
     (λ c. ⊎_elim (λ d. ⊎_elim (λ a. inl a) (λ q. inr ((facts f).1 (inl q))) ((h.facts f).0 d)) (λ q. inr ((facts f).1 (inr q))) ((k.facts f).0 c)),
     (λ c. (k.facts f).1 (⊎_elim (λ a. inl ((h.facts f).1 (inl a))) (λ s. ⊎_elim (λ q. inl ((h.facts f).1 (inr q))) (λ q. inr q) ((facts f).0 s)) c)),
@@ -46,9 +48,12 @@ gains_both P P2 R Q Q2 S values facts old mid new h k = record {
 
 -- ---- a row
 
-pub gains_row : (rel : ℕ) (row : Row) (old new : Progress) → TakesIn (Contains row) old.known new.known → new.received.items ≡ old.received.items ++ (rel, row) ∷ [] → new.made ≡ old.made → new.rounds ≡ old.rounds
+pub gains_row : (rel : ℕ) (row : Row) (old new : Progress) → new.known ≡ old.known
+    → Finds old.known.all.keys (Contains row) old.found.list.items new.found.list.items
+    → new.received.items ≡ old.received.items ++ (rel, row) ∷ [] → new.made ≡ old.made → new.rounds ≡ old.rounds
     → Gains (Contains row) (λ f. f ≡ record { rel = rel; row = row }) old new
-gains_row rel row old new values pushed made rounds = record {
+gains_row rel row old new known values pushed made rounds = record {
+  known = known;
   values = values;
   facts = λ f. (
     (λ c. ⊎_elim (λ d. inl d) (λ d. inr (sym (contains_one (fact_of (rel, row)) f d))) (Contains-append_cases (facts_of old) (fact_of (rel, row) ∷ []) f (subst (λ l. Contains l f) grown c))),
@@ -127,26 +132,58 @@ answered_long [] answers e = refl
 answered_long (a ∷ asks) [] e = absurd (omega arith)
 answered_long (a ∷ asks) (r ∷ answers) e = let rest = answered_long asks answers (omega arith) in omega (arith, rest)
 
-pub round_taken : (answers : List Answered) (old mid took new : Progress) → mid.known.all.keys ≡ old.known.all.keys → mid.known.fresh.items ≡ [] → mid.received.items ≡ old.received.items
-    → Gains (StandsInAnswers answers) (IsAmong answers) mid took → new.known.all.keys ≡ took.known.all.keys → ((v : Value) → Contains new.known.fresh.items v ↔ Contains took.known.fresh.items v)
-    → IsStrictlySortedBy (slice_cmp nat_cmp) new.known.fresh.items → new.received ≡ took.received → new.made ≡ old.made + length answers → new.rounds ≡ old.rounds + 1 → TakesRound answers old new
-round_taken answers old mid took new all none received g known same up facts made rounds = record {
-  all = λ v. (
-    (λ c. ⊎_elim (λ d. inl (subst (λ l. Contains l v) all d)) (λ p. inr p) ((g.values.all v).0 (subst (λ l. Contains l v) known c))),
-    (λ c. subst (λ l. Contains l v) (sym known) ((g.values.all v).1 (⊎_elim (λ d. inl (subst (λ l. Contains l v) (sym all) d)) (λ p. inr p) c))),
-  );
-  fresh = λ v. (
-    (λ c. ⊎_elim (λ d. absurd (contains_none v (subst (λ l. Contains l v) none d))) (λ p. (p.0, λ d. p.1 (subst (λ l. Contains l v) (sym all) d))) ((g.values.fresh v).0 ((same v).0 c))),
-    (λ p. (same v).1 ((g.values.fresh v).1 (inr (p.0, λ d. p.1 (subst (λ l. Contains l v) all d))))),
-  );
-  ascend = up;
-  facts = λ f. (
-    (λ c. ⊎_elim (λ d. inl (subst (λ l. Contains (map fact_of l) f) received d)) (λ q. inr q) ((g.facts f).0 (subst (λ r. Contains (map fact_of r.items) f) facts c))),
-    (λ c. subst (λ r. Contains (map fact_of r.items) f) (sym facts) ((g.facts f).1 (⊎_elim (λ d. inl (subst (λ l. Contains (map fact_of l) f) (sym received) d)) (λ q. inr q) c))),
-  );
-  made = made;
-  rounds = rounds;
-}
+module _ (answers : List Answered) (old mid took : Progress) (first : mid.known ≡ old.known)
+    (none : mid.found.list.items ≡ [])
+    (received : mid.received.items ≡ old.received.items) (g : Gains (StandsInAnswers answers) (IsAmong answers) mid took)
+    (found : List Value) (are : (v : Value) → Contains found v ↔ Contains took.found.list.items v)
+    (settled taken : KnownValues) (all : settled.all.keys ≡ took.known.all.keys)
+    (none_fresh : settled.fresh.items ≡ [])
+    (t : TakesIn (Contains found) settled taken) where
+  -- what was found came in an answer, and what came in one was found or known
+  came : (v : Value) → Contains found v → StandsInAnswers answers v
+  came v c = ⊎_elim (λ d. absurd (contains_none v (subst (λ (l : List Value). Contains l v) none d))) (λ p. p)
+      (g.values.from v ((are v).0 c))
+
+  brought : (v : Value) → StandsInAnswers answers v → Contains found v ⊎ Contains old.known.all.keys v
+  brought v p = ⊎_elim (λ d. inl ((are v).1 d))
+      (λ d. inr (subst (λ (known : KnownValues). Contains known.all.keys v) first d)) (g.values.into v (inr p))
+
+  was : settled.all.keys ≡ old.known.all.keys
+  was = all ∙ ap (λ (known : KnownValues). known.all.keys) (g.known ∙ first)
+
+  pub round_taken : (new : Progress) → new.known.all.keys ≡ taken.all.keys
+      → ((v : Value) → Contains new.known.fresh.items v ↔ Contains taken.fresh.items v)
+      → IsStrictlySortedBy (slice_cmp nat_cmp) new.known.fresh.items → new.received ≡ took.received
+      → new.made ≡ old.made + length answers → new.rounds ≡ old.rounds + 1 → TakesRound answers old new
+  round_taken new known same up facts made rounds = record {
+    all = λ v. (
+      (λ c. ⊎_elim (λ d. inl (subst (λ (l : List Value). Contains l v) was d)) (λ d. inr (came v d))
+          ((t.all v).0 (subst (λ (l : List Value). Contains l v) known c))),
+      (λ c. subst (λ (l : List Value). Contains l v) (sym known) ((t.all v).1
+          (⊎_elim (λ d. inl (before v d)) (λ p. ⊎_elim (λ d. inr d) (λ d. inl (before v d)) (brought v p)) c))),
+    );
+    fresh = λ v. (
+      (λ c. ⊎_elim (λ d. absurd (contains_none v (subst (λ (l : List Value). Contains l v) none_fresh d)))
+          (λ p. (came v p.0, λ d. p.1 (before v d))) ((t.fresh v).0 ((same v).0 c))),
+      (λ p. (same v).1 ((t.fresh v).1 (inr (
+        ⊎_elim (λ d. d) (λ d. absurd (p.1 d)) (brought v p.0),
+        λ d. p.1 (subst (λ (l : List Value). Contains l v) was d),
+      )))),
+    );
+    ascend = up;
+    facts = λ f. (
+      (λ c. ⊎_elim (λ d. inl (subst (λ l. Contains (map fact_of l) f) received d)) (λ q. inr q)
+          ((g.facts f).0 (subst (λ r. Contains (map fact_of r.items) f) facts c))),
+      (λ c. subst (λ r. Contains (map fact_of r.items) f) (sym facts)
+          ((g.facts f).1 (⊎_elim (λ d. inl (subst (λ l. Contains (map fact_of l) f) (sym received) d))
+          (λ q. inr q) c))),
+    );
+    made = made;
+    rounds = rounds;
+  }
+    where
+      before : (v : Value) → Contains old.known.all.keys v → Contains settled.all.keys v
+      before v d = subst (λ (l : List Value). Contains l v) (sym was) d
 
 -- ---- before the first round
 

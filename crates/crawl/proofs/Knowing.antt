@@ -125,9 +125,15 @@ takes_both P Q R both old mid new h k = record {
     one : (v : Value) → R v → (Contains old.all.keys v → ⊥) → Contains mid.fresh.items v ⊎ (Q v × (Contains mid.all.keys v → ⊥))
     one v r none = ⊎_elim (λ p. inl ((h.fresh v).1 (inr (p, none)))) (λ q. ⊎_elim (λ c. ⊎_elim (λ a. absurd (none a)) (λ p. inl ((h.fresh v).1 (inr (p, none)))) ((h.all v).0 c)) (λ n. inr (q, n)) (held_or_not mid v)) ((both v).0 r)
 
--- one more of a list
-pub takes_more : (xs : List Value) (x : Value) (old mid new : KnownValues) → TakesIn (Contains xs) old mid → TakesIn (λ v. v ≡ x) mid new → TakesIn (Contains (xs ++ x ∷ [])) old new
-takes_more xs x = takes_both (Contains xs) (λ v. v ≡ x) (Contains (xs ++ x ∷ [])) (λ v. (
+-- one more behind a list
+pub one_more : (xs : List Value) (x v : Value) → Contains (xs ++ x ∷ []) v ↔ (Contains xs v ⊎ (v ≡ x))
+one_more xs x v = (
   (λ c. ⊎_elim (λ d. inl d) (λ d. inr (sym (contains_one x v d))) (Contains-append_cases xs (x ∷ []) v c)),
-  (λ c. ⊎_elim (λ d. Contains-append_left xs (x ∷ []) v d) (λ e. Contains-append_right xs (x ∷ []) v (subst (Contains (x ∷ [])) (sym e) (contains_here x []))) c),
-))
+  (λ c. ⊎_elim (λ d. Contains-append_left xs (x ∷ []) v d)
+      (λ e. Contains-append_right xs (x ∷ []) v (subst (Contains (x ∷ [])) (sym e) (contains_here x []))) c),
+)
+
+-- one more of a list
+pub takes_more : (xs : List Value) (x : Value) (old mid new : KnownValues)
+    → TakesIn (Contains xs) old mid → TakesIn (λ v. v ≡ x) mid new → TakesIn (Contains (xs ++ x ∷ [])) old new
+takes_more xs x = takes_both (Contains xs) (λ v. v ≡ x) (Contains (xs ++ x ∷ [])) (one_more xs x)

@@ -9,3 +9,5 @@ pub mod Rounding
 pub mod Reaching
 pub mod CrawledLanes
 pub mod Once
+pub mod Finding
+pub mod Starts

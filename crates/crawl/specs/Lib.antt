@@ -4,3 +4,5 @@ pub mod Progress
 pub mod Asking
 pub mod Rounding
 pub mod Reaching
+pub mod Starts
+pub mod Finding

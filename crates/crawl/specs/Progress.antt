@@ -8,7 +8,7 @@ use Rattle.meaning.specs.Values.{Value, Row}
 use Rattle.source_trait.specs.Asking.{RowList}
 use Rattle.source_trait.specs.declared.work.Ask.{Ask}
 use Rattle.crawl_rounds.specs.Log.{Answered, IsAmong}
-use Rattle.crawl.specs.Knowing.{TakesIn}
+use Rattle.crawl.specs.Finding.{Finds}
 use Rattle.crawl.specs.declared.known.KnownValues.{KnownValues}
 use Rattle.crawl.specs.declared.progress.Progress.{Progress}
 
@@ -20,9 +20,10 @@ fact_of received = record { rel = received.0; row = received.1 }
 abbrev pub facts_of : Progress → List Fact
 facts_of progress = map fact_of progress.received.items
 
--- The progress grew by these values and these facts, and its counts stay.
+-- The progress grew by these found values and these facts. What is known and the counts stay.
 pub record Gains (IsTaken : Value → Type 0) (IsNew : Fact → Type 0) (old new : Progress) : Type 0 where
-  pub values : TakesIn IsTaken old.known new.known
+  pub known : new.known ≡ old.known
+  pub values : Finds old.known.all.keys IsTaken old.found.list.items new.found.list.items
   pub facts : (fact : Fact) → Contains (facts_of new) fact ↔ (Contains (facts_of old) fact ⊎ IsNew fact)
   pub made : new.made ≡ old.made
   pub rounds : new.rounds ≡ old.rounds

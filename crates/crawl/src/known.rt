@@ -1,5 +1,5 @@
 // The values that are known, and those of them that are new.
-ghost use Rattle.std.specs.Prelude.{◌≡◌, ◌↔◌, ◌<◌, [], Contains, IfOk, IfSome, OnOk, Some, length, slice_get};
+ghost use Rattle.std.specs.Prelude.{◌≡◌, ◌↔◌, [], Contains, IfOk, OnOk, length};
 ghost use Rattle.std.specs.BTreeSet.{IsOrdered};
 ghost use Rattle.std.specs.List.Sorted.{IsStrictlySortedBy};
 ghost use Rattle.std.specs.Ordering.{nat_cmp};
@@ -7,15 +7,15 @@ ghost use Rattle.std.specs.Cmp.Lexicographic.{slice_cmp};
 ghost use Rattle.meaning.specs.Values.{Value};
 ghost use Rattle.crawl.specs.Knowing.{is_fresh, marked_of, TakesIn};
 
-use lists::{Copies, NoMemory, Row, Text};
-use row_text::LentRow;
+use crate::started::StartedText;
+use lists::{Copies, NoMemory, Text};
 use std::alloc::Global;
 use std::collections::BTreeSet;
 
 /// The values that a crawl knows, each once, and those of them that are new since the last round.
 #[derive(Drop)]
 pub struct KnownValues {
-    all: BTreeSet<Text>,
+    all: BTreeSet<StartedText>,
     fresh: Vec<Text>,
 }
 
@@ -47,7 +47,7 @@ impl KnownValues {
     }
 
     /// Takes values in. Each that was not known is new. Where memory is refused, some of them may have been taken in.
-    pub fn take_in(&mut self, alloc: Global, values: &[Text]) -> Result<(), NoMemory>
+    pub fn take_in(&mut self, alloc: Global, values: &[StartedText]) -> Result<(), NoMemory>
         ensures { OnOk result (TakesIn (Contains values.now) self.old self.new) }
     {
         for value in values {
@@ -56,46 +56,14 @@ impl KnownValues {
         Ok(())
     }
 
-    fn take_one(&mut self, alloc: Global, value: &Text) -> Result<(), NoMemory>
+    fn take_one(&mut self, alloc: Global, value: &StartedText) -> Result<(), NoMemory>
         ensures { OnOk result (TakesIn (λ v. v ≡ value.now) self.old self.new) }
     {
         if !self.all.insert(value.copy(alloc)?)? {
             return Ok(());
         }
-        self.fresh.push(value.copy(alloc)?)?;
+        self.fresh.push(value.text().copy(alloc)?)?;
         Ok(())
-    }
-
-    /// Takes the values of a row in, and copies the row. A value that is one of these known ones shares its bytes. Where memory is
-    /// refused, some of the values may have been taken in.
-    pub fn take_row(
-        &mut self,
-        alloc: Global,
-        shared: &[Text],
-        row: &LentRow<'_>,
-    ) -> Result<Row, NoMemory>
-        requires { (v : Value) → Contains shared.now v → Contains self.old.all.keys v }
-        ensures takes { OnOk result (TakesIn (Contains row.now) self.old self.new) }
-        ensures row { IfOk result (λ copy. copy ≡ row.now) }
-    {
-        let mut copy = Vec::with_capacity(alloc, row.len())?;
-        for column in 0..row.len() {
-            copy.push(self.take_text(alloc, shared, value_at(row, column))?)?;
-        }
-        Ok(Row::from_vec(copy))
-    }
-
-    fn take_text(&mut self, alloc: Global, shared: &[Text], value: &str) -> Result<Text, NoMemory>
-        requires { (v : Value) → Contains shared.now v → Contains self.old.all.keys v }
-        ensures takes { OnOk result (TakesIn (λ v. v ≡ value.now) self.old self.new) }
-        ensures text { IfOk result (λ text. text ≡ value.now) }
-    {
-        if let Some(text) = find(shared, value) {
-            return text.copy(alloc);
-        }
-        let text = Text::from_str(alloc, value)?;
-        self.take_one(alloc, &text)?;
-        Ok(text)
     }
 
     /// No value is new any more.
@@ -130,7 +98,8 @@ impl KnownValues {
     {
         let mut values = Vec::with_capacity(alloc, self.all.len())?;
         for value in &self.all {
-            values.push((value.copy(alloc)?, self.is_fresh(value)))?;
+            let text = value.text();
+            values.push((text.copy(alloc)?, self.is_fresh(text)))?;
         }
         Ok(values)
     }
@@ -139,28 +108,5 @@ impl KnownValues {
         ensures { result ≡ is_fresh self.now value.now }
     {
         self.fresh.as_slice().contains(value)
-    }
-}
-
-// The first of the texts with these characters.
-fn find<'a>(texts: &'a [Text], value: &str) -> Option<&'a Text>
-    ensures { IfSome result (λ text. (text.now ≡ value.now) × Contains texts.now text.now) }
-{
-    for text in texts {
-        if text.as_str() == value {
-            return Some(text);
-        }
-    }
-    None
-}
-
-// The value in a column that the row has.
-fn value_at<'a>(row: &LentRow<'a>, column: usize) -> &'a str
-    requires { column < length row.now }
-    ensures { slice_get row.now column ≡ Some result.now }
-{
-    match row.value(column) {
-        Some(value) => value,
-        None => unreachable!(),
     }
 }

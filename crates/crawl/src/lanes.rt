@@ -18,9 +18,10 @@ ghost use Rattle.crawl.specs.Rounding.{IsLast};
 
 use crate::progress::Progress;
 use crate::round::next_round;
+use crate::started::StartedRow;
 use access_schema::Schema;
 use crawl_rounds::classes;
-use lists::{NoMemory, Places, Row, Seq};
+use lists::{NoMemory, Places, Seq};
 use meaning::types::{Fact, Instance, Method};
 use middleware::{RunFault, attach_needed};
 use source_trait::{Lane, Source};
@@ -157,12 +158,15 @@ fn each_once(alloc: Global, progress: Progress) -> Result<Instance, NoMemory>
     Ok(Seq::from_vec(facts))
 }
 
-fn as_facts(alloc: Global, received: Vec<(u32, Row)>) -> Result<Vec<Fact>, NoMemory>
+fn as_facts(alloc: Global, received: Vec<(u32, StartedRow)>) -> Result<Vec<Fact>, NoMemory>
     ensures { IfOk result (λ facts. facts.items ≡ map fact_of received.items) }
 {
     let mut facts = Vec::with_capacity(alloc, received.len())?;
     for (rel, row) in received {
-        facts.push(Fact { rel, row })?;
+        facts.push(Fact {
+            rel,
+            row: row.into_row(),
+        })?;
     }
     Ok(facts)
 }

@@ -4,11 +4,13 @@
 #![tactic(auto)]
 
 mod asks;
+mod found;
 mod known;
 mod lanes;
 mod progress;
 mod round;
 mod rows;
+mod started;
 mod taking;
 
 pub use lanes::crawl;

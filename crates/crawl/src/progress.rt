@@ -3,8 +3,10 @@ ghost use Rattle.std.specs.Prelude.{◌≡◌, ◌++◌, ◌∷◌, [], Contains
 ghost use Rattle.meaning.specs.Values.{Value};
 ghost use Rattle.crawl.specs.Progress.{BeginsWith, Gains, StandsIn, IsRowOf};
 
+use crate::found::FoundValues;
 use crate::known::KnownValues;
-use lists::{NoMemory, Row, Text};
+use crate::started::StartedRow;
+use lists::{NoMemory, Text};
 use meaning::types::Request;
 use row_text::{LentRow, LentRows};
 use std::alloc::Global;
@@ -13,7 +15,9 @@ use std::alloc::Global;
 #[derive(Drop)]
 pub struct Progress {
     pub known: KnownValues,
-    pub received: Vec<(u32, Row)>,
+    // what came in the last round
+    pub found: FoundValues,
+    pub received: Vec<(u32, StartedRow)>,
     pub made: u32,
     pub rounds: u32,
 }
@@ -23,19 +27,17 @@ impl Progress {
     pub fn new(alloc: Global, constants: &[Text]) -> Result<Progress, NoMemory>
         ensures { IfOk result (BeginsWith constants.now) }
     {
+        let found = FoundValues::of(alloc, constants)?;
         let mut known = KnownValues::new(alloc);
-        match known.take_in(alloc, constants) {
-            Ok(()) => {
-                known.arrange();
-                Ok(Progress {
-                    known,
-                    received: Vec::new(alloc),
-                    made: 0,
-                    rounds: 0,
-                })
-            }
-            Err(_) => Err(NoMemory),
-        }
+        known.take_in(alloc, found.as_slice())?;
+        known.arrange();
+        Ok(Progress {
+            known,
+            found,
+            received: Vec::new(alloc),
+            made: 0,
+            rounds: 0,
+        })
     }
 
     /// Takes the rows of the answer to a request of known values. Where memory is refused, a part of them may have been taken.
@@ -63,8 +65,8 @@ impl Progress {
         requires { (v : Value) → Contains request.now.values v → Contains self.old.known.all.keys v }
         ensures { OnOk result (Gains (Contains lent.now) (λ fact. fact ≡ record { rel = request.now.rel; row = lent.now }) self.old self.new) }
     {
-        let row = self.known.take_row(alloc, request.values.as_slice(), lent)?;
-        self.received.push((request.rel, row))?;
+        let row = self.found.take_row(alloc, request.values.as_slice(), lent)?;
+        self.received.push((request.rel, StartedRow::new(row)))?;
         Ok(())
     }
 }

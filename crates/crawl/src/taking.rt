@@ -23,8 +23,11 @@ pub fn take_round(
     requires rounds { progress.old.rounds + 1 < 2 ^ 32 }
     ensures { OnOk result (TakesRound (answered_by asks.now answers.now) progress.old progress.new) }
 {
-    progress.known.settle();
+    progress.found.clear();
     take_answers(alloc, asks, answers, progress)?;
+    progress.found.arrange();
+    progress.known.settle();
+    progress.known.take_in(alloc, progress.found.as_slice())?;
     progress.known.arrange();
     progress.made += asks.len() as u32;
     progress.rounds += 1;

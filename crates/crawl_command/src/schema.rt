@@ -15,6 +15,7 @@ use lists::Text;
 use meaning::types::Instance;
 use source_trait::{Files, Lane, Sink, Source};
 use std::alloc::Global;
+use std::mem::forget;
 use std::thread::Threads;
 
 /// Writes the facts that the methods of the schema in the file reach from its constants, and says why it stopped.
@@ -73,7 +74,12 @@ fn deliver_facts<R: Threads + Sync, S: Source + Send + Drop, O: Sink>(
     ensures later { O.faults out.old ≤ O.faults out.new }
 {
     match crawl(rt, alloc, schema, lanes, calls) {
-        Ok(part) => write_facts(alloc, schema, &part, out),
+        Ok(part) => {
+            let written = write_facts(alloc, schema, &part, out);
+            // the facts are not freed one by one: the system takes them back with the process
+            forget(part);
+            written
+        }
         Err(fault) => Err(stop_of_crawl(fault)),
     }
 }

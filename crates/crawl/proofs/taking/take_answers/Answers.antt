@@ -1,14 +1,17 @@
-use Rattle.std.proofs.Common.{◌≡◌, Some, inl, subst, arith}
-use Rattle.std.specs.Prelude.{slice_get}
+use Rattle.std.proofs.Common.{◌≡◌, Some, sym, subst, arith}
+use Rattle.std.specs.Prelude.{slice_get, Contains}
 use Rattle.lists.proofs.Members.{contains_got}
 use Rattle.lists.proofs.Places.{got_indexed}
+use Rattle.crawl.specs.declared.known.KnownValues.{KnownValues}
 use Rattle.crawl.proofs.Gaining.{answers_more}
 use Rattle.crawl.proofs.taking.take_answers.Goals as goal
 
 pub take_rows-requires : goal.take_rows-requires
 take_rows-requires c = λ v known.
     let at = got_indexed c.args.asks.now c.loop-ask.ask-index c.ask-item.result c.loop-ask-test.true c.ask-item.is in
-    (c.loop-ask.invariant.gains.values.all v).1 (inl (c.requires.known c.ask-item.result (contains_got c.args.asks.now c.loop-ask.ask-index c.ask-item.result at) v known))
+    subst (λ (k : KnownValues). Contains k.all.keys v) (sym c.loop-ask.invariant.gains.known)
+    (c.requires.known c.ask-item.result
+    (contains_got c.args.asks.now c.loop-ask.ask-index c.ask-item.result at) v known)
 
 pub loop-ask-preserved : goal.loop-ask-preserved
 loop-ask-preserved c =

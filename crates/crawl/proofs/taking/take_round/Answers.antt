@@ -1,13 +1,11 @@
-use Rattle.std.proofs.Common.{List, refl, sym, subst, arith}
+use Rattle.std.proofs.Common.{List, refl, subst, arith}
 use Rattle.std.specs.Prelude.{Contains}
 use Rattle.meaning.specs.Values.{Value}
+use Rattle.crawl.specs.Knowing.{TakesIn}
+use Rattle.crawl.specs.declared.progress.Progress.{Progress}
 use Rattle.crawl.specs.Progress.{answered_by}
 use Rattle.crawl.proofs.Gaining.{answered_long, round_taken}
 use Rattle.crawl.proofs.taking.take_round.Goals as goal
-
-pub take_answers-requires-clause-known : goal.take_answers-requires-clause-known
-take_answers-requires-clause-known c = λ ask among v known.
-    subst (λ (l : List Value). Contains l v) (sym c.settle.ensures.all) (c.requires.known ask among v known)
 
 pub returns : goal.returns
 returns c =
@@ -16,5 +14,16 @@ returns c =
     let made = gains.made in
     let rounds = gains.rounds in
     let long = answered_long c.args.asks.now c.args.answers.now c.requires.answered in
-    round_taken (answered_by c.args.asks.now c.args.answers.now) old (record { known = c.settle.new.self; received = old.received; made = old.made; rounds = old.rounds }) c.take_answers.new.progress _
-    c.settle.ensures.all c.settle.ensures.none refl gains c.arrange.ensures.all c.arrange.ensures.same c.arrange.ensures.ascend refl (omega (arith, made, long)) (omega (arith, rounds))
+    let mid : Progress = record {
+      known = old.known;
+      found = c.clear.new.self;
+      received = old.received;
+      made = old.made;
+      rounds = old.rounds;
+    } in
+    let took = subst (λ (l : List Value). TakesIn (Contains l) c.settle.new.self c.take_in.new.self)
+    c.as_slice.ensures c.in_ok-take_in.ensures in
+    round_taken (answered_by c.args.asks.now c.args.answers.now) old mid c.take_answers.new.progress refl c.clear.ensures
+    refl gains c.arrange.new.self.list.items c.arrange.ensures.same c.settle.new.self c.take_in.new.self
+    c.settle.ensures.all c.settle.ensures.none took _ c.arrange-2.ensures.all c.arrange-2.ensures.same
+    c.arrange-2.ensures.ascend refl (omega (arith, made, long)) (omega (arith, rounds))

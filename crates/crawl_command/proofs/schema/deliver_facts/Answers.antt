@@ -6,7 +6,7 @@ use Rattle.crawl_command.proofs.schema.deliver_facts.Goals as goal
 
 pub returns-in-Ok-clause-delivers : goal.returns-in-Ok-clause-delivers
 returns-in-Ok-clause-delivers g c =
-    reported _ _ _ _ _ c.in-Ok.part c.in-Ok.ensures.crawls c.write_facts.result c.write_facts.ensures.delivers
+    reported _ _ _ _ _ c.in-Ok.part c.in-Ok.ensures.crawls c.write_facts-written.result c.write_facts-written.ensures.delivers
 
 pub returns-in-Ok-clause-lanes : goal.returns-in-Ok-clause-lanes
 returns-in-Ok-clause-lanes g c = c.in-Ok.ensures.crawls.stay

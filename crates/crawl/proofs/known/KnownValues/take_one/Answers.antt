@@ -28,4 +28,5 @@ returns c =
     takes_new old (record { all = c.insert.new.self; fresh = c.push.new.self }) c.args.value.now
     (λ h. is_added _ (contains order old.all c.args.value.now) (c.in_ok-insert.ensures.added ∙ ap (λ (v : Value). not (contains order old.all v)) c.in_ok-copy.ensures) c.if-not-branch.false ((held_iff old c.args.value.now).1 h))
     (c.in_ok-insert.ensures.keys ∙ ap (insert_key order old.all.keys) c.in_ok-copy.ensures)
-    (c.in_ok-push.ensures.items ∙ ap (λ (v : Value). old.fresh.items ++ v ∷ []) c.in_ok-copy-2.ensures)
+    (c.in_ok-push.ensures.items ∙ ap (λ (v : Value). old.fresh.items ++ v ∷ [])
+    (c.in_ok-copy-2.ensures ∙ c.text.ensures))

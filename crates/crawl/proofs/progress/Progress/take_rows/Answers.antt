@@ -1,10 +1,11 @@
-use Rattle.std.proofs.Common.{◌≡◌, ◌<◌, ◌∙◌, [], length, take, Some, inl, sym, ap, subst, arith}
-use Rattle.std.specs.Prelude.{slice_get}
+use Rattle.std.proofs.Common.{◌≡◌, ◌<◌, ◌∙◌, [], length, take, Some, sym, ap, subst, arith}
+use Rattle.std.specs.Prelude.{slice_get, Contains}
 use Rattle.std.proofs.lemmas.List.{take_all}
 use Rattle.std.proofs.lemmas.Option.{slice_get-get_or}
 use Rattle.lists.proofs.Places.{take_got}
 use Rattle.meaning.specs.Values.{Row}
 use Rattle.source_trait.specs.Asking.{RowList}
+use Rattle.crawl.specs.declared.known.KnownValues.{KnownValues}
 use Rattle.crawl.specs.Progress.{Gains, StandsIn, IsRowOf}
 use Rattle.crawl.proofs.Gaining.{rows_none, rows_more}
 use Rattle.crawl.proofs.progress.Progress.take_rows.Goals as goal
@@ -13,7 +14,8 @@ pub loop-number-init : goal.loop-number-init
 loop-number-init c = rows_none c.args.request.now.rel c.args.self.now
 
 pub take_row-requires : goal.take_row-requires
-take_row-requires c = λ v known. (c.loop-number.invariant.values.all v).1 (inl (c.requires v known))
+take_row-requires c = λ v known.
+    subst (λ (k : KnownValues). Contains k.all.keys v) (sym c.loop-number.invariant.known) (c.requires v known)
 
 pub loop-number-preserved : goal.loop-number-preserved
 loop-number-preserved c =
