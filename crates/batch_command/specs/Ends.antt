@@ -21,7 +21,7 @@ use Rattle.command_io.specs.FaultLines.{Names}
 use Rattle.command_io.specs.Telling.{StopsFor}
 use Rattle.command_io.specs.Executing.{Delivers, stop_of_batch}
 use Rattle.run_command.specs.Ends.{IsResult}
-use Rattle.run_command.specs.declared.settings.Settings.{Settings}
+use Rattle.run_command.specs.declared.settings.Limits.{Limits}
 use Rattle.batch_command.specs.Deciding.{Told, plans_of, AreTold, Halts}
 
 -- ---- what is written of an execution
@@ -85,18 +85,18 @@ pub data BatchTextsStop (told : Option Contents) (schema_name queries_name : Lis
       BatchTextsStop told schema_name queries_name rose end
 
 -- How `batch` ends: a text was refused, and nothing but the line was written; or both were read, and the statements were decided.
-pub data BatchEnds {S : Type 0} (seen : S → Seen) (schema_name queries_name : List ℕ) (settings : Settings) (before after : Moment)
+pub data BatchEnds {S : Type 0} (seen : S → Seen) (schema_name queries_name : List ℕ) (limits : Limits) (before after : Moment)
     (old new : List (Lane S)) :
     Result Outcome Stop → Type 0 where
   refused : (end : Stop) →
       StopsFor (BatchTextsStop before.files schema_name queries_name (Rose before.file_faults after.file_faults))
       (record { schema = schema_name; query = queries_name; plan = []; relations = [] }) before.err after.err
       (Rose before.err_faults after.err_faults) end →
-      after.out ≡ before.out → new ≡ old → BatchEnds seen schema_name queries_name settings before after old new (Err end)
+      after.out ≡ before.out → new ≡ old → BatchEnds seen schema_name queries_name limits before after old new (Err end)
   read : (schema : Schema) (statements : List Statement) (result : Result Outcome Stop) →
       SchemaIsRead before.files schema_name schema → BatchIsRead before.files queries_name schema statements →
-      StatementsEnd schema statements settings.firings settings.search (ExecutesOrStops seen schema settings.calls old new)
+      StatementsEnd schema statements limits.firings limits.search (ExecutesOrStops seen schema limits.calls old new)
       (AreParts (λ statement plan run. IsResult seen schema statement new plan run) statements)
       (record { schema = schema_name; query = queries_name; plan = []; relations = schema.relations }) (outputs_of before)
       (outputs_of after) old new result →
-      BatchEnds seen schema_name queries_name settings before after old new result
+      BatchEnds seen schema_name queries_name limits before after old new result

@@ -15,7 +15,7 @@ use access_schema::Schema;
 use command_io::{FileNames, Outcome, Outputs, Outside, Stop, schema_of, statements_of, tell};
 use lists::{Seq, Text};
 use meaning::types::Statement;
-use run_command::Settings;
+use run_command::Limits;
 use source_trait::{Files, Lane, Sink, Source};
 use std::alloc::Global;
 use std::thread::Threads;
@@ -29,13 +29,13 @@ pub fn run_batch<R: Threads + Sync, F: Files, S: Source + Send + Drop, O: Sink, 
     alloc: Global,
     schema_name: &Text,
     queries_name: &Text,
-    settings: Settings,
+    limits: Limits,
     outside: &mut Outside<F, O, E>,
     lanes: &mut [Lane<S>],
 ) -> Result<Outcome, Stop>
-    requires within { AreWithin settings }
+    requires within { AreWithin limits }
     requires lanes { length lanes.old ≤ 8 }
-    ensures ends { BatchEnds S.seen schema_name.now queries_name.now settings outside.old outside.new lanes.old lanes.new result }
+    ensures ends { BatchEnds S.seen schema_name.now queries_name.now limits outside.old outside.new lanes.old lanes.new result }
     ensures stays { Stays outside.old outside.new }
     ensures lanes { LanesStay S.seen lanes.old lanes.new }
 {
@@ -51,7 +51,7 @@ pub fn run_batch<R: Threads + Sync, F: Files, S: Source + Send + Drop, O: Sink, 
             names,
             &schema,
             statements.as_slice(),
-            settings,
+            limits,
             &mut outside.outputs,
             lanes,
         ),
@@ -92,16 +92,16 @@ fn answer_all<R: Threads + Sync, S: Source + Send + Drop, O: Sink, E: Sink>(
     names: FileNames<'_>,
     schema: &Schema,
     statements: &[Statement],
-    settings: Settings,
+    limits: Limits,
     outputs: &mut Outputs<O, E>,
     lanes: &mut [Lane<S>],
 ) -> Result<Outcome, Stop>
     requires fit { AllFit schema.now statements.now }
     requires few { length statements.now ≤ MOST_STATEMENTS }
-    requires within { AreWithin settings }
+    requires within { AreWithin limits }
     requires lanes { length lanes.old ≤ 8 }
-    ensures ends { StatementsEnd schema.now statements.now settings.firings settings.search
-        (ExecutesOrStops S.seen schema.now settings.calls lanes.old lanes.new) (AreParts IsGiven statements.now)
+    ensures ends { StatementsEnd schema.now statements.now limits.firings limits.search
+        (ExecutesOrStops S.seen schema.now limits.calls lanes.old lanes.new) (AreParts IsGiven statements.now)
         (record {
           schema = names.entry.schema.now;
           query = names.entry.query.now;
@@ -114,7 +114,7 @@ fn answer_all<R: Threads + Sync, S: Source + Send + Drop, O: Sink, E: Sink>(
     ensures later_out { outputs.old.out_faults ≤ outputs.new.out_faults }
     ensures later_err { outputs.old.err_faults ≤ outputs.new.err_faults }
 {
-    let plans = match decide_all(alloc, names, schema, statements, settings, &mut outputs.err) {
+    let plans = match decide_all(alloc, names, schema, statements, limits, &mut outputs.err) {
         Ok(plans) => plans,
         Err(end) => return end,
     };
@@ -124,7 +124,7 @@ fn answer_all<R: Threads + Sync, S: Source + Send + Drop, O: Sink, E: Sink>(
         schema,
         statements,
         plans.as_slice(),
-        settings.calls,
+        limits.calls,
         lanes,
         &mut outputs.out,
     ) {

@@ -15,7 +15,7 @@ use access_schema::Schema;
 use command_io::{FileNames, Outcome, Stop, print, tell};
 use meaning::types::{Plan, Statement};
 use no_plan_witness::Decision;
-use run_command::{Settings, decided};
+use run_command::{Limits, decided};
 use source_trait::Sink;
 use std::alloc::Global;
 
@@ -26,16 +26,16 @@ pub fn decide_all<E: Sink>(
     names: FileNames<'_>,
     schema: &Schema,
     statements: &[Statement],
-    settings: Settings,
+    limits: Limits,
     err: &mut E,
 ) -> Result<Vec<Plan>, Result<Outcome, Stop>>
     requires fit { (statement : Statement) → Contains statements.now statement → StatementFits schema.now statement }
-    requires within { AreWithin settings }
+    requires within { AreWithin limits }
     requires few { length statements.now < 2 ^ 32 }
-    ensures planned { IfOk result (λ plans. (told : List Told) × AreTold schema.now settings.firings settings.search statements.now
+    ensures planned { IfOk result (λ plans. (told : List Told) × AreTold schema.now limits.firings limits.search statements.now
         (E.taken err.old) (E.taken err.new) told
         × (plans.items ≡ plans_of told)) }
-    ensures ended { IfErr result (Halts schema.now settings.firings settings.search statements.now
+    ensures ended { IfErr result (Halts schema.now limits.firings limits.search statements.now
         (record {
           schema = names.entry.schema.now;
           query = names.entry.query.now;
@@ -48,7 +48,7 @@ pub fn decide_all<E: Sink>(
 {
     let mut plans = Vec::new(alloc);
     for statement in statements {
-        match decide_next(alloc, names, schema, statement, settings, &mut plans, err) {
+        match decide_next(alloc, names, schema, statement, limits, &mut plans, err) {
             Ok(()) => {}
             Err(end) => return Err(end),
         }
@@ -62,18 +62,18 @@ fn decide_next<E: Sink>(
     names: FileNames<'_>,
     schema: &Schema,
     statement: &Statement,
-    settings: Settings,
+    limits: Limits,
     plans: &mut Vec<Plan>,
     err: &mut E,
 ) -> Result<(), Result<Outcome, Stop>>
     requires fits { StatementFits schema.now statement.now }
-    requires within { AreWithin settings }
+    requires within { AreWithin limits }
     requires few { length plans.old.items + 1 < 2 ^ 32 }
-    ensures planned { OnOk result ((told : Told) × IsPlanned schema.now statement.now settings.firings settings.search told.plan
+    ensures planned { OnOk result ((told : Told) × IsPlanned schema.now statement.now limits.firings limits.search told.plan
         told.entries
         × TookAll (E.taken err.old) (E.taken err.new) (query_line (length plans.old.items + 1) ++ planned_text told.entries told.plan)
         × (plans.new.items ≡ plans.old.items ++ told.plan ∷ [])) }
-    ensures ended { IfErr result (EndsAt schema.now settings.firings settings.search (length plans.old.items + 1) statement.now
+    ensures ended { IfErr result (EndsAt schema.now limits.firings limits.search (length plans.old.items + 1) statement.now
         (record {
           schema = names.entry.schema.now;
           query = names.entry.query.now;
@@ -88,7 +88,7 @@ fn decide_next<E: Sink>(
         return Err(Err(tell(alloc, err, Stop::Memory, names, schema.relations.as_slice())));
     }
     let number = plans.len() as u32 + 1;
-    match decide_one(alloc, names, schema, statement, number, settings, err) {
+    match decide_one(alloc, names, schema, statement, number, limits, err) {
         Ok(plan) => match plans.push(plan) {
             Ok(()) => Ok(()),
             Err(_) => unreachable!(),
@@ -104,15 +104,15 @@ fn decide_one<E: Sink>(
     schema: &Schema,
     statement: &Statement,
     number: u32,
-    settings: Settings,
+    limits: Limits,
     err: &mut E,
 ) -> Result<Plan, Result<Outcome, Stop>>
     requires fits { StatementFits schema.now statement.now }
-    requires within { AreWithin settings }
-    ensures planned { IfOk result (λ plan. (told : Told) × IsPlanned schema.now statement.now settings.firings settings.search told.plan
+    requires within { AreWithin limits }
+    ensures planned { IfOk result (λ plan. (told : Told) × IsPlanned schema.now statement.now limits.firings limits.search told.plan
         told.entries
         × TookAll (E.taken err.old) (E.taken err.new) (query_line number ++ planned_text told.entries told.plan) × (plan ≡ told.plan)) }
-    ensures ended { IfErr result (EndsAt schema.now settings.firings settings.search number statement.now
+    ensures ended { IfErr result (EndsAt schema.now limits.firings limits.search number statement.now
         (record {
           schema = names.entry.schema.now;
           query = names.entry.query.now;
@@ -124,7 +124,7 @@ fn decide_one<E: Sink>(
     ensures later { E.faults err.old ≤ E.faults err.new }
 {
     let relations = schema.relations.as_slice();
-    let decision = match decided(alloc, schema, statement, settings.firings, settings.search) {
+    let decision = match decided(alloc, schema, statement, limits.firings, limits.search) {
         Ok(decision) => decision,
         Err(stop) => return Err(Err(tell(alloc, err, stop, names, relations))),
     };

@@ -1,5 +1,5 @@
 -- The status of `batch` says what was decided of the statements.
-use Rattle.std.proofs.Common.{◌+◌, ℕ, false, List, [], ◌∷◌, length, Option, Result, sym, subst, inl, inr}
+use Rattle.std.proofs.Common.{◌+◌, ℕ, List, [], ◌∷◌, length, Option, Result, sym, subst, inl, inr}
 use Rattle.std.specs.List.{AllZip}
 use Rattle.lists.proofs.Members.{contains_cases, contains_none}
 use Rattle.meaning.specs.declared.types.Plan.{Plan}
@@ -102,7 +102,7 @@ module _ (told : Option Contents) (name queries : List ℕ) (firings : ℕ) wher
 
 pub batch_says : {S : Type 0} (seen : S → Seen) (name queries : List ℕ) (firings search calls : ℕ) (before after : Moment)
     (old new : List (Lane S)) (result : Result Outcome Stop) →
-    BatchEnds seen name queries (record { firings = firings; search = search; calls = calls; verify = false }) before after old new result →
+    BatchEnds seen name queries (record { firings = firings; search = search; calls = calls }) before after old new result →
     SaysOfBatch (ended result) before.files name queries firings
 batch_says seen name queries firings search calls before after old new result (refused end why quiet same) =
     stop_says before.files name queries firings end (plain_end end (batch_texts_plain before.files name queries _) why)

@@ -1,4 +1,4 @@
--- Attaches are stopped by nothing but want of memory, where the sources of each lane serve.
+-- Attaches are stopped by nothing but a lack of memory, where the sources of each lane serve.
 use Rattle.std.proofs.Common.{◌≡◌, ◌≢◌, ◌<◌, ℕ, zero, suc, List, [], ◌∷◌, length, Option, None, Some, Err, refl, ap, subst, inl, inr, arith}
 use Rattle.std.specs.Prelude.{Contains, IsSome, slice_get}
 use Rattle.lists.proofs.Members.{some_injective, contains_cases, contains_got}

@@ -1,6 +1,6 @@
 -- The command `batch` is answered.
 use Rattle.std.proofs.Common.{◌≡◌, ◌∙◌, ◌++◌, ℕ, suc, List, [], map, length-append, Option, Some, Result, Ok, Err}
-use Rattle.std.proofs.Common.{false, refl, sym, subst, inl, inr, arith}
+use Rattle.std.proofs.Common.{refl, sym, subst, inl, inr, arith}
 use Rattle.std.specs.Prelude.{Contains, slice_get}
 use Rattle.std.proofs.lemmas.List.Elements.{Contains-append_right}
 use Rattle.lists.proofs.Members.{contains_got, contains_map, none_some}
@@ -55,7 +55,7 @@ use Rattle.pdq_core.proofs.CompleteSources.{none_rose}
 use Rattle.pdq_core.proofs.CompleteAttaches.{at_place, from_place, attaches_stop}
 use Rattle.pdq_core.proofs.CompleteRun.{printed}
 
--- a fault that stops the execution of one plan for want of memory stops a batch so too
+-- a fault that stops the execution of one plan for lack of memory stops a batch so too
 as_batch : (number : ℕ) (why : RunFault) → stop_of_run why ≡ stop.Memory → stop_of_batch number why ≡ stop.Memory
 as_batch number fault.NoMemory e = e
 as_batch number (fault.NoSource rel) e = e
@@ -133,7 +133,7 @@ module _ {S : Type 0} (seen : S → Seen) (schema : Schema) (plans : List Plan) 
     stop_by number (fault.CallFailed branch step) cause = absurd (call_stop number branch step cause)
     stop_by number (fault.OverCalls made wanted its) cause = absurd (cap_stop number made wanted its cause)
 
-  -- Nothing but want of memory stops the execution.
+  -- Nothing but a lack of memory stops the execution.
   stop_for : (why : BatchFault) → AttachesAndAsksAll seen schema plans calls old new (Err why) →
       stop_of_batch why.plan why.fault ≡ stop.Memory
   stop_for why (not_attached its attaches concerns) =
@@ -206,7 +206,7 @@ module _ {S : Type 0} (seen : S → Seen) (name queries : List ℕ) (firings sea
     (batch_given : BatchIsGiven before.files queries schema statements)
     (can : CanBatch seen firings search calls before after old new schema statements) where
   pub batch_answered : (result : Result Outcome Stop) →
-      BatchEnds seen name queries (record { firings = firings; search = search; calls = calls; verify = false }) before after old new
+      BatchEnds seen name queries (record { firings = firings; search = search; calls = calls }) before after old new
       result → IsAnswered (ended result)
   batch_answered result (refused end why quiet same) =
       stop_answered end (batch_texts_stop before.files name queries _ calm.files schema statements given batch_given) why

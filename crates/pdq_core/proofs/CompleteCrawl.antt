@@ -33,7 +33,7 @@ use Rattle.pdq_core.proofs.CompleteTexts.{same_schema, schema_stop, texts_stop, 
 use Rattle.pdq_core.proofs.CompleteSources.{none_rose}
 use Rattle.pdq_core.proofs.CompleteAttaches.{at_place, from_place, attaches_stop}
 
--- a fault that stops an execution for want of memory stops a crawl so too
+-- a fault that stops an execution for lack of memory stops a crawl so too
 as_crawl : (why : RunFault) → stop_of_run why ≡ stop.Memory → stop_of_crawl why ≡ stop.Memory
 as_crawl fault.NoMemory e = e
 as_crawl (fault.NoSource rel) e = e
@@ -95,7 +95,7 @@ module _ {S : Type 0} (seen : S → Seen) (schema : Schema) (calls : ℕ) (old n
   rounds_stop middle attaches stays (fault.OverCalls made wanted its) halts =
       absurd (cap_stop middle attaches stays (fault.OverCalls made wanted its) halts made wanted its halts.cause)
 
-  -- Nothing but want of memory stops the crawl.
+  -- Nothing but a lack of memory stops the crawl.
   stop_for : (why : RunFault) → AttachesAndCrawls seen schema calls old new (Err why) → stop_of_crawl why ≡ stop.Memory
   stop_for why (not_attached its attaches) =
       as_crawl why (attaches_stop seen schema (IsReachable schema) old new can.some can.serve why attaches)

@@ -1,4 +1,4 @@
--- An execution, or a delivery, is stopped by nothing but want of memory, where the sources of each lane serve and the cap is kept.
+-- An execution, or a delivery, is stopped by nothing but a lack of memory, where the sources of each lane serve and the cap is kept.
 use Rattle.std.proofs.Common.{◌≡◌, ℕ, zero, suc, List, [], ◌∷◌, map, Option, Err, refl, sym, ◌∙◌, subst, arith}
 use Rattle.std.specs.Prelude.{◌↔◌, Contains}
 use Rattle.std.specs.List.Sorted.{IsStrictlyIncreasing}
@@ -115,7 +115,7 @@ module _ {S : Type 0} (seen : S → Seen) (schema : Schema) (plan : Plan) where
     rounds_stop (fault.OverCalls made wanted its) rounds = absurd (cap_stop (fault.OverCalls made wanted its) rounds made wanted rounds.cause.1)
 
   module _ (calls : ℕ) (old new : List (Lane S)) (can : CanExecute seen schema plan calls old new) where
-    -- Nothing but want of memory stops the execution.
+    -- Nothing but a lack of memory stops the execution.
     stop_for : (why : RunFault) → AttachesAndAsks seen schema plan calls old new (Err why) → stop_of_run why ≡ stop.Memory
     stop_for why (not_attached its attaches) = attaches_stop seen schema (IsAccessed schema plan) old new can.some can.serve why attaches
     stop_for why (attached middle result (done each have) rounds) =

@@ -85,7 +85,7 @@ statement_answered seen schema statement names before after old new calm firings
 pub run_answered : {S : Type 0} (seen : S → Seen) (name query : List ℕ) (firings search calls : ℕ) (verify : Bool) (before after : Moment) (old new : List (Lane S)) (result : Result Outcome Stop) → NoneRose before after →
     (schema : Schema) (statement : Statement) → SchemaIsGiven before.files name schema → QueryIsGiven before.files query schema statement →
     ((plan : Plan) (entries : List Chosen) → IsPlanned schema statement firings search plan entries → IsPrinted entries plan before after → CanCarryOut seen schema calls verify old new plan) →
-    RunEnds seen name query (record { firings = firings; search = search; calls = calls; verify = verify }) before after old new result → IsAnswered (ended result)
+    RunEnds seen name query (record { limits = record { firings = firings; search = search; calls = calls }; verify = verify }) before after old new result → IsAnswered (ended result)
 run_answered seen name query firings search calls verify before after old new result calm schema statement given query_given can (refused end why quiet same) =
     stop_answered end (texts_stop before.files name query _ calm.files schema statement given query_given) why
 run_answered {S = S} seen name query firings search calls verify before after old new result calm schema statement given query_given can (read other its same_result is are ends) =

@@ -57,7 +57,7 @@ told_fault : (fault : AttachFault) (offer : Option (Result RowList AttachFault))
 told_fault fault None rose fine cause = cause
 told_fault fault (Some o) rose fine cause = absurd (cc)
 
--- where rows are offered, only a count that rose is a cause to refuse them, but for want of memory
+-- where rows are offered, only a count that rose is a cause to refuse them, but for lack of memory
 refused_for : (fault : AttachFault) (offer : Option (Result RowList AttachFault)) (rose : Type 0) → fault ≢ attach.NoMemory → IfSome offer IsOk → AttachCause fault offer rose → rose
 refused_for attach.NoMemory offer rose apart fine cause = absurd (apart refl)
 refused_for attach.Failed offer rose apart fine cause = cause

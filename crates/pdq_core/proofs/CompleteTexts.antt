@@ -1,4 +1,4 @@
--- Texts that are given are read, and what is left to stop a command is want of memory.
+-- Texts that are given are read, and what is left to stop a command is a lack of memory.
 use Rattle.std.proofs.Common.{◌≡◌, ◌<◌, ℕ, List, length, Option, None, Some, Result, Ok, Err, refl, sym, ◌∙◌, subst, inl, inr, arith}
 use Rattle.std.specs.Prelude.{IfSome, IsSomeAnd, MatchOption}
 use Rattle.lists.proofs.Members.{some_injective}
@@ -73,7 +73,7 @@ same_plan told name plan read given is =
     let (text, a, b) = same_text told name _ given is in
     one_plan text plan read a b
 
--- ---- what stops is want of memory
+-- ---- what stops is a lack of memory
 
 module _ (told : Option Contents) (name : List ℕ) (rose : Type 0) (calm : rose → ⊥) where
   no_cause : {P : List ℕ → Type 0} (limit : ℕ) → IsGiven told name limit P → (fault : FileFault) → FileCause fault told name limit rose → ⊥
@@ -134,7 +134,7 @@ pub result_stop : (rose : Type 0) → (rose → ⊥) → (end : Stop) → Result
 result_stop rose calm end result_memory = refl
 result_stop rose calm end (result_failed h) = absurd (calm h)
 
--- a delivery is stopped by nothing but want of memory, where nothing else stops what is delivered and the output does not fail
+-- a delivery is stopped by nothing but a lack of memory, where nothing else stops what is delivered and the output does not fail
 pub delivered_stop : {A : Type 0} (Ran : Result A Stop → Type 0) → ((end : Stop) → Ran (Err end) → end ≡ stop.Memory) → (IsText : A → List ℕ → Type 0)
     (out_old out_new : Option (List ℕ)) (rose : Type 0) → (rose → ⊥) → (why : Stop) → Delivers Ran IsText out_old out_new rose (Err why) → why ≡ stop.Memory
 delivered_stop Ran only IsText out_old out_new rose calm why (no_rows end ran same) = only end ran
@@ -145,7 +145,7 @@ pub decision_stop : (rose : Type 0) → (rose → ⊥) → (end : Stop) → Deci
 decision_stop rose calm end decision_memory = refl
 decision_stop rose calm end (decision_failed h) = absurd (calm h)
 
--- A command that stops for want of memory alone is answered.
+-- A command that stops for lack of memory alone is answered.
 pub stop_answered : {Cause : Stop → Type 0} {names : Names} {old new : Option (List ℕ)} {rose : Type 0} (end : Stop) → ((given : Stop) → Cause given → given ≡ stop.Memory) →
     StopsFor Cause names old new rose end → IsAnswered (status_of end)
 stop_answered end only why =

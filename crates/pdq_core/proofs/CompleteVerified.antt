@@ -1,4 +1,4 @@
--- An execution behind tests of the rules, or its delivery, is stopped by nothing but a broken rule or want of memory, where the sources of
+-- An execution behind tests of the rules, or its delivery, is stopped by nothing but a broken rule or a lack of memory, where the sources of
 -- each lane serve and the cap is kept.
 use Rattle.std.proofs.Common.{◌≡◌, ◌≢◌, ◌<◌, inl, inr, ℕ, List, [], ◌∷◌, length, take, Option, None, Ok, Err, refl, sym, ◌∙◌, ap, subst, arith}
 use Rattle.std.specs.Prelude.{IsSome}

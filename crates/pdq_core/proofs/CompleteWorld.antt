@@ -28,7 +28,7 @@ use Rattle.pdq_core.proofs.CompleteRun.{statement_answered}
 
 module _ {S : Type 0} (seen : S → Seen) (size : ℕ) (before after : Moment) (old new : List (Lane S)) (calm : NoneRose before after)
     (given : WorldIsSupplied seen size before after old new) where
-  -- texts of a schema and of a statement are refused for want of memory alone
+  -- texts of a schema and of a statement are refused for lack of memory alone
   world_stop : (end : Stop) → WorldStop size end → end ≡ stop.Memory
   world_stop end no_memory = refl
   world_stop end (no_schema fault apart is) = absurd (apart (schema_fault (schema_text size) given.schema fault given.schema_is is))

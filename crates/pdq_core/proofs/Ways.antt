@@ -1,5 +1,5 @@
 -- What the words of a command set.
-use Rattle.std.proofs.Common.{◌≤◌, ℕ, Bool, false, List, arith}
+use Rattle.std.proofs.Common.{◌≤◌, ℕ, Bool, List, arith}
 use Rattle.rule_pass.specs.declared.pass.TheConstants.{MOST_FIRINGS}
 use Rattle.proof_search.specs.declared.deciding.TheConstants.{MOST_UNITS}
 use Rattle.command_words.specs.Splits.{Item, IsSet}
@@ -36,7 +36,7 @@ pub units_explained : (words : List (List ℕ)) (schema query : List ℕ) (n uni
 units_explained words schema query n units is = units_in_range is.items units is.are_set.1.0
 
 module _ (words : List (List ℕ)) (schema query : List ℕ) (n units workers calls : ℕ) (verify : Bool) (is : IsCommand words (Run schema query n units workers calls verify)) where
-  pub settings_run : AreWithin (record { firings = n; search = units; calls = calls; verify = verify })
+  pub settings_run : AreWithin (record { firings = n; search = units; calls = calls })
   settings_run = record {
     firings = in_range is.items n is.are_set.0;
     search = units_in_range is.items units is.are_set.1.0;
@@ -48,7 +48,7 @@ module _ (words : List (List ℕ)) (schema query : List ℕ) (n units workers ca
 
 module _ (words : List (List ℕ)) (schema queries : List ℕ) (n units workers calls : ℕ)
     (is : IsCommand words (Batch schema queries n units workers calls)) where
-  pub settings_batch : AreWithin (record { firings = n; search = units; calls = calls; verify = false })
+  pub settings_batch : AreWithin (record { firings = n; search = units; calls = calls })
   settings_batch = record {
     firings = in_range is.items n is.are_set.0;
     search = units_in_range is.items units is.are_set.1.0;

@@ -1,5 +1,5 @@
 -- What a run of the program does: the ways in which it ends, with the exit status of each.
-use Rattle.std.specs.Prelude.{◌≡◌, ℕ, Bool, false, List, [], take, drop, Result, Ok, Err}
+use Rattle.std.specs.Prelude.{◌≡◌, ℕ, Bool, List, [], take, drop, Result, Ok, Err}
 use Rattle.source_trait.specs.Asking.{Seen}
 use Rattle.source_trait.specs.Causes.{Rose}
 use Rattle.source_trait.specs.declared.lanes.Lane.{Lane}
@@ -53,13 +53,13 @@ pub data Runs {S : Type 0} (seen : S → Seen) (words : List (List ℕ)) (before
   -- has the rules tested first, or not
   run : (name query : List ℕ) (firings search workers calls : ℕ) (verify : Bool) (result : Result Outcome Stop) →
       IsCommand words (Run name query firings search workers calls verify) →
-      RunEnds seen name query (record { firings = firings; search = search; calls = calls; verify = verify }) before after
+      RunEnds seen name query (record { limits = record { firings = firings; search = search; calls = calls }; verify = verify }) before after
       (take workers old) (take workers new) result →
       drop workers new ≡ drop workers old → Runs seen words before after old new (ended result)
   -- the words are `batch SCHEMA QUERIES`, with a number of firings, one of search units, one of workers and one of calls; no rules are tested
   batch : (name queries : List ℕ) (firings search workers calls : ℕ) (result : Result Outcome Stop) →
       IsCommand words (Batch name queries firings search workers calls) →
-      BatchEnds seen name queries (record { firings = firings; search = search; calls = calls; verify = false }) before after
+      BatchEnds seen name queries (record { firings = firings; search = search; calls = calls }) before after
       (take workers old) (take workers new) result →
       drop workers new ≡ drop workers old → Runs seen words before after old new (ended result)
   -- the words are `exec SCHEMA PLAN`, with a number of workers and one of calls

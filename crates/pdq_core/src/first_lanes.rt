@@ -15,7 +15,7 @@ use command_io::{Outcome, Outputs, Outside, Stop};
 use crawl_command::{crawl_schema, reach_query};
 use exec_command::exec_plan;
 use lists::Text;
-use run_command::{Settings, run_query, run_world};
+use run_command::{Limits, Settings, run_query, run_world};
 use source_trait::{Files, Lane, Sink, Source};
 use std::alloc::Global;
 use std::thread::Threads;
@@ -31,7 +31,7 @@ pub fn run_on_first<R: Threads + Sync, F: Files, S: Source + Send + Drop, O: Sin
     outside: &mut Outside<F, O, E>,
     lanes: &mut Vec<Lane<S>>,
 ) -> Result<Outcome, Stop>
-    requires within { AreWithin settings }
+    requires within { AreWithin settings.limits }
     requires workers { workers ≤ 8 }
     ensures ends { RunEnds S.seen schema.now query.now settings outside.old outside.new
         (take workers lanes.old.items) (take workers lanes.new.items) result }
@@ -49,21 +49,21 @@ pub fn batch_on_first<R: Threads + Sync, F: Files, S: Source + Send + Drop, O: S
     alloc: Global,
     schema: &Text,
     queries: &Text,
-    settings: Settings,
+    limits: Limits,
     workers: u32,
     outside: &mut Outside<F, O, E>,
     lanes: &mut Vec<Lane<S>>,
 ) -> Result<Outcome, Stop>
-    requires within { AreWithin settings }
+    requires within { AreWithin limits }
     requires workers { workers ≤ 8 }
-    ensures ends { BatchEnds S.seen schema.now queries.now settings outside.old outside.new
+    ensures ends { BatchEnds S.seen schema.now queries.now limits outside.old outside.new
         (take workers lanes.old.items) (take workers lanes.new.items) result }
     ensures behind { drop workers lanes.new.items ≡ drop workers lanes.old.items }
     ensures stays { Stays outside.old outside.new }
     ensures lanes { LanesStay S.seen lanes.old.items lanes.new.items }
 {
     let (used, _behind) = first_and_behind(lanes.as_mut_slice(), workers as usize);
-    run_batch(rt, alloc, schema, queries, settings, outside, used)
+    run_batch(rt, alloc, schema, queries, limits, outside, used)
 }
 
 /// `exec` on the first lanes. Those behind stay.

@@ -12,7 +12,7 @@ use check_command::check_plan;
 use command_io::{Outcome, Outside, Status, Stop, say, status};
 use command_words::{Command, read_words};
 use lists::Text;
-use run_command::{Settings, explain_query};
+use run_command::{Limits, Settings, explain_query};
 use schema_command::print_schema;
 use source_trait::{Files, Lane, Sink, Source};
 use std::alloc::Global;
@@ -66,12 +66,12 @@ pub fn run_words<R: Threads + Sync, F: Files, S: Source + Send + Drop, O: Sink, 
                 verify,
             },
         ) => {
-            let settings = Settings {
+            let limits = Limits {
                 firings,
                 search,
                 calls,
-                verify,
             };
+            let settings = Settings { limits, verify };
             ended(run_on_first(rt, alloc, schema, query, settings, workers, outside, lanes))
         }
         Some(
@@ -84,15 +84,12 @@ pub fn run_words<R: Threads + Sync, F: Files, S: Source + Send + Drop, O: Sink, 
                 calls,
             },
         ) => {
-            let settings = Settings {
+            let limits = Limits {
                 firings,
                 search,
                 calls,
-                verify: false,
             };
-            ended(batch_on_first(
-                rt, alloc, schema, queries, settings, workers, outside, lanes,
-            ))
+            ended(batch_on_first(rt, alloc, schema, queries, limits, workers, outside, lanes))
         }
         Some(
             Command::Exec {

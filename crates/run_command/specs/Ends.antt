@@ -34,13 +34,14 @@ use Rattle.no_plan_witness.specs.declared.decision.Decision.{Decision}
 use Rattle.explain.specs.Printing.{IsDecisionText, planned_text, undecided_text}
 use Rattle.proof_search.specs.Decisions.{IsUndecided}
 use Rattle.run_command.specs.Deciding.{IsPlanned, IsDecided, IsRefuted, TookPartOf}
+use Rattle.run_command.specs.declared.settings.Limits.{Limits}
 use Rattle.run_command.specs.declared.settings.Settings.{Settings}
 
 -- No number is above the greatest that is allowed.
-pub record AreWithin (settings : Settings) : Type 0 where
-  pub firings : settings.firings ≤ MOST_FIRINGS
-  pub search : settings.search ≤ MOST_UNITS
-  pub calls : settings.calls ≤ 1000000
+pub record AreWithin (limits : Limits) : Type 0 where
+  pub firings : limits.firings ≤ MOST_FIRINGS
+  pub search : limits.search ≤ MOST_UNITS
+  pub calls : limits.calls ≤ 1000000
 
 -- How a plan is carried out with so many requests: where the rules are to be tested, that comes first.
 abbrev pub carries_out : {S : Type 0} → (S → Seen) → Schema → ℕ → Bool → List (Lane S) → List (Lane S) → Plan → Result Run Stop → Type 0
@@ -102,7 +103,8 @@ pub data RunEnds {S : Type 0} (seen : S → Seen) (schema_name query_name : List
       after.out ≡ before.out → new ≡ old → RunEnds seen schema_name query_name settings before after old new (Err end)
   read : (schema : Schema) (statement : Statement) (result : Result Outcome Stop) →
       SchemaIsRead before.files schema_name schema → QueryIsRead before.files query_name schema statement →
-      StatementEnds schema statement settings.firings settings.search (carries_out seen schema settings.calls settings.verify old new)
+      StatementEnds schema statement settings.limits.firings settings.limits.search
+      (carries_out seen schema settings.limits.calls settings.verify old new)
       (IsResult seen schema statement new)
       (record { schema = schema_name; query = query_name; plan = []; relations = schema.relations })
       (outputs_of before) (outputs_of after) old new result →

@@ -43,7 +43,7 @@ pub record IsSummary {S : Type 0} (seen : S → Seen) (size : ℕ) (schema : Sch
 
 -- ---- ends
 
--- Why the texts of a world of this size are not read: memory was wanted, or one of them has a fault, which is never want of memory.
+-- Why the texts of a world of this size are not read: there was no memory, or one of them has a fault, which is never a lack of memory.
 pub data WorldStop (size : ℕ) : Stop → Type 0 where
   no_memory : WorldStop size stop.Memory
   no_schema : (fault : ReadFault) → fault ≢ schema_fault.NoMemory → IsReadFault (schema_text size) fault → WorldStop size (stop.Schema fault)

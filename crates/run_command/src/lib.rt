@@ -14,5 +14,5 @@ mod world;
 pub use deciding::decided;
 pub use explaining::explain_query;
 pub use run::run_query;
-pub use settings::Settings;
+pub use settings::{Limits, Settings};
 pub use world::run_world;

@@ -39,7 +39,7 @@ pub fn run_query<R: Threads + Sync, F: Files, S: Source + Send + Drop, O: Sink, 
     outside: &mut Outside<F, O, E>,
     lanes: &mut [Lane<S>],
 ) -> Result<Outcome, Stop>
-    requires within { AreWithin settings }
+    requires within { AreWithin settings.limits }
     requires lanes { length lanes.old ≤ 8 }
     ensures ends { RunEnds S.seen schema_name.now query_name.now settings outside.old outside.new lanes.old lanes.new result }
     ensures stays { Stays outside.old outside.new }
@@ -83,17 +83,23 @@ pub fn answer<R: Threads + Sync, S: Source + Send + Drop, O: Sink, E: Sink>(
     lanes: &mut [Lane<S>],
 ) -> Result<Outcome, Stop>
     requires fits { StatementFits schema.now statement.now }
-    requires within { AreWithin settings }
+    requires within { AreWithin settings.limits }
     requires lanes { length lanes.old ≤ 8 }
-    ensures ends { StatementEnds schema.now statement.now settings.firings settings.search
-        (carries_out S.seen schema.now settings.calls settings.verify lanes.old lanes.new) (λ plan. IsReport report.entry)
+    ensures ends { StatementEnds schema.now statement.now settings.limits.firings settings.limits.search
+        (carries_out S.seen schema.now settings.limits.calls settings.verify lanes.old lanes.new) (λ plan. IsReport report.entry)
         (record { schema = names.entry.schema.now; query = names.entry.query.now; plan = names.entry.plan.now; relations = schema.now.relations })
         outputs.old outputs.new lanes.old lanes.new result }
     ensures lanes { LanesStay S.seen lanes.old lanes.new }
     ensures later_out { outputs.old.out_faults ≤ outputs.new.out_faults }
     ensures later_err { outputs.old.err_faults ≤ outputs.new.err_faults }
 {
-    match decided(alloc, schema, statement, settings.firings, settings.search) {
+    match decided(
+        alloc,
+        schema,
+        statement,
+        settings.limits.firings,
+        settings.limits.search,
+    ) {
         Ok(decision) => carry_out(
             rt, alloc, names, schema, &decision, settings, report, outputs, lanes,
         ),
@@ -120,12 +126,12 @@ fn carry_out<R: Threads + Sync, S: Source + Send + Drop, O: Sink, E: Sink>(
     lanes: &mut [Lane<S>],
 ) -> Result<Outcome, Stop>
     requires decided { (statement : Statement) × (firings : ℕ) × (search : ℕ) × IsDecided schema.now statement firings search decision.now }
-    requires within { AreWithin settings }
+    requires within { AreWithin settings.limits }
     requires lanes { length lanes.old ≤ 8 }
     ensures ends { (statement : Statement) (firings search : ℕ) → StatementFits schema.now statement →
         IsDecided schema.now statement firings search decision.now →
         StatementEnds schema.now statement firings search
-        (carries_out S.seen schema.now settings.calls settings.verify lanes.old lanes.new) (λ plan. IsReport report.entry)
+        (carries_out S.seen schema.now settings.limits.calls settings.verify lanes.old lanes.new) (λ plan. IsReport report.entry)
         (record { schema = names.entry.schema.now; query = names.entry.query.now; plan = names.entry.plan.now; relations = schema.now.relations })
         outputs.old outputs.new lanes.old lanes.new result }
     ensures lanes { LanesStay S.seen lanes.old lanes.new }
@@ -176,16 +182,34 @@ fn deliver_as<R: Threads + Sync, S: Source + Send + Drop, O: Sink>(
 ) -> Result<(), Stop>
     requires lawful { (constants : List (List ℕ)) × IsLawful plan.now (meaning_of schema.now) constants }
     requires short { IsShort plan.now }
-    requires within { AreWithin settings }
+    requires within { AreWithin settings.limits }
     requires lanes { length lanes.old ≤ 8 }
-    ensures delivers { Delivers (carries_out S.seen schema.now settings.calls settings.verify lanes.old lanes.new plan.now) (IsReport report.entry)
-        (O.taken out.old) (O.taken out.new) (Rose (O.faults out.old) (O.faults out.new)) result }
+    ensures delivers { Delivers (carries_out S.seen schema.now settings.limits.calls settings.verify lanes.old lanes.new plan.now)
+        (IsReport report.entry) (O.taken out.old) (O.taken out.new) (Rose (O.faults out.old) (O.faults out.new)) result }
     ensures lanes { LanesStay S.seen lanes.old lanes.new }
     ensures later { O.faults out.old ≤ O.faults out.new }
 {
     if settings.verify {
-        deliver_verified(rt, alloc, schema, plan, report, settings.calls, lanes, out)
+        deliver_verified(
+            rt,
+            alloc,
+            schema,
+            plan,
+            report,
+            settings.limits.calls,
+            lanes,
+            out,
+        )
     } else {
-        deliver(rt, alloc, schema, plan, report, settings.calls, lanes, out)
+        deliver(
+            rt,
+            alloc,
+            schema,
+            plan,
+            report,
+            settings.limits.calls,
+            lanes,
+            out,
+        )
     }
 }

@@ -7,7 +7,7 @@ ghost use Rattle.world_source.specs.Texts.{query_text, schema_text};
 ghost use Rattle.run_command.specs.World.{WorldEnds, WorldStop};
 
 use crate::run::answer;
-use crate::settings::Settings;
+use crate::settings::{Limits, Settings};
 use access_schema::Schema;
 use command_io::{CALLS, FileNames, Outcome, Outputs, Report, Stop, tell};
 use lists::Text;
@@ -27,9 +27,11 @@ pub const UNITS: u32 = 10_000;
 
 // How far its query is taken.
 const SETTINGS: Settings = Settings {
-    firings: FIRINGS,
-    search: UNITS,
-    calls: CALLS,
+    limits: Limits {
+        firings: FIRINGS,
+        search: UNITS,
+        calls: CALLS,
+    },
     verify: false,
 };
 

@@ -17,13 +17,13 @@ returns-in-Err-clause-lanes g c = LanesStay-refl g.S.Source.seen c.args.lanes.no
 pub deliver_all-requires-clause-lawful : goal.deliver_all-requires-clause-lawful
 deliver_all-requires-clause-lawful g c κs within =
     let (told, are, same) = c.in-Ok.ensures.planned in
-    λ plan among. lawful_each c.args.schema.now c.args.statements.now c.args.settings.firings c.args.settings.search told are.planned plan
+    λ plan among. lawful_each c.args.schema.now c.args.statements.now c.args.limits.firings c.args.limits.search told are.planned plan
     (subst (λ (ps : List Plan). Contains ps plan) (c.as_slice.ensures.value ∙ same) among)
 
 pub deliver_all-requires-clause-short : goal.deliver_all-requires-clause-short
 deliver_all-requires-clause-short g c κs within =
     let (told, are, same) = c.in-Ok.ensures.planned in
-    λ plan among. short_each c.args.schema.now c.args.statements.now c.args.settings.firings c.args.settings.search told are.planned plan
+    λ plan among. short_each c.args.schema.now c.args.statements.now c.args.limits.firings c.args.limits.search told are.planned plan
     (subst (λ (ps : List Plan). Contains ps plan) (c.as_slice.ensures.value ∙ same) among)
 
 pub deliver_all-requires-clause-some : goal.deliver_all-requires-clause-some

@@ -9,7 +9,7 @@ pub returns-in-Ok-clause-ends : goal.returns-in-Ok-clause-ends
 returns-in-Ok-clause-ends g c =
     rw (← c.outside.view_is, ← c.outside-inside.view_is) (read c.in-Ok.schema c.in-Ok.statements c.answer_all.result
     c.in-Ok.ensures.schema c.in-Ok.ensures.statements
-    (with_results c.in-Ok.schema c.in-Ok.statements c.args.settings.firings c.args.settings.search g.S.Source.seen c.args.settings.calls
+    (with_results c.in-Ok.schema c.in-Ok.statements c.args.limits.firings c.args.limits.search g.S.Source.seen c.args.limits.calls
     _ _ _ _ _ c.answer_all.result
     (rw (c.as_str.ensures, c.as_str-2.ensures, c.as_slice.ensures) at c.answer_all.ensures.ends)))
 

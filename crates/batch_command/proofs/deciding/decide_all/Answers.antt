@@ -55,10 +55,10 @@ loop-statement-preserved g c =
     record {
       told = (
         told ++ its ∷ [],
-        subst (λ (s : List Statement). AreTold c.args.schema.now c.args.settings.firings c.args.settings.search s
+        subst (λ (s : List Statement). AreTold c.args.schema.now c.args.limits.firings c.args.limits.search s
             (g.E.Sink.taken c.args.err.now) (g.E.Sink.taken c.decide_next.new.err) (told ++ its ∷ []))
             (sym (take_indexed c.args.statements.now i c.statement-item.result c.loop-statement-test.true c.statement-item.is))
-            (told_more c.args.schema.now c.args.settings.firings c.args.settings.search
+            (told_more c.args.schema.now c.args.limits.firings c.args.limits.search
             (take i c.args.statements.now) c.statement-item.result (g.E.Sink.taken c.args.err.now)
             (g.E.Sink.taken c.loop-statement.err) (g.E.Sink.taken c.decide_next.new.err) told its are planned took_it),
         plans ∙ ap (λ (ps : List Plan). ps ++ its.plan ∷ []) same ∙ sym (plans_push told its),
@@ -70,7 +70,7 @@ pub returns-clause-planned : goal.returns-clause-planned
 returns-clause-planned g c =
     let (told, are, same) = c.loop-statement.invariant.told in (
       told,
-      subst (λ (s : List Statement). AreTold c.args.schema.now c.args.settings.firings c.args.settings.search s
+      subst (λ (s : List Statement). AreTold c.args.schema.now c.args.limits.firings c.args.limits.search s
           (g.E.Sink.taken c.args.err.now) (g.E.Sink.taken c.loop-statement.err) told)
           (take_all c.loop-statement.statement-index c.args.statements.now c.loop-statement-test.false) are,
       same,

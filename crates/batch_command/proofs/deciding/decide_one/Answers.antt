@@ -32,7 +32,7 @@ pub returns-in-Ok-plan_or_outcome-clause-planned :
 returns-in-Ok-plan_or_outcome-clause-planned g c =
     let (text, numbered, took) = c.in-Ok-write_numbered.ensures.whole in
     let (entries, is) = c.in-Ok-plan_or_outcome.ensures.plan in
-    plan_told c.args.schema.now c.args.statement.now c.args.settings.firings c.args.settings.search c.args.number c.in-Ok.decision
+    plan_told c.args.schema.now c.args.statement.now c.args.limits.firings c.args.limits.search c.args.number c.in-Ok.decision
     c.in-Ok.ensures.decided c.requires.fits
     _ _ text numbered took c.in-Ok-plan_or_outcome.plan entries is
 
@@ -40,6 +40,6 @@ pub returns-in-Err-plan_or_outcome-clause-ended : goal.returns-in-Err-plan_or_ou
 returns-in-Err-plan_or_outcome-clause-ended g c =
     let (text, numbered, took) = c.in-Ok-write_numbered.ensures.whole in
     let (same, not) = c.in-Err-plan_or_outcome.ensures.none in
-    outcome_told c.args.schema.now c.args.statement.now c.args.settings.firings c.args.settings.search c.args.number c.in-Ok.decision
+    outcome_told c.args.schema.now c.args.statement.now c.args.limits.firings c.args.limits.search c.args.number c.in-Ok.decision
     c.in-Ok.ensures.decided c.requires.fits
     _ _ text numbered took _ _ _ c.in-Ok.decision c.in-Err-plan_or_outcome.outcome refl same not
