@@ -17,7 +17,7 @@ use Rattle.explain.proofs.Comments.{NoFeeds, comment_passed}
 
 -- ---- texts without line feeds
 
-abbrev has_none : List ℕ → Bool
+abbrev pub has_none : List ℕ → Bool
 has_none [] = true
 has_none (b ∷ bs) = not (nat_eq b 10) && has_none bs
 
@@ -91,6 +91,12 @@ lines_passed (entry ∷ entries) number text plan says =
     let same : 35 ∷ (body number entry ++ 10 ∷ behind) ≡ entry_lines number (entry ∷ entries) ++ text =
     sym (line_is number entry behind) ∙ sym (append_assoc (entry_line number entry) (entry_lines (number + 1) entries) text) in
     subst (λ (bytes : List ℕ). SaysPlan bytes plan) same passed
+
+-- a comment line of words without a line feed and a number
+pub numbered_passed : (words : List ℕ) (number : ℕ) (text : List ℕ) (plan : Plan) → has_none words ≡ true → SaysPlan text plan →
+    SaysPlan (35 ∷ ((words ++ decimal number) ++ 10 ∷ text)) plan
+numbered_passed words number text plan none says =
+    comment_passed (words ++ decimal number) text (none_append words (decimal number) (none_of words none) (none_decimal number)) plan says
 
 -- A plan's text behind comment lines says the plan.
 pub planned_again : (entries : List Chosen) (plan : Plan) → IsWritable plan → SaysPlan (planned_text entries plan) plan

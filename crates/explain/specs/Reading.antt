@@ -88,7 +88,7 @@ next_at schema (Second answer first second) ls =
     else (fact_at schema.relations ls >>= λ x. Some (Second answer first (second ++ x.0 ∷ [])))
 next_at schema (Ended pair) ls = None
 
--- a line without tokens is passed over, and a line that does not fit is told by its number
+-- a line without tokens is passed over, and a line that does not fit is named by its number
 abbrev pub next_progress : (Progress → Result Progress ℕ) → ℕ → Progress → List Lexeme → Option Progress → Result Progress ℕ
 next_progress go number done [] read = go done
 next_progress go number done (t ∷ ts) None = Err number

@@ -1,0 +1,4 @@
+pub mod Numbered
+pub mod Ended
+pub mod Answered
+pub mod Together
