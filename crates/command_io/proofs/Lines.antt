@@ -1,4 +1,4 @@
--- What is taken of a text whole is a first part of it, and how the line of want of memory tells a stop.
+-- What is taken of a text whole is a first part of it, and how the line for a lack of memory tells a stop.
 use Rattle.std.proofs.Common.{◌≡◌, ℕ, List, [], ◌∷◌, ◌++◌, length, take, Option, option_map, refl, ap, ◌∙◌, inl, inr, arith}
 use Rattle.command_io.specs.declared.stop.Stop.{Stop}
 use Rattle.command_io.specs.declared.stop.Stop.TheVariants as stop

@@ -28,12 +28,12 @@ stop_of_run (fault.Attach rel why) = stop.Run (fault.Attach rel why)
 stop_of_run (fault.CallFailed branch step) = stop.Run (fault.CallFailed branch step)
 stop_of_run (fault.OverCalls made wanted cap) = stop.Run (fault.OverCalls made wanted cap)
 
--- How a fault of a crawl stops a command: a failed call is told by its round.
+-- How a fault of a crawl stops a command: a failed call is named by its round.
 abbrev pub stop_of_crawl : RunFault → Stop
 stop_of_crawl (fault.CallFailed branch step) = stop.RoundFailed step
 stop_of_crawl why = stop_of_run why
 
--- How a fault of an execution of the query of this number stops a batch: a failed call is told by its query.
+-- How a fault of an execution of the query of this number stops a batch: a failed call is named by its query.
 abbrev pub stop_of_batch : ℕ → RunFault → Stop
 stop_of_batch number (fault.CallFailed branch step) = stop.QueryCall number branch step
 stop_of_batch number why = stop_of_run why

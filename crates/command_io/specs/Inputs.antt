@@ -70,8 +70,8 @@ pub data FileStop (told : Option Contents) (name : List ℕ) (limit : ℕ) (rose
   no_memory : FileStop told name limit rose which stop.Memory
   not_read : (fault : FileFault) → FileCause fault told name limit rose → FileStop told name limit rose which (stop.File which fault)
 
--- Why no schema is read from the file of this name: memory was wanted, the file is not read, or its text has this fault, which
--- is never want of memory.
+-- Why no schema is read from the file of this name: there was no memory, the file is not read, or its text has this fault, which
+-- is never a lack of memory.
 pub data SchemaStop (told : Option Contents) (name : List ℕ) (rose : Type 0) : Stop → Type 0 where
   no_memory : SchemaStop told name rose stop.Memory
   no_file : (end : Stop) → FileStop told name SCHEMA_LIMIT rose input.Schema end → SchemaStop told name rose end

@@ -20,7 +20,7 @@ Tells old new rose names given result =
     ((result ≡ given) × TookLine old new rose (fault_line names given))
     ⊎ ((result ≡ stop.Memory) × (TookPart old new (fault_line names given) ⊎ TookPrefix old new memory_line))
 
--- A command stopped for a cause: it ends with that stop, whose line was written, or with want of memory for the line.
+-- A command stopped for a cause: it ends with that stop, whose line was written, or with a lack of memory for the line.
 pub record StopsFor (Cause : Stop → Type 0) (names : Names) (old new : Option (List ℕ)) (rose : Type 0) (end : Stop) : Type 0 where
   pub given : Stop
   pub cause : Cause given

@@ -102,7 +102,7 @@ pub fn stop_of_run(fault: RunFault) -> Stop
     }
 }
 
-/// How a fault of a crawl stops a command: a failed call is told by its round.
+/// How a fault of a crawl stops a command: a failed call is named by its round.
 pub fn stop_of_crawl(fault: RunFault) -> Stop
     ensures { result ≡ crawl_stop_for fault }
 {
@@ -120,7 +120,7 @@ pub fn stop_of_crawl(fault: RunFault) -> Stop
     }
 }
 
-/// How a fault of an execution of the query of this number stops a batch, where queries count from 0: a failed call is told by its query.
+/// How a fault of an execution of the query of this number stops a batch, where queries count from 0: a failed call is named by its query.
 pub fn stop_of_batch(number: u32, fault: RunFault) -> Stop
     ensures { result ≡ batch_stop_for number fault }
 {

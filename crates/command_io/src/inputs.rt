@@ -162,7 +162,7 @@ pub fn plan_of_file<F: Files>(alloc: Global, files: &mut F, name: &Text) -> Resu
     }
 }
 
-// The bytes of a file; want of memory is merged with nothing.
+// The bytes of a file, or the fault for which it is not read.
 fn read_file<F: Files>(
     alloc: Global,
     files: &mut F,

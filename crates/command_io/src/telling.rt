@@ -27,7 +27,7 @@ pub fn print<K: Sink>(sink: &mut K, text: &[u8], failed: Stop) -> Result<(), Sto
 }
 
 /// Writes the line of a stop, where `files` are the names of the files and these are the schema's relations. A sink that
-/// fails leaves the stop; want of memory takes its place.
+/// fails leaves the stop; a lack of memory takes its place.
 pub fn tell<E: Sink>(
     alloc: Global,
     err: &mut E,

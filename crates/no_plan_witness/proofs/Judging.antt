@@ -81,7 +81,7 @@ module _ (schema : SchemaParts) (constants known : List (List ℕ)) (same : cons
     not_answered = λ a. let is = answers_still.1 a in (cc);
   }
 
--- each fault but want of memory contradicts a part of a refutation
+-- each fault but a lack of memory contradicts a part of a refutation
 pub faulty : (schema : SchemaParts) (constants : List (List ℕ)) (statement : Statement) (pair : Witness) (fault : WitnessFault) → IsFault schema constants statement pair fault → Refutes schema constants statement pair.first pair.second pair.answer → fault ≡ NoMemory
 faulty schema constants statement pair NoMemory is refutes = refl
 faulty schema constants statement pair (RuleBroken number First) is refutes =

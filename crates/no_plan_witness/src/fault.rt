@@ -12,7 +12,7 @@ pub enum Which {
     Second,
 }
 
-/// Why a pair does not refute every plan: want of memory, which says nothing of the pair; the first rule that the first or the
+/// Why a pair does not refute every plan: a lack of memory, which says nothing of the pair; the first rule that the first or the
 /// second instance does not meet, by number; the first fact that is accessible of the first instance and not of the second; an
 /// answer that is none on the first instance, or still one on the second.
 #[derive(Drop)]

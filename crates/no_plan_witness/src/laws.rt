@@ -45,7 +45,7 @@ pub fn answer_length()
         IsWitnessOf constants first second head pair → length pair.answer ≡ length head }
 {}
 
-/// A pair with a fault does not refute, unless the fault is want of memory.
+/// A pair with a fault does not refute, unless the fault is a lack of memory.
 pub fn faulty_pairs_do_not_refute()
     ensures { (schema : SchemaParts) (constants : List Value) (statement : Statement) (pair : Witness) (fault : Fault) →
         IsFault schema constants statement pair fault →

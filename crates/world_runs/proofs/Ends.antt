@@ -84,11 +84,11 @@ ascend_once rows up i j row at_i at_j = ⊎_elim
 
 -- ---- ends
 
--- a command that stops for one of some causes, or for want of memory
+-- a command that stops for one of some causes, or for lack of memory
 stops_with : {Cause : Stop → Type 0} {names : Names} {old new : Option (List ℕ)} {rose : Type 0} (P : Stop → Type 0) (end : Stop) → P stop.Memory → ((given : Stop) → Cause given → P given) → StopsFor Cause names old new rose end → P end
 stops_with P end memory all why = ⊎_elim (λ stays. subst P (sym stays.0) (all why.given why.cause)) (λ wanted. subst P (sym wanted.0) memory) why.tells
 
--- texts of a world are refused for want of memory alone
+-- texts of a world are refused for lack of memory alone
 pub only_memory : (size : ℕ) (end : Stop) → size ≤ 10000 → WorldStop size end → end ≡ stop.Memory
 only_memory size _ few world_memory = refl
 only_memory size _ few (no_schema fault apart is) = absurd (apart (world_no_fault size (omega (arith, few)) fault is))

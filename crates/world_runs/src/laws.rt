@@ -36,7 +36,7 @@ pub fn worlds_are_decided()
 {}
 
 /// A run of `world N` over one or more lanes with new generators ends with its line, of N rows and 7N + 1 requests, or with a failed
-/// write, or with want of memory. The lanes stay, as every run ensures; nothing is supposed of their other kinds.
+/// write, or with a lack of memory. The lanes stay, as every run ensures; nothing is supposed of their other kinds.
 pub fn worlds_end<S: Source>()
     ensures command { (size : ℕ) (before after : Outputs) (old new : List (Lane S)) (result : Result Outcome Stop) → 1 ≤ size → size ≤ 10000
         → 0 < length old → OnEach old (HasGenerator S.seen) → LanesStay S.seen old new
