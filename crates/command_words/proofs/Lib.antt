@@ -1,4 +1,3 @@
-mod Numbers
 mod Cutting
 mod Splitting
 mod Giving

@@ -1,5 +1,5 @@
 -- What stands where in the bytes of a text.
-use Rattle.std.specs.Prelude.{ℕ, Bool, true, false, not, List, [], ◌∷◌, Option, None, Some, if◌then◌else◌, nat_eq}
+use Rattle.std.specs.Prelude.{ℕ, List, [], ◌∷◌, Option, None, Some, if◌then◌else◌, nat_eq}
 
 -- what stands before the first `=`, or all
 abbrev pub before_equals : List ℕ → List ℕ
@@ -10,9 +10,3 @@ before_equals (b ∷ bs) = if nat_eq b 61 then [] else b ∷ before_equals bs
 abbrev pub behind_equals : List ℕ → Option (List ℕ)
 behind_equals [] = None
 behind_equals (b ∷ bs) = if nat_eq b 61 then Some bs else behind_equals bs
-
--- There is a first byte, and it is no zero but the only byte.
-abbrev pub begins_plain : List ℕ → Bool
-begins_plain [] = false
-begins_plain (b ∷ []) = true
-begins_plain (b ∷ c ∷ bs) = not (nat_eq b 48)

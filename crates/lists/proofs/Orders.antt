@@ -1,11 +1,11 @@
 -- Texts that are the same, and the order of rows of texts, in which rows that tie are the same. Crates above cite these lemmas.
 use Rattle.std.proofs.Common.{◌≡◌, ◌∙◌, ℕ, suc, List, Some, Bool, true, refl, ap, slice_get, nat_eq, arith}
 use Rattle.std.specs.List.Sorted.{IsStrictlySortedBy}
-use Rattle.std.specs.Ordering.{nat_cmp, is_eq, eq_by_cmp}
+use Rattle.std.specs.Ordering.{nat_cmp, is_eq, eq_by_cmp, ordering_then}
 use Rattle.std.specs.Cmp.{IsTotalOrder, IsEquivalence}
 use Rattle.std.specs.Cmp.Lexicographic.{slice_cmp, pointwise, bytes_decides, texts_ties, lists_ties}
 use Rattle.std.specs.declared.cmp.Ordering.{Ordering}
-use Rattle.std.specs.declared.cmp.Ordering.TheVariants.{Less, Equal}
+use Rattle.std.specs.declared.cmp.Ordering.TheVariants.{Less, Equal, Greater}
 use Rattle.std.proofs.lemmas.Cmp.{lists_total, lists_equiv, nat_list_cmp_total, nat_list_eq_equiv}
 use Rattle.std.proofs.lemmas.Map.Keys.{Less-from_sorted}
 use Rattle.std.proofs.lemmas.Option.{slice_get_within, get_or_from_slice_get}
@@ -42,3 +42,9 @@ pub adjacent : {K : Type 0} (R : K → K → Ordering) (xs : List K) (i : ℕ) (
 adjacent R xs i a b s e f =
     let less = Less-from_sorted R xs i (suc i) a s (omega arith) (slice_get_within xs (suc i) b f) in
     rw (get_or_from_slice_get xs i a a e, get_or_from_slice_get xs (suc i) b a f) at less
+
+-- a second order that ties
+pub then_equal : (o : Ordering) → ordering_then o Equal ≡ o
+then_equal Less = refl
+then_equal Equal = refl
+then_equal Greater = refl

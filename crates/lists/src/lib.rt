@@ -6,12 +6,14 @@
 
 mod compared;
 mod copies;
+mod decimals;
 mod exact;
 mod hash;
 mod seq;
 mod text;
 
 pub use copies::Copies;
+pub use decimals::decimal_up_to;
 pub use exact::Exact;
 pub use hash::mix;
 pub use seq::Seq;

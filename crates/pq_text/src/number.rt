@@ -1,9 +1,9 @@
 // Numbers, as digits.
 ghost use Rattle.std.specs.Prelude.{◌≡◌, ◌≢◌, ◌<◌, ◌≤◌, ◌^◌, ◌++◌, ℕ, OnOk, MatchOption, min};
 ghost use Rattle.std.specs.Fmt.{decimal};
-ghost use Rattle.pq_text.specs.Numbers.{value_of, is_plain};
+ghost use Rattle.pq_text.specs.Numbers.{value_of};
 
-use lists::Text;
+use lists::{Text, decimal_up_to};
 use std::alloc::AllocError;
 
 /// The number that some digits stand for, or the limit where it passes the limit.
@@ -24,27 +24,8 @@ pub fn value_up_to(digits: &Text, limit: u64) -> u64
 pub fn plain_number(digits: &Text) -> Option<u32>
     ensures { MatchOption result ((n : ℕ) → n < 2 ^ 32 → digits.now ≢ decimal n) (λ n. digits.now ≡ decimal n) }
 {
-    match digits.as_str().parse::<u32>() {
-        Ok(number) => {
-            if is_plain(digits.as_bytes()) {
-                Some(number)
-            } else {
-                None
-            }
-        }
-        Err(_) => None,
-    }
-}
-
-// Whether the first byte is a digit, and no zero but the only one.
-fn is_plain(digits: &[u8]) -> bool
-    ensures { result ≡ is_plain digits.now }
-{
-    match digits {
-        [digit] => *digit >= b'0' && *digit <= b'9',
-        [digit, ..] => *digit >= b'1' && *digit <= b'9',
-        [] => false,
-    }
+    let number = decimal_up_to(digits.as_bytes(), u64::from(u32::MAX))?;
+    Some(number as u32)
 }
 
 /// Writes a number in digits, without leading zeros.
