@@ -1,14 +1,13 @@
 // The text of a verification.
 ghost use Rattle.std.specs.Prelude.{◌≡◌, ◌++◌, OnOk, IfOk, slice_get};
-ghost use Rattle.pq_text.specs.Printing.{printed_value};
 ghost use Rattle.pq_text.specs.Listed.{listed};
 ghost use Rattle.data_verify.specs.Telling.{fact_text, name_text, line_of, broken_text, verification_text};
 
 use crate::broken::Broken;
 use access_schema::Schema;
-use lists::{Bytes, NoMemory, Seq, Text};
+use lists::{Bytes, NoMemory, Seq};
 use meaning::types::{Fact, Relation};
-use pq_text::{print_name, print_number, print_value};
+use pq_text::{print_name, print_number, print_values};
 use std::alloc::Global;
 
 /// The line that tells that all rules are met, or the first rule that is not, with the facts that break it.
@@ -71,7 +70,7 @@ fn push_fact(out: &mut Vec<u8>, relations: &[Relation], fact: &Fact) -> Result<(
 {
     push_relation(out, relations, fact.rel)?;
     out.extend_from_slice(b"(")?;
-    push_values(out, fact.row.as_slice())?;
+    print_values(out, fact.row.as_slice())?;
     out.extend_from_slice(b")")?;
     Ok(())
 }
@@ -84,19 +83,4 @@ fn push_relation(out: &mut Vec<u8>, relations: &[Relation], number: u32) -> Resu
         Some(relation) => print_name(out, &relation.name),
         None => Ok(()),
     }
-}
-
-/// Writes the values, parted by a comma and a blank.
-fn push_values(out: &mut Vec<u8>, values: &[Text]) -> Result<(), NoMemory>
-    ensures { OnOk result (out.new.items ≡ out.old.items ++ listed printed_value values.now) }
-{
-    let [first, rest @ ..] = values else {
-        return Ok(());
-    };
-    print_value(out, first)?;
-    for value in rest {
-        out.extend_from_slice(b", ")?;
-        print_value(out, value)?;
-    }
-    Ok(())
 }

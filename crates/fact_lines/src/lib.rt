@@ -10,4 +10,4 @@ mod push;
 
 pub use lines::{facts_text, push_facts};
 pub use listing::ascending;
-pub use push::{push_str, push_values};
+pub use push::push_str;

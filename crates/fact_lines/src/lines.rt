@@ -6,11 +6,11 @@ ghost use Rattle.fact_lines.specs.Lent.{lent_fact};
 ghost use Rattle.fact_lines.specs.Lines.{relation_text, fact_text, IsFactsText};
 
 use crate::listing::ascending;
-use crate::push::{push_str, push_values};
+use crate::push::push_str;
 use access_schema::Schema;
 use lists::{Bytes, NoMemory, Row};
 use meaning::types::Instance;
-use pq_text::print_name;
+use pq_text::{print_name, print_values};
 use std::alloc::Global;
 
 /// The text of an instance: a line for each fact, each once and in ascending order.
@@ -42,7 +42,7 @@ fn push_fact(out: &mut Vec<u8>, schema: &Schema, rel: u32, row: &Row) -> Result<
 {
     push_relation(out, schema, rel)?;
     push_str(out, "(")?;
-    push_values(out, row.as_slice())?;
+    print_values(out, row.as_slice())?;
     push_str(out, ")\n")
 }
 

@@ -3,9 +3,9 @@ ghost use Rattle.std.specs.Prelude.{◌≡◌, [], length};
 ghost use Rattle.pq_text.specs.Lexemes.{Gives, members};
 ghost use Rattle.plan_form.specs.Reading.{plain_of, plain_at, plain_place_at, place_at, out_at, places_at, outs_at};
 
-use lists::{Seq, Text};
+use lists::Text;
 use meaning::types::{Out, Outs, Place, PlaceList};
-use pq_text::{Cursor, Misfit, plain_number};
+use pq_text::{Cursor, Form, Misfit, plain_number};
 use std::alloc::Global;
 
 /// A number without leading zeros, of 32 bits.
@@ -61,30 +61,42 @@ fn out(alloc: Global, cursor: &mut Cursor<'_>) -> Result<Out, Misfit>
     }
 }
 
+// The form of a place of a step.
+struct PlaceForm;
+
+impl Form for PlaceForm {
+    type Member = Place;
+
+    ghost at = { λ form. place_at };
+
+    fn take(&self, alloc: Global, cursor: &mut Cursor<'_>) -> Result<Place, Misfit> {
+        place(alloc, cursor)
+    }
+}
+
 /// Places with a comma between two: one or more.
 pub fn places(alloc: Global, cursor: &mut Cursor<'_>) -> Result<PlaceList, Misfit>
     ensures { Gives cursor.new result (places_at cursor.old) }
 {
-    let mut list = Seq::new(alloc);
-    for _ in 0..cursor.len() {
-        list.push(place(alloc, cursor)?)?;
-        if !cursor.accept(b",") {
-            return Ok(list);
-        }
+    cursor.members(alloc, &PlaceForm)
+}
+
+// The form of a place of an output.
+struct OutForm;
+
+impl Form for OutForm {
+    type Member = Out;
+
+    ghost at = { λ form. out_at };
+
+    fn take(&self, alloc: Global, cursor: &mut Cursor<'_>) -> Result<Out, Misfit> {
+        out(alloc, cursor)
     }
-    Err(Misfit::NoFit)
 }
 
 /// Output places with a comma between two: one or more.
 pub fn outs(alloc: Global, cursor: &mut Cursor<'_>) -> Result<Outs, Misfit>
     ensures { Gives cursor.new result (outs_at cursor.old) }
 {
-    let mut list = Seq::new(alloc);
-    for _ in 0..cursor.len() {
-        list.push(out(alloc, cursor)?)?;
-        if !cursor.accept(b",") {
-            return Ok(list);
-        }
-    }
-    Err(Misfit::NoFit)
+    cursor.members(alloc, &OutForm)
 }

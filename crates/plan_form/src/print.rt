@@ -1,7 +1,6 @@
 // The text of a plan.
 ghost use Rattle.std.specs.Prelude.{◌≡◌, ◌++◌, OnOk, IfOk, codes, flat_map};
 ghost use Rattle.std.specs.Str.{IsUtf8};
-ghost use Rattle.pq_text.specs.Listed.{listed};
 ghost use Rattle.pq_text.specs.Utf8.{KeepsUtf8};
 ghost use Rattle.plan_form.specs.Fitting.{IsWritable};
 ghost use Rattle.plan_form.specs.Grammar.{IsPlanText};
@@ -9,7 +8,7 @@ ghost use Rattle.plan_form.specs.Printing.{place_text, out_text, column_text, st
 
 use lists::Bytes;
 use meaning::types::{Branch, Out, Place, Plan, Step};
-use pq_text::{print_name, print_number, print_value};
+use pq_text::{Prints, print_listed, print_name, print_number, print_value};
 use std::alloc::{AllocError, Global};
 
 /// The text of a plan: its width, its branches with their access lines and output lines, and the line `end`.
@@ -54,7 +53,7 @@ fn push_branch(out: &mut Vec<u8>, branch: &Branch) -> Result<(), AllocError>
     out.extend_from_slice(b"branch\n")?;
     push_steps(out, branch.steps.as_slice())?;
     out.extend_from_slice(b"output ")?;
-    push_outs(out, branch.output.as_slice())?;
+    print_listed(out, &OutText, branch.output.as_slice())?;
     out.extend_from_slice(b"\n")?;
     Ok(())
 }
@@ -76,32 +75,22 @@ fn push_step(out: &mut Vec<u8>, step: &Step) -> Result<(), AllocError>
     out.extend_from_slice(b"access ")?;
     print_name(out, &step.method)?;
     out.extend_from_slice(b"(")?;
-    push_places(out, step.places.as_slice())?;
+    print_listed(out, &PlaceText, step.places.as_slice())?;
     out.extend_from_slice(b")\n")?;
     Ok(())
 }
 
-fn push_places(out: &mut Vec<u8>, places: &[Place]) -> Result<(), AllocError>
-    ensures text { OnOk result (out.new.items ≡ out.old.items ++ listed place_text places.now) }
-    ensures utf8 { OnOk result (KeepsUtf8 out.old.items out.new.items) }
-{
-    let [first, rest @ ..] = places else {
-        return Ok(());
-    };
-    push_place(out, first)?;
-    push_further_places(out, rest)
-}
+// Places of steps as they are printed.
+struct PlaceText;
 
-// Appends a comma, a blank and a place, for each.
-fn push_further_places(out: &mut Vec<u8>, places: &[Place]) -> Result<(), AllocError>
-    ensures text { OnOk result (out.new.items ≡ out.old.items ++ flat_map (λ y. codes ", " ++ place_text y) places.now) }
-    ensures utf8 { OnOk result (KeepsUtf8 out.old.items out.new.items) }
-{
-    for place in places {
-        out.extend_from_slice(b", ")?;
-        push_place(out, place)?;
+impl Prints for PlaceText {
+    type Item = Place;
+
+    ghost text = { λ form. place_text };
+
+    fn print(&self, out: &mut Vec<u8>, item: &Place) -> Result<(), AllocError> {
+        push_place(out, item)
     }
-    Ok(())
 }
 
 fn push_place(out: &mut Vec<u8>, place: &Place) -> Result<(), AllocError>
@@ -118,27 +107,17 @@ fn push_place(out: &mut Vec<u8>, place: &Place) -> Result<(), AllocError>
     }
 }
 
-fn push_outs(out: &mut Vec<u8>, outs: &[Out]) -> Result<(), AllocError>
-    ensures text { OnOk result (out.new.items ≡ out.old.items ++ listed out_text outs.now) }
-    ensures utf8 { OnOk result (KeepsUtf8 out.old.items out.new.items) }
-{
-    let [first, rest @ ..] = outs else {
-        return Ok(());
-    };
-    push_out(out, first)?;
-    push_further_outs(out, rest)
-}
+// Places of outputs as they are printed.
+struct OutText;
 
-// Appends a comma, a blank and an output place, for each.
-fn push_further_outs(out: &mut Vec<u8>, outs: &[Out]) -> Result<(), AllocError>
-    ensures text { OnOk result (out.new.items ≡ out.old.items ++ flat_map (λ y. codes ", " ++ out_text y) outs.now) }
-    ensures utf8 { OnOk result (KeepsUtf8 out.old.items out.new.items) }
-{
-    for member in outs {
-        out.extend_from_slice(b", ")?;
-        push_out(out, member)?;
+impl Prints for OutText {
+    type Item = Out;
+
+    ghost text = { λ form. out_text };
+
+    fn print(&self, out: &mut Vec<u8>, item: &Out) -> Result<(), AllocError> {
+        push_out(out, item)
     }
-    Ok(())
 }
 
 fn push_out(out: &mut Vec<u8>, member: &Out) -> Result<(), AllocError>

@@ -6,7 +6,7 @@ use Rattle.std.specs.Fmt.{decimal}
 use Rattle.std.proofs.lemmas.Bool.{leb-true, le-leb, lt-leb, eqb-true, ne_eqb}
 use Rattle.std.proofs.lemmas.List.{map-append}
 use Rattle.std.proofs.lemmas.Fmt.{decimal_by_steps}
-use Rattle.lists.proofs.Booleans.{and_true, first_true, and_false, neither_true, second_false, first_false}
+use Rattle.lists.proofs.Booleans.{and_true, first_true, neither_true, second_false, first_false}
 use Rattle.pq_text.specs.declared.token.Style.TheVariants.{Lines}
 use Rattle.pq_text.specs.declared.token.TokenKind.TheVariants.{Word, Quoted, Number, Symbol}
 use Rattle.pq_text.specs.declared.scan.Found.TheVariants.{Begins}

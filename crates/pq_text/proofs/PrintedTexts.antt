@@ -9,7 +9,6 @@ use Rattle.std.proofs.lemmas.Fmt.{IsAscii-decimal}
 use Rattle.std.proofs.lemmas.Str.{IsUtf8-nil, IsUtf8-append, IsUtf8-encode, IsUtf8-from_ascii, encode_ascii}
 use Rattle.std.proofs.Math.Utf8.{scalar, scalars, encode, encodes}
 use Rattle.lists.proofs.Booleans.{both_true}
-use Rattle.pq_text.specs.Pieces.{behind_blank}
 use Rattle.pq_text.specs.Printing.{is_bare, doubled, between, printed_name, printed_value}
 use Rattle.pq_text.proofs.Standing.{encode_high, cons_utf8}
 

@@ -1,8 +1,9 @@
 // A reader over the tokens that are left of a line.
-ghost use Rattle.std.specs.Prelude.{◌≡◌, true, false, IsTrue, None, Some, length};
-ghost use Rattle.pq_text.specs.Lexemes.{word_at, symbol_at, name_at, value_at, text_at, number_at, name_next, word_next, end_at, names_at, values_at, Gives, GivesRest};
+ghost use Rattle.std.specs.Prelude.{◌≡◌, true, false, IsTrue, None, Some, [], length};
+ghost use Rattle.pq_text.specs.Lexemes.{word_at, symbol_at, name_at, value_at, text_at, number_at, name_next, word_next, end_at, members, names_at, values_at, Gives, GivesRest};
 ghost use Rattle.pq_text.specs.declared.cursor.Misfit.TheVariants.{NoMemory};
 
+use crate::form::{Form, NameForm, ValueForm};
 use crate::lexeme::Lexeme;
 use lists::{Copies, Seq, Text, Texts};
 use std::alloc::{AllocError, AllocFailed, Global};
@@ -149,13 +150,13 @@ impl<'a> Cursor<'a> {
         }
     }
 
-    /// Takes names with a comma between two: one or more.
-    pub fn names(&mut self, alloc: Global) -> Result<Texts, Misfit>
-        ensures { Gives self.new result (names_at self.old) }
+    /// Takes members of a form with a comma between two: one or more.
+    pub fn members<F: Form>(&mut self, alloc: Global, form: &F) -> Result<Seq<F::Member>, Misfit>
+        ensures { Gives self.new result (members (F.at form.now) (length self.old) [] self.old) }
     {
         let mut list = Seq::new(alloc);
         for _ in 0..self.len() {
-            list.push(self.name(alloc)?)?;
+            list.push(form.take(alloc, self)?)?;
             if !self.accept(b",") {
                 return Ok(list);
             }
@@ -163,18 +164,18 @@ impl<'a> Cursor<'a> {
         Err(Misfit::NoFit)
     }
 
+    /// Takes names with a comma between two: one or more.
+    pub fn names(&mut self, alloc: Global) -> Result<Texts, Misfit>
+        ensures { Gives self.new result (names_at self.old) }
+    {
+        self.members(alloc, &NameForm)
+    }
+
     /// Takes values with a comma between two: one or more.
     pub fn values(&mut self, alloc: Global) -> Result<Texts, Misfit>
         ensures { Gives self.new result (values_at self.old) }
     {
-        let mut list = Seq::new(alloc);
-        for _ in 0..self.len() {
-            list.push(self.value(alloc)?)?;
-            if !self.accept(b",") {
-                return Ok(list);
-            }
-        }
-        Err(Misfit::NoFit)
+        self.members(alloc, &ValueForm)
     }
 
     /// Whether the word stands next.

@@ -6,8 +6,10 @@
 
 mod cursor;
 mod cut;
+mod form;
 mod laws;
 mod lexeme;
+mod listed;
 mod number;
 mod print;
 mod scan;
@@ -17,8 +19,10 @@ mod utf8;
 
 pub use cursor::{Cursor, Misfit};
 pub use cut::{next_line, text_lines};
+pub use form::Form;
 pub use laws::{printed_lines_are_read, printed_names_are_read, printed_values_are_read};
 pub use lexeme::{Lexeme, Lexemes, Line, Lines, TextLines};
+pub use listed::{Prints, print_listed, print_values};
 pub use number::{plain_number, print_number, value_up_to};
 pub use print::{print_name, print_value};
 pub use scan::{Found, front_tokens, tokens};

@@ -8,5 +8,5 @@ returns-clause-utf8 c = λ utf8.
     let begun = ascii_then c.args.out.now.items c.extend_from_slice.new.self.items (codes "access ") c.in_ok-extend_from_slice.ensures.items refl utf8 in
     let named = c.in_ok-print_name.ensures.utf8 begun in
     let opened = ascii_then c.print_name.new.out.items c.extend_from_slice-2.new.self.items (codes "(") c.in_ok-extend_from_slice-2.ensures.items refl named in
-    let placed = c.in_ok-push_places.ensures.utf8 opened in
-    ascii_then c.push_places.new.out.items c.extend_from_slice-3.new.self.items (codes ")\n") c.in_ok-extend_from_slice-3.ensures.items refl placed
+    let placed = c.in_ok-print_listed.ensures.utf8 opened in
+    ascii_then c.print_listed.new.out.items c.extend_from_slice-3.new.self.items (codes ")\n") c.in_ok-extend_from_slice-3.ensures.items refl placed

@@ -1,7 +1,0 @@
-use Rattle.std.proofs.Common.{◌≡◌, ◌++◌, take}
-use Rattle.std.specs.Prelude.{flat_map, codes}
-use Rattle.pq_text.specs.Printing.{printed_value}
-use Rattle.data_verify.proofs.text.push_values.Given as goal
-
-abbrev pub invariant-loop-value : goal.invariant-loop-value
-invariant-loop-value l = l.out.items ≡ l.initial.out.items ++ flat_map (λ y. codes ", " ++ printed_value y) (take l.value-index l.rest)
