@@ -5,10 +5,9 @@ use Rattle.std.specs.Cmp.Lexicographic.{slice_cmp}
 use Rattle.std.specs.declared.cmp.Ordering.{Ordering}
 use Rattle.std.specs.declared.cmp.Ordering.TheVariants.{Less, Equal, Greater}
 use Rattle.row_text.specs.RowText.{row_cmp}
-use Rattle.row_text.specs.Starts.{first_of}
 use Rattle.row_text.proofs.Starts.{number-decides}
 use Rattle.meaning.specs.Values.{Value, Row}
-use Rattle.crawl.specs.Starts.{IsStart}
+use Rattle.row_text.specs.Starts.{IsStart, first_of}
 
 -- an ordering of the numbers that is not `Equal` is that of the rows
 pub row-decides : (a b : Row) (s t : ℕ) (o : Ordering) → IsStart s (first_of a) → IsStart t (first_of b)

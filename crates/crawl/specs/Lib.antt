@@ -4,5 +4,4 @@ pub mod Progress
 pub mod Asking
 pub mod Rounding
 pub mod Reaching
-pub mod Starts
 pub mod Finding

@@ -1,14 +1,14 @@
 // Texts and rows in order: most are told apart by the bytes that they begin with, and so without a look at them.
-ghost use Rattle.std.specs.Prelude.{◌≡◌, Some, nat_eq, refl, slice_index};
+ghost use Rattle.std.specs.Prelude.{◌≡◌, Some, nat_eq, refl};
 ghost use Rattle.std.specs.Cmp.{partial_equiv_from_equiv, po};
 ghost use Rattle.std.specs.Cmp.Lexicographic.{lists_equiv, lists_ties, lists_total, nat_list_cmp_total, nat_list_eq_equiv};
 ghost use Rattle.std.specs.Cmp.Lexicographic.{pointwise, slice_cmp, texts_po, texts_ties};
 ghost use Rattle.std.specs.Ordering.{nat_cmp};
 ghost use Rattle.row_text.specs.RowText.{row_cmp, row_eq};
 ghost use Rattle.row_text.specs.Starts.{first_of};
-ghost use Rattle.crawl.specs.Starts.{IsStart};
 
 use lists::{Copies, Row, Text};
+use row_text::start_of;
 use std::alloc::{AllocError, Global};
 use std::cmp::Ordering;
 use std::marker::Model;
@@ -22,7 +22,7 @@ pub struct StartedText {
 
 impl Model for StartedText {
     ghost use Rattle.std.specs.Prelude.{List, ℕ};
-    ghost use Rattle.crawl.specs.Starts.{IsStart};
+    ghost use Rattle.row_text.specs.Starts.{IsStart};
 
     ghost Value = { List ℕ };
 
@@ -32,6 +32,7 @@ impl Model for StartedText {
 }
 
 impl StartedText {
+    /// The text with its number. Takes no memory.
     pub fn new(text: Text) -> StartedText
         ensures { result ≡ text }
     {
@@ -65,8 +66,7 @@ pub struct StartedRow {
 
 impl Model for StartedRow {
     ghost use Rattle.std.specs.Prelude.{List, ℕ};
-    ghost use Rattle.row_text.specs.Starts.{first_of};
-    ghost use Rattle.crawl.specs.Starts.{IsStart};
+    ghost use Rattle.row_text.specs.Starts.{IsStart, first_of};
 
     ghost Value = { List (List ℕ) };
 
@@ -76,6 +76,7 @@ impl Model for StartedRow {
 }
 
 impl StartedRow {
+    /// The row with the number of its first value. Takes no memory.
     pub fn new(row: Row) -> StartedRow
         ensures { result ≡ row }
     {
@@ -98,31 +99,6 @@ fn first_value(row: &Row) -> &[u8]
     match row.get(0) {
         Some(value) => value.as_bytes(),
         None => &[],
-    }
-}
-
-// The number of the first eight bytes, of which the first counts most.
-fn start_of(bytes: &[u8]) -> u64
-    ensures { IsStart result bytes.now }
-{
-    u64::from_be_bytes([
-        byte_at(bytes, 0),
-        byte_at(bytes, 1),
-        byte_at(bytes, 2),
-        byte_at(bytes, 3),
-        byte_at(bytes, 4),
-        byte_at(bytes, 5),
-        byte_at(bytes, 6),
-        byte_at(bytes, 7),
-    ])
-}
-
-fn byte_at(bytes: &[u8], place: usize) -> u8
-    ensures { result ≡ slice_index bytes.now place }
-{
-    match bytes.get(place) {
-        Some(byte) => *byte,
-        None => 0,
     }
 }
 

@@ -18,4 +18,5 @@ pub use lent_rows::LentRows;
 pub use order::ascending_distinct;
 pub use packed::PackedRows;
 pub use recent::Recent;
+pub use started::start_of;
 pub use text::csv_text;

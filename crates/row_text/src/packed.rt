@@ -68,6 +68,16 @@ impl PackedRows {
         Ok(room)
     }
 
+    /// No rows, with room for so many that are as long as these are on average.
+    pub fn room_for(&self, alloc: Global, count: usize) -> Result<PackedRows, AllocError>
+        ensures { IfOk result (λ room. room ≡ []) }
+    {
+        let values = share(self.values.len(), self.len(), count);
+        let bytes = share(byte_count(&self.values), self.len(), count);
+        let room = with_room(alloc, count, values, bytes)?;
+        Ok(room)
+    }
+
     /// These rows, copied.
     pub fn from_rows(alloc: Global, rows: &[Row]) -> Result<PackedRows, AllocError>
         ensures { IfOk result (λ packed. packed ≡ rows.now) }

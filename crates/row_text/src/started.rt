@@ -1,11 +1,10 @@
 // Rows in order: most are told apart by the bytes that they begin with, and so without a look at them.
-ghost use Rattle.std.specs.Prelude.{◌≡◌, ◌<◌, ℕ, Some, refl, slice_index};
+ghost use Rattle.std.specs.Prelude.{◌≡◌, Some, refl, slice_index};
 ghost use Rattle.std.specs.Cmp.{on_equiv, on_total, partial_equiv_from_equiv, po};
 ghost use Rattle.std.specs.Cmp.Lexicographic.{lists_equiv, lists_ties, lists_total, nat_list_cmp_total, nat_list_eq_equiv, slice_cmp, texts_ties};
-ghost use Rattle.std.specs.Int.{from_be_bytes, w64};
 ghost use Rattle.std.specs.Ordering.{nat_cmp};
 ghost use Rattle.row_text.specs.RowText.{row_cmp, row_eq};
-ghost use Rattle.row_text.specs.Starts.{first_of, row_start, start_of};
+ghost use Rattle.row_text.specs.Starts.{IsStart, first_of};
 
 use crate::lent::LentRow;
 use std::cmp::Ordering;
@@ -15,8 +14,7 @@ use std::cmp::Ordering;
 pub(crate) struct Started<'a> {
     start: u64,
     pub(crate) row: LentRow<'a>,
-    ghost starts: { start ≡ from_be_bytes w64 (row_start row) },
-    ghost bytes: { (place : ℕ) → slice_index (row_start row) place < 256 },
+    ghost starts: { IsStart start (first_of row) },
 }
 
 impl<'a> Started<'a> {
@@ -38,10 +36,9 @@ fn first_value<'a>(row: &LentRow<'a>) -> &'a [u8]
     }
 }
 
-// The number of the first eight bytes, of which the first counts most.
-fn start_of(bytes: &[u8]) -> u64
-    ensures number { result ≡ from_be_bytes w64 (start_of bytes.now) }
-    ensures bytes { (place : ℕ) → slice_index (start_of bytes.now) place < 256 }
+/// The number of the first eight bytes, of which the first counts most; behind a shorter text stand zeros.
+pub fn start_of(bytes: &[u8]) -> u64
+    ensures { IsStart result bytes.now }
 {
     u64::from_be_bytes([
         byte_at(bytes, 0),

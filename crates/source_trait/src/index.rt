@@ -1,5 +1,5 @@
 // An index of a relation's rows on positions.
-ghost use Rattle.std.specs.Prelude.{◌≡◌, ◌<◌, ◌≤◌, ◌%◌, ◌+◌, ℕ, length, map, max, IfOk, option_copied, slice_index};
+ghost use Rattle.std.specs.Prelude.{◌≡◌, ◌<◌, ◌≤◌, ◌%◌, ◌+◌, ℕ, [], length, map, max, IfOk, option_copied, slice_index};
 ghost use Rattle.std.specs.List.{AllByRecursion, filter};
 ghost use Rattle.source_trait.specs.Asking.{agrees};
 ghost use Rattle.source_trait.specs.Index.{AreChains, AreChainsBelow, HaveHeads, Indexes, chains_of, codes_of, index_in, key_hash, row_hash};
@@ -9,6 +9,9 @@ use crate::matching::with_matching;
 use lists::{Places, Text, mix};
 use row_text::{LentRow, PackedRows};
 use std::alloc::{AllocError, Global};
+
+// How many rows an answer has room for at first.
+const FEW_ROWS: usize = 4;
 
 /// An index of the rows of a relation on positions: chains of the rows whose values there hash to one code, or where many rows
 /// have this code, of those with the same values.
@@ -68,8 +71,9 @@ impl Index {
         let chain = self
             .crowded
             .chain_of_values(alloc, positions, values, code)?;
-        let mut found = PackedRows::new(alloc);
         let mut number = heads[chain];
+        let room = room_from(alloc, rows, number)?;
+        let mut found = room;
         while number < rows.len() {
             found = with_matching(found, &rows.at(number), positions, values)?;
             number = next[number];
@@ -90,6 +94,16 @@ pub(crate) fn find_index<'a>(indexes: &'a [Index], rel: u32, positions: &[u32]) 
         left = rest;
     }
     None
+}
+
+// No rows, with room for a few where there is a first one. So most answers grow no buffer, and an empty one takes no memory.
+fn room_from(alloc: Global, rows: &PackedRows, first: usize) -> Result<PackedRows, AllocError>
+    ensures { IfOk result (λ room. room ≡ []) }
+{
+    if first < rows.len() {
+        return rows.room_for(alloc, FEW_ROWS);
+    }
+    Ok(PackedRows::new(alloc))
 }
 
 // The code of each row.

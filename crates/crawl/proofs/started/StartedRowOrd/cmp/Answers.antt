@@ -1,7 +1,6 @@
 use Rattle.std.proofs.Common.{subst}
 use Rattle.meaning.specs.Values.{Row}
-use Rattle.row_text.specs.Starts.{first_of}
-use Rattle.crawl.specs.Starts.{IsStart}
+use Rattle.row_text.specs.Starts.{IsStart, first_of}
 use Rattle.crawl.proofs.Starts.{row-decides}
 use Rattle.crawl.proofs.started.StartedRowOrd.cmp.Goals as goal
 

@@ -1,5 +1,5 @@
 use Rattle.std.proofs.Common.{subst}
-use Rattle.crawl.specs.Starts.{IsStart}
+use Rattle.row_text.specs.Starts.{IsStart}
 use Rattle.crawl.proofs.Starts.{text-decides}
 use Rattle.crawl.proofs.started.StartedTextOrd.cmp.Goals as goal
 

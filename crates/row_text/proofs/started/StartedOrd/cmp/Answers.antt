@@ -5,4 +5,4 @@ pub returns-in_default : goal.returns-in_default
 returns-in_default c =
     let self = c.args.self.now in
     let other = c.args.other.now in
-    number-decides self.row other.row c.cmp.result self.bytes other.bytes (rw (self.starts, other.starts) at c.cmp.ensures) c.in_default.not-Equal
+    number-decides self.row other.row c.cmp.result self.starts.bytes other.starts.bytes (rw (self.starts.number, other.starts.number) at c.cmp.ensures) c.in_default.not-Equal

@@ -14,7 +14,7 @@ loop-number-init c =
     let low : c.in_ok-chain.chain < length index.heads.items = rw chain (c.requires.1 code values (omega (arith, c.requires.0))) in
     let asked : chain_of index.crowded code values ≡ key_chain index.positions index.count index.crowded c.args.values.now = rw (c.key_hash.ensures, c.as_slice-positions.ensures) refl in
     let at : get_or c.as_slice-heads.result.now c.in_ok-chain.chain 0 ≡ get_or index.heads.items c.in_ok-chain.chain 0 = rw c.as_slice-heads.ensures.value refl in
-    rw c.new-found.ensures
+    rw c.in_ok-room.ensures
     (found_first index.positions c.args.values.now c.args.rows.now index.count index.crowded index.heads.items index.next.items c.in_ok-chain.chain (get_or c.as_slice-heads.result.now c.in_ok-chain.chain 0) low c.requires.2 (chain ∙ asked) at)
 
 pub loop-number-preserved : goal.loop-number-preserved
