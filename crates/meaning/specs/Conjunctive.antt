@@ -14,10 +14,11 @@ use Rattle.meaning.specs.declared.types.Statement.{Statement}
 use Rattle.meaning.specs.declared.types.Term.TheVariants.{Const}
 use Rattle.meaning.specs.declared.types.Operand.TheVariants.{Column, Literal}
 use Rattle.meaning.specs.Values.{Row}
+use Rattle.meaning.specs.Integers.{IsInteger}
+use Rattle.meaning.specs.Sorts.{HoldsIntegers}
 use Rattle.meaning.specs.Instances.{FitsRelation, IsInstance}
 use Rattle.meaning.specs.Matching.{AnswersQuery}
 use Rattle.meaning.specs.Answers.{Answers}
-use Rattle.meaning.specs.Triggers.{joined}
 
 -- The conditions make two operands equal where a chain of them, read both ways, leads from the one to the other.
 pub data AreJoined (conditions : List Condition) : Operand → Operand → Type 0 where
@@ -41,6 +42,27 @@ pub record SelectFits (schema : SchemaParts) (select : Select) : Type 0 where
   pub conditions : (condition : Condition) → Contains select.conditions condition →
       OperandFits schema select condition.left × OperandFits schema select condition.right
   pub items : (item : Operand) → Contains select.items item → OperandFits schema select item
+
+-- The operand is a column that holds integers.
+abbrev pub IsIntegerColumn : SchemaParts → Select → Operand → Type 0
+IsIntegerColumn schema select (Literal text) = ⊥
+IsIntegerColumn schema select (Column from column) =
+    (rel : ℕ) × (slice_get select.froms from ≡ Some rel) × HoldsIntegers schema rel column
+
+-- The operand is an integer column, or the literal of an integer.
+abbrev pub IsIntegerSide : SchemaParts → Select → Operand → Type 0
+IsIntegerSide schema select (Literal text) = IsInteger text
+IsIntegerSide schema select (Column from column) = IsIntegerColumn schema select (Column from column)
+
+-- A condition is sorted where the other side of an integer column is one too, or the literal of an integer.
+pub record ConditionIsSorted (schema : SchemaParts) (select : Select) (condition : Condition) : Type 0 where
+  pub right : IsIntegerColumn schema select condition.left → IsIntegerSide schema select condition.right
+  pub left : IsIntegerColumn schema select condition.right → IsIntegerSide schema select condition.left
+
+-- A select is sorted where each of its conditions is.
+abbrev pub SelectIsSorted : SchemaParts → Select → Type 0
+SelectIsSorted schema select =
+    (condition : Condition) → Contains select.conditions condition → ConditionIsSorted schema select condition
 
 -- The term that there is; where there is none, the empty constant stands in.
 abbrev pub or_empty : Option Term → Term

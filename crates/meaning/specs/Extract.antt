@@ -21,7 +21,7 @@ use Rattle.meaning.specs.Plans.{IsLawfulBranch}
 use Rattle.meaning.specs.Rows.{IsBranchRow}
 use Rattle.meaning.specs.Claims.{IsModel}
 use Rattle.meaning.specs.Triggers.{bound, State, IsQuiet, IsFiringRun}
-use Rattle.meaning.specs.Runs.{IsKnownValue, opening, opening_state}
+use Rattle.meaning.specs.Runs.{IsKnownValue, opening_state}
 use Rattle.meaning.specs.Naming.{IsNamed, AreNamed}
 use Rattle.meaning.specs.Fitting.{Fit}
 
@@ -162,14 +162,3 @@ pub record IsQueryRival (schema : SchemaParts) (constants : List Value) (queries
       (goal : Query) × Contains queries goal × AnswersQuery goal facts row
   pub complete : (facts : List Fact) (row : Row) → IsModel schema facts →
       AnswersQuery query facts row → IsBranchRow schema branch facts row
-
--- Facts have a goal where every quiet state that firings reach from them has the head.
-abbrev pub HasGoalFrom : SchemaParts → List Query → List Val → ℕ → List Ground → Type 0
-HasGoalFrom schema queries head next facts =
-    (copy : List Trigger) (end : State) → IsFiringRun schema.rules (record { facts = facts; next = next }) copy end →
-    IsQuiet schema.rules end →
-    (goal : Query) × Contains queries goal × IsQueryAnswer Known (GroundsOf end.facts) goal head
-
--- Exposures have a goal where their facts have one.
-abbrev pub HasGoalAfter : SchemaParts → List Query → List Val → ℕ → List Exposure → Type 0
-HasGoalAfter schema queries head next exposures = HasGoalFrom schema queries head next (exposed_facts exposures)

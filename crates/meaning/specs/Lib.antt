@@ -1,4 +1,6 @@
 pub mod Values
+pub mod Integers
+pub mod Sorts
 pub mod Instances
 pub mod Matching
 pub mod Answers

@@ -1,6 +1,7 @@
 // Copies of facts, terms, plans and firings.
 use crate::types::{
-    Atom, Branch, Fact, Firing, Ground, Operand, Out, Place, Request, Step, Term, Trigger, Val,
+    Atom, Branch, Fact, Firing, Ground, Operand, Out, Place, Request, Sort, Step, Term, Trigger,
+    Val,
 };
 use lists::Copies;
 use std::alloc::{AllocError, Global};
@@ -20,6 +21,12 @@ impl Copies for Atom {
             rel: self.rel,
             terms: self.terms.copy(alloc)?,
         })
+    }
+}
+
+impl Copies for Sort {
+    fn copy(&self, _alloc: Global) -> Result<Sort, AllocError> {
+        Ok(*self)
     }
 }
 

@@ -7,12 +7,14 @@
 
 mod copied;
 mod hashing;
+mod integers;
 mod sameness;
 pub mod types;
 
 ghost use Rattle.std.specs.Prelude.{◌≡◌, ◌↔◌, ◌+◌, ◌<◌, ◌^◌, IsTrue, length};
 ghost use Rattle.meaning.specs.Plans.{made};
 
+pub use integers::is_integer;
 use types::{Fact, Place};
 
 /// Whether the fact is one of the relation.

@@ -11,6 +11,8 @@ pub type Rules = Seq<Rule>;
 /// The facts of an instance, of which only membership counts.
 pub type Instance = Seq<Fact>;
 
+pub type Sorts = Seq<Sort>;
+
 pub type Relations = Seq<Relation>;
 
 pub type Methods = Seq<Method>;
@@ -72,11 +74,19 @@ pub struct Method {
     pub cost: u32,
 }
 
-/// A relation and its columns.
+/// What the values of a column are: any texts, or integers of 64 bits.
+#[derive(Clone, Copy, Debug, PartialEq, Eq)]
+pub enum Sort {
+    Text,
+    Int,
+}
+
+/// A relation, its columns, and the sort of each column.
 #[derive(Drop)]
 pub struct Relation {
     pub name: Text,
     pub columns: Texts,
+    pub sorts: Sorts,
 }
 
 /// What the definitions read of a schema: all but its source lines.

@@ -11,6 +11,7 @@ use Rattle.meaning.specs.declared.types.Statement.{Statement}
 use Rattle.meaning.specs.declared.types.Ground.{Ground}
 use Rattle.meaning.specs.declared.types.Trigger.{Trigger}
 use Rattle.meaning.specs.declared.types.Firing.{Firing}
+use Rattle.meaning.specs.declared.types.Sort.TheVariants.{Text}
 use Rattle.meaning.specs.declared.types.Term.TheVariants.{Var}
 use Rattle.meaning.specs.declared.types.Val.TheVariants.{Label}
 use Rattle.meaning.specs.declared.types.Operand.TheVariants.{Column}
@@ -20,11 +21,11 @@ use Rattle.meaning.specs.Runs.{Proof}
 
 -- relation r(a)
 abbrev pub r_relation : Relation
-r_relation = record { name = codes "r"; columns = codes "a" ∷ [] }
+r_relation = record { name = codes "r"; columns = codes "a" ∷ []; sorts = Text ∷ [] }
 
 -- relation s(a)
 abbrev pub s_relation : Relation
-s_relation = record { name = codes "s"; columns = codes "a" ∷ [] }
+s_relation = record { name = codes "s"; columns = codes "a" ∷ []; sorts = Text ∷ [] }
 
 -- method all_s on s() cost 1
 abbrev pub all_s : Method

@@ -15,6 +15,7 @@ use Rattle.meaning.specs.declared.types.Request.{Request}
 use Rattle.meaning.specs.declared.types.Ground.{Ground}
 use Rattle.meaning.specs.declared.types.Trigger.{Trigger}
 use Rattle.meaning.specs.declared.types.Firing.{Firing}
+use Rattle.meaning.specs.declared.types.Sort.TheVariants.{Text}
 use Rattle.meaning.specs.declared.types.Term.TheVariants.{Var, Const as Said}
 use Rattle.meaning.specs.declared.types.Val.TheVariants.{Label, Const as Known}
 use Rattle.meaning.specs.declared.types.Operand.TheVariants.{Column, Literal}
@@ -26,11 +27,11 @@ use Rattle.meaning.specs.Runs.{Proof}
 
 -- relation profinfo(eid, onum, lname)
 abbrev pub profinfo : Relation
-profinfo = record { name = codes "profinfo"; columns = codes "eid" ∷ codes "onum" ∷ codes "lname" ∷ [] }
+profinfo = record { name = codes "profinfo"; columns = codes "eid" ∷ codes "onum" ∷ codes "lname" ∷ []; sorts = Text ∷ Text ∷ Text ∷ [] }
 
 -- relation udirect(eid, lname)
 abbrev pub udirect : Relation
-udirect = record { name = codes "udirect"; columns = codes "eid" ∷ codes "lname" ∷ [] }
+udirect = record { name = codes "udirect"; columns = codes "eid" ∷ codes "lname" ∷ []; sorts = Text ∷ Text ∷ [] }
 
 -- method prof_by_eid on profinfo(eid) cost 2
 abbrev pub prof_by_eid : Method
