@@ -7,6 +7,7 @@ use Rattle.std.proofs.lemmas.Bool.{cases_Bool}
 use Rattle.std.proofs.lemmas.Bool.Decides.{nat_tests}
 use Rattle.meaning.specs.declared.types.Relation.{Relation}
 use Rattle.meaning.specs.declared.types.Method.{Method}
+use Rattle.meaning.specs.declared.types.Sort.{Sort}
 use Rattle.access_schema.specs.declared.part.Part.{Part}
 use Rattle.access_schema.specs.declared.part.Part.TheVariants.{Relation as RelationPart, Method as MethodPart, Rule as RulePart, ForeignKey as KeyPart, Constant as ConstantPart, Source as SourcePart}
 use Rattle.access_schema.specs.declared.schema.SourceLine.{SourceLine}
@@ -17,7 +18,7 @@ use Rattle.access_schema.specs.Content.{relation_of, relations_of, is_named, is_
 use Rattle.std.specs.Prelude.{nat_eq}
 use Rattle.std.specs.Cmp.Lexicographic.{pointwise}
 use Rattle.access_schema.specs.Invariant.{AreColumns, AreRelations, AreMethods, AreSources}
-use Rattle.access_schema.specs.Faults.{is_relation, is_method, is_relation_named, is_method_named, is_source_of, is_outside, is_unknown, repeats_name, AreFaultless, AreNamed}
+use Rattle.access_schema.specs.Faults.{is_relation, is_method, is_relation_named, is_method_named, is_source_of, is_outside, is_unknown, repeats_name, AreFaultless, AreNamed, HaveSorts}
 use Rattle.lists.proofs.Members.{contains_got, some_injective}
 use Rattle.lists.proofs.Booleans.{both_false}
 use Rattle.lists.proofs.Orders.{text_is}
@@ -39,7 +40,7 @@ counted p h agree [] = refl
 counted p h agree (x ∷ xs) = cons_counted p h x xs (agree x) (counted p h agree xs)
 
 pub relation_agrees : (part : Part) → ((relation_of part ≡ None) × (is_relation part ≡ false)) ⊎ ((y : Relation) × (relation_of part ≡ Some y) × (is_relation part ≡ true))
-relation_agrees (RelationPart name columns) = inr (_, refl, refl)
+relation_agrees (RelationPart name columns sorts) = inr (_, refl, refl)
 relation_agrees (MethodPart name relation inputs cost) = inl (refl, refl)
 relation_agrees (RulePart line body head) = inl (refl, refl)
 relation_agrees (KeyPart line relation columns target target_columns) = inl (refl, refl)
@@ -47,16 +48,16 @@ relation_agrees (ConstantPart text) = inl (refl, refl)
 relation_agrees (SourcePart relation kind locator) = inl (refl, refl)
 
 -- the part that declares a relation
-from_relation : (part : Part) (relation : Relation) → relation_of part ≡ Some relation → part ≡ RelationPart relation.name relation.columns
-from_relation (RelationPart name columns) relation is = let same : record { name = name; columns = columns } ≡ relation = some_injective _ relation is in ap (λ (r : Relation). RelationPart r.name r.columns) same
+from_relation : (part : Part) (relation : Relation) → relation_of part ≡ Some relation → part ≡ RelationPart relation.name relation.columns relation.sorts
+from_relation (RelationPart name columns sorts) relation is = let same : record { name = name; columns = columns; sorts = sorts } ≡ relation = some_injective _ relation is in ap (λ (r : Relation). RelationPart r.name r.columns r.sorts) same
 from_relation (MethodPart name relation inputs cost) other is = absurd (cc)
 from_relation (RulePart line body head) relation is = absurd (cc)
 from_relation (KeyPart line relation columns target target_columns) other is = absurd (cc)
 from_relation (ConstantPart text) relation is = absurd (cc)
 from_relation (SourcePart relation kind locator) other is = absurd (cc)
 
-named_relation : (part : Part) (name : List ℕ) → option_map (λ (r : Relation). r.name) (relation_of part) ≡ Some name → (columns : List (List ℕ)) × (part ≡ RelationPart name columns)
-named_relation (RelationPart other columns) name is = let same : other ≡ name = some_injective other name is in (columns, ap (λ n. RelationPart n columns) same)
+named_relation : (part : Part) (name : List ℕ) → option_map (λ (r : Relation). r.name) (relation_of part) ≡ Some name → (columns : List (List ℕ)) × (sorts : List Sort) × (part ≡ RelationPart name columns sorts)
+named_relation (RelationPart other columns sorts) name is = let same : other ≡ name = some_injective other name is in (columns, sorts, ap (λ n. RelationPart n columns sorts) same)
 named_relation (MethodPart other relation inputs cost) name is = absurd (cc)
 named_relation (RulePart line body head) name is = absurd (cc)
 named_relation (KeyPart line relation columns target target_columns) name is = absurd (cc)
@@ -64,7 +65,7 @@ named_relation (ConstantPart text) name is = absurd (cc)
 named_relation (SourcePart relation kind locator) name is = absurd (cc)
 
 pub method_agrees : (relations : List Relation) (part : Part) → ((method_of relations part ≡ None) × (is_method part ≡ false)) ⊎ ((y : Method) × (method_of relations part ≡ Some y) × (is_method part ≡ true))
-method_agrees relations (RelationPart name columns) = inl (refl, refl)
+method_agrees relations (RelationPart name columns sorts) = inl (refl, refl)
 method_agrees relations (MethodPart name relation inputs cost) = inr (_, refl, refl)
 method_agrees relations (RulePart line body head) = inl (refl, refl)
 method_agrees relations (KeyPart line relation columns target target_columns) = inl (refl, refl)
@@ -80,7 +81,7 @@ pub record DeclaresMethod (relations : List Relation) (part : Part) (method : Me
   pub places : method.inputs ≡ places_from 0 inputs (columns_of relations relation)
 
 from_method : (relations : List Relation) (part : Part) (method : Method) → method_of relations part ≡ Some method → DeclaresMethod relations part method
-from_method relations (RelationPart name columns) method is = absurd (cc)
+from_method relations (RelationPart name columns sorts) method is = absurd (cc)
 from_method relations (MethodPart name relation inputs cost) method is =
     let made : Method = record { name = name; rel = number_of relations relation; inputs = places_from 0 inputs (columns_of relations relation); cost = cost } in
     let same : made ≡ method = some_injective made method is in
@@ -97,7 +98,7 @@ from_method relations (ConstantPart text) method is = absurd (cc)
 from_method relations (SourcePart relation kind locator) method is = absurd (cc)
 
 named_method : (relations : List Relation) (part : Part) (name : List ℕ) → option_map (λ (m : Method). m.name) (method_of relations part) ≡ Some name → is_method_named name part ≡ true
-named_method relations (RelationPart other columns) name is = absurd (cc)
+named_method relations (RelationPart other columns sorts) name is = absurd (cc)
 named_method relations (MethodPart other relation inputs cost) name is = let same : other ≡ name = some_injective other name is in subst (λ n. pointwise nat_eq other n ≡ true) same (text_same other)
 named_method relations (RulePart line body head) name is = absurd (cc)
 named_method relations (KeyPart line relation columns target target_columns) name is = absurd (cc)
@@ -105,7 +106,7 @@ named_method relations (ConstantPart text) name is = absurd (cc)
 named_method relations (SourcePart relation kind locator) name is = absurd (cc)
 
 method_declared : (relations : List Relation) (earlier : List Part) (part : Part) (name : List ℕ) → option_map (λ (m : Method). m.name) (method_of relations part) ≡ Some name → repeats_name earlier part ≡ false → list_any (is_method_named name) earlier ≡ false
-method_declared relations earlier (RelationPart other columns) name is none = absurd (cc)
+method_declared relations earlier (RelationPart other columns sorts) name is none = absurd (cc)
 method_declared relations earlier (MethodPart other relation inputs cost) name is none = let same : other ≡ name = some_injective other name is in subst (λ n. list_any (is_method_named n) earlier ≡ false) same (both_false _ _ none).0
 method_declared relations earlier (RulePart line body head) name is none = absurd (cc)
 method_declared relations earlier (KeyPart line relation columns target target_columns) name is none = absurd (cc)
@@ -176,7 +177,7 @@ same_number relations a b known_a known_b same =
     sym is_first ∙ ap (λ (r : Relation). r.name) one ∙ is_second
 
 sourced : (relations : List Relation) (part : Part) (number : ℕ) → option_map (λ (s : SourceLine). s.rel) (source_of relations part) ≡ Some number → (relation kind locator : List ℕ) × (part ≡ SourcePart relation kind locator) × (number_of relations relation ≡ number)
-sourced relations (RelationPart name columns) number is = absurd (cc)
+sourced relations (RelationPart name columns sorts) number is = absurd (cc)
 sourced relations (MethodPart name relation inputs cost) number is = absurd (cc)
 sourced relations (RulePart line body head) number is = absurd (cc)
 sourced relations (KeyPart line relation columns target target_columns) number is = absurd (cc)
@@ -184,7 +185,7 @@ sourced relations (ConstantPart text) number is = absurd (cc)
 sourced relations (SourcePart relation kind locator) number is = (relation, kind, locator, refl, some_injective _ number is)
 
 from_source : (relations : List Relation) (part : Part) (source : SourceLine) → source_of relations part ≡ Some source → (relation : List ℕ) × (part ≡ SourcePart relation source.kind source.locator) × (number_of relations relation ≡ source.rel)
-from_source relations (RelationPart name columns) source is = absurd (cc)
+from_source relations (RelationPart name columns sorts) source is = absurd (cc)
 from_source relations (MethodPart name relation inputs cost) source is = absurd (cc)
 from_source relations (RulePart line body head) source is = absurd (cc)
 from_source relations (KeyPart line relation columns target target_columns) source is = absurd (cc)
@@ -217,44 +218,45 @@ inside most (suc count) is = (omega arith, not_more most (suc count) (both_false
 
 module _ (parts : List Part) (faultless : AreFaultless parts) (named : AreNamed parts) where
   -- a relation and the part that declares it
-  relation_part : (relation : Relation) → Contains (relations_of parts) relation → (k : ℕ) × (slice_get parts k ≡ Some (RelationPart relation.name relation.columns))
+  relation_part : (relation : Relation) → Contains (relations_of parts) relation → (k : ℕ) × (slice_get parts k ≡ Some (RelationPart relation.name relation.columns relation.sorts))
   relation_part relation there = let (k, part, at, is) = given_by relation_of parts relation there in (k, at ∙ ap Some (from_relation part relation is))
 
   relation_columns : (relation : Relation) → Contains (relations_of parts) relation → AreColumns relation.columns
   relation_columns relation there =
       let (k, at) = relation_part relation there in
-      let clean = clean_at parts faultless k (RelationPart relation.name relation.columns) at in
+      let clean = clean_at parts faultless k (RelationPart relation.name relation.columns relation.sorts) at in
       let (room, within) = two_none _ _ _ _ clean.limit in
       let (some, few) = inside MOST_COLUMNS (length relation.columns) within in
       record {
         some = some;
         few = few;
         differ = differ_from_repeats relation.columns (both_false _ _ clean.names).1;
-        named = (named (RelationPart relation.name relation.columns) (contains_got parts k _ at)).1;
+        named = (named (RelationPart relation.name relation.columns relation.sorts) (contains_got parts k _ at)).1;
       }
 
   relation_new : (k : ℕ) (part : Part) (name : List ℕ) → slice_get parts k ≡ Some part → option_map (λ (r : Relation). r.name) (relation_of part) ≡ Some name → Contains (filter_map (λ p. option_map (λ (r : Relation). r.name) (relation_of p)) (take k parts)) name → ⊥
   relation_new k part name at is there =
-      let (columns, same) = named_relation part name is in
+      let (columns, sorts, same) = named_relation part name is in
       let (j, other, at_j, gives) = given_by (λ p. option_map (λ (r : Relation). r.name) (relation_of p)) (take k parts) name there in
-      let (others, same_other) = named_relation other name gives in
-      let clean = clean_at parts faultless k (RelationPart name columns) (at ∙ ap Some same) in
+      let (others, others_sorts, same_other) = named_relation other name gives in
+      let clean = clean_at parts faultless k (RelationPart name columns sorts) (at ∙ ap Some same) in
       let free : list_any (is_relation_named name) (take k parts) ≡ false = (both_false _ _ clean.names).0 in
-      let fails : is_relation_named name (RelationPart name others) ≡ false = none_at (is_relation_named name) (take k parts) (RelationPart name others) free (contains_got (take k parts) j (RelationPart name others) (at_j ∙ ap Some same_other)) in
+      let fails : is_relation_named name (RelationPart name others others_sorts) ≡ false = none_at (is_relation_named name) (take k parts) (RelationPart name others others_sorts) free (contains_got (take k parts) j (RelationPart name others others_sorts) (at_j ∙ ap Some same_other)) in
       let holds = text_same name in cc
 
-  pub relations_are : AreRelations (relations_of parts)
-  relations_are = record {
+  pub relations_are : HaveSorts parts → AreRelations (relations_of parts)
+  relations_are sorted = record {
     few = few_all relation_of MOST_RELATIONS parts (λ k part relation at is.
         let same = from_relation part relation is in
-        let clean = clean_at parts faultless k (RelationPart relation.name relation.columns) (at ∙ ap Some same) in
+        let clean = clean_at parts faultless k (RelationPart relation.name relation.columns relation.sorts) (at ∙ ap Some same) in
         let room : nat_le MOST_RELATIONS (length (filter is_relation (take k parts))) ≡ false = (two_none _ _ _ _ clean.limit).0 in
         let lt : length (filter is_relation (take k parts)) < MOST_RELATIONS = less MOST_RELATIONS (length (filter is_relation (take k parts))) room in
         let e = counted is_relation relation_of relation_agrees (take k parts) in
         omega arith);
     differ = subst AllDiffer (sym (given_mapped (λ (r : Relation). r.name) relation_of parts)) (differ_all (λ p. option_map (λ (r : Relation). r.name) (relation_of p)) parts relation_new);
-    named = λ relation there. let (k, at) = relation_part relation there in (named (RelationPart relation.name relation.columns) (contains_got parts k _ at)).0;
+    named = λ relation there. let (k, at) = relation_part relation there in (named (RelationPart relation.name relation.columns relation.sorts) (contains_got parts k _ at)).0;
     columns = relation_columns;
+    sorts = λ relation there. let (k, at) = relation_part relation there in sorted (RelationPart relation.name relation.columns relation.sorts) (contains_got parts k _ at);
   }
 
   method_at : (method : Method) → Contains (methods_of (relations_of parts) parts) method → (k : ℕ) × (part : Part) × (slice_get parts k ≡ Some part) × DeclaresMethod (relations_of parts) part method

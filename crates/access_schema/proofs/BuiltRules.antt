@@ -30,16 +30,16 @@ use Rattle.access_schema.proofs.Built.{counted, inside, less, not_more, two_none
 use Rattle.access_schema.proofs.First.{no_rules}
 use Rattle.access_schema.proofs.NumberedRules.{numbered_is_rule, key_is_rule}
 
-either_list : {X : Type 0} (p : X → Bool) (xs ys : List X) → (list_any p xs || list_any p ys) ≡ false → (x : X) → Contains (xs ++ ys) x → p x ≡ false
+pub either_list : {X : Type 0} (p : X → Bool) (xs ys : List X) → (list_any p xs || list_any p ys) ≡ false → (x : X) → Contains (xs ++ ys) x → p x ≡ false
 either_list p xs ys none x there =
     let both = both_false (list_any p xs) (list_any p ys) none in
     ⊎_elim (λ first. none_at p xs x both.0 first) (λ second. none_at p ys x both.1 second) (Contains-append_cases xs ys x there)
 
-equal_lengths : (a b : ℕ) → not (a == b) ≡ false → a ≡ b
+pub equal_lengths : (a b : ℕ) → not (a == b) ≡ false → a ≡ b
 equal_lengths a b is = grind (arith, nat_tests)
 
 declared_is_constant : (part : Part) (c : List ℕ) → Contains (declared_constants part) c → Contains (part_constants part) c
-declared_is_constant (RelationPart name columns) c there = absurd (omega arith)
+declared_is_constant (RelationPart name columns sorts) c there = absurd (omega arith)
 declared_is_constant (MethodPart name relation inputs cost) c there = absurd (omega arith)
 declared_is_constant (RulePart line body head) c there = absurd (omega arith)
 declared_is_constant (KeyPart line relation columns target target_columns) c there = absurd (omega arith)
@@ -47,7 +47,7 @@ declared_is_constant (ConstantPart text) c there = there
 declared_is_constant (SourcePart relation kind locator) c there = absurd (omega arith)
 
 rule_is_constant : (part : Part) (c : List ℕ) → Contains (rule_constants part) c → Contains (part_constants part) c
-rule_is_constant (RelationPart name columns) c there = absurd (omega arith)
+rule_is_constant (RelationPart name columns sorts) c there = absurd (omega arith)
 rule_is_constant (MethodPart name relation inputs cost) c there = absurd (omega arith)
 rule_is_constant (RulePart line body head) c there = there
 rule_is_constant (KeyPart line relation columns target target_columns) c there = absurd (omega arith)
@@ -72,7 +72,7 @@ rule_constant_there parts line body head c of has =
     (Contains-append_right (flat_map declared_constants parts) (flat_map rule_constants parts) c (contains_joined rule_constants parts (RulePart line body head) c of has)))
 
 pub rule_agrees : (relations : List Relation) (part : Part) → ((rule_of relations part ≡ None) × (is_rule part ≡ false)) ⊎ ((y : Rule) × (rule_of relations part ≡ Some y) × (is_rule part ≡ true))
-rule_agrees relations (RelationPart name columns) = inl (refl, refl)
+rule_agrees relations (RelationPart name columns sorts) = inl (refl, refl)
 rule_agrees relations (MethodPart name relation inputs cost) = inl (refl, refl)
 rule_agrees relations (RulePart line body head) = inr (_, refl, refl)
 rule_agrees relations (KeyPart line relation columns target target_columns) = inr (_, refl, refl)
@@ -117,7 +117,7 @@ module _ (parts : List Part) (faultless : AreFaultless parts) where
       (λ c has. rule_constant_there parts line body head c (contains_got parts k (RulePart line body head) at) has)
 
   rule_part : (small : (name : List ℕ) → length (columns_of (relations_of parts) name) ≤ MOST_COLUMNS) (k : ℕ) (part : Part) (rule : Rule) → slice_get parts k ≡ Some part → rule_of (relations_of parts) part ≡ Some rule → IsRule (relations_of parts) (constants_of parts) rule
-  rule_part small k (RelationPart name columns) rule at is = absurd (cc)
+  rule_part small k (RelationPart name columns sorts) rule at is = absurd (cc)
   rule_part small k (MethodPart name relation inputs cost) rule at is = absurd (cc)
   rule_part small k (RulePart line body head) rule at is = subst (IsRule (relations_of parts) (constants_of parts)) (some_injective _ rule is) (rule_there k line body head at)
   rule_part small k (KeyPart line relation columns target target_columns) rule at is =
@@ -129,7 +129,7 @@ module _ (parts : List Part) (faultless : AreFaultless parts) where
   rule_part small k (SourcePart relation kind locator) rule at is = absurd (cc)
 
   rule_room : (k : ℕ) (part : Part) (rule : Rule) → slice_get parts k ≡ Some part → rule_of (relations_of parts) part ≡ Some rule → length (filter is_rule (take k parts)) < MOST_RULES
-  rule_room k (RelationPart name columns) rule at is = absurd (cc)
+  rule_room k (RelationPart name columns sorts) rule at is = absurd (cc)
   rule_room k (MethodPart name relation inputs cost) rule at is = absurd (cc)
   rule_room k (RulePart line body head) rule at is =
       less MOST_RULES (length (filter is_rule (take k parts))) (rule_within (take k parts) body head (has_many_constants (take k parts) (RulePart line body head)) (clean_at parts faultless k (RulePart line body head) at).limit).0
@@ -159,7 +159,7 @@ module _ (parts : List Part) (faultless : AreFaultless parts) where
 
   -- what the numbers of the content rest on
   part_within : (k : ℕ) (part : Part) → slice_get parts k ≡ Some part → IsWithin part
-  part_within k (RelationPart name columns) at = tt
+  part_within k (RelationPart name columns sorts) at = tt
   part_within k (MethodPart name relation inputs cost) at = not_more MOST_COST cost (two_none _ _ _ _ (clean_at parts faultless k (MethodPart name relation inputs cost) at).limit).1
   part_within k (RulePart line body head) at =
       not_more MOST_VARIABLES (length (variables_of (body ++ head))) (rule_within (take k parts) body head (has_many_constants (take k parts) (RulePart line body head)) (clean_at parts faultless k (RulePart line body head) at).limit).3

@@ -4,9 +4,10 @@ use Rattle.lists.proofs.Booleans.{never_true}
 use Rattle.meaning.specs.declared.types.Relation.{Relation}
 use Rattle.access_schema.specs.declared.part.Part.{Part}
 use Rattle.access_schema.specs.declared.fault.SchemaFault.{SchemaFault}
-use Rattle.access_schema.specs.declared.fault.SchemaFault.TheVariants.{DuplicateName, UnknownRelation, WrongArity, UnknownColumn, OverLimit, Recursive}
+use Rattle.access_schema.specs.declared.fault.SchemaFault.TheVariants.{DuplicateName, UnknownRelation, WrongArity, UnknownColumn, OverLimit, Recursive, WrongSort}
 use Rattle.access_schema.specs.Content.{relations_of, rules_of}
 use Rattle.access_schema.specs.Feeding.{AreNonRecursive}
+use Rattle.access_schema.specs.SortFaults.{HasWrongSort}
 use Rattle.access_schema.specs.Faults.{is_rule, repeats_name, uses_unknown, has_wrong_arity, has_unknown_column, passed_limit, IsFaultOf, AreFaultless}
 
 -- each test for a fault fails
@@ -16,6 +17,7 @@ pub record IsClean (relations : List Relation) (earlier : List Part) (part : Par
   pub arity : has_wrong_arity relations part ≡ false
   pub columns : has_unknown_column relations part ≡ false
   pub limit : passed_limit earlier part ≡ None
+  pub sorted : HasWrongSort relations part → ⊥
   pub straight : is_rule part ≡ true → AreNonRecursive (rules_of relations (earlier ++ part ∷ []))
 
 nothing : {X : Type 0} (o : Option X) → ((x : X) → o ≡ Some x → ⊥) → o ≡ None
@@ -31,5 +33,6 @@ clean_at parts faultless k part at =
       arity = never_true _ (free WrongArity);
       columns = never_true _ (free UnknownColumn);
       limit = nothing _ (λ limit is. free (OverLimit limit) is);
+      sorted = free WrongSort;
       straight = λ rule recursive. free Recursive (rule, recursive);
     }

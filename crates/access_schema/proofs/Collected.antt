@@ -5,10 +5,14 @@ use Rattle.std.proofs.lemmas.Bool.{cases_Bool}
 use Rattle.std.proofs.lemmas.Bool.Decides.{nat_tests}
 use Rattle.std.proofs.lemmas.List.Elements.{filter_map-append}
 use Rattle.std.proofs.lemmas.List.Concat.{flat_map-append}
+use Rattle.std.specs.List.{zip}
+use Rattle.meaning.specs.declared.types.Relation.{Relation}
+use Rattle.meaning.specs.declared.types.Sort.{Sort}
 use Rattle.access_schema.specs.declared.part.NamedTerm.{NamedTerm}
 use Rattle.access_schema.specs.declared.part.NamedAtom.{NamedAtom}
 use Rattle.access_schema.specs.Lists.{is_among, once_after}
-use Rattle.access_schema.specs.Content.{named_terms}
+use Rattle.access_schema.specs.Content.{named_terms, sorts_of}
+use Rattle.access_schema.specs.SortFaults.{sorted_terms}
 
 pub once_grows : (known texts : List (List ℕ)) → length known ≤ length (once_after known texts)
 once_grows known [] = omega arith
@@ -27,7 +31,7 @@ pub once_on : (known texts others : List (List ℕ)) → once_after known (texts
 once_on known [] others = refl
 once_on known (text ∷ texts) others = once_on (cond (is_among known text) known (known ++ text ∷ [])) texts others
 
-pub once_mapped : (h : NamedTerm → Option (List ℕ)) (known : List (List ℕ)) (terms others : List NamedTerm) → once_after known (filter_map h (terms ++ others)) ≡ once_after (once_after known (filter_map h terms)) (filter_map h others)
+pub once_mapped : {X : Type 0} (h : X → Option (List ℕ)) (known : List (List ℕ)) (terms others : List X) → once_after known (filter_map h (terms ++ others)) ≡ once_after (once_after known (filter_map h terms)) (filter_map h others)
 once_mapped h known terms others = ap (once_after known) (filter_map-append h terms others) ∙ once_on known (filter_map h terms) (filter_map h others)
 
 pub once_mapped_over : (h : NamedTerm → Option (List ℕ)) (most : ℕ) (known : List (List ℕ)) (terms others : List NamedTerm) → not (nat_lt most (length (once_after known (filter_map h terms)))) ≡ false → not (nat_lt most (length (once_after known (filter_map h (terms ++ others))))) ≡ false
@@ -39,6 +43,12 @@ once_mapped_over h most known terms others over =
 pub once_both : (h : NamedTerm → Option (List ℕ)) (known : List (List ℕ)) (body head : List NamedAtom) → once_after known (filter_map h (named_terms (body ++ head))) ≡ once_after (once_after known (filter_map h (named_terms body))) (filter_map h (named_terms head))
 once_both h known body head =
     ap (λ terms. once_after known (filter_map h terms)) (flat_map-append (λ (atom : NamedAtom). atom.terms) body head) ∙ once_mapped h known (named_terms body) (named_terms head)
+
+pub once_sorted : (relations : List Relation) (h : NamedTerm × Sort → Option (List ℕ)) (known : List (List ℕ)) (body head : List NamedAtom) →
+    once_after known (filter_map h (sorted_terms relations (body ++ head))) ≡ once_after (once_after known (filter_map h (sorted_terms relations body))) (filter_map h (sorted_terms relations head))
+once_sorted relations h known body head =
+    ap (λ terms. once_after known (filter_map h terms)) (flat_map-append (λ (atom : NamedAtom). zip atom.terms (sorts_of relations atom.relation)) body head)
+    ∙ once_mapped h known (sorted_terms relations body) (sorted_terms relations head)
 
 pub once_both_over : (h : NamedTerm → Option (List ℕ)) (most : ℕ) (known : List (List ℕ)) (body head : List NamedAtom) → not (nat_lt most (length (once_after known (filter_map h (named_terms body))))) ≡ false → not (nat_lt most (length (once_after known (filter_map h (named_terms (body ++ head)))))) ≡ false
 once_both_over h most known body head over =

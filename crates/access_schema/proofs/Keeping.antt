@@ -9,12 +9,14 @@ use Rattle.meaning.specs.declared.types.Term.TheVariants.{Const}
 use Rattle.meaning.specs.Instances.{FitsRelation}
 use Rattle.meaning.specs.Plans.{IsWellFormed}
 use Rattle.meaning.specs.Fitting.{HaveConstants, RulesFit}
+use Rattle.meaning.specs.Sorts.{RuleIsSorted}
 use Rattle.access_schema.specs.declared.schema.Schema.{Schema}
 use Rattle.access_schema.specs.Meaning.{meaning_of}
 use Rattle.lists.proofs.Members.{got_below, some_injective, map_got, contains_joined}
 use Rattle.lists.proofs.Places.{got_contained}
 use Rattle.access_schema.proofs.Texts.{among_contains}
 use Rattle.access_schema.proofs.Ordered.{numbered}
+use Rattle.access_schema.proofs.Decided.{sorted_had}
 
 pub well_formed : (schema : Schema) → IsWellFormed (meaning_of schema)
 well_formed schema = record {
@@ -51,3 +53,6 @@ rules_fit schema constants within = record {
   );
   heads = λ rule atom of_rules of_head. atom_fits schema rule atom of_rules (Contains-append_right rule.body rule.head atom of_head);
 }
+
+pub rules_sorted : (schema : Schema) (rule : Rule) → Contains schema.rules rule → RuleIsSorted (meaning_of schema) rule
+rules_sorted schema rule of_rules = sorted_had (meaning_of schema) rule (schema.valid.sorted rule of_rules)

@@ -17,13 +17,14 @@ use Rattle.access_schema.specs.declared.recursion.Link.{Link}
 use Rattle.access_schema.specs.declared.fault.Limit.{Limit}
 use Rattle.access_schema.specs.declared.fault.Limit.TheVariants.{Rules, BodyAtoms, HeadAtoms, Variables, Constants}
 use Rattle.access_schema.specs.declared.fault.SchemaFault.{SchemaFault}
-use Rattle.access_schema.specs.declared.fault.SchemaFault.TheVariants.{DuplicateName, UnknownRelation, WrongArity, UnknownColumn, OverLimit, Recursive}
+use Rattle.access_schema.specs.declared.fault.SchemaFault.TheVariants.{DuplicateName, UnknownRelation, WrongArity, UnknownColumn, OverLimit, Recursive, WrongSort}
 use Rattle.access_schema.specs.declared.limits.TheConstants.{MOST_CONSTANTS, MOST_RULES, MOST_BODY_ATOMS, MOST_HEAD_ATOMS, MOST_VARIABLES}
 use Rattle.access_schema.specs.Lists.{once_after, each_once}
 use Rattle.access_schema.specs.Content.{number_of, is_named, atom_of, variables_of, rule_of, rules_of, part_constants}
 use Rattle.meaning.specs.RuleOrder.{Feeds}
 use Rattle.access_schema.specs.Feeding.{IsChain, AreRecursive}
 use Rattle.access_schema.specs.Faults.{is_rule, is_unknown, repeats_name, uses_unknown, has_wrong_arity, has_unknown_column, passed_limit, plain_fault, is_outside, rule_limit, has_many_constants, IsFaultOf, IsLeastFault, IsFaultless, fault_number}
+use Rattle.access_schema.specs.SortFaults.{HasWrongSort}
 use Rattle.access_schema.specs.Links.{link_of, links_of, Joins, IsBelow, AreBelow, LeadRound}
 use Rattle.access_schema.specs.Progress.{StandsFor}
 use Rattle.access_schema.proofs.Circles.{chain_along}
@@ -60,6 +61,7 @@ module _ (relations : List Relation) (earlier : List Part) (part : Part) where
   least_1 UnknownColumn = omega arith
   least_1 (OverLimit limit) = omega arith
   least_1 Recursive = omega arith
+  least_1 WrongSort = omega arith
 
   least_2 : repeats_name earlier part ≡ false → (other : SchemaFault) → IsFaultOf relations earlier part other → 2 ≤ fault_number other
   least_2 a DuplicateName has = absurd (cc)
@@ -68,6 +70,7 @@ module _ (relations : List Relation) (earlier : List Part) (part : Part) where
   least_2 a UnknownColumn has = omega arith
   least_2 a (OverLimit limit) has = omega arith
   least_2 a Recursive has = omega arith
+  least_2 a WrongSort has = omega arith
 
   least_3 : repeats_name earlier part ≡ false → uses_unknown relations part ≡ false → (other : SchemaFault) → IsFaultOf relations earlier part other → 3 ≤ fault_number other
   least_3 a b DuplicateName has = absurd (cc)
@@ -76,6 +79,7 @@ module _ (relations : List Relation) (earlier : List Part) (part : Part) where
   least_3 a b UnknownColumn has = omega arith
   least_3 a b (OverLimit limit) has = omega arith
   least_3 a b Recursive has = omega arith
+  least_3 a b WrongSort has = omega arith
 
   least_4 : repeats_name earlier part ≡ false → uses_unknown relations part ≡ false → has_wrong_arity relations part ≡ false → (other : SchemaFault) → IsFaultOf relations earlier part other → 4 ≤ fault_number other
   least_4 a b c DuplicateName has = absurd (cc)
@@ -84,6 +88,7 @@ module _ (relations : List Relation) (earlier : List Part) (part : Part) where
   least_4 a b c UnknownColumn has = omega arith
   least_4 a b c (OverLimit limit) has = omega arith
   least_4 a b c Recursive has = omega arith
+  least_4 a b c WrongSort has = omega arith
 
   least_5 : repeats_name earlier part ≡ false → uses_unknown relations part ≡ false → has_wrong_arity relations part ≡ false → has_unknown_column relations part ≡ false → (other : SchemaFault) → IsFaultOf relations earlier part other → 5 ≤ fault_number other
   least_5 a b c d DuplicateName has = absurd (cc)
@@ -92,17 +97,19 @@ module _ (relations : List Relation) (earlier : List Part) (part : Part) where
   least_5 a b c d UnknownColumn has = absurd (cc)
   least_5 a b c d (OverLimit limit) has = omega arith
   least_5 a b c d Recursive has = omega arith
+  least_5 a b c d WrongSort has = omega arith
 
-  -- without a plain fault only the chains of the rules are left
-  only_6 : plain_fault relations earlier part ≡ None → (other : SchemaFault) → IsFaultOf relations earlier part other → other ≡ Recursive
-  only_6 is other has = left other has (chain_none _ _ _ _ _ is) where
-    left : (fault : SchemaFault) → IsFaultOf relations earlier part fault → (repeats_name earlier part ≡ false) × (uses_unknown relations part ≡ false) × (has_wrong_arity relations part ≡ false) × (has_unknown_column relations part ≡ false) × (passed_limit earlier part ≡ None) → fault ≡ Recursive
+  -- without a plain fault only the chains of the rules and the sorts are left
+  least_6 : plain_fault relations earlier part ≡ None → (other : SchemaFault) → IsFaultOf relations earlier part other → 6 ≤ fault_number other
+  least_6 is other has = left other has (chain_none _ _ _ _ _ is) where
+    left : (fault : SchemaFault) → IsFaultOf relations earlier part fault → (repeats_name earlier part ≡ false) × (uses_unknown relations part ≡ false) × (has_wrong_arity relations part ≡ false) × (has_unknown_column relations part ≡ false) × (passed_limit earlier part ≡ None) → 6 ≤ fault_number fault
     left DuplicateName here (a, b, c, d, l) = absurd (cc)
     left UnknownRelation here (a, b, c, d, l) = absurd (cc)
     left WrongArity here (a, b, c, d, l) = absurd (cc)
     left UnknownColumn here (a, b, c, d, l) = absurd (cc)
     left (OverLimit limit) here (a, b, c, d, l) = absurd (cc)
-    left Recursive here (a, b, c, d, l) = refl
+    left Recursive here (a, b, c, d, l) = omega arith
+    left WrongSort here (a, b, c, d, l) = omega arith
 
   pub known_from_none : plain_fault relations earlier part ≡ None → uses_unknown relations part ≡ false
   known_from_none is = (chain_none _ _ _ _ _ is).1
@@ -142,7 +149,7 @@ numbers_within relations (atom ∷ atoms) none =
 
 -- the numbers of a link are below, where its relations are declared
 pub link_below : (relations : List Relation) (part : Part) (link : Link) → uses_unknown relations part ≡ false → link_of relations part ≡ Some link → IsBelow (length relations) link
-link_below relations (RelationPart name columns) link known is = absurd (cc)
+link_below relations (RelationPart name columns sorts) link known is = absurd (cc)
 link_below relations (MethodPart name relation inputs cost) link known is = absurd (cc)
 link_below relations (RulePart line body head) link known is =
     let (in_body, in_head) = both_false _ _ known in
@@ -170,7 +177,7 @@ numbers_are relations variables [] = refl
 numbers_are relations variables (atom ∷ atoms) = ap (λ rest. number_of relations atom.relation ∷ rest) (numbers_are relations variables atoms)
 
 link_is : (relations : List Relation) (part : Part) → link_of relations part ≡ option_map link_of_rule (rule_of relations part)
-link_is relations (RelationPart name columns) = refl
+link_is relations (RelationPart name columns sorts) = refl
 link_is relations (MethodPart name relation inputs cost) = refl
 link_is relations (RulePart line body head) =
     let b = sym (numbers_are relations (variables_of (body ++ head)) body) in
@@ -229,7 +236,7 @@ pub mapped_push : {X Y : Type 0} (h : X → Option Y) (xs : List X) (x : X) → 
 mapped_push h xs x = filter_map-append h xs (x ∷ []) ∙ ap (λ ys. filter_map h xs ++ ys) (cons_none (h x))
 
 pub no_link : (relations : List Relation) (part : Part) → is_rule part ≡ false → link_of relations part ≡ None
-no_link relations (RelationPart name columns) is = refl
+no_link relations (RelationPart name columns sorts) is = refl
 no_link relations (MethodPart name relation inputs cost) is = refl
 no_link relations (RulePart line body head) is = absurd (cc)
 no_link relations (KeyPart line relation columns target target_columns) is = absurd (cc)
@@ -252,14 +259,34 @@ module _ (relations : List Relation) (earlier : List Part) (part : Part) (links 
           (cases_Bool (is_rule part)),
       recursive_from_round relations (earlier ++ part ∷ []) (subst LeadRound (sym links_here) round),
     );
-    least = λ other has. let same = only_6 relations earlier part plain other has in let e : fault_number other ≡ 6 = ap fault_number same in omega arith;
+    least = least_6 relations earlier part plain;
   }
 
-  pub faultless : (LeadRound links → ⊥) → IsFaultless relations earlier part
-  faultless straight other has =
-      let same = only_6 relations earlier part plain other has in
-      let recursive : IsFaultOf relations earlier part Recursive = subst (IsFaultOf relations earlier part) same has in
-      straight (subst LeadRound links_here (round_from_recursive relations (earlier ++ part ∷ []) recursive.1))
+  -- where the links do not lead round, only the sorts are left
+  least_7 : (LeadRound links → ⊥) → (other : SchemaFault) → IsFaultOf relations earlier part other → 7 ≤ fault_number other
+  least_7 straight other has = left other has (least_6 relations earlier part plain other has) where
+    left : (fault : SchemaFault) → IsFaultOf relations earlier part fault → 6 ≤ fault_number fault → 7 ≤ fault_number fault
+    left DuplicateName here le = absurd (omega arith)
+    left UnknownRelation here le = absurd (omega arith)
+    left WrongArity here le = absurd (omega arith)
+    left UnknownColumn here le = absurd (omega arith)
+    left (OverLimit limit) here le = absurd (omega arith)
+    left Recursive here le = absurd (straight (subst LeadRound links_here (round_from_recursive relations (earlier ++ part ∷ []) here.1)))
+    left WrongSort here le = omega arith
+
+  pub sort_is_least : (LeadRound links → ⊥) → HasWrongSort relations part → IsLeastFault relations earlier part WrongSort
+  sort_is_least straight wrong = record { has = wrong; least = least_7 straight }
+
+  pub faultless : (LeadRound links → ⊥) → (HasWrongSort relations part → ⊥) → IsFaultless relations earlier part
+  faultless straight sorted other has = left other has (least_7 straight other has) where
+    left : (fault : SchemaFault) → IsFaultOf relations earlier part fault → 7 ≤ fault_number fault → ⊥
+    left DuplicateName here le = omega arith
+    left UnknownRelation here le = omega arith
+    left WrongArity here le = omega arith
+    left UnknownColumn here le = omega arith
+    left (OverLimit limit) here le = omega arith
+    left Recursive here le = omega arith
+    left WrongSort here le = sorted here
 
 pub constants_push : (earlier : List Part) (part : Part) → each_once (flat_map part_constants (earlier ++ part ∷ [])) ≡ once_after (each_once (flat_map part_constants earlier)) (part_constants part)
 constants_push earlier part =
@@ -282,7 +309,7 @@ one_none true limit is = absurd (cc)
 one_none false limit is = refl
 
 pub none_many : (earlier : List Part) (part : Part) → passed_limit earlier part ≡ None → (part_constants part ≡ []) ⊎ (has_many_constants earlier part ≡ false)
-none_many earlier (RelationPart name columns) is = inl refl
+none_many earlier (RelationPart name columns sorts) is = inl refl
 none_many earlier (MethodPart name relation inputs cost) is = inl refl
 none_many earlier (RulePart line body head) is = inr (rule_within earlier body head (has_many_constants earlier (RulePart line body head)) is).4
 none_many earlier (KeyPart line relation columns target target_columns) is = inl refl

@@ -14,4 +14,14 @@ pub mod Texts
 pub mod FirstFault
 pub mod LeastFault
 pub mod Collected
+pub mod SortsFound
+pub mod Paired
+pub mod Decided
+pub mod SortedRules
+pub mod SortedKeys
+pub mod BuiltSorts
+pub mod FirstOther
+pub mod Each
+pub mod TextAlone
 pub mod Circles
+pub mod Summing

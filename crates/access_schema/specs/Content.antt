@@ -4,6 +4,7 @@ use Rattle.std.specs.Prelude.{Bool, nat_eq}
 use Rattle.std.specs.List.{range_with_len, list_any, position_or_len, find}
 use Rattle.std.specs.Cmp.Lexicographic.{pointwise}
 use Rattle.meaning.specs.declared.types.Relation.{Relation}
+use Rattle.meaning.specs.declared.types.Sort.{Sort}
 use Rattle.meaning.specs.declared.types.Method.{Method}
 use Rattle.meaning.specs.declared.types.Rule.{Rule}
 use Rattle.meaning.specs.declared.types.Atom.{Atom}
@@ -19,7 +20,7 @@ use Rattle.access_schema.specs.declared.schema.Schema.{Schema}
 use Rattle.access_schema.specs.Lists.{is_among, place_of, each_once}
 
 abbrev pub relation_of : Part → Option Relation
-relation_of (RelationPart name columns) = Some (record { name = name; columns = columns })
+relation_of (RelationPart name columns sorts) = Some (record { name = name; columns = columns; sorts = sorts })
 relation_of _ = None
 
 -- the declared relations, in order
@@ -45,6 +46,14 @@ columns_in (Some relation) = relation.columns
 -- the columns of the first relation of that name, and none where there is no such relation
 abbrev pub columns_of : List Relation → List ℕ → List (List ℕ)
 columns_of relations name = columns_in (find (is_named name) relations)
+
+abbrev pub sorts_in : Option Relation → List Sort
+sorts_in None = []
+sorts_in (Some relation) = relation.sorts
+
+-- the sorts of the columns of the first relation of that name, and none where there is no such relation
+abbrev pub sorts_of : List Relation → List ℕ → List Sort
+sorts_of relations name = sorts_in (find (is_named name) relations)
 
 -- the places, counted from a number on, of the columns that are among the names
 abbrev pub places_from : ℕ → List (List ℕ) → List (List ℕ) → List ℕ

@@ -12,15 +12,16 @@ use Rattle.access_schema.specs.declared.fault.Limit.TheVariants.{Relations, Meth
 use Rattle.access_schema.specs.declared.fault.BuildFault.{BuildFault}
 use Rattle.access_schema.specs.declared.fault.BuildFault.TheVariants.{NoMemory, At}
 use Rattle.access_schema.specs.declared.fault.SchemaFault.{SchemaFault}
-use Rattle.access_schema.specs.declared.fault.SchemaFault.TheVariants.{DuplicateName, UnknownRelation, WrongArity, UnknownColumn, OverLimit, Recursive}
+use Rattle.access_schema.specs.declared.fault.SchemaFault.TheVariants.{DuplicateName, UnknownRelation, WrongArity, UnknownColumn, OverLimit, Recursive, WrongSort}
 use Rattle.access_schema.specs.declared.limits.TheConstants.{MOST_RELATIONS, MOST_METHODS, MOST_RULES, MOST_COLUMNS, MOST_BODY_ATOMS, MOST_HEAD_ATOMS, MOST_VARIABLES, MOST_COST, MOST_CONSTANTS}
 use Rattle.access_schema.specs.Lists.{is_among, repeats, each_once}
 use Rattle.access_schema.specs.Content.{relations_of, is_declared, columns_of, variables_of, part_constants, rules_of}
 use Rattle.access_schema.specs.Feeding.{AreRecursive}
+use Rattle.access_schema.specs.SortFaults.{HasWrongSort}
 
 -- the kinds of parts, where rules and foreign keys are one kind
 abbrev pub is_relation : Part → Bool
-is_relation (RelationPart name columns) = true
+is_relation (RelationPart name columns sorts) = true
 is_relation _ = false
 
 abbrev pub is_method : Part → Bool
@@ -34,7 +35,7 @@ is_rule _ = false
 
 -- whether the part is a relation, a method, or a source of that name
 abbrev pub is_relation_named : List ℕ → Part → Bool
-is_relation_named name (RelationPart other columns) = pointwise nat_eq other name
+is_relation_named name (RelationPart other columns sorts) = pointwise nat_eq other name
 is_relation_named name _ = false
 
 abbrev pub is_method_named : List ℕ → Part → Bool
@@ -47,7 +48,7 @@ is_source_of name _ = false
 
 -- an earlier part of the kind has the name, or has a source for the same relation, or a column stands twice in one list
 abbrev pub repeats_name : List Part → Part → Bool
-repeats_name earlier (RelationPart name columns) = list_any (is_relation_named name) earlier || repeats columns
+repeats_name earlier (RelationPart name columns sorts) = list_any (is_relation_named name) earlier || repeats columns
 repeats_name earlier (MethodPart name relation inputs cost) = list_any (is_method_named name) earlier || repeats inputs
 repeats_name earlier (RulePart line body head) = false
 repeats_name earlier (KeyPart line relation columns target target_columns) = repeats columns || repeats target_columns
@@ -60,7 +61,7 @@ is_unknown relations name = not (is_declared relations name)
 
 -- the part uses such a relation name
 abbrev pub uses_unknown : List Relation → Part → Bool
-uses_unknown relations (RelationPart name columns) = false
+uses_unknown relations (RelationPart name columns sorts) = false
 uses_unknown relations (MethodPart name relation inputs cost) = is_unknown relations relation
 uses_unknown relations (RulePart line body head) = list_any (λ atom. is_unknown relations atom.relation) body || list_any (λ atom. is_unknown relations atom.relation) head
 uses_unknown relations (KeyPart line relation columns target target_columns) = is_unknown relations relation || is_unknown relations target
@@ -126,7 +127,7 @@ key_limit earlier = if nat_le MOST_RULES (length (filter is_rule earlier)) then 
 
 -- the first limit that the part passes
 abbrev pub passed_limit : List Part → Part → Option Limit
-passed_limit earlier (RelationPart name columns) = relation_limit earlier (length columns)
+passed_limit earlier (RelationPart name columns sorts) = relation_limit earlier (length columns)
 passed_limit earlier (MethodPart name relation inputs cost) = method_limit earlier cost
 passed_limit earlier (RulePart line body head) = rule_limit earlier body head (has_many_constants earlier (RulePart line body head))
 passed_limit earlier (KeyPart line relation columns target target_columns) = key_limit earlier
@@ -141,6 +142,7 @@ IsFaultOf relations earlier part WrongArity = IsTrue (has_wrong_arity relations 
 IsFaultOf relations earlier part UnknownColumn = IsTrue (has_unknown_column relations part)
 IsFaultOf relations earlier part (OverLimit limit) = passed_limit earlier part ≡ Some limit
 IsFaultOf relations earlier part Recursive = IsTrue (is_rule part) × AreRecursive (rules_of relations (earlier ++ part ∷ []))
+IsFaultOf relations earlier part WrongSort = HasWrongSort relations part
 
 -- the first of the faults that the part shows without the chains of the rules
 abbrev pub plain_fault : List Relation → List Part → Part → Option SchemaFault
@@ -159,6 +161,7 @@ fault_number WrongArity = 3
 fault_number UnknownColumn = 4
 fault_number (OverLimit limit) = 5
 fault_number Recursive = 6
+fault_number WrongSort = 7
 
 -- the part after the earlier ones has this fault and none that is looked for before it
 pub record IsLeastFault (relations : List Relation) (earlier : List Part) (part : Part) (fault : SchemaFault) : Type 0 where
@@ -190,10 +193,18 @@ AreFaultless parts = (index : ℕ) (fault : SchemaFault) → HasFault parts inde
 
 -- no name of a relation, a column, a method or a kind is empty
 abbrev pub IsNamed : Part → Type 0
-IsNamed (RelationPart name columns) = (name ≢ []) × ((column : List ℕ) → Contains columns column → column ≢ [])
+IsNamed (RelationPart name columns sorts) = (name ≢ []) × ((column : List ℕ) → Contains columns column → column ≢ [])
 IsNamed (MethodPart name relation inputs cost) = name ≢ []
 IsNamed (SourcePart relation kind locator) = kind ≢ []
 IsNamed _ = Unit {0}
 
 abbrev pub AreNamed : List Part → Type 0
 AreNamed parts = (part : Part) → Contains parts part → IsNamed part
+
+-- each relation has a sort for each of its columns
+abbrev pub HasSorts : Part → Type 0
+HasSorts (RelationPart name columns sorts) = length sorts ≡ length columns
+HasSorts _ = Unit {0}
+
+abbrev pub HaveSorts : List Part → Type 0
+HaveSorts parts = (part : Part) → Contains parts part → HasSorts part

@@ -1,4 +1,4 @@
--- What every schema keeps: numbers in range, arities that fit, distinct names, rules that are not recursive, and the limits.
+-- What every schema keeps: numbers in range, arities and sorts that fit, distinct names, rules that are not recursive, and the limits.
 use Rattle.std.specs.Prelude.{◌≡◌, ◌≢◌, ◌<◌, ◌≤◌, ◌+◌, ℕ, List, [], ◌++◌, Contains, IsTrue, length, map, take, flat_map, slice_get, Some}
 use Rattle.meaning.specs.declared.types.Term.{Term}
 use Rattle.meaning.specs.declared.types.Term.TheVariants.{Var, Const}
@@ -6,7 +6,9 @@ use Rattle.meaning.specs.declared.types.Atom.{Atom}
 use Rattle.meaning.specs.declared.types.Rule.{Rule}
 use Rattle.meaning.specs.declared.types.Method.{Method}
 use Rattle.meaning.specs.declared.types.Relation.{Relation}
+use Rattle.meaning.specs.declared.types.SchemaParts.{SchemaParts}
 use Rattle.meaning.specs.Triggers.{terms_bound}
+use Rattle.meaning.specs.Sorts.{RuleIsSorted}
 use Rattle.access_schema.specs.declared.schema.SourceLine.{SourceLine}
 use Rattle.access_schema.specs.declared.limits.TheConstants.{MOST_RELATIONS, MOST_METHODS, MOST_RULES, MOST_COLUMNS, MOST_BODY_ATOMS, MOST_HEAD_ATOMS, MOST_VARIABLES, MOST_COST, MOST_CONSTANTS}
 use Rattle.access_schema.specs.Names.{relation_names, method_names, AllDiffer}
@@ -20,12 +22,13 @@ pub record AreColumns (columns : List (List ℕ)) : Type 0 where
   pub differ : AllDiffer columns
   pub named : (column : List ℕ) → Contains columns column → column ≢ []
 
--- relations with names of their own
+-- relations with names of their own, each with as many sorts as columns
 pub record AreRelations (relations : List Relation) : Type 0 where
   pub few : length relations ≤ MOST_RELATIONS
   pub differ : AllDiffer (relation_names relations)
   pub named : (relation : Relation) → Contains relations relation → relation.name ≢ []
   pub columns : (relation : Relation) → Contains relations relation → AreColumns relation.columns
+  pub sorts : (relation : Relation) → Contains relations relation → length relation.sorts ≡ length relation.columns
 
 -- access methods with names of their own, each of a relation, with rising input columns of that relation
 pub record AreMethods (relations : List Relation) (methods : List Method) : Type 0 where
@@ -81,3 +84,4 @@ pub record IsSchema (relations : List Relation) (methods : List Method) (rules :
   pub constants_few : length constants ≤ MOST_CONSTANTS
   pub constants_differ : AllDiffer constants
   pub sources_are : AreSources relations sources
+  pub sorted : (rule : Rule) → Contains rules rule → ∥ RuleIsSorted (record { relations = relations; methods = methods; rules = rules; constants = constants }) rule ∥₁

@@ -3,10 +3,12 @@ pub mod Lists
 pub mod Feeding
 pub mod Invariant
 pub mod Meaning
+pub mod BadValues
 pub mod Content
 pub mod Wanted
 pub mod Links
 pub mod Marks
+pub mod SortFaults
 pub mod Faults
 pub mod Progress
 pub mod Fits

@@ -1,7 +1,7 @@
 // Parts into a schema.
 ghost use Rattle.std.specs.Prelude.{◌≡◌, ◌<◌, ◌^◌, length, IfOk, IfErr, OnOk};
 ghost use Rattle.access_schema.specs.Content.{relations_of, Builds};
-ghost use Rattle.access_schema.specs.Faults.{AreNamed, AreFaultless, IsCause};
+ghost use Rattle.access_schema.specs.Faults.{AreNamed, HaveSorts, AreFaultless, IsCause};
 
 use crate::content::{methods_of, relations_of, sources_of};
 use crate::fault::BuildFault;
@@ -17,6 +17,7 @@ impl Schema {
     pub fn build(alloc: Global, parts: Parts) -> Result<Schema, BuildFault>
         requires few { length parts < 2 ^ 32 }
         requires named { AreNamed parts }
+        requires sorts { HaveSorts parts }
         ensures schema { IfOk result (Builds parts) }
         ensures faultless { OnOk result (AreFaultless parts) }
         ensures fault { IfErr result (IsCause parts) }
@@ -28,6 +29,7 @@ impl Schema {
 fn build_parts(alloc: Global, parts: &[Part]) -> Result<Schema, BuildFault>
     requires few { length parts.now < 2 ^ 32 }
     requires named { AreNamed parts.now }
+    requires sorts { HaveSorts parts.now }
     ensures schema { IfOk result (Builds parts.now) }
     ensures faultless { OnOk result (AreFaultless parts.now) }
     ensures fault { IfErr result (IsCause parts.now) }
@@ -41,6 +43,7 @@ fn build_parts(alloc: Global, parts: &[Part]) -> Result<Schema, BuildFault>
 fn schema_of(alloc: Global, parts: &[Part], relations: Relations) -> Result<Schema, AllocError>
     requires relations { relations ≡ relations_of parts.now }
     requires named { AreNamed parts.now }
+    requires sorts { HaveSorts parts.now }
     requires faultless { AreFaultless parts.now }
     ensures { IfOk result (Builds parts.now) }
 {

@@ -16,7 +16,8 @@ pub enum Wanted {
     Constants,
 }
 
-fn text_of<'a>(wanted: Wanted, term: &'a NamedTerm) -> Option<&'a Text>
+/// The text of a term where it is wanted.
+pub fn text_of<'a>(wanted: Wanted, term: &'a NamedTerm) -> Option<&'a Text>
     ensures { option_copied result ≡ text_of wanted term.now }
 {
     match (wanted, term) {

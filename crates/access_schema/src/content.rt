@@ -20,10 +20,16 @@ pub fn relations_of(alloc: Global, parts: &[Part]) -> Result<Relations, AllocErr
     let mut relations = Vec::new(alloc);
     let mut left = parts;
     while let [part, rest @ ..] = left {
-        if let Part::Relation { name, columns } = part {
+        if let Part::Relation {
+            name,
+            columns,
+            sorts,
+        } = part
+        {
             relations.push(Relation {
                 name: name.copy(alloc)?,
                 columns: columns.copy(alloc)?,
+                sorts: sorts.copy(alloc)?,
             })?;
         }
         left = rest;

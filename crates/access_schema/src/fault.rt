@@ -30,6 +30,7 @@ pub enum SchemaFault {
     UnknownColumn,
     OverLimit(Limit),
     Recursive,
+    WrongSort,
 }
 
 /// Why no schema is built: want of memory, or the first faulty part with its least fault.

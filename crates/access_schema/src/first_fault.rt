@@ -11,6 +11,7 @@ use crate::part::{NamedAtom, Part};
 use crate::part_faults::{has_unknown_column, has_wrong_arity, repeats_name, uses_unknown};
 use crate::part_limits::{add_constants, passed_limit};
 use crate::recursion::{Link, leads_round};
+use crate::wrong_sort::has_wrong_sort;
 use lists::{Places, Seq, Text};
 use meaning::types::Relation;
 use std::alloc::{AllocError, Global};
@@ -133,6 +134,9 @@ fn check_part(
     }
     if add_link(alloc, relations, links, part)? {
         return Ok(Some(SchemaFault::Recursive));
+    }
+    if has_wrong_sort(alloc, relations, part)? {
+        return Ok(Some(SchemaFault::WrongSort));
     }
     Ok(None)
 }

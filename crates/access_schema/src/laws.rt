@@ -3,6 +3,7 @@ ghost use Rattle.std.specs.Prelude.{ℕ, List, Contains};
 ghost use Rattle.meaning.specs.Plans.{IsWellFormed};
 ghost use Rattle.meaning.specs.Fitting.{RulesFit};
 ghost use Rattle.meaning.specs.Instances.{FitsRelation};
+ghost use Rattle.meaning.specs.Sorts.{RuleIsSorted};
 ghost use Rattle.meaning.specs.declared.types.Rule.{Rule};
 ghost use Rattle.meaning.specs.declared.types.Atom.{Atom};
 ghost use Rattle.access_schema.specs.declared.schema.Schema.{Schema};
@@ -23,4 +24,9 @@ pub fn rules_fit()
 pub fn bodies_fit()
     ensures { (schema : Schema) (rule : Rule) (atom : Atom) → Contains schema.rules rule → Contains rule.body atom
         → FitsRelation (meaning_of schema) atom.rel atom.terms }
+{}
+
+/// A constant of a rule at an integer column is an integer, and a variable at one stands at no other column.
+pub fn rules_are_sorted()
+    ensures { (schema : Schema) (rule : Rule) → Contains schema.rules rule → RuleIsSorted (meaning_of schema) rule }
 {}

@@ -1,9 +1,10 @@
 // Relations by their names.
-ghost use Rattle.std.specs.Prelude.{◌≡◌, ◌≤◌, length};
-ghost use Rattle.access_schema.specs.Content.{is_declared, number_of, columns_of};
+ghost use Rattle.std.specs.Prelude.{◌≡◌, ◌≤◌, length, option_copied};
+ghost use Rattle.std.specs.List.{find};
+ghost use Rattle.access_schema.specs.Content.{is_named, is_declared, number_of, columns_of, sorts_of};
 
 use lists::Text;
-use meaning::types::Relation;
+use meaning::types::{Relation, Sort};
 
 /// Whether a relation has that name.
 pub fn is_declared(relations: &[Relation], name: &Text) -> bool
@@ -29,16 +30,36 @@ pub fn number_of(relations: &[Relation], name: &Text) -> usize
     number
 }
 
-/// The columns of the first relation of that name, and none where there is no such relation.
-pub fn columns_of<'a>(relations: &'a [Relation], name: &Text) -> &'a [Text]
-    ensures { result.now ≡ columns_of relations.now name.now }
+/// The first relation of that name.
+fn find<'a>(relations: &'a [Relation], name: &Text) -> Option<&'a Relation>
+    ensures { option_copied result ≡ find (is_named name.now) relations.now }
 {
     let mut left = relations;
     while let [relation, rest @ ..] = left {
         if relation.name == *name {
-            return relation.columns.as_slice();
+            return Some(relation);
         }
         left = rest;
     }
-    &[]
+    None
+}
+
+/// The columns of the first relation of that name, and none where there is no such relation.
+pub fn columns_of<'a>(relations: &'a [Relation], name: &Text) -> &'a [Text]
+    ensures { result.now ≡ columns_of relations.now name.now }
+{
+    match find(relations, name) {
+        Some(relation) => relation.columns.as_slice(),
+        None => &[],
+    }
+}
+
+/// The sorts of the columns of the first relation of that name, and none where there is no such relation.
+pub fn sorts_of<'a>(relations: &'a [Relation], name: &Text) -> &'a [Sort]
+    ensures { result.now ≡ sorts_of relations.now name.now }
+{
+    match find(relations, name) {
+        Some(relation) => relation.sorts.as_slice(),
+        None => &[],
+    }
 }

@@ -1,6 +1,7 @@
 // The parts of a schema, with names in place of numbers.
 
 use lists::{Seq, Text, Texts};
+use meaning::types::Sorts;
 
 pub type NamedTerms = Seq<NamedTerm>;
 
@@ -22,12 +23,13 @@ pub struct NamedAtom {
     pub terms: NamedTerms,
 }
 
-/// One declaration of a schema. A line counts from 1 and is that of the text.
+/// One declaration of a schema. A line counts from 1 and is that of the text. A relation has a sort for each of its columns.
 #[derive(Drop)]
 pub enum Part {
     Relation {
         name: Text,
         columns: Texts,
+        sorts: Sorts,
     },
     Method {
         name: Text,

@@ -91,7 +91,7 @@ pub fn repeats_name(alloc: Global, earlier: &[Part], part: &Part) -> Result<bool
     ensures { IfOk result (λ twice. twice ≡ repeats_name earlier.now part.now) }
 {
     match part {
-        Part::Relation { name, columns } => {
+        Part::Relation { name, columns, .. } => {
             Ok(has_relation_named(earlier, name) || repeats(alloc, columns.as_slice())?)
         }
         Part::Method { name, inputs, .. } => {

@@ -1,5 +1,6 @@
 -- A schema with some of the rules of another keeps what every schema keeps.
 use Rattle.std.proofs.Common.{◌≡◌, ◌<◌, ◌≤◌, subst, refl, ℕ, List, [], ◌∷◌, Bool, true, false, length, arith, ⊎_elim}
+use Rattle.std.proofs.Math.Logic.{∥∥₁_map}
 use Rattle.std.specs.Prelude.{Contains}
 use Rattle.meaning.specs.declared.types.Rule.{Rule}
 use Rattle.meaning.specs.declared.types.Relation.{Relation}
@@ -62,6 +63,10 @@ part_is_schema relations methods rules constants sources marks whole = record {
     placed = λ source there. absurd (omega arith);
     named = λ source there. absurd (omega arith);
   };
+  sorted = λ rule there. ∥∥₁_map (whole.sorted rule (marked_among rules marks rule there)) (λ its. record {
+    constants = its.constants;
+    variables = its.variables;
+  });
 }
 
 -- where no member is left, or no mark, none is marked

@@ -30,6 +30,7 @@ fn copied_relations(alloc: Global, relations: &[Relation]) -> Result<Relations, 
         copies.push(Relation {
             name: relation.name.copy(alloc)?,
             columns: relation.columns.copy(alloc)?,
+            sorts: relation.sorts.copy(alloc)?,
         })?;
     }
     Ok(copies)
