@@ -53,6 +53,7 @@ class Line(NamedTuple):
 class Relation(NamedTuple):
     name: str
     columns: list
+    sorts: list  # of each column: text or int
 
 
 class Method(NamedTuple):
@@ -238,12 +239,23 @@ def bounded(digits, most):
     return int(digits) if len(digits) <= len(str(most)) else most + 1
 
 
-def read_declaration(tokens):
-    """The declaration that a line is."""
+def names_version(tokens):
+    """Whether the tokens of a line are `schema 2`, which names the version where columns may be given sorts."""
+    return tokens == [Token("word", "schema"), Token("number", "2")]
+
+
+def is_integer(text):
+    """Whether the text is that of an integer of 64 bits, in its one spelling."""
+    return bool(re.fullmatch("0|-?[1-9][0-9]{0,18}", text)) and -(1 << 63) <= int(text) < 1 << 63
+
+
+def read_declaration(tokens, has_sorts):
+    """The declaration that a line is, where columns may be given sorts or may not."""
     line = Reader(tokens)
     kind = line.take("word").text
     if kind == "relation":
-        part = Relation(line.name(), line.in_brackets(line.name))
+        name, columns = line.name(), line.in_brackets(lambda: read_column(line, has_sorts))
+        part = Relation(name, [column for column, _ in columns], [sort for _, sort in columns])
     elif kind == "method":
         part = read_method(line)
     elif kind == "rule":
@@ -265,6 +277,16 @@ def read_declaration(tokens):
     return part
 
 
+def read_column(line, has_sorts):
+    """The name of a column, and its sort."""
+    name = line.name()
+    if has_sorts and line.accept("word", "int"):
+        return name, "int"
+    if has_sorts:
+        line.accept("word", "text")
+    return name, "text"
+
+
 def read_method(line):
     name = line.name()
     line.keyword("on")
@@ -279,12 +301,13 @@ def read_atom(line):
 
 def read_schema(text):
     """The schema that the bytes declare."""
-    parts = []
-    for line in lines_of(decoded("schema", text)):
+    parts, lines = [], lines_of(decoded("schema", text))
+    has_sorts = bool(lines) and names_version(lines[0].tokens)
+    for line in lines[has_sorts:]:
         try:
             if line.tokens is None:
                 raise NotThere
-            parts.append((line.number, read_declaration(line.tokens)))
+            parts.append((line.number, read_declaration(line.tokens, has_sorts)))
         except NotThere:
             raise Misfit(f"schema: line {line.number} is not a declaration") from None
     faults = Faults(part for _, part in parts)
@@ -313,10 +336,11 @@ class Faults:
     """What is wrong with the declarations, one after another: the least fault of each, in the order of the table of the guide."""
 
     def __init__(self, parts):
-        self.columns = {}  # of all relations, wherever they are declared
+        self.columns, self.sorts = {}, {}  # of all relations, wherever they are declared
         for part in parts:
             if isinstance(part, Relation):
                 self.columns.setdefault(part.name, part.columns)
+                self.sorts.setdefault(part.name, part.sorts)
         self.relations, self.methods, self.sources, self.rules, self.constants, self.feeds = set(), set(), set(), 0, set(), {}
 
     def of(self, part):
@@ -351,7 +375,8 @@ class Faults:
         self.constants |= constants(part)
         return (over("rules", self.rules) or over("body atoms", len(part.body)) or over("head atoms", len(part.head))
                 or over("variables", len(variables(part))) or over("constants", len(self.constants))
-                or self.leads_round([atom.relation for atom in part.body], [atom.relation for atom in part.head]))
+                or self.leads_round([atom.relation for atom in part.body], [atom.relation for atom in part.head])
+                or wrong_sort([(term, sort) for atom in atoms for term, sort in zip(atom.terms, self.sorts[atom.relation])]))
 
     def of_key(self, part):
         if repeats(part.columns) or repeats(part.target_columns):
@@ -363,7 +388,8 @@ class Faults:
         if self.lacks(part.relation, part.columns) or self.lacks(part.target, part.target_columns):
             return "unknown column"
         self.rules += 1
-        return over("rules", self.rules) or self.leads_round([part.relation], [part.target])
+        apart = self.sorts_of(part.relation, part.columns) != self.sorts_of(part.target, part.target_columns)
+        return over("rules", self.rules) or self.leads_round([part.relation], [part.target]) or ("wrong sort" if apart else None)
 
     def of_constant(self, part):
         self.constants.add(part.value)
@@ -378,6 +404,9 @@ class Faults:
     def lacks(self, relation, columns):
         return any(column not in self.columns[relation] for column in columns)
 
+    def sorts_of(self, relation, columns):
+        return [self.sorts[relation][self.columns[relation].index(column)] for column in columns]
+
     def leads_round(self, body, head):
         """Whether the rules up to this one lead from a relation back to itself: then one leads from its head back to its body."""
         for relation in body:
@@ -388,6 +417,17 @@ class Faults:
                 reached.add(further)
                 left.append(further)
         return "recursive rules" if reached & set(body) else None
+
+
+def wrong_sort(terms):
+    """What is wrong with terms, each with the sort of its column: a variable of two sorts, or another constant than an integer."""
+    sorts = {}
+    for term, sort in terms:
+        if term.kind in ("word", "quoted") and sorts.setdefault(term.text, sort) != sort:
+            return "wrong sort"
+        if term.kind in ("text", "number") and sort == "int" and not is_integer(term.text):
+            return "wrong sort"
+    return None
 
 
 def over(limit, count):

@@ -16,7 +16,7 @@ use Rattle.access_schema.specs.declared.part.Part.{Part}
 use Rattle.access_schema.specs.declared.part.Part.TheVariants.{Relation as RelationPart, Method as MethodPart, Rule as RulePart, ForeignKey as KeyPart, Constant as ConstantPart, Source as SourcePart}
 use Rattle.access_schema.specs.declared.schema.Schema.{Schema}
 use Rattle.access_schema.specs.declared.fault.SchemaFault.{SchemaFault}
-use Rattle.access_schema.specs.declared.fault.SchemaFault.TheVariants.{DuplicateName, UnknownRelation, WrongArity, UnknownColumn, OverLimit, Recursive}
+use Rattle.access_schema.specs.declared.fault.SchemaFault.TheVariants.{DuplicateName, UnknownRelation, WrongArity, UnknownColumn, OverLimit, Recursive, WrongSort}
 use Rattle.access_schema.specs.declared.limits.TheConstants.{MOST_RELATIONS, MOST_METHODS, MOST_RULES, MOST_COLUMNS, MOST_BODY_ATOMS, MOST_HEAD_ATOMS, MOST_VARIABLES, MOST_COST, MOST_CONSTANTS}
 use Rattle.access_schema.specs.Content.{columns_of, relation_of, relations_of, method_of, methods_of, rule_of, rules_of, sources_of, constants_of, variable_of, variables_of, part_constants}
 use Rattle.meaning.specs.declared.types.Rule.{Rule}
@@ -27,11 +27,15 @@ use Rattle.access_schema.proofs.BuiltSchema.{is_schema}
 use Rattle.access_schema.proofs.Ordered.{ordered_from}
 use Rattle.access_schema.specs.Invariant.{AtomFits, terms_of}
 use Rattle.access_schema.specs.Lists.{is_among, once_after, each_once}
-use Rattle.access_schema.specs.Faults.{is_relation, is_method, is_rule, is_outside, has_many_constants, passed_limit, IsFaultOf, AreFaultless, IsNamed, AreNamed, is_unknown, uses_unknown, is_misfit, has_wrong_arity, lacks, has_unknown_column}
+use Rattle.access_schema.specs.Faults.{is_relation, is_method, is_rule, is_outside, has_many_constants, passed_limit, IsFaultOf, AreFaultless, IsNamed, AreNamed, HasSorts, HaveSorts, is_unknown, uses_unknown, is_misfit, has_wrong_arity, lacks, has_unknown_column}
 use Rattle.access_schema.proofs.Texts.{contains_among, once_differ, once_from, length_le}
 use Rattle.access_schema.specs.declared.part.NamedTerm.{NamedTerm}
+use Rattle.access_schema.specs.Meaning.{meaning_of}
+use Rattle.access_schema.specs.SortFaults.{HasWrongSort}
+use Rattle.access_schema.proofs.Keeping.{rules_sorted}
+use Rattle.tgd_reader.proofs.SortedParts.{no_wrong_sort}
 use Rattle.tgd_reader.specs.SchemaText.{DeclaresSchema, IsSchemaText}
-use Rattle.tgd_reader.specs.Printed.{name_at, columns_at, columns_in, named_term, named_atom, variable_name, without_line, parts_of, placed_from, printed_parts, text_of_schema, AreSameButLines}
+use Rattle.tgd_reader.specs.Printed.{name_at, columns_at, columns_in, named_term, named_atom, variable_name, without_line, parts_of, placed_from, printed_parts, has_integers, first_line, text_of_schema, AreSameButLines}
 use Rattle.tgd_reader.proofs.PrintedParts.{parts_again}
 use Rattle.tgd_reader.proofs.Plain.{schema_plain}
 use Rattle.tgd_reader.proofs.Rebuilt.{first_names, names_once, terms_named}
@@ -64,7 +68,7 @@ module _ (s : Schema) where
       (length-map atom.terms named_term ∙ fits.arity relation at ∙ sym (ap length (name_columns s atom.rel relation at)))
 
   pub none_unknown : (part : Part) → IsOf s part → uses_unknown s.relations part ≡ false
-  none_unknown (RelationPart name columns) of = refl
+  none_unknown (RelationPart name columns sorts) of = refl
   none_unknown (MethodPart name relation inputs cost) of = ap (is_unknown s.relations) of.3 ∙ name_known s of.0.rel (s.valid.methods_are.placed of.0 of.1)
   none_unknown (RulePart line body head) of =
       let fits = s.valid.rules_are.fit of.0 of.1 in
@@ -77,7 +81,7 @@ module _ (s : Schema) where
   none_unknown (SourcePart relation kind locator) of = ap (is_unknown s.relations) of.2 ∙ name_known s of.0.rel (s.valid.sources_are.placed of.0 of.1)
 
   pub none_misfit : (part : Part) → IsOf s part → has_wrong_arity s.relations part ≡ false
-  none_misfit (RelationPart name columns) of = refl
+  none_misfit (RelationPart name columns sorts) of = refl
   none_misfit (MethodPart name relation inputs cost) of = refl
   none_misfit (RulePart line body head) of =
       let fits = s.valid.rules_are.fit of.0 of.1 in
@@ -102,13 +106,23 @@ module _ (s : Schema) where
       ap (λ (n : List ℕ). not (is_among (columns_of s.relations (name_at s.relations method.rel)) n)) is ∙ ap (λ (cs : List (List ℕ)). not (is_among cs column)) own ∙ ap not yes)
 
   pub none_lacking : (part : Part) → IsOf s part → has_unknown_column s.relations part ≡ false
-  none_lacking (RelationPart name columns) of = refl
+  none_lacking (RelationPart name columns sorts) of = refl
   none_lacking (MethodPart name relation inputs cost) of =
       ap (λ (n : List ℕ). lacks s.relations n inputs) of.3 ∙ ap (lacks s.relations (name_at s.relations of.0.rel)) of.4 ∙ method_columns of.0 of.1
   none_lacking (RulePart line body head) of = refl
   none_lacking (KeyPart line relation columns target target_columns) of = absurd of
   none_lacking (ConstantPart text) of = refl
   none_lacking (SourcePart relation kind locator) of = refl
+
+  pub sorts_fit : (part : Part) → IsOf s part → HasWrongSort s.relations part → ⊥
+  sorts_fit (RelationPart name columns sorts) of wrong = wrong
+  sorts_fit (MethodPart name relation inputs cost) of wrong = wrong
+  sorts_fit (RulePart line body head) of wrong =
+      let is = s.valid.rules_are.fit of.0 of.1 in
+      no_wrong_sort (meaning_of s) s.valid.relations_are of.0 (rules_sorted s of.0 of.1) is.atoms is.variables body head of.2 of.3 wrong
+  sorts_fit (KeyPart line relation columns target target_columns) of wrong = absurd of
+  sorts_fit (ConstantPart text) of wrong = wrong
+  sorts_fit (SourcePart relation kind locator) of wrong = wrong
 
 -- ---- limits
 
@@ -156,8 +170,8 @@ module _ (s : Schema) (parts : List Part) (all : AllByRecursion (IsOf s) parts) 
       lt_false MOST_CONSTANTS (length (each_once texts)) (omega (arith, le, few))
 
   pub none_over : (earlier later : List Part) (part : Part) → parts ≡ earlier ++ part ∷ later → IsOf s part → passed_limit earlier part ≡ None
-  none_over earlier later (RelationPart name columns) split of =
-      let lt = room parts earlier later (RelationPart name columns) split relation_of _ MOST_RELATIONS refl (let e = ap length rs in let few = s.valid.relations_are.few in omega (arith, e, few)) in
+  none_over earlier later (RelationPart name columns sorts) split of =
+      let lt = room parts earlier later (RelationPart name columns sorts) split relation_of _ MOST_RELATIONS refl (let e = ap length rs in let few = s.valid.relations_are.few in omega (arith, e, few)) in
       let e = counted is_relation relation_of relation_agrees earlier in
       let own = s.valid.relations_are.columns of.0 of.1 in
       let long = ap length of.3 in
@@ -197,6 +211,7 @@ module _ (s : Schema) (parts : List Part) (all : AllByRecursion (IsOf s) parts) 
   part_faultless earlier later part ss split of WrongArity has = let none = none_misfit s part of in cc
   part_faultless earlier later part ss split of UnknownColumn has = let none = none_lacking s part of in cc
   part_faultless earlier later part ss split of (OverLimit limit) has = let none = none_over earlier later part split of in cc
+  part_faultless earlier later part ss split of WrongSort has = sorts_fit s part of has
   part_faultless earlier later part ss split of Recursive has = not_recursive s parts (earlier ++ part ∷ []) us (stands_there parts earlier later part split) has.1
 
   pub faultless : sources_of s.relations parts ≡ s.sources → AreFaultless parts
@@ -206,7 +221,7 @@ module _ (s : Schema) (parts : List Part) (all : AllByRecursion (IsOf s) parts) 
       (subst (λ (relations : List Relation). IsFaultOf relations (take index parts) part fault) rs is)
 
   part_named : (part : Part) → IsOf s part → IsNamed part
-  part_named (RelationPart name columns) of = (
+  part_named (RelationPart name columns sorts) of = (
     λ none. s.valid.relations_are.named of.0 of.1 (sym of.2 ∙ none),
     λ column there none. (s.valid.relations_are.columns of.0 of.1).named column (subst (λ (cs : List (List ℕ)). Contains cs column) of.3 there) none,
   )
@@ -219,25 +234,38 @@ module _ (s : Schema) (parts : List Part) (all : AllByRecursion (IsOf s) parts) 
   pub named : AreNamed parts
   named = λ part there. part_named part (all_member (IsOf s) parts part all there)
 
+  part_sorted : (part : Part) → IsOf s part → HasSorts part
+  part_sorted (RelationPart name columns sorts) of = ap length of.4 ∙ s.valid.relations_are.sorts of.0 of.1 ∙ sym (ap length of.3)
+  part_sorted (MethodPart name relation inputs cost) of = tt
+  part_sorted (RulePart line body head) of = tt
+  part_sorted (KeyPart line relation columns target target_columns) of = tt
+  part_sorted (ConstantPart text) of = tt
+  part_sorted (SourcePart relation kind locator) of = tt
+
+  pub sorted : HaveSorts parts
+  sorted = λ part there. part_sorted part (all_member (IsOf s) parts part all there)
+
 -- ---- the law
 
 pub declares_again : (s : Schema) → (again : Schema) × DeclaresSchema (text_of_schema s) again × AreSameButLines again s
 declares_again s =
-    let parts : List Part = placed_from 1 (parts_of s) in
-    let all = placed_declared s 1 in
-    let rs : relations_of parts ≡ s.relations = relations_placed s 1 in
-    let ms = methods_on_lines s 1 in
-    let us = rules_on_lines s 1 in
-    let ss = sources_on_lines s 1 in
+    let v : Bool = has_integers s.relations in
+    let from : ℕ = first_line v in
+    let parts : List Part = placed_from from (parts_of s) in
+    let all = placed_declared s from in
+    let rs : relations_of parts ≡ s.relations = relations_placed s from in
+    let ms = methods_on_lines s from in
+    let us = rules_on_lines s from in
+    let ss = sources_on_lines s from in
     let sound : AreFaultless parts = faultless s parts all rs ms us ss in
     let relations : List Relation = relations_of parts in
-    let again : Schema = record { relations = relations; methods = methods_of relations parts; rules = rules_of relations parts; constants = constants_of parts; sources = sources_of relations parts; valid = is_schema parts sound (named s parts all rs ms us) } in
-    let declares : DeclaresSchema (text_of_schema s) again = record { declared = printed_parts (parts_of s); parts = parts_again (parts_of s) (schema_plain s); faultless = sound; builds = record { relations = refl; methods = refl; rules = refl; constants = refl; sources = refl } } in
+    let again : Schema = record { relations = relations; methods = methods_of relations parts; rules = rules_of relations parts; constants = constants_of parts; sources = sources_of relations parts; valid = is_schema parts sound (named s parts all rs ms us) (sorted s parts all rs ms us) } in
+    let declares : DeclaresSchema (text_of_schema s) again = record { declared = printed_parts v (parts_of s); parts = parts_again v (parts_of s) (schema_plain s v refl); faultless = sound; builds = record { relations = refl; methods = refl; rules = refl; constants = refl; sources = refl } } in
     let same : AreSameButLines again s = record {
       relations = rs;
       methods = ap (λ (r : List Relation). methods_of r parts) rs ∙ ms;
       rules = ap (λ (r : List Relation). map without_line (rules_of r parts)) rs ∙ us;
-      constants = constants_on_lines s 1;
+      constants = constants_on_lines s from;
       sources = ap (λ (r : List Relation). sources_of r parts) rs ∙ ss;
     } in
     (again, declares, same)

@@ -17,6 +17,7 @@ use Rattle.pq_text.specs.Lines.{kind_is_eol, number_at, into_first, cut, Tells}
 use Rattle.pq_text.specs.Standing.{lexeme_for}
 use Rattle.access_schema.specs.declared.part.Part.{Part}
 use Rattle.tgd_reader.specs.declared.parts.Declared.{Declared}
+use Rattle.tgd_reader.specs.Version.{says_version, next_version, behind_version, version_of, told_version}
 use Rattle.tgd_reader.specs.Grammar.{HasPart, AreParts, HasParts}
 
 -- ---- places rise
@@ -116,21 +117,43 @@ lines_few text number (t ∷ ts) =
     let c = length-into_first (lexeme_for text t) (cut text number ts) in
     cut_step (kind_is_eol t.kind) (record { number = number; tokens = [] } ∷ cut text (number_at text t.«end») ts) (into_first (lexeme_for text t) (cut text number ts)) (length (t ∷ ts) + 1) (omega (arith, a)) (omega (arith, b, c))
 
-part_few : (P : List Part → List ℕ → Type 0) (k : ℕ) → ((ps : List Part) (ns : List ℕ) → P ps ns → (length ns ≡ length ps) × (length ps ≤ k)) → (number : ℕ) (tokens : List Lexeme) (parts : List Part) (numbers : List ℕ) →
-    HasPart number tokens parts numbers P → (length numbers ≡ length parts) × (length parts ≤ k + 1)
-part_few P k go number [] parts numbers h = let r = go parts numbers h in (r.0, omega (arith, r.1))
-part_few P k go number (t ∷ ts) [] numbers h = absurd h
-part_few P k go number (t ∷ ts) (p ∷ ps) [] h = absurd h
-part_few P k go number (t ∷ ts) (p ∷ ps) (n ∷ ns) h = let r = go ps ns h.2 in (omega (arith, r.0), omega (arith, r.1))
+part_few : (v : Bool) (P : List Part → List ℕ → Type 0) (k : ℕ) → ((ps : List Part) (ns : List ℕ) → P ps ns → (length ns ≡ length ps) × (length ps ≤ k)) → (number : ℕ) (tokens : List Lexeme) (parts : List Part) (numbers : List ℕ) →
+    HasPart v number tokens parts numbers P → (length numbers ≡ length parts) × (length parts ≤ k + 1)
+part_few v P k go number [] parts numbers h = let r = go parts numbers h in (r.0, omega (arith, r.1))
+part_few v P k go number (t ∷ ts) [] numbers h = absurd h
+part_few v P k go number (t ∷ ts) (p ∷ ps) [] h = absurd h
+part_few v P k go number (t ∷ ts) (p ∷ ps) (n ∷ ns) h = let r = go ps ns h.2 in (omega (arith, r.0), omega (arith, r.1))
 
 no_parts : (parts : List Part) (numbers : List ℕ) → parts ≡ [] → numbers ≡ [] → (length numbers ≡ length parts) × (length parts ≤ 0)
 no_parts parts numbers e f = let a = ap length e in let b = ap length f in (omega (arith, a, b), omega (arith, a))
 
-parts_few : (lines : List Line) (parts : List Part) (numbers : List ℕ) → AreParts lines parts numbers → (length numbers ≡ length parts) × (length parts ≤ length lines)
-parts_few [] parts numbers h = no_parts parts numbers h.0 h.1
-parts_few (line ∷ lines) parts numbers h =
-    let r = part_few (AreParts lines) (length lines) (parts_few lines) line.number line.tokens parts numbers h in
+parts_few : (v : Bool) (lines : List Line) (parts : List Part) (numbers : List ℕ) → AreParts v lines parts numbers → (length numbers ≡ length parts) × (length parts ≤ length lines)
+parts_few v [] parts numbers h = no_parts parts numbers h.0 h.1
+parts_few v (line ∷ lines) parts numbers h =
+    let r = part_few v (AreParts v lines) (length lines) (parts_few v lines) line.number line.tokens parts numbers h in
     (r.0, omega (arith, r.1))
+
+-- behind the line that names the version there are fewer lines
+pick_behind : (t : Bool) (behind : List Line) (n : ℕ) → length behind ≤ n → IfSome (cond t (Some behind) None) (λ b. length b ≤ n)
+pick_behind true behind n le = le
+pick_behind false behind n le = tt
+
+step_few : (line : Line) (behind : List Line) (tokens : List Lexeme) (found : Option (List Line)) → IfSome found (λ b. length b ≤ length behind) →
+    IfSome (next_version behind tokens found) (λ b. length b ≤ length (line ∷ behind))
+step_few line behind [] None few = tt
+step_few line behind [] (Some b) few = omega (arith, few)
+step_few line behind (t ∷ ts) found few = pick_behind (says_version (t ∷ ts)) behind (length (line ∷ behind)) (omega arith)
+
+behind_few : (lines : List Line) → IfSome (behind_version lines) (λ b. length b ≤ length lines)
+behind_few [] = tt
+behind_few (line ∷ lines) = step_few line lines line.tokens (behind_version lines) (behind_few lines)
+
+version_few : (lines : List Line) (found : Option (List Line)) → IfSome found (λ b. length b ≤ length lines) → length (version_of lines found).1 ≤ length lines
+version_few lines None few = omega arith
+version_few lines (Some b) few = few
+
+told_few : (lines : List Line) → length (told_version lines).1 ≤ length lines
+told_few lines = version_few lines (behind_version lines) (behind_few lines)
 
 whole_few : (text : List ℕ) (stop : Stop) (ts : List Token) (told : TextLines) → told.broken ≡ None → Lexes Lines text 0 ts (stop_place text stop) → Tells stop (cut text 1 ts) told → length told.whole ≤ length text + 1
 whole_few text End ts told none lexes tells =
@@ -146,5 +169,6 @@ pub declared_few : (text : List ℕ) (declared : Declared) → HasParts text dec
 declared_few text declared has =
     let told : TextLines = record { whole = has.0; broken = None } in
     let a = whole_few text has.1.lexed.stop has.1.lexed.tokens told refl has.1.front.lexes has.1.tells in
-    let r = parts_few has.0 declared.parts declared.lines has.2 in
-    (r.0, omega (arith, a, r.1))
+    let r = parts_few (told_version has.0).0 (told_version has.0).1 declared.parts declared.lines has.2 in
+    let s = told_few has.0 in
+    (r.0, omega (arith, a, r.1, s))

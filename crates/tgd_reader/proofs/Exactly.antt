@@ -19,6 +19,7 @@ use Rattle.tgd_reader.specs.declared.fault.ReadFault.{ReadFault}
 use Rattle.tgd_reader.specs.declared.fault.ReadFault.TheVariants as faults
 use Rattle.tgd_reader.specs.Grammar.{HasParts, HasFaultyLine}
 use Rattle.tgd_reader.specs.SchemaText.{IsSchemaText, IsReadFault, IsReadAs}
+use Rattle.tgd_reader.proofs.Once.{integer_once, holding_once}
 use Rattle.tgd_reader.proofs.PartLaws.{text_only}
 
 -- ---- a schema is its fields
@@ -30,7 +31,7 @@ abbrev Holds : Fields → Type 0
 Holds f = IsSchema f.relations f.methods f.rules f.constants f.sources
 
 holds_once : (f : Fields) (v w : Holds f) → v ≡ w
-holds_once f = hlevel props
+holds_once f = hlevel (props, integer_once, holding_once)
 
 abbrev fields_of : Schema → Fields
 fields_of s = record { relations = s.relations; methods = s.methods; rules = s.rules; constants = s.constants; sources = s.sources }

@@ -1,8 +1,10 @@
+pub mod Columns
 pub mod ReadLists
 pub mod Declarations
 pub mod PartLaws
 pub mod Counts
 pub mod Named
+pub mod Once
 pub mod Exactly
 pub mod Writing
 pub mod Loops
@@ -14,4 +16,5 @@ pub mod Redeclared
 pub mod Reprinted
 pub mod Faultless
 pub mod Sound
+pub mod SortedParts
 pub mod Again

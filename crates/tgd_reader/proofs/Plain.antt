@@ -1,13 +1,15 @@
 -- The declarations of a schema can be printed: no name is empty, and lists have members.
-use Rattle.std.proofs.Common.{ℕ, ◌<◌, List, [], ◌∷◌, ◌++◌, length, get_or, Option, sym, subst, arith}
+use Rattle.std.proofs.Common.{◌≡◌, ℕ, ◌<◌, Bool, true, false, None, List, [], ◌∷◌, ◌++◌, length, get_or, Option, refl, sym, subst, arith}
 use Rattle.std.specs.Prelude.{Contains, map, slice_index_or}
-use Rattle.std.specs.List.{AllByRecursion}
+use Rattle.std.specs.List.{AllByRecursion, list_any}
 use Rattle.std.proofs.lemmas.List.Elements.{All-contains_itself, Contains-append_left, Contains-append_right}
 use Rattle.std.proofs.lemmas.List.{length-map}
 use Rattle.meaning.specs.declared.types.Relation.{Relation}
 use Rattle.meaning.specs.declared.types.Method.{Method}
 use Rattle.meaning.specs.declared.types.Rule.{Rule}
 use Rattle.meaning.specs.declared.types.Atom.{Atom}
+use Rattle.meaning.specs.declared.types.Sort.{Sort}
+use Rattle.meaning.specs.declared.types.Sort.TheVariants.{Text, Int}
 use Rattle.meaning.specs.declared.types.Term.{Term}
 use Rattle.meaning.specs.declared.types.Term.TheVariants.{Var, Const}
 use Rattle.pq_text.specs.Forms.{IsSome}
@@ -18,8 +20,11 @@ use Rattle.access_schema.specs.declared.part.Part.TheVariants.{Constant as Const
 use Rattle.access_schema.specs.declared.schema.SourceLine.{SourceLine}
 use Rattle.access_schema.specs.declared.schema.Schema.{Schema}
 use Rattle.access_schema.specs.Invariant.{AtomFits}
-use Rattle.tgd_reader.specs.Printed.{name_in, columns_in, name_at, columns_at, named_term, named_atom, relation_part, method_part, rule_part, source_part, parts_of}
-use Rattle.tgd_reader.proofs.PrintedParts.{IsPlainTerm, IsPlainAtom, IsPlain}
+use Rattle.access_schema.proofs.Texts.{any_at}
+use Rattle.lists.proofs.Booleans.{never_true}
+use Rattle.tgd_reader.specs.Grammar.{IsGiven}
+use Rattle.tgd_reader.specs.Printed.{name_in, columns_in, name_at, columns_at, named_term, named_atom, relation_part, method_part, rule_part, source_part, parts_of, is_int, holds_integers, has_integers, word_of}
+use Rattle.tgd_reader.proofs.PrintedParts.{IsPlainTerm, IsPlainAtom, AreGiven, IsPlain}
 
 pub all_appended : {X : Type 0} (P : X → Type 0) (xs ys : List X) → AllByRecursion P xs → AllByRecursion P ys → AllByRecursion P (xs ++ ys)
 all_appended P [] ys front behind = behind
@@ -29,6 +34,11 @@ pub all_mapped : {X Y : Type 0} (P : Y → Type 0) (f : X → Y) (xs : List X) �
 all_mapped P f [] all = tt
 all_mapped P f (x ∷ xs) all = (all x (contains_here x xs), all_mapped P f xs (λ y there. all y (contains_there x xs y there)))
 
+words_none : (sorts : List Sort) → list_any is_int sorts ≡ false → AllByRecursion (λ sort. word_of sort ≡ None) sorts
+words_none [] none = tt
+words_none (Text ∷ sorts) none = (refl, words_none sorts none)
+words_none (Int ∷ sorts) none = absurd (let e = none in cc)
+
 module _ (schema : Schema) where
   name_some : (number : ℕ) → number < length schema.relations → IsSome (name_at schema.relations number)
   name_some number lt =
@@ -36,16 +46,24 @@ module _ (schema : Schema) where
       let some : IsSome relation.name = some_listed relation.name (schema.valid.relations_are.named relation (contains_got schema.relations number relation at)) in
       subst (λ (o : Option Relation). IsSome (name_in o)) (sym at) some
 
-  relation_plain : (relation : Relation) → Contains schema.relations relation → IsPlain (relation_part relation)
-  relation_plain relation there =
+  -- in version 1 no column holds integers
+  sorts_given : (v : Bool) → has_integers schema.relations ≡ v → (relation : Relation) → Contains schema.relations relation → AreGiven v relation.sorts
+  sorts_given true is relation there = all_from (λ sort. IsGiven true (word_of sort)) relation.sorts (λ sort among. tt)
+  sorts_given false is relation there =
+      words_none relation.sorts (never_true (holds_integers relation) (λ yes. let has = any_at holds_integers schema.relations relation there yes in cc))
+
+  relation_plain : (v : Bool) → has_integers schema.relations ≡ v → (relation : Relation) → Contains schema.relations relation → IsPlain v (relation_part relation)
+  relation_plain v is relation there =
       let columns = schema.valid.relations_are.columns relation there in (
         some_listed relation.name (schema.valid.relations_are.named relation there),
         some_long relation.columns columns.some,
         all_from (λ (column : List ℕ). IsSome column) relation.columns (λ column among. some_listed column (columns.named column among)),
+        schema.valid.relations_are.sorts relation there,
+        sorts_given v is relation there,
       )
 
-  method_plain : (method : Method) → Contains schema.methods method → IsPlain (method_part schema.relations method)
-  method_plain method there =
+  method_plain : (v : Bool) (method : Method) → Contains schema.methods method → IsPlain v (method_part schema.relations method)
+  method_plain v method there =
       let placed = schema.valid.methods_are.placed method there in
       let (relation, at) = got_below schema.relations method.rel placed in
       let columns = schema.valid.relations_are.columns relation (contains_got schema.relations method.rel relation at) in
@@ -73,8 +91,8 @@ module _ (schema : Schema) where
         all_mapped IsPlainTerm named_term atom.terms (λ term among. term_plain term),
       )
 
-  rule_plain : (rule : Rule) → Contains schema.rules rule → IsPlain (rule_part schema.relations rule)
-  rule_plain rule there =
+  rule_plain : (v : Bool) (rule : Rule) → Contains schema.rules rule → IsPlain v (rule_part schema.relations rule)
+  rule_plain v rule there =
       let fits = schema.valid.rules_are.fit rule there in
       let body_long = length-map rule.body (named_atom schema.relations) in
       let head_long = length-map rule.head (named_atom schema.relations) in
@@ -86,16 +104,16 @@ module _ (schema : Schema) where
         all_mapped IsPlainAtom (named_atom schema.relations) rule.head (λ atom among. atom_plain atom (fits.atoms atom (Contains-append_right rule.body rule.head atom among))),
       )
 
-  source_plain : (source : SourceLine) → Contains schema.sources source → IsPlain (source_part schema.relations source)
-  source_plain source there = (name_some source.rel (schema.valid.sources_are.placed source there), some_listed source.kind (schema.valid.sources_are.named source there))
+  source_plain : (v : Bool) (source : SourceLine) → Contains schema.sources source → IsPlain v (source_part schema.relations source)
+  source_plain v source there = (name_some source.rel (schema.valid.sources_are.placed source there), some_listed source.kind (schema.valid.sources_are.named source there))
 
-  pub schema_plain : AllByRecursion IsPlain (parts_of schema)
-  schema_plain =
+  pub schema_plain : (v : Bool) → has_integers schema.relations ≡ v → AllByRecursion (IsPlain v) (parts_of schema)
+  schema_plain v is =
       let sources : List Part = map (source_part schema.relations) schema.sources in
       let constants : List Part = map ConstantPart schema.constants in
       let rules : List Part = map (rule_part schema.relations) schema.rules in
       let methods : List Part = map (method_part schema.relations) schema.methods in
-      all_appended IsPlain (map relation_part schema.relations) (methods ++ (rules ++ (constants ++ sources))) (all_mapped IsPlain relation_part schema.relations relation_plain)
-      (all_appended IsPlain methods (rules ++ (constants ++ sources)) (all_mapped IsPlain (method_part schema.relations) schema.methods method_plain)
-      (all_appended IsPlain rules (constants ++ sources) (all_mapped IsPlain (rule_part schema.relations) schema.rules rule_plain)
-      (all_appended IsPlain constants sources (all_mapped IsPlain ConstantPart schema.constants (λ text there. tt)) (all_mapped IsPlain (source_part schema.relations) schema.sources source_plain))))
+      all_appended (IsPlain v) (map relation_part schema.relations) (methods ++ (rules ++ (constants ++ sources))) (all_mapped (IsPlain v) relation_part schema.relations (relation_plain v is))
+      (all_appended (IsPlain v) methods (rules ++ (constants ++ sources)) (all_mapped (IsPlain v) (method_part schema.relations) schema.methods (method_plain v))
+      (all_appended (IsPlain v) rules (constants ++ sources) (all_mapped (IsPlain v) (rule_part schema.relations) schema.rules (rule_plain v))
+      (all_appended (IsPlain v) constants sources (all_mapped (IsPlain v) ConstantPart schema.constants (λ text there. tt)) (all_mapped (IsPlain v) (source_part schema.relations) schema.sources (source_plain v)))))

@@ -1,27 +1,34 @@
 -- Parts that are printed are read as themselves, each on its line.
-use Rattle.std.proofs.Common.{◌≡◌, ℕ, ◌+◌, ◌-◌, ◌*◌, ◌≤◌, Bool, true, false, List, [], ◌∷◌, ◌++◌, refl, ap, subst, append_assoc, arith}
+use Rattle.std.proofs.Common.{◌≡◌, ℕ, ◌+◌, ◌≤◌, Bool, true, false, List, [], ◌∷◌, ◌++◌, length, Option, None, refl, sym, ap, subst, ◌∙◌, append_assoc, arith}
 use Rattle.std.specs.Prelude.{codes, map, nat_eq}
 use Rattle.std.specs.Fmt.{decimal}
 use Rattle.std.specs.List.{AllByRecursion}
 use Rattle.std.proofs.lemmas.Bool.{eq-eqb}
+use Rattle.std.proofs.lemmas.Fmt.{decimal_digit}
 use Rattle.std.proofs.lemmas.List.{append-nil}
 use Rattle.lists.proofs.Members.{all_along}
 use Rattle.pq_text.specs.declared.token.Style.TheVariants.{Lines}
+use Rattle.meaning.specs.declared.types.Sort.{Sort}
+use Rattle.meaning.specs.declared.types.Sort.TheVariants.{Text, Int}
 use Rattle.pq_text.specs.declared.lexeme.Lexeme.{Lexeme}
-use Rattle.lists.specs.Digits.{value_from}
+use Rattle.pq_text.specs.declared.lexeme.Line.{Line}
+use Rattle.pq_text.specs.Lines.{feeds}
+use Rattle.pq_text.specs.Printing.{is_bare, Stops}
 use Rattle.pq_text.specs.Forms.{Slot, Key, Mark, Name, Value, Quote, Digits, Takes, list_form, name_form, IsSome}
-use Rattle.pq_text.specs.Pieces.{Piece, text_of, piece_lexeme, AreLexed, AreInLine, ArePrintedLines, word_piece, mark_piece, name_piece, value_piece, number_piece, list_pieces, lines_text, numbered}
+use Rattle.pq_text.specs.Pieces.{Piece, text_of, piece_lexeme, AreLexed, AreInLine, IsPrintedLine, ArePrintedLines, word_piece, mark_piece, name_piece, value_piece, number_piece, list_pieces, lines_text, numbered}
 use Rattle.pq_text.proofs.Pieces.{printed_lines}
-use Rattle.pq_text.proofs.PieceLaws.{name_is_lexed, value_is_lexed, word_is_lexed, open_is_lexed, close_is_lexed, arrow_is_lexed, number_is_lexed, AreLexed-append, AreInLine-append, Reads, Reads-append, name_reads, value_reads, quote_reads, name_in_line, IsPrinted, list_lexed, list_reads, list_in_line}
+use Rattle.pq_text.proofs.PieceLaws.{goes_on, name_is_lexed, value_is_lexed, word_is_lexed, open_is_lexed, close_is_lexed, arrow_is_lexed, number_is_lexed, AreLexed-append, AreInLine-append, Reads, Reads-append, name_reads, value_reads, quote_reads, name_in_line, IsPrinted, list_lexed, list_reads, list_in_line}
 use Rattle.pq_text.proofs.Digits.{decimal_value}
 use Rattle.access_schema.specs.declared.part.NamedTerm.{NamedTerm}
 use Rattle.access_schema.specs.declared.part.NamedTerm.TheVariants.{Var, Const}
 use Rattle.access_schema.specs.declared.part.NamedAtom.{NamedAtom}
 use Rattle.access_schema.specs.declared.part.Part.{Part}
 use Rattle.access_schema.specs.declared.part.Part.TheVariants.{Relation, Method, Rule, ForeignKey, Constant, Source}
-use Rattle.tgd_reader.specs.Reading.{cost_of}
-use Rattle.tgd_reader.specs.Grammar.{term_form, atom_form, listing_form, relation_form, method_form, rule_form, IsAtom, IsDeclaration, HasPart, AreParts, HasParts}
-use Rattle.tgd_reader.specs.Printed.{name_pieces, term_pieces, atom_pieces, listing_pieces, part_pieces, on_line, line_behind, placed_from, lines_from, printed_parts}
+use Rattle.tgd_reader.specs.declared.column.Column.{Column}
+use Rattle.tgd_reader.specs.Version.{next_version, behind_version, version_of, told_version}
+use Rattle.tgd_reader.specs.Reading.{cost_of, name_of, given_sort, sort_of}
+use Rattle.tgd_reader.specs.Grammar.{term_form, atom_form, column_form, IsGiven, IsColumn, listing_form, relation_form, method_form, rule_form, IsAtom, IsDeclaration, HasPart, AreParts, HasParts}
+use Rattle.tgd_reader.specs.Printed.{word_of, column_of, with_sorts, column_pieces, columns_pieces, version_pieces, version_lines, name_pieces, term_pieces, atom_pieces, listing_pieces, part_pieces, on_line, line_behind, placed_from, lines_from, printed_parts}
 
 -- ---- parts that can be printed: no name is empty, and lists have members
 
@@ -32,13 +39,17 @@ IsPlainTerm (Const text) = Unit {0}
 abbrev pub IsPlainAtom : NamedAtom → Type 0
 IsPlainAtom atom = IsSome atom.relation × IsSome atom.terms × AllByRecursion IsPlainTerm atom.terms
 
-abbrev pub IsPlain : Part → Type 0
-IsPlain (Relation name columns) = IsSome name × IsSome columns × AllByRecursion IsSome columns
-IsPlain (Method name relation inputs cost) = IsSome name × IsSome relation × AllByRecursion IsSome inputs × (cost ≤ 1000000)
-IsPlain (Rule line body head) = IsSome body × AllByRecursion IsPlainAtom body × IsSome head × AllByRecursion IsPlainAtom head
-IsPlain (ForeignKey line relation columns target target_columns) = ⊥
-IsPlain (Constant text) = Unit {0}
-IsPlain (Source relation kind locator) = IsSome relation × IsSome kind
+-- the sorts can be printed in the version
+abbrev pub AreGiven : Bool → List Sort → Type 0
+AreGiven v sorts = AllByRecursion (λ sort. IsGiven v (word_of sort)) sorts
+
+abbrev pub IsPlain : Bool → Part → Type 0
+IsPlain v (Relation name columns sorts) = IsSome name × IsSome columns × AllByRecursion IsSome columns × (length sorts ≡ length columns) × AreGiven v sorts
+IsPlain v (Method name relation inputs cost) = IsSome name × IsSome relation × AllByRecursion IsSome inputs × (cost ≤ 1000000)
+IsPlain v (Rule line body head) = IsSome body × AllByRecursion IsPlainAtom body × IsSome head × AllByRecursion IsPlainAtom head
+IsPlain v (ForeignKey line relation columns target target_columns) = ⊥
+IsPlain v (Constant text) = Unit {0}
+IsPlain v (Source relation kind locator) = IsSome relation × IsSome kind
 
 -- ---- members
 
@@ -48,6 +59,59 @@ name_printed name some = record { lexed = λ t rest stops. (name_is_lexed t name
 term_printed : (term : NamedTerm) → IsPlainTerm term → IsPrinted term_pieces term_form term
 term_printed (Var name) some = record { lexed = λ t rest stops. (name_is_lexed t name rest some stops, tt); reads = λ t. name_reads t name some; in_line = λ t. name_in_line t name }
 term_printed (Const text) plain = record { lexed = λ t rest stops. (value_is_lexed t text rest stops, tt); reads = λ t. value_reads t text; in_line = λ t. (refl, tt) }
+
+-- a column with the word of its sort
+module _ (word : List ℕ) (bare : is_bare word ≡ true) (reads_word : Reads (word_piece true word ∷ []) (Key word ∷ [])) (name : List ℕ) (some : IsSome name) where
+  worded_lexed : (t : Bool) (rest : List ℕ) → Stops goes_on rest → AreLexed Lines (name_piece t name ∷ word_piece true word ∷ []) rest
+  worded_lexed t rest stops = (name_is_lexed t name (text_of (word_piece true word ∷ []) ++ rest) some refl, (word_is_lexed true word rest bare stops, tt))
+
+  worded_reads : (t : Bool) → Reads (name_piece t name ∷ word_piece true word ∷ []) (Name name ∷ Key word ∷ [])
+  worded_reads t = Reads-append (name_piece t name ∷ []) (word_piece true word ∷ []) (Name name ∷ []) (Key word ∷ []) (name_reads t name some) reads_word
+
+  worded_in_line : (t : Bool) → AreInLine (name_piece t name ∷ word_piece true word ∷ [])
+  worded_in_line t = AreInLine-append (name_piece t name ∷ []) (word_piece true word ∷ []) (name_in_line t name) (refl, tt)
+
+column_printed : (name : List ℕ) (sort : Sort) → IsSome name → IsPrinted column_pieces column_form (column_of name sort)
+column_printed name Text some = record { lexed = λ t rest stops. (name_is_lexed t name rest some stops, tt); reads = λ t. name_reads t name some; in_line = λ t. name_in_line t name }
+column_printed name Int some = record {
+  lexed = worded_lexed (codes "int") refl (λ rest. (refl, refl)) name some;
+  reads = worded_reads (codes "int") refl (λ rest. (refl, refl)) name some;
+  in_line = worded_in_line (codes "int") refl (λ rest. (refl, refl)) name some;
+}
+
+columns_printed : (columns : List (List ℕ)) (sorts : List Sort) → AllByRecursion IsSome columns → AllByRecursion (IsPrinted column_pieces column_form) (with_sorts columns sorts)
+columns_printed [] sorts all = tt
+columns_printed (name ∷ names) [] all = tt
+columns_printed (name ∷ names) (sort ∷ sorts) all = (column_printed name sort all.0, columns_printed names sorts all.1)
+
+-- ---- columns with their sorts
+
+written_some : (columns : List (List ℕ)) (sorts : List Sort) → IsSome columns → length sorts ≡ length columns → IsSome (with_sorts columns sorts)
+written_some [] sorts some long = absurd some
+written_some (name ∷ names) [] some long = absurd (omega arith)
+written_some (name ∷ names) (sort ∷ sorts) some long = tt
+
+written_given : (v : Bool) (columns : List (List ℕ)) (sorts : List Sort) → AreGiven v sorts → AllByRecursion (IsColumn v) (with_sorts columns sorts)
+written_given v [] sorts given = tt
+written_given v (name ∷ names) [] given = tt
+written_given v (name ∷ names) (sort ∷ sorts) given = (given.0, written_given v names sorts given.1)
+
+written_names : (columns : List (List ℕ)) (sorts : List Sort) → length sorts ≡ length columns → map name_of (with_sorts columns sorts) ≡ columns
+written_names [] sorts long = refl
+written_names (name ∷ names) [] long = absurd (omega arith)
+written_names (name ∷ names) (sort ∷ sorts) long = ap (λ (ns : List (List ℕ)). name ∷ ns) (written_names names sorts (omega (arith, long)))
+
+sort_again : (sort : Sort) → given_sort (word_of sort) ≡ sort
+sort_again Text = refl
+sort_again Int = refl
+
+written_sorts : (columns : List (List ℕ)) (sorts : List Sort) → length sorts ≡ length columns → map sort_of (with_sorts columns sorts) ≡ sorts
+written_sorts [] [] long = refl
+written_sorts [] (sort ∷ sorts) long = absurd (omega arith)
+written_sorts (name ∷ names) [] long = absurd (omega arith)
+written_sorts (name ∷ names) (sort ∷ sorts) long =
+    let more : map sort_of (with_sorts names sorts) ≡ sorts = written_sorts names sorts (omega (arith, long)) in
+    ap (λ (s : Sort). s ∷ map sort_of (with_sorts names sorts)) (sort_again sort) ∙ ap (λ (ss : List Sort). sort ∷ ss) more
 
 open_reads : Reads (mark_piece false (codes "(") ∷ []) (Mark (codes "(") ∷ [])
 open_reads = λ rest. (refl, refl)
@@ -133,11 +197,12 @@ rule_lexed (a ∷ more) head rest some in_body in_head =
           (arrow_is_lexed true (text_of heads ++ 10 ∷ rest), list_lexed atom_pieces atom_form true head (10 ∷ rest) (atoms_printed head in_head) refl),
     )
 
-part_lexed : (part : Part) (rest : List ℕ) → IsPlain part → AreLexed Lines (part_pieces part) (10 ∷ rest)
+part_lexed : (v : Bool) (part : Part) (rest : List ℕ) → IsPlain v part → AreLexed Lines (part_pieces part) (10 ∷ rest)
 unfolding listing_pieces
-part_lexed (Relation name columns) rest plain =
-    (word_is_lexed false (codes "relation") (text_of (listing_pieces name columns) ++ 10 ∷ rest) refl refl, listing_lexed name columns (10 ∷ rest) plain.0 plain.2)
-part_lexed (Method name relation inputs cost) rest plain =
+part_lexed v (Relation name columns sorts) rest plain =
+    let all = columns_printed columns sorts plain.2 in
+    (word_is_lexed false (codes "relation") (text_of (columns_pieces name (with_sorts columns sorts)) ++ 10 ∷ rest) refl refl, bracket_lexed column_pieces column_form true name (with_sorts columns sorts) plain.0 all (10 ∷ rest))
+part_lexed v (Method name relation inputs cost) rest plain =
     let price : List Piece = word_piece true (codes "cost") ∷ number_piece true cost ∷ [] in
     let listed : List Piece = listing_pieces relation inputs in
     let few = plain.3 in (
@@ -151,10 +216,10 @@ part_lexed (Method name relation inputs cost) rest plain =
         ),
       ),
     )
-part_lexed (Rule line body head) rest plain = rule_lexed body head rest plain.0 plain.1 plain.3
-part_lexed (ForeignKey line relation columns target target_columns) rest plain = absurd plain
-part_lexed (Constant text) rest plain = (word_is_lexed false (codes "constant") (text_of (value_piece true text ∷ []) ++ 10 ∷ rest) refl refl, (value_is_lexed true text (10 ∷ rest) refl, tt))
-part_lexed (Source relation kind locator) rest plain = (
+part_lexed v (Rule line body head) rest plain = rule_lexed body head rest plain.0 plain.1 plain.3
+part_lexed v (ForeignKey line relation columns target target_columns) rest plain = absurd plain
+part_lexed v (Constant text) rest plain = (word_is_lexed false (codes "constant") (text_of (value_piece true text ∷ []) ++ 10 ∷ rest) refl refl, (value_is_lexed true text (10 ∷ rest) refl, tt))
+part_lexed v (Source relation kind locator) rest plain = (
   word_is_lexed false (codes "source") (text_of (name_piece true relation ∷ name_piece true kind ∷ value_piece true locator ∷ []) ++ 10 ∷ rest) refl refl,
   (
     name_is_lexed true relation (text_of (name_piece true kind ∷ value_piece true locator ∷ []) ++ 10 ∷ rest) plain.0 refl,
@@ -162,26 +227,26 @@ part_lexed (Source relation kind locator) rest plain = (
   ),
 )
 
-part_in_line : (part : Part) → IsPlain part → AreInLine (part_pieces part)
-part_in_line (Relation name columns) plain = (refl, listing_in_line name columns plain.0 plain.2)
-part_in_line (Method name relation inputs cost) plain =
+part_in_line : (v : Bool) (part : Part) → IsPlain v part → AreInLine (part_pieces part)
+part_in_line v (Relation name columns sorts) plain = (refl, bracket_in_line column_pieces column_form true name (with_sorts columns sorts) plain.0 (columns_printed columns sorts plain.2))
+part_in_line v (Method name relation inputs cost) plain =
     let price : List Piece = word_piece true (codes "cost") ∷ number_piece true cost ∷ [] in
     let listed : List Piece = listing_pieces relation inputs in
     (refl, AreInLine-append (name_piece true name ∷ []) (word_piece true (codes "on") ∷ (listed ++ price)) (name_in_line true name) (refl, AreInLine-append listed price (listing_in_line relation inputs plain.1 plain.2) (refl, (refl, tt))))
-part_in_line (Rule line body head) plain =
+part_in_line v (Rule line body head) plain =
     let heads : List Piece = list_pieces atom_pieces true head in
     (refl, AreInLine-append (list_pieces atom_pieces true body) (mark_piece true (codes "->") ∷ heads) (list_in_line atom_pieces atom_form true body (atoms_printed body plain.1)) (refl, list_in_line atom_pieces atom_form true head (atoms_printed head plain.3)))
-part_in_line (ForeignKey line relation columns target target_columns) plain = absurd plain
-part_in_line (Constant text) plain = (refl, (refl, tt))
-part_in_line (Source relation kind locator) plain =
+part_in_line v (ForeignKey line relation columns target target_columns) plain = absurd plain
+part_in_line v (Constant text) plain = (refl, (refl, tt))
+part_in_line v (Source relation kind locator) plain =
     (refl, AreInLine-append (name_piece true relation ∷ []) (name_piece true kind ∷ value_piece true locator ∷ []) (name_in_line true relation) (AreInLine-append (name_piece true kind ∷ []) (value_piece true locator ∷ []) (name_in_line true kind) (refl, tt)))
 
 -- the tokens of some pieces alone
 whole : (xs : List Piece) (form : List Slot) → Reads xs form → Takes (map piece_lexeme xs) form []
 whole xs form reads = subst (λ (ls : List Lexeme). Takes ls form []) (append-nil (map piece_lexeme xs)) (reads [])
 
-method_reads : (name relation : List ℕ) (inputs : List (List ℕ)) (cost : ℕ) → IsPlain (Method name relation inputs cost) → Reads (part_pieces (Method name relation inputs cost)) (method_form name relation inputs cost)
-method_reads name relation inputs cost plain =
+method_reads : (name relation : List ℕ) (inputs : List (List ℕ)) (cost : ℕ) (v : Bool) → IsPlain v (Method name relation inputs cost) → Reads (part_pieces (Method name relation inputs cost)) (method_form name relation inputs cost)
+method_reads name relation inputs cost v plain =
     let test : List ℕ → Bool = λ digits. nat_eq (cost_of digits) cost in
     let price : List Piece = word_piece true (codes "cost") ∷ number_piece true cost ∷ [] in
     let price_form : List Slot = Key (codes "cost") ∷ Digits test ∷ [] in
@@ -198,8 +263,8 @@ method_reads name relation inputs cost plain =
     (Reads-append (name_piece true name ∷ []) (word_piece true (codes "on") ∷ (listed ++ price)) (Name name ∷ []) (Key (codes "on") ∷ last) (name_reads true name plain.0)
     (Reads-append (word_piece true (codes "on") ∷ []) (listed ++ price) (Key (codes "on") ∷ []) last (λ rest. (refl, refl)) reads_last))
 
-rule_reads : (line : ℕ) (body head : List NamedAtom) → IsPlain (Rule line body head) → Reads (part_pieces (Rule line body head)) (rule_form body head)
-rule_reads line body head plain =
+rule_reads : (line : ℕ) (body head : List NamedAtom) (v : Bool) → IsPlain v (Rule line body head) → Reads (part_pieces (Rule line body head)) (rule_form body head)
+rule_reads line body head v plain =
     let heads : List Piece = list_pieces atom_pieces true head in
     let arrow : List Piece = mark_piece true (codes "->") ∷ heads in
     let head_form : List Slot = list_form atom_form head in
@@ -211,19 +276,26 @@ rule_reads line body head plain =
 are_atoms : (atoms : List NamedAtom) → AllByRecursion IsPlainAtom atoms → AllByRecursion IsAtom atoms
 are_atoms atoms all = all_along IsPlainAtom IsAtom (λ atom plain. plain.1) atoms all
 
-part_declared : (n : ℕ) (part : Part) → IsPlain part → IsDeclaration n (map piece_lexeme (part_pieces part)) (on_line n part)
-part_declared n (Relation name columns) plain = (
-  plain.1,
-  whole (part_pieces (Relation name columns)) (relation_form name columns)
-      (Reads-append (word_piece false (codes "relation") ∷ []) (listing_pieces name columns) (Key (codes "relation") ∷ []) (listing_form name columns) (λ rest. (refl, refl)) (listing_reads name columns plain.0 plain.2)),
-)
-part_declared n (Method name relation inputs cost) plain = whole (part_pieces (Method name relation inputs cost)) (method_form name relation inputs cost) (method_reads name relation inputs cost plain)
-part_declared n (Rule line body head) plain =
-    (plain.0, are_atoms body plain.1, plain.2, are_atoms head plain.3, refl, whole (part_pieces (Rule line body head)) (rule_form body head) (rule_reads line body head plain))
-part_declared n (ForeignKey line relation columns target target_columns) plain = absurd plain
-part_declared n (Constant text) plain =
+part_declared : (v : Bool) (n : ℕ) (part : Part) → IsPlain v part → IsDeclaration v n (map piece_lexeme (part_pieces part)) (on_line n part)
+part_declared v n (Relation name columns sorts) plain =
+    let columns_are : List Column = with_sorts columns sorts in
+    let all = columns_printed columns sorts plain.2 in (
+      columns_are,
+      written_some columns sorts plain.1 plain.3,
+      written_given v columns sorts plain.4,
+      sym (written_names columns sorts plain.3),
+      sym (written_sorts columns sorts plain.3),
+      whole (part_pieces (Relation name columns sorts)) (relation_form name columns_are)
+          (Reads-append (word_piece false (codes "relation") ∷ []) (columns_pieces name columns_are) (Key (codes "relation") ∷ []) (Name name ∷ Mark (codes "(") ∷ (list_form column_form columns_are ++ Mark (codes ")") ∷ []))
+          (λ rest. (refl, refl)) (bracket_reads column_pieces column_form true name columns_are plain.0 all)),
+    )
+part_declared v n (Method name relation inputs cost) plain = whole (part_pieces (Method name relation inputs cost)) (method_form name relation inputs cost) (method_reads name relation inputs cost v plain)
+part_declared v n (Rule line body head) plain =
+    (plain.0, are_atoms body plain.1, plain.2, are_atoms head plain.3, refl, whole (part_pieces (Rule line body head)) (rule_form body head) (rule_reads line body head v plain))
+part_declared v n (ForeignKey line relation columns target target_columns) plain = absurd plain
+part_declared v n (Constant text) plain =
     whole (part_pieces (Constant text)) (Key (codes "constant") ∷ Value text ∷ []) (Reads-append (word_piece false (codes "constant") ∷ []) (value_piece true text ∷ []) (Key (codes "constant") ∷ []) (Value text ∷ []) (λ rest. (refl, refl)) (value_reads true text))
-part_declared n (Source relation kind locator) plain =
+part_declared v n (Source relation kind locator) plain =
     whole (part_pieces (Source relation kind locator)) (Key (codes "source") ∷ Name relation ∷ Name kind ∷ Quote locator ∷ [])
     (Reads-append (word_piece false (codes "source") ∷ []) (name_piece true relation ∷ name_piece true kind ∷ value_piece true locator ∷ []) (Key (codes "source") ∷ []) (Name relation ∷ Name kind ∷ Quote locator ∷ []) (λ rest. (refl, refl))
     (Reads-append (name_piece true relation ∷ []) (name_piece true kind ∷ value_piece true locator ∷ []) (Name relation ∷ []) (Name kind ∷ Quote locator ∷ []) (name_reads true relation plain.0)
@@ -231,23 +303,60 @@ part_declared n (Source relation kind locator) plain =
 
 -- ---- texts
 
-has_part : (n : ℕ) (part : Part) (P : List Part → List ℕ → Type 0) (parts : List Part) (lines : List ℕ) → IsPlain part → P parts lines → HasPart n (map piece_lexeme (part_pieces part)) (on_line n part ∷ parts) (n ∷ lines) P
-has_part n (Relation name columns) P parts lines plain more = (part_declared n (Relation name columns) plain, refl, more)
-has_part n (Method name relation inputs cost) P parts lines plain more = (part_declared n (Method name relation inputs cost) plain, refl, more)
-has_part n (Rule line body head) P parts lines plain more = (part_declared n (Rule line body head) plain, refl, more)
-has_part n (ForeignKey line relation columns target target_columns) P parts lines plain more = absurd plain
-has_part n (Constant text) P parts lines plain more = (part_declared n (Constant text) plain, refl, more)
-has_part n (Source relation kind locator) P parts lines plain more = (part_declared n (Source relation kind locator) plain, refl, more)
+has_part : (v : Bool) (n : ℕ) (part : Part) (P : List Part → List ℕ → Type 0) (parts : List Part) (lines : List ℕ) → IsPlain v part → P parts lines → HasPart v n (map piece_lexeme (part_pieces part)) (on_line n part ∷ parts) (n ∷ lines) P
+has_part v n (Relation name columns sorts) P parts lines plain more = (part_declared v n (Relation name columns sorts) plain, refl, more)
+has_part v n (Method name relation inputs cost) P parts lines plain more = (part_declared v n (Method name relation inputs cost) plain, refl, more)
+has_part v n (Rule line body head) P parts lines plain more = (part_declared v n (Rule line body head) plain, refl, more)
+has_part v n (ForeignKey line relation columns target target_columns) P parts lines plain more = absurd plain
+has_part v n (Constant text) P parts lines plain more = (part_declared v n (Constant text) plain, refl, more)
+has_part v n (Source relation kind locator) P parts lines plain more = (part_declared v n (Source relation kind locator) plain, refl, more)
 
-are_parts : (n : ℕ) (parts : List Part) → AllByRecursion IsPlain parts → AreParts (numbered n (map part_pieces parts)) (placed_from n parts) (lines_from n parts)
-are_parts n [] all = (refl, refl)
-are_parts n (part ∷ parts) all =
-    has_part n part (AreParts (numbered (line_behind n part) (map part_pieces parts))) (placed_from (line_behind n part) parts) (lines_from (line_behind n part) parts) all.0 (are_parts (line_behind n part) parts all.1)
+are_parts : (v : Bool) (n : ℕ) (parts : List Part) → AllByRecursion (IsPlain v) parts → AreParts v (numbered n (map part_pieces parts)) (placed_from n parts) (lines_from n parts)
+are_parts v n [] all = (refl, refl)
+are_parts v n (part ∷ parts) all =
+    has_part v n part (AreParts v (numbered (line_behind n part) (map part_pieces parts))) (placed_from (line_behind n part) parts) (lines_from (line_behind n part) parts) all.0 (are_parts v (line_behind n part) parts all.1)
 
-are_printed : (parts : List Part) → AllByRecursion IsPlain parts → ArePrintedLines Lines (map part_pieces parts)
-are_printed [] all = tt
-are_printed (part ∷ parts) all = (record { lexed = λ rest. part_lexed part rest all.0; one = part_in_line part all.0 }, are_printed parts all.1)
+are_printed : (v : Bool) (parts : List Part) → AllByRecursion (IsPlain v) parts → ArePrintedLines Lines (map part_pieces parts)
+are_printed v [] all = tt
+are_printed v (part ∷ parts) all = (record { lexed = λ rest. part_lexed v part rest all.0; one = part_in_line v part all.0 }, are_printed v parts all.1)
+
+-- ---- the line of the version
+
+two : decimal 2 ≡ codes "2"
+two = decimal_digit 2 (omega arith)
+
+version_printed : IsPrintedLine Lines version_pieces
+version_printed = record {
+  lexed = λ rest. (word_is_lexed false (codes "schema") (text_of (number_piece true 2 ∷ []) ++ 10 ∷ rest) refl refl, (number_is_lexed true 2 (10 ∷ rest) (omega arith) refl, tt));
+  one = (refl, (refl, tt));
+}
+
+-- a line of this version in front is the one that names it
+told_two : (lines : List (List Piece)) → told_version (numbered 1 (version_pieces ∷ lines)) ≡ (true, numbered 2 lines)
+told_two lines = rw two refl
+
+-- no declaration names a version
+no_version : (v : Bool) (n : ℕ) (part : Part) (more : List Line) (found : Option (List Line)) → IsPlain v part → next_version more (map piece_lexeme (part_pieces part)) found ≡ None
+no_version v n (Relation name columns sorts) more found plain = refl
+no_version v n (Method name relation inputs cost) more found plain = refl
+no_version v n (Rule line body head) more found plain = refl
+no_version v n (ForeignKey line relation columns target target_columns) more found plain = absurd plain
+no_version v n (Constant text) more found plain = refl
+no_version v n (Source relation kind locator) more found plain = refl
+
+none_named : (v : Bool) (n : ℕ) (parts : List Part) → AllByRecursion (IsPlain v) parts → behind_version (numbered n (map part_pieces parts)) ≡ None
+none_named v n [] all = refl
+none_named v n (part ∷ parts) all =
+    let more : List Line = numbered (n + feeds (text_of (part_pieces part)) + 1) (map part_pieces parts) in
+    no_version v n part more (behind_version more) all.0
 
 -- a printed text has the parts that were printed
-pub parts_again : (parts : List Part) → AllByRecursion IsPlain parts → HasParts (lines_text (map part_pieces parts)) (printed_parts parts)
-parts_again parts all = (numbered 1 (map part_pieces parts), printed_lines (map part_pieces parts) (are_printed parts all), are_parts 1 parts all)
+pub parts_again : (v : Bool) (parts : List Part) → AllByRecursion (IsPlain v) parts → HasParts (lines_text (version_lines v ++ map part_pieces parts)) (printed_parts v parts)
+parts_again true parts all =
+    let lines : List (List Piece) = map part_pieces parts in
+    let Parts : Bool × List Line → Type 0 = λ told. AreParts told.0 told.1 (placed_from 2 parts) (lines_from 2 parts) in
+    (numbered 1 (version_pieces ∷ lines), printed_lines (version_pieces ∷ lines) (version_printed, are_printed true parts all), subst Parts (sym (told_two lines)) (are_parts true 2 parts all))
+parts_again false parts all =
+    let lines : List Line = numbered 1 (map part_pieces parts) in
+    let Parts : Bool × List Line → Type 0 = λ told. AreParts told.0 told.1 (placed_from 1 parts) (lines_from 1 parts) in
+    (lines, printed_lines (map part_pieces parts) (are_printed false parts all), subst Parts (sym (ap (version_of lines) (none_named false 1 parts all))) (are_parts false 1 parts all))

@@ -64,7 +64,7 @@ names_push n =
     let z : 0 + n ≡ n = omega arith in
     ap first_names e ∙ ap (map variable_name) (range_push 0 n) ∙ map-append variable_name (range_with_len 0 n) ((0 + n) ∷ []) ∙ ap (λ m. first_names n ++ variable_name m ∷ []) z
 
-same_variable : (m n : ℕ) → m < 2 ^ 64 → n < 2 ^ 64 → variable_name m ≡ variable_name n → m ≡ n
+pub same_variable : (m n : ℕ) → m < 2 ^ 64 → n < 2 ^ 64 → variable_name m ≡ variable_name n → m ≡ n
 same_variable m n low high e = let d : decimal m ≡ decimal n = cc in decimal_injective m n low high d
 
 -- the place of a name behind those of smaller numbers

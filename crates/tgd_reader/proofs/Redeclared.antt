@@ -28,7 +28,7 @@ given_placed h same n [] = refl
 given_placed h same n (part ∷ parts) = cons_same (h (on_line n part)) (h part) (filter_map h (placed_from (line_behind n part) parts)) (filter_map h parts) (same n part) (given_placed h same (line_behind n part) parts)
 
 relation_placed : (n : ℕ) (part : Part) → relation_of (on_line n part) ≡ relation_of part
-relation_placed n (RelationPart name columns) = refl
+relation_placed n (RelationPart name columns sorts) = refl
 relation_placed n (MethodPart name relation inputs cost) = refl
 relation_placed n (RulePart line body head) = refl
 relation_placed n (KeyPart line relation columns target target_columns) = refl
@@ -36,7 +36,7 @@ relation_placed n (ConstantPart text) = refl
 relation_placed n (SourcePart relation kind locator) = refl
 
 method_placed : (relations : List Relation) (n : ℕ) (part : Part) → method_of relations (on_line n part) ≡ method_of relations part
-method_placed relations n (RelationPart name columns) = refl
+method_placed relations n (RelationPart name columns sorts) = refl
 method_placed relations n (MethodPart name relation inputs cost) = refl
 method_placed relations n (RulePart line body head) = refl
 method_placed relations n (KeyPart line relation columns target target_columns) = refl
@@ -44,7 +44,7 @@ method_placed relations n (ConstantPart text) = refl
 method_placed relations n (SourcePart relation kind locator) = refl
 
 source_placed : (relations : List Relation) (n : ℕ) (part : Part) → source_of relations (on_line n part) ≡ source_of relations part
-source_placed relations n (RelationPart name columns) = refl
+source_placed relations n (RelationPart name columns sorts) = refl
 source_placed relations n (MethodPart name relation inputs cost) = refl
 source_placed relations n (RulePart line body head) = refl
 source_placed relations n (KeyPart line relation columns target target_columns) = refl
@@ -52,7 +52,7 @@ source_placed relations n (ConstantPart text) = refl
 source_placed relations n (SourcePart relation kind locator) = refl
 
 rule_placed : (relations : List Relation) (n : ℕ) (part : Part) → option_map without_line (rule_of relations (on_line n part)) ≡ option_map without_line (rule_of relations part)
-rule_placed relations n (RelationPart name columns) = refl
+rule_placed relations n (RelationPart name columns sorts) = refl
 rule_placed relations n (MethodPart name relation inputs cost) = refl
 rule_placed relations n (RulePart line body head) = refl
 rule_placed relations n (KeyPart line relation columns target target_columns) = refl
@@ -61,7 +61,7 @@ rule_placed relations n (SourcePart relation kind locator) = refl
 
 pub constants_placed : (n : ℕ) (parts : List Part) → flat_map declared_constants (placed_from n parts) ≡ flat_map declared_constants parts
 constants_placed n [] = refl
-constants_placed n (RelationPart name columns ∷ parts) = constants_placed (line_behind n (RelationPart name columns)) parts
+constants_placed n (RelationPart name columns sorts ∷ parts) = constants_placed (line_behind n (RelationPart name columns sorts)) parts
 constants_placed n (MethodPart name relation inputs cost ∷ parts) = constants_placed (line_behind n (MethodPart name relation inputs cost)) parts
 constants_placed n (RulePart line body head ∷ parts) = constants_placed (line_behind n (RulePart line body head)) parts
 constants_placed n (KeyPart line relation columns target target_columns ∷ parts) = constants_placed (line_behind n (KeyPart line relation columns target target_columns)) parts

@@ -34,7 +34,7 @@ use Rattle.tgd_reader.proofs.Redeclared.{constants_placed}
 
 -- the part is a declaration of the schema, on some line
 abbrev pub IsOf : Schema → Part → Type 0
-IsOf s (RelationPart name columns) = (r : Relation) × Contains s.relations r × (name ≡ r.name) × (columns ≡ r.columns)
+IsOf s (RelationPart name columns sorts) = (r : Relation) × Contains s.relations r × (name ≡ r.name) × (columns ≡ r.columns) × (sorts ≡ r.sorts)
 IsOf s (MethodPart name relation inputs cost) = (m : Method) × Contains s.methods m × (name ≡ m.name) × (relation ≡ name_at s.relations m.rel) × (inputs ≡ columns_at s.relations m.rel m.inputs) × (cost ≡ m.cost)
 IsOf s (RulePart line body head) = (r : Rule) × Contains s.rules r × (body ≡ map (named_atom s.relations) r.body) × (head ≡ map (named_atom s.relations) r.head)
 IsOf s (KeyPart line relation columns target target_columns) = ⊥
@@ -42,7 +42,7 @@ IsOf s (ConstantPart text) = Contains s.constants text
 IsOf s (SourcePart relation kind locator) = (x : SourceLine) × Contains s.sources x × (relation ≡ name_at s.relations x.rel) × (kind ≡ x.kind)
 
 on_line_of : (s : Schema) (n : ℕ) (part : Part) → IsOf s part → IsOf s (on_line n part)
-on_line_of s n (RelationPart name columns) of = of
+on_line_of s n (RelationPart name columns sorts) of = of
 on_line_of s n (MethodPart name relation inputs cost) of = of
 on_line_of s n (RulePart line body head) of = of
 on_line_of s n (KeyPart line relation columns target target_columns) of = of
@@ -59,7 +59,7 @@ declared_of s =
     let constants : List Part = map ConstantPart s.constants in
     let rules : List Part = map (rule_part s.relations) s.rules in
     let methods : List Part = map (method_part s.relations) s.methods in
-    all_appended (IsOf s) (map relation_part s.relations) (methods ++ (rules ++ (constants ++ sources))) (all_mapped (IsOf s) relation_part s.relations (λ r there. (r, there, refl, refl)))
+    all_appended (IsOf s) (map relation_part s.relations) (methods ++ (rules ++ (constants ++ sources))) (all_mapped (IsOf s) relation_part s.relations (λ r there. (r, there, refl, refl, refl)))
     (all_appended (IsOf s) methods (rules ++ (constants ++ sources)) (all_mapped (IsOf s) (method_part s.relations) s.methods (λ m there. (m, there, refl, refl, refl, refl)))
     (all_appended (IsOf s) rules (constants ++ sources) (all_mapped (IsOf s) (rule_part s.relations) s.rules (λ r there. (r, there, refl, refl)))
     (all_appended (IsOf s) constants sources (all_mapped (IsOf s) ConstantPart s.constants (λ text there. there)) (all_mapped (IsOf s) (source_part s.relations) s.sources (λ x there. (x, there, refl, refl))))))
@@ -87,7 +87,7 @@ rule_constant s body head rule of in_body in_head c there =
     among_contains s.constants c ((s.valid.rules_are.fit rule of).constants_are c used)
 
 part_constant : (s : Schema) (part : Part) → IsOf s part → (c : List ℕ) → Contains (part_constants part) c → Contains s.constants c
-part_constant s (RelationPart name columns) of c there = absurd (omega arith)
+part_constant s (RelationPart name columns sorts) of c there = absurd (omega arith)
 part_constant s (MethodPart name relation inputs cost) of c there = absurd (omega arith)
 part_constant s (RulePart line body head) of c there = rule_constant s body head of.0 of.1 of.2 of.3 c there
 part_constant s (KeyPart line relation columns target target_columns) of c there = absurd of
@@ -95,7 +95,7 @@ part_constant s (ConstantPart text) of c there = ⊎_elim (λ same. subst (λ (t
 part_constant s (SourcePart relation kind locator) of c there = absurd (omega arith)
 
 only_rule : (s : Schema) (part : Part) → IsOf s part → (c : List ℕ) → Contains (rule_constants part) c → Contains s.constants c
-only_rule s (RelationPart name columns) of c there = absurd (omega arith)
+only_rule s (RelationPart name columns sorts) of c there = absurd (omega arith)
 only_rule s (MethodPart name relation inputs cost) of c there = absurd (omega arith)
 only_rule s (RulePart line body head) of c there = rule_constant s body head of.0 of.1 of.2 of.3 c there
 only_rule s (KeyPart line relation columns target target_columns) of c there = absurd of

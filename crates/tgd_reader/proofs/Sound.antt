@@ -4,6 +4,7 @@ use Rattle.std.specs.Prelude.{Contains, map, filter_map, option_map, slice_index
 use Rattle.std.specs.List.{list_any}
 use Rattle.meaning.specs.declared.types.Relation.{Relation}
 use Rattle.meaning.specs.declared.types.Method.{Method}
+use Rattle.meaning.specs.declared.types.Sort.{Sort}
 use Rattle.lists.proofs.Members.{contains_got, got_below}
 use Rattle.lists.proofs.Booleans.{never_true}
 use Rattle.lists.proofs.Orders.{text_is}
@@ -25,7 +26,7 @@ use Rattle.tgd_reader.proofs.Faultless.{repeats_none, names_differ, fresh_key}
 -- ---- names that stand once
 
 relation_key : (part : Part) (name : List ℕ) → is_relation_named name part ≡ true → option_map (λ (r : Relation). r.name) (relation_of part) ≡ Some name
-relation_key (RelationPart other columns) name holds = ap Some (text_is other name holds)
+relation_key (RelationPart other columns sorts) name holds = ap Some (text_is other name holds)
 relation_key (MethodPart other relation inputs cost) name holds = absurd cc
 relation_key (RulePart line body head) name holds = absurd cc
 relation_key (KeyPart line relation columns target target_columns) name holds = absurd cc
@@ -33,7 +34,7 @@ relation_key (ConstantPart text) name holds = absurd cc
 relation_key (SourcePart relation kind locator) name holds = absurd cc
 
 method_key : (relations : List Relation) (part : Part) (name : List ℕ) → is_method_named name part ≡ true → option_map (λ (m : Method). m.name) (method_of relations part) ≡ Some name
-method_key relations (RelationPart other columns) name holds = absurd cc
+method_key relations (RelationPart other columns sorts) name holds = absurd cc
 method_key relations (MethodPart other relation inputs cost) name holds = ap Some (text_is other name holds)
 method_key relations (RulePart line body head) name holds = absurd cc
 method_key relations (KeyPart line relation columns target target_columns) name holds = absurd cc
@@ -41,7 +42,7 @@ method_key relations (ConstantPart text) name holds = absurd cc
 method_key relations (SourcePart relation kind locator) name holds = absurd cc
 
 source_key : (relations : List Relation) (part : Part) (name : List ℕ) → is_source_of name part ≡ true → option_map (λ (x : SourceLine). x.rel) (source_of relations part) ≡ Some (number_of relations name)
-source_key relations (RelationPart other columns) name holds = absurd cc
+source_key relations (RelationPart other columns sorts) name holds = absurd cc
 source_key relations (MethodPart other relation inputs cost) name holds = absurd cc
 source_key relations (RulePart line body head) name holds = absurd cc
 source_key relations (KeyPart line relation columns target target_columns) name holds = absurd cc
@@ -49,13 +50,13 @@ source_key relations (ConstantPart text) name holds = absurd cc
 source_key relations (SourcePart relation kind locator) name holds = ap (λ (n : List ℕ). Some (number_of relations n)) (text_is relation name holds)
 
 module _ (s : Schema) (parts earlier later : List Part) (rs : relations_of parts ≡ s.relations) (ms : methods_of s.relations parts ≡ s.methods) (ss : sources_of s.relations parts ≡ s.sources) where
-  relation_new : (name : List ℕ) (columns : List (List ℕ)) → parts ≡ earlier ++ RelationPart name columns ∷ later → list_any (is_relation_named name) earlier ≡ false
-  relation_new name columns split =
+  relation_new : (name : List ℕ) (columns : List (List ℕ)) (sorts : List Sort) → parts ≡ earlier ++ RelationPart name columns sorts ∷ later → list_any (is_relation_named name) earlier ≡ false
+  relation_new name columns sorts split =
       let key : Part → Option (List ℕ) = λ part. option_map (λ (r : Relation). r.name) (relation_of part) in
       let differ : AllDiffer (filter_map key parts) = subst AllDiffer (sym (ap relation_names rs) ∙ given_mapped (λ (r : Relation). r.name) relation_of parts) s.valid.relations_are.differ in
       never_true (list_any (is_relation_named name) earlier) (λ yes.
       let (other, there, holds) = any_found (is_relation_named name) earlier yes in
-      fresh_key parts earlier later (RelationPart name columns) split key name differ refl (given_from key earlier other name there (relation_key other name holds)))
+      fresh_key parts earlier later (RelationPart name columns sorts) split key name differ refl (given_from key earlier other name there (relation_key other name holds)))
 
   method_new : (name relation : List ℕ) (inputs : List (List ℕ)) (cost : ℕ) → parts ≡ earlier ++ MethodPart name relation inputs cost ∷ later → list_any (is_method_named name) earlier ≡ false
   method_new name relation inputs cost split =
@@ -87,8 +88,8 @@ module _ (s : Schema) (parts earlier later : List Part) (rs : relations_of parts
   or_none a b e f = cc
 
   pub none_repeats : (part : Part) → parts ≡ earlier ++ part ∷ later → IsOf s part → repeats_name earlier part ≡ false
-  none_repeats (RelationPart name columns) split of =
-      or_none (list_any (is_relation_named name) earlier) (repeats columns) (relation_new name columns split) (repeats_none columns (subst AllDiffer (sym of.3) (s.valid.relations_are.columns of.0 of.1).differ))
+  none_repeats (RelationPart name columns sorts) split of =
+      or_none (list_any (is_relation_named name) earlier) (repeats columns) (relation_new name columns sorts split) (repeats_none columns (subst AllDiffer (sym of.3) (s.valid.relations_are.columns of.0 of.1).differ))
   none_repeats (MethodPart name relation inputs cost) split of =
       or_none (list_any (is_method_named name) earlier) (repeats inputs) (method_new name relation inputs cost split) (repeats_none inputs (subst AllDiffer (sym of.4) (inputs_differ of.0 of.1)))
   none_repeats (RulePart line body head) split of = refl

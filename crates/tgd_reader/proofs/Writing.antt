@@ -14,6 +14,7 @@ use Rattle.std.proofs.lemmas.List.Elements.{All-contains_itself, Contains-append
 use Rattle.meaning.specs.declared.types.Relation.{Relation}
 use Rattle.meaning.specs.declared.types.Method.{Method}
 use Rattle.meaning.specs.declared.types.Rule.{Rule}
+use Rattle.meaning.specs.declared.types.Sort.{Sort}
 use Rattle.meaning.specs.declared.types.Atom.{Atom}
 use Rattle.lists.proofs.Members.{got_below, all_from}
 use Rattle.pq_text.proofs.Pieces.{text_of-append}
@@ -22,7 +23,8 @@ use Rattle.access_schema.specs.declared.part.Part.{Part}
 use Rattle.access_schema.specs.declared.part.Part.TheVariants.{Method as MethodPart, Rule as RulePart, Constant as ConstantPart}
 use Rattle.access_schema.specs.declared.schema.SourceLine.{SourceLine}
 use Rattle.access_schema.specs.declared.schema.Schema.{Schema}
-use Rattle.tgd_reader.specs.Printed.{name_in, columns_in, name_at, variable_name, named_term, named_atom, relation_part, method_part, rule_part, source_part, name_pieces, term_pieces, atom_pieces, listing_pieces, part_pieces, text_of_schema}
+use Rattle.tgd_reader.specs.declared.column.Column.{Column}
+use Rattle.tgd_reader.specs.Printed.{with_sorts, column_pieces, name_in, columns_in, name_at, variable_name, named_term, named_atom, relation_part, method_part, rule_part, source_part, parts_of, has_integers, version_lines, name_pieces, term_pieces, atom_pieces, listing_pieces, part_pieces, text_of_schema}
 use Rattle.tgd_reader.specs.Printing.{Writes, WritesLines, IsPlaced, IsMethodPlaced, IsRulePlaced, IsSourcePlaced}
 
 -- ---- pieces
@@ -96,13 +98,35 @@ split_first (y ∷ ys) x some is = let k : length (y ∷ ys) - 1 ≡ length ys =
 pub further_written : {X : Type 0} (item : Bool → X → List Piece) (x : X) (xs : List X) (a b c total : List ℕ) → Writes a b (mark_piece false (codes ",") ∷ []) → Writes b c (item true x) → a ++ text_of (further_pieces item (x ∷ xs)) ≡ total → c ++ text_of (further_pieces item xs) ≡ total
 further_written item x xs a b c total p q h = more_pieces a c total (mark_piece false (codes ",") ∷ item true x) (further_pieces item xs) (writes_then a b c (mark_piece false (codes ",") ∷ []) (item true x) p q) h
 
+-- columns, of which some are without a sort
+pub no_columns : (columns : List (List ℕ)) (sorts : List Sort) → length columns < 1 → with_sorts columns sorts ≡ []
+no_columns [] sorts few = refl
+no_columns (name ∷ names) sorts few = absurd (omega arith)
+
+pub no_sorts : (columns : List (List ℕ)) (sorts : List Sort) → length sorts < 1 → with_sorts columns sorts ≡ []
+no_sorts [] sorts few = refl
+no_sorts (name ∷ names) [] few = refl
+no_sorts (name ∷ names) (sort ∷ sorts) few = absurd (omega arith)
+
+pub nothing_written : (a : List ℕ) (columns : List (List ℕ)) (sorts : List Sort) → with_sorts columns sorts ≡ [] → Writes a a (list_pieces column_pieces false (with_sorts columns sorts))
+nothing_written a columns sorts none = sym (append-nil a) ∙ ap (λ (cs : List Column). a ++ text_of (list_pieces column_pieces false cs)) (sym none)
+
+-- where the loop ends, all is written
+pub all_columns : (a b : List ℕ) (all left : List Column) → left ≡ [] → b ++ text_of (further_pieces column_pieces left) ≡ a ++ text_of (further_pieces column_pieces all) → Writes a b (further_pieces column_pieces all)
+all_columns a b all left none h = sym (append-nil b) ∙ ap (λ (cs : List Column). b ++ text_of (further_pieces column_pieces cs)) (sym none) ∙ h
+
+-- a name, and members in brackets
+pub brackets_written : {X : Type 0} (item : Bool → X → List Piece) (name : List ℕ) (xs : List X) (a b c d e : List ℕ) → Writes a b (name_piece true name ∷ []) → Writes b c (mark_piece false (codes "(") ∷ []) →
+    Writes c d (list_pieces item false xs) → Writes d e (mark_piece false (codes ")") ∷ []) → Writes a e (name_piece true name ∷ mark_piece false (codes "(") ∷ (list_pieces item false xs ++ mark_piece false (codes ")") ∷ []))
+brackets_written item name xs a b c d e p q r s =
+    let closing : List Piece = mark_piece false (codes ")") ∷ [] in
+    let inside : List Piece = list_pieces item false xs ++ closing in
+    writes_then a b e (name_piece true name ∷ []) (mark_piece false (codes "(") ∷ inside) p (writes_then b c e (mark_piece false (codes "(") ∷ []) inside q (writes_then c d e (list_pieces item false xs) closing r s))
+
 pub listing_written : (a b c d e : List ℕ) (relation : List ℕ) (columns : List (List ℕ)) → Writes a b (name_piece true relation ∷ []) → Writes b c (mark_piece false (codes "(") ∷ []) → Writes c d (list_pieces name_pieces false columns) → Writes d e (mark_piece false (codes ")") ∷ []) →
     Writes a e (listing_pieces relation columns)
 unfolding listing_pieces
-listing_written a b c d e relation columns p q r s =
-    let closing : List Piece = mark_piece false (codes ")") ∷ [] in
-    let inside : List Piece = list_pieces name_pieces false columns ++ closing in
-    writes_then a b e (name_piece true relation ∷ []) (mark_piece false (codes "(") ∷ inside) p (writes_then b c e (mark_piece false (codes "(") ∷ []) inside q (writes_then c d e (list_pieces name_pieces false columns) closing r s))
+listing_written a b c d e relation columns p q r s = brackets_written name_pieces relation columns a b c d e p q r s
 
 pub atom_written : (relations : List Relation) (atom : Atom) (relation : Relation) (spaced : Bool) (a b c d e : List ℕ) → slice_get relations atom.rel ≡ Some relation → Writes a b (name_piece spaced relation.name ∷ []) → Writes b c (mark_piece false (codes "(") ∷ []) →
     Writes c d (list_pieces term_pieces false (map named_term atom.terms)) → Writes d e (mark_piece false (codes ")") ∷ []) → Writes a e (atom_pieces spaced (named_atom relations atom))
@@ -167,14 +191,16 @@ rules_placed schema = all_from (IsRulePlaced schema.relations) schema.rules (λ 
 pub sources_placed : (schema : Schema) → AllByRecursion (IsSourcePlaced schema.relations) schema.sources
 sources_placed schema = all_from (IsSourcePlaced schema.relations) schema.sources (λ source there. schema.valid.sources_are.placed source there)
 
-pub schema_written : (schema : Schema) (relations : List Relation) (methods : List Method) (rules : List Rule) (constants : List (List ℕ)) (sources : List SourceLine) (z a b c d e : List ℕ) →
-    relations ≡ schema.relations → methods ≡ schema.methods → rules ≡ schema.rules → constants ≡ schema.constants → sources ≡ schema.sources → z ≡ [] →
-    WritesLines z a (map relation_part relations) → WritesLines a b (map (method_part relations) methods) → WritesLines b c (map (rule_part relations) rules) →
+pub schema_written : (schema : Schema) (relations : List Relation) (methods : List Method) (rules : List Rule) (constants : List (List ℕ)) (sources : List SourceLine) (v : Bool) (z o a b c d e : List ℕ) →
+    relations ≡ schema.relations → methods ≡ schema.methods → rules ≡ schema.rules → constants ≡ schema.constants → sources ≡ schema.sources → v ≡ has_integers relations → z ≡ [] →
+    o ≡ z ++ lines_text (version_lines v) → WritesLines o a (map relation_part relations) → WritesLines a b (map (method_part relations) methods) → WritesLines b c (map (rule_part relations) rules) →
     WritesLines c d (map ConstantPart constants) → WritesLines d e (map (source_part relations) sources) → e ≡ text_of_schema schema
-schema_written schema relations methods rules constants sources z a b c d e er em eu ek es ez p q r s t =
+schema_written schema relations methods rules constants sources v z o a b c d e er em eu ek es ev ez n p q r s t =
     let rs : List Relation = schema.relations in
-    let p1 = subst (λ (x : List Relation). WritesLines z a (map relation_part x)) er p in
-    let p2 : WritesLines [] a (map relation_part rs) = subst (λ (o : List ℕ). WritesLines o a (map relation_part rs)) ez p1 in
+    let named : List (List Piece) = version_lines (has_integers rs) in
+    let first : o ≡ lines_text named =
+    n ∙ ap (λ (l : List ℕ). l ++ lines_text (version_lines v)) ez ∙ ap (λ (w : Bool). lines_text (version_lines w)) (ev ∙ ap has_integers er) in
+    let p1 : WritesLines o a (map relation_part rs) = subst (λ (x : List Relation). WritesLines o a (map relation_part x)) er p in
     let q1 = subst (λ (x : List Relation). WritesLines a b (map (method_part x) methods)) er q in
     let q2 : WritesLines a b (map (method_part rs) schema.methods) = subst (λ (x : List Method). WritesLines a b (map (method_part rs) x)) em q1 in
     let r1 = subst (λ (x : List Relation). WritesLines b c (map (rule_part x) rules)) er r in
@@ -184,6 +210,9 @@ schema_written schema relations methods rules constants sources z a b c d e er e
     let t2 : WritesLines d e (map (source_part rs) schema.sources) = subst (λ (x : List SourceLine). WritesLines d e (map (source_part rs) x)) es t1 in
     let last : List Part = map ConstantPart schema.constants ++ map (source_part rs) schema.sources in
     let late : List Part = map (rule_part rs) schema.rules ++ last in
-    lines_then [] a e (map relation_part rs) (map (method_part rs) schema.methods ++ late) p2
+    let all : WritesLines o e (parts_of schema) =
+    lines_then o a e (map relation_part rs) (map (method_part rs) schema.methods ++ late) p1
     (lines_then a b e (map (method_part rs) schema.methods) late q2
-    (lines_then b c e (map (rule_part rs) schema.rules) last r2 (lines_then c d e (map ConstantPart schema.constants) (map (source_part rs) schema.sources) s2 t2)))
+    (lines_then b c e (map (rule_part rs) schema.rules) last r2 (lines_then c d e (map ConstantPart schema.constants) (map (source_part rs) schema.sources) s2 t2))) in
+    let lines : List (List Piece) = map part_pieces (parts_of schema) in
+    all ∙ ap (λ (l : List ℕ). l ++ lines_text lines) first ∙ sym (lines_text-append named lines)

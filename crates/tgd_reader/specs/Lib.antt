@@ -1,3 +1,4 @@
+pub mod Version
 pub mod Reading
 pub mod Grammar
 pub mod SchemaText

@@ -1,15 +1,19 @@
 -- The printed text of a schema: its declarations with names in place of numbers, one on a line.
 use Rattle.std.specs.Prelude.{◌≡◌, ◌++◌, ◌∷◌, ◌+◌, ℕ, codes, Bool, true, false, List, [], Option, Some, None, map, slice_get, slice_index_or}
 use Rattle.std.specs.Fmt.{decimal}
+use Rattle.std.specs.List.{list_any}
 use Rattle.meaning.specs.declared.types.Relation.{Relation}
 use Rattle.meaning.specs.declared.types.Method.{Method}
 use Rattle.meaning.specs.declared.types.Rule.{Rule}
 use Rattle.meaning.specs.declared.types.Atom.{Atom}
+use Rattle.meaning.specs.declared.types.Sort.{Sort}
+use Rattle.meaning.specs.declared.types.Sort.TheVariants.{Text, Int}
 use Rattle.meaning.specs.declared.types.Term.{Term}
 use Rattle.meaning.specs.declared.types.Term.TheVariants.{Var, Const}
 use Rattle.pq_text.specs.Pieces.{Piece, word_piece, mark_piece, name_piece, value_piece, number_piece, list_pieces, text_of, lines_text}
 use Rattle.pq_text.specs.Lines.{feeds}
 use Rattle.tgd_reader.specs.declared.parts.Declared.{Declared}
+use Rattle.tgd_reader.specs.declared.column.Column.{Column}
 use Rattle.access_schema.specs.declared.part.Part.{Part}
 use Rattle.access_schema.specs.declared.part.Part.TheVariants.{Relation as RelationPart, Method as MethodPart, Rule as RulePart, ForeignKey as KeyPart, Constant as ConstantPart, Source as SourcePart}
 use Rattle.access_schema.specs.declared.part.NamedAtom.{NamedAtom}
@@ -50,7 +54,7 @@ named_atom relations atom = record { relation = name_at relations atom.rel; term
 -- ---- the declarations of a schema
 
 abbrev pub relation_part : Relation → Part
-relation_part relation = RelationPart relation.name relation.columns
+relation_part relation = RelationPart relation.name relation.columns relation.sorts
 
 abbrev pub method_part : List Relation → Method → Part
 method_part relations method = MethodPart method.name (name_at relations method.rel) (columns_at relations method.rel method.inputs) method.cost
@@ -70,6 +74,28 @@ parts_of schema =
     ++ (map ConstantPart schema.constants
     ++ map (source_part schema.relations) schema.sources)))
 
+-- ---- the version
+
+abbrev pub is_int : Sort → Bool
+is_int Int = true
+is_int Text = false
+
+abbrev pub holds_integers : Relation → Bool
+holds_integers relation = list_any is_int relation.sorts
+
+-- whether some column holds integers
+abbrev pub has_integers : List Relation → Bool
+has_integers relations = list_any holds_integers relations
+
+-- schema 2
+abbrev pub version_pieces : List Piece
+version_pieces = word_piece false (codes "schema") ∷ number_piece true 2 ∷ []
+
+-- version 2 is named on a line of its own, and version 1 is not named
+abbrev pub version_lines : Bool → List (List Piece)
+version_lines true = version_pieces ∷ []
+version_lines false = []
+
 -- ---- how a declaration is printed
 
 abbrev pub name_pieces : Bool → List ℕ → List Piece
@@ -83,13 +109,38 @@ term_pieces spaced (NamedConst text) = value_piece spaced text ∷ []
 unfoldable pub atom_pieces : Bool → NamedAtom → List Piece
 atom_pieces spaced atom = name_piece spaced atom.relation ∷ mark_piece false (codes "(") ∷ (list_pieces term_pieces false atom.terms ++ mark_piece false (codes ")") ∷ [])
 
+-- a column of integers is printed with the word of its sort, and another as its name alone
+abbrev pub word_of : Sort → Option Sort
+word_of Int = Some Int
+word_of Text = None
+
+abbrev pub column_of : List ℕ → Sort → Column
+column_of name sort = record { name = name; word = word_of sort }
+
+abbrev pub with_sorts : List (List ℕ) → List Sort → List Column
+with_sorts [] sorts = []
+with_sorts (name ∷ names) [] = []
+with_sorts (name ∷ names) (sort ∷ sorts) = column_of name sort ∷ with_sorts names sorts
+
+abbrev pub sort_pieces : Option Sort → List Piece
+sort_pieces None = []
+sort_pieces (Some Int) = word_piece true (codes "int") ∷ []
+sort_pieces (Some Text) = word_piece true (codes "text") ∷ []
+
+abbrev pub column_pieces : Bool → Column → List Piece
+column_pieces spaced column = name_piece spaced column.name ∷ sort_pieces column.word
+
+-- NAME(COLUMN, ..)
+abbrev pub columns_pieces : List ℕ → List Column → List Piece
+columns_pieces name columns = name_piece true name ∷ mark_piece false (codes "(") ∷ (list_pieces column_pieces false columns ++ mark_piece false (codes ")") ∷ [])
+
 -- NAME(NAME, ..)
 unfoldable pub listing_pieces : List ℕ → List (List ℕ) → List Piece
 listing_pieces name columns = name_piece true name ∷ mark_piece false (codes "(") ∷ (list_pieces name_pieces false columns ++ mark_piece false (codes ")") ∷ [])
 
 -- the tokens of a declaration, with a blank behind each word and comma and round each arrow
 abbrev pub part_pieces : Part → List Piece
-part_pieces (RelationPart name columns) = word_piece false (codes "relation") ∷ listing_pieces name columns
+part_pieces (RelationPart name columns sorts) = word_piece false (codes "relation") ∷ columns_pieces name (with_sorts columns sorts)
 part_pieces (MethodPart name relation inputs cost) =
     word_piece false (codes "method") ∷ name_piece true name ∷ word_piece true (codes "on") ∷ (listing_pieces relation inputs ++ word_piece true (codes "cost") ∷ number_piece true cost ∷ [])
 part_pieces (RulePart line body head) = word_piece false (codes "rule") ∷ (list_pieces atom_pieces true body ++ mark_piece true (codes "->") ∷ list_pieces atom_pieces true head)
@@ -98,9 +149,9 @@ part_pieces (KeyPart line relation columns target target_columns) =
 part_pieces (ConstantPart text) = word_piece false (codes "constant") ∷ value_piece true text ∷ []
 part_pieces (SourcePart relation kind locator) = word_piece false (codes "source") ∷ name_piece true relation ∷ name_piece true kind ∷ value_piece true locator ∷ []
 
--- each declaration of the schema on a line of its own
+-- the version where some column holds integers, and each declaration of the schema, on a line of its own
 abbrev pub text_of_schema : Schema → List ℕ
-text_of_schema schema = lines_text (map part_pieces (parts_of schema))
+text_of_schema schema = lines_text (version_lines (has_integers schema.relations) ++ map part_pieces (parts_of schema))
 
 -- ---- schemas that differ in the lines of their rules alone
 
@@ -119,7 +170,7 @@ pub record AreSameButLines (one other : Schema) : Type 0 where
 
 -- the part on a line of this number
 abbrev pub on_line : ℕ → Part → Part
-on_line n (RelationPart name columns) = RelationPart name columns
+on_line n (RelationPart name columns sorts) = RelationPart name columns sorts
 on_line n (MethodPart name relation inputs cost) = MethodPart name relation inputs cost
 on_line n (RulePart line body head) = RulePart n body head
 on_line n (KeyPart line relation columns target target_columns) = KeyPart n relation columns target target_columns
@@ -138,6 +189,11 @@ abbrev pub lines_from : ℕ → List Part → List ℕ
 lines_from n [] = []
 lines_from n (part ∷ parts) = n ∷ lines_from (line_behind n part) parts
 
+-- the line of the first part: behind the version, where it is named
+abbrev pub first_line : Bool → ℕ
+first_line true = 2
+first_line false = 1
+
 -- the parts on the lines on which they are printed
-abbrev pub printed_parts : List Part → Declared
-printed_parts parts = record { parts = placed_from 1 parts; lines = lines_from 1 parts }
+abbrev pub printed_parts : Bool → List Part → Declared
+printed_parts has_sorts parts = record { parts = placed_from (first_line has_sorts) parts; lines = lines_from (first_line has_sorts) parts }

@@ -1,15 +1,18 @@
 -- A line's tokens, read from left to right.
-use Rattle.std.specs.Prelude.{◌≡◌, ◌++◌, ℕ, min, codes, List, [], ◌∷◌, length, Option, None, Some, Result, Ok, Err, if◌then◌else◌}
+use Rattle.std.specs.Prelude.{◌≡◌, ◌++◌, ℕ, min, map, codes, Bool, List, [], ◌∷◌, length, Option, None, Some, Result, Ok, Err, if◌then◌else◌}
 use Rattle.pq_text.specs.declared.lexeme.Lexeme.{Lexeme}
 use Rattle.pq_text.specs.declared.lexeme.Line.{Line}
 use Rattle.pq_text.specs.Lexemes.{◌>>=◌, symbol_at, word_at, name_at, value_at, text_at, number_at, names_at, name_next, word_next, end_at, members}
 use Rattle.pq_text.specs.Numbers.{value_of}
+use Rattle.meaning.specs.declared.types.Sort.{Sort}
+use Rattle.meaning.specs.declared.types.Sort.TheVariants.{Text, Int}
 use Rattle.access_schema.specs.declared.part.NamedTerm.{NamedTerm}
 use Rattle.access_schema.specs.declared.part.NamedTerm.TheVariants.{Var, Const}
 use Rattle.access_schema.specs.declared.part.NamedAtom.{NamedAtom}
 use Rattle.access_schema.specs.declared.part.Part.{Part}
 use Rattle.access_schema.specs.declared.part.Part.TheVariants.{Relation, Method, Rule, ForeignKey, Constant, Source}
 use Rattle.tgd_reader.specs.declared.listed.Listing.{Listing}
+use Rattle.tgd_reader.specs.declared.column.Column.{Column}
 use Rattle.tgd_reader.specs.declared.parts.Declared.{Declared}
 use Rattle.tgd_reader.specs.declared.fault.PartsFault.{PartsFault}
 use Rattle.tgd_reader.specs.declared.fault.PartsFault.TheVariants as faults
@@ -50,13 +53,49 @@ atom_at ls = do
 abbrev pub atoms_at : List Lexeme → Option (List NamedAtom × List Lexeme)
 atoms_at ls = members atom_at (length ls) [] ls
 
+-- ---- columns of a relation
+
+abbrev pub name_of : Column → List ℕ
+name_of column = column.name
+
+abbrev pub given_sort : Option Sort → Sort
+given_sort None = Text
+given_sort (Some sort) = sort
+
+-- a column that is given no sort is of the sort text
+abbrev pub sort_of : Column → Sort
+sort_of column = given_sort column.word
+
+-- the word of a sort, or none
+abbrev pub sort_at : List Lexeme → Option (Option Sort × List Lexeme)
+sort_at ls =
+    if word_next (codes "int") ls then (word_at (codes "int") ls >>= λ rest. Some (Some Int, rest))
+    else if word_next (codes "text") ls then (word_at (codes "text") ls >>= λ rest. Some (Some Text, rest))
+    else Some (None, ls)
+
+-- a column of a version without sorts is its name alone
+abbrev pub word_behind : Bool → List Lexeme → Option (Option Sort × List Lexeme)
+word_behind has_sorts ls = if has_sorts then sort_at ls else Some (None, ls)
+
+unfoldable pub column_at : Bool → List Lexeme → Option (Column × List Lexeme)
+column_at has_sorts ls = do
+  name ← name_at ls
+  word ← word_behind has_sorts name.1
+  Some (record { name = name.0; word = word.0 }, word.1)
+
+abbrev pub columns_at : Bool → List Lexeme → Option (List Column × List Lexeme)
+columns_at has_sorts ls = members (column_at has_sorts) (length ls) [] ls
+
 -- ---- declarations
 
-unfoldable pub relation_at : List Lexeme → Option (Part × List Lexeme)
-relation_at ls = do
+unfoldable pub relation_at : Bool → List Lexeme → Option (Part × List Lexeme)
+relation_at has_sorts ls = do
   behind ← word_at (codes "relation") ls
-  listing ← listing_at behind
-  Some (Relation listing.0.relation listing.0.columns, listing.1)
+  name ← name_at behind
+  inside ← symbol_at (codes "(") name.1
+  columns ← columns_at has_sorts inside
+  rest ← symbol_at (codes ")") columns.1
+  Some (Relation name.0 (map name_of columns.0) (map sort_of columns.0), rest)
 
 -- the number of some digits, or 1,000,001 where it passes a million
 abbrev pub cost_of : List ℕ → ℕ
@@ -110,18 +149,18 @@ source_at ls = do
   locator ← text_at kind.1
   Some (Source relation.0 kind.0 locator.0, locator.1)
 
-abbrev pub part_at : ℕ → List Lexeme → Option (Part × List Lexeme)
-part_at number ls =
-    if word_next (codes "relation") ls then relation_at ls
+abbrev pub part_at : Bool → ℕ → List Lexeme → Option (Part × List Lexeme)
+part_at has_sorts number ls =
+    if word_next (codes "relation") ls then relation_at has_sorts ls
     else if word_next (codes "method") ls then method_at ls
     else if word_next (codes "rule") ls then rule_at number ls
     else if word_next (codes "foreign") ls then foreign_key_at number ls
     else if word_next (codes "constant") ls then constant_at ls
     else source_at ls
 
-abbrev pub declaration_at : ℕ → List Lexeme → Option (Part × List Lexeme)
-declaration_at number ls = do
-  part ← part_at number ls
+abbrev pub declaration_at : Bool → ℕ → List Lexeme → Option (Part × List Lexeme)
+declaration_at has_sorts number ls = do
+  part ← part_at has_sorts number ls
   nothing ← end_at part.1
   Some (part.0, nothing)
 
@@ -133,9 +172,10 @@ next_parts go number done numbers (t ∷ ts) None = Err number
 next_parts go number done numbers (t ∷ ts) (Some p) = go (done ++ p.0 ∷ []) (numbers ++ number ∷ [])
 
 -- the parts behind those that are done, or the number of the first line that is no declaration
-abbrev pub parts_from : List Part → List ℕ → List Line → Result Declared ℕ
-parts_from done numbers [] = Ok (record { parts = done; lines = numbers })
-parts_from done numbers (line ∷ lines) = next_parts (λ parts ns. parts_from parts ns lines) line.number done numbers line.tokens (declaration_at line.number line.tokens)
+abbrev pub parts_from : Bool → List Part → List ℕ → List Line → Result Declared ℕ
+parts_from has_sorts done numbers [] = Ok (record { parts = done; lines = numbers })
+parts_from has_sorts done numbers (line ∷ lines) =
+    next_parts (λ parts ns. parts_from has_sorts parts ns lines) line.number done numbers line.tokens (declaration_at has_sorts line.number line.tokens)
 
 -- a call gave what reading gives; memory may have run out
 abbrev pub PartsGive : Result Declared PartsFault → Result Declared ℕ → Type 0

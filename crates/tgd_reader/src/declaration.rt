@@ -5,41 +5,57 @@ ghost use Rattle.access_schema.specs.declared.part.Part.{Part};
 ghost use Rattle.tgd_reader.specs.Grammar.{IsDeclaration};
 ghost use Rattle.tgd_reader.specs.Reading.{cost_at, relation_at, method_at, rule_at, foreign_key_at, constant_at, source_at, part_at, declaration_at};
 
+use crate::column::{names, read_columns, sorts};
 use crate::listed::{atoms, inputs, relation_columns};
 use access_schema::Part;
 use pq_text::{Cursor, Lexeme, Misfit, value_up_to};
 use std::alloc::Global;
 
-/// The declaration of a line with this number.
-pub fn read_declaration(alloc: Global, number: u32, line: &[Lexeme]) -> Result<Part, Misfit>
+/// The declaration of a line with this number, in a version where columns may be given sorts or may not.
+pub fn read_declaration(
+    alloc: Global,
+    has_sorts: bool,
+    number: u32,
+    line: &[Lexeme],
+) -> Result<Part, Misfit>
     // What is read is the declaration that the grammar relates to the line.
-    ensures found { IfOk result (λ part. IsDeclaration number line.now part) }
+    ensures found { IfOk result (λ part. IsDeclaration has_sorts number line.now part) }
 
     // Each declaration is read, unless memory runs out.
-    ensures only { (part : Part) → IsDeclaration number line.now part → Gives [] result (Some (part, [])) }
+    ensures only { (part : Part) → IsDeclaration has_sorts number line.now part → Gives [] result (Some (part, [])) }
 
     // A line that does not fit is no declaration.
-    ensures misfit { IsErrOf result Misfit.NoFit → (part : Part) → IsDeclaration number line.now part → ⊥ }
+    ensures misfit { IsErrOf result Misfit.NoFit → (part : Part) → IsDeclaration has_sorts number line.now part → ⊥ }
 {
-    read_line(alloc, number, line)
+    read_line(alloc, has_sorts, number, line)
 }
 
 /// The same, with the place where reading ends.
-pub fn read_line(alloc: Global, number: u32, line: &[Lexeme]) -> Result<Part, Misfit>
-    ensures { Gives [] result (declaration_at number line.now) }
+pub fn read_line(
+    alloc: Global,
+    has_sorts: bool,
+    number: u32,
+    line: &[Lexeme],
+) -> Result<Part, Misfit>
+    ensures { Gives [] result (declaration_at has_sorts number line.now) }
 {
     let mut cursor = Cursor::new(line);
-    let part = part(alloc, number, &mut cursor)?;
+    let part = part(alloc, has_sorts, number, &mut cursor)?;
     cursor.end()?;
     Ok(part)
 }
 
 // The declaration that begins with the next word, which is looked at and not taken.
-fn part(alloc: Global, number: u32, cursor: &mut Cursor<'_>) -> Result<Part, Misfit>
-    ensures { Gives cursor.new result (part_at number cursor.old) }
+fn part(
+    alloc: Global,
+    has_sorts: bool,
+    number: u32,
+    cursor: &mut Cursor<'_>,
+) -> Result<Part, Misfit>
+    ensures { Gives cursor.new result (part_at has_sorts number cursor.old) }
 {
     if cursor.is_word(b"relation") {
-        relation(alloc, cursor)
+        relation(alloc, has_sorts, cursor)
     } else if cursor.is_word(b"method") {
         method(alloc, cursor)
     } else if cursor.is_word(b"rule") {
@@ -54,14 +70,18 @@ fn part(alloc: Global, number: u32, cursor: &mut Cursor<'_>) -> Result<Part, Mis
 }
 
 #[tactic(auto, unfolding(crate::specs::Reading::relation_at))]
-fn relation(alloc: Global, cursor: &mut Cursor<'_>) -> Result<Part, Misfit>
-    ensures { Gives cursor.new result (relation_at cursor.old) }
+fn relation(alloc: Global, has_sorts: bool, cursor: &mut Cursor<'_>) -> Result<Part, Misfit>
+    ensures { Gives cursor.new result (relation_at has_sorts cursor.old) }
 {
     cursor.word(b"relation")?;
-    let listing = relation_columns(alloc, cursor)?;
+    let name = cursor.name(alloc)?;
+    cursor.symbol(b"(")?;
+    let columns = read_columns(alloc, has_sorts, cursor)?;
+    cursor.symbol(b")")?;
     Ok(Part::Relation {
-        name: listing.relation,
-        columns: listing.columns,
+        name,
+        columns: names(alloc, columns.as_slice())?,
+        sorts: sorts(alloc, columns.as_slice())?,
     })
 }
 

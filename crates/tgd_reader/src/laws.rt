@@ -5,12 +5,12 @@ ghost use Rattle.tgd_reader.specs.declared.fault.ReadFault.{ReadFault};
 ghost use Rattle.tgd_reader.specs.declared.fault.ReadFault.TheVariants.{NoMemory};
 ghost use Rattle.tgd_reader.specs.Grammar.{HasParts};
 ghost use Rattle.tgd_reader.specs.SchemaText.{DeclaresSchema, IsSchemaText, IsReadFault};
-ghost use Rattle.tgd_reader.specs.Printed.{parts_of, text_of_schema, printed_parts, AreSameButLines};
+ghost use Rattle.tgd_reader.specs.Printed.{parts_of, text_of_schema, has_integers, printed_parts, AreSameButLines};
 
 /// The text of a schema has exactly the schema's declarations as its parts, each on the line on which it is printed;
 /// and it declares the same schema again, but for the lines of its rules.
 pub fn printed_schemas_are_read()
-    ensures parts { (schema : Schema) → HasParts (text_of_schema schema) (printed_parts (parts_of schema)) }
+    ensures parts { (schema : Schema) → HasParts (text_of_schema schema) (printed_parts (has_integers schema.relations) (parts_of schema)) }
     ensures schema { (schema : Schema) → (again : Schema) × DeclaresSchema (text_of_schema schema) again × AreSameButLines again schema }
 {}
 

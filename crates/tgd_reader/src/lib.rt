@@ -4,6 +4,7 @@
 //! that is no declaration is told. Begin at `specs/Grammar.antt`.
 #![tactic(auto)]
 
+mod column;
 mod declaration;
 mod fault;
 mod laws;
@@ -12,7 +13,9 @@ mod parts;
 mod pieces;
 mod print;
 mod read;
+mod version;
 
+pub use column::{Column, Columns};
 pub use declaration::read_declaration;
 pub use fault::{PartsFault, ReadFault};
 pub use laws::{printed_schemas_are_read, schema_texts_have_no_fault};

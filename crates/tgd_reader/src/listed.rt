@@ -5,7 +5,7 @@ ghost use Rattle.tgd_reader.specs.Reading.{listing_at, inputs_at, term_at, terms
 
 use access_schema::{NamedAtom, NamedAtoms, NamedTerm, NamedTerms};
 use lists::{Seq, Text, Texts};
-use pq_text::{Cursor, Misfit};
+use pq_text::{Cursor, Form, Misfit};
 use std::alloc::Global;
 
 /// A relation and some of its columns, by their names.
@@ -49,17 +49,23 @@ fn term(alloc: Global, cursor: &mut Cursor<'_>) -> Result<NamedTerm, Misfit>
     }
 }
 
+// The form of a term.
+struct TermForm;
+
+impl Form for TermForm {
+    type Member = NamedTerm;
+
+    ghost at = { λ form. term_at };
+
+    fn take(&self, alloc: Global, cursor: &mut Cursor<'_>) -> Result<NamedTerm, Misfit> {
+        term(alloc, cursor)
+    }
+}
+
 fn terms(alloc: Global, cursor: &mut Cursor<'_>) -> Result<NamedTerms, Misfit>
     ensures { Gives cursor.new result (terms_at cursor.old) }
 {
-    let mut list = Seq::new(alloc);
-    for _ in 0..cursor.len() {
-        list.push(term(alloc, cursor)?)?;
-        if !cursor.accept(b",") {
-            return Ok(list);
-        }
-    }
-    Err(Misfit::NoFit)
+    cursor.members(alloc, &TermForm)
 }
 
 #[tactic(auto, unfolding(crate::specs::Reading::atom_at))]
@@ -73,16 +79,22 @@ fn atom(alloc: Global, cursor: &mut Cursor<'_>) -> Result<NamedAtom, Misfit>
     Ok(NamedAtom { relation, terms })
 }
 
+// The form of an atom.
+struct AtomForm;
+
+impl Form for AtomForm {
+    type Member = NamedAtom;
+
+    ghost at = { λ form. atom_at };
+
+    fn take(&self, alloc: Global, cursor: &mut Cursor<'_>) -> Result<NamedAtom, Misfit> {
+        atom(alloc, cursor)
+    }
+}
+
 // ATOM , ..
 pub fn atoms(alloc: Global, cursor: &mut Cursor<'_>) -> Result<NamedAtoms, Misfit>
     ensures { Gives cursor.new result (atoms_at cursor.old) }
 {
-    let mut list = Seq::new(alloc);
-    for _ in 0..cursor.len() {
-        list.push(atom(alloc, cursor)?)?;
-        if !cursor.accept(b",") {
-            return Ok(list);
-        }
-    }
-    Err(Misfit::NoFit)
+    cursor.members(alloc, &AtomForm)
 }

@@ -3,10 +3,11 @@ ghost use Rattle.std.specs.Prelude.{◌≡◌, ◌++◌, ◌∷◌, List, ℕ, f
 ghost use Rattle.std.specs.List.{AllByRecursion};
 ghost use Rattle.pq_text.specs.Utf8.{KeepsUtf8};
 ghost use Rattle.pq_text.specs.Pieces.{word_piece, mark_piece, name_piece, value_piece, number_piece, list_pieces, further_pieces, behind_blank};
-ghost use Rattle.tgd_reader.specs.Printed.{variable_name, named_term, named_atom, name_pieces, term_pieces, atom_pieces, listing_pieces};
+ghost use Rattle.tgd_reader.specs.Printed.{column_of, with_sorts, column_pieces, columns_pieces, variable_name, named_term, named_atom, name_pieces, term_pieces, atom_pieces, listing_pieces};
 ghost use Rattle.tgd_reader.specs.Printing.{Writes, IsPlaced};
 
 use access_schema::{Atom, NoMemory, Relation, Term, Text};
+use meaning::types::Sort;
 use pq_text::{print_name, print_number, print_value};
 
 // A blank where one is wanted.
@@ -80,6 +81,61 @@ pub fn listing(out: &mut Vec<u8>, relation: &Text, columns: &[Text]) -> Result<(
     mark(out, false, "(")?;
     names(out, columns)?;
     mark(out, false, ")")
+}
+
+/// Writes a name and, in brackets, columns with commas between them, each with its sort if it holds integers.
+pub fn typed_listing(
+    out: &mut Vec<u8>,
+    relation: &Text,
+    columns: &[Text],
+    sorts: &[Sort],
+) -> Result<(), NoMemory>
+    ensures written { OnOk result (Writes out.old.items out.new.items (columns_pieces relation.now (with_sorts columns.now sorts.now))) }
+    ensures utf8 { OnOk result (KeepsUtf8 out.old.items out.new.items) }
+{
+    name(out, true, relation)?;
+    mark(out, false, "(")?;
+    typed_columns(out, columns, sorts)?;
+    mark(out, false, ")")
+}
+
+fn typed_columns(out: &mut Vec<u8>, columns: &[Text], sorts: &[Sort]) -> Result<(), NoMemory>
+    ensures written { OnOk result (Writes out.old.items out.new.items (list_pieces column_pieces false (with_sorts columns.now sorts.now))) }
+    ensures utf8 { OnOk result (KeepsUtf8 out.old.items out.new.items) }
+{
+    match (columns, sorts) {
+        ([first, further @ ..], [sort, others @ ..]) => {
+            column(out, false, first, *sort)?;
+            further_columns(out, further, others)
+        }
+        _ => Ok(()),
+    }
+}
+
+fn further_columns(out: &mut Vec<u8>, columns: &[Text], sorts: &[Sort]) -> Result<(), NoMemory>
+    ensures written { OnOk result (Writes out.old.items out.new.items (further_pieces column_pieces (with_sorts columns.now sorts.now))) }
+    ensures utf8 { OnOk result (KeepsUtf8 out.old.items out.new.items) }
+{
+    let mut left = columns;
+    let mut others = sorts;
+    while let ([first, after @ ..], [sort, behind @ ..]) = (left, others) {
+        mark(out, false, ",")?;
+        column(out, true, first, *sort)?;
+        left = after;
+        others = behind;
+    }
+    Ok(())
+}
+
+fn column(out: &mut Vec<u8>, spaced: bool, text: &Text, sort: Sort) -> Result<(), NoMemory>
+    ensures written { OnOk result (Writes out.old.items out.new.items (column_pieces spaced (column_of text.now sort))) }
+    ensures utf8 { OnOk result (KeepsUtf8 out.old.items out.new.items) }
+{
+    name(out, spaced, text)?;
+    match sort {
+        Sort::Int => word(out, true, "int"),
+        Sort::Text => Ok(()),
+    }
 }
 
 fn names(out: &mut Vec<u8>, list: &[Text]) -> Result<(), NoMemory>

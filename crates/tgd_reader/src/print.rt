@@ -1,20 +1,25 @@
 // The text of a schema.
-ghost use Rattle.std.specs.Prelude.{◌≡◌, ◌<◌, ◌∷◌, [], map, length, IfOk, OnOk, All, slice_index_or};
+ghost use Rattle.std.specs.Prelude.{◌≡◌, ◌<◌, ◌++◌, ◌∷◌, [], map, length, IfOk, OnOk, All, slice_index_or};
 ghost use Rattle.std.specs.List.{AllByRecursion};
 ghost use Rattle.std.specs.Str.{IsUtf8};
 ghost use Rattle.pq_text.specs.Utf8.{KeepsUtf8};
+ghost use Rattle.pq_text.specs.Pieces.{lines_text};
 ghost use Rattle.access_schema.specs.declared.part.Part.TheVariants.{Constant as ConstantPart};
 ghost use Rattle.access_schema.specs.declared.schema.Schema.{Schema};
 ghost use Rattle.tgd_reader.specs.SchemaText.{IsSchemaText};
-ghost use Rattle.tgd_reader.specs.Printed.{relation_part, method_part, rule_part, source_part, text_of_schema, AreSameButLines};
+ghost use Rattle.tgd_reader.specs.Printed.{relation_part, method_part, rule_part, source_part, is_int, holds_integers, has_integers, version_lines, version_pieces, text_of_schema, AreSameButLines};
 ghost use Rattle.tgd_reader.specs.Printing.{WritesLines, IsMethodPlaced, IsRulePlaced, IsSourcePlaced};
 
-use crate::pieces::{atoms, end_line, listing, mark, name, number, relation_at, value, word};
+use crate::pieces::{
+    atoms, end_line, listing, mark, name, number, relation_at, typed_listing, value, word,
+};
 use access_schema::{Method, NoMemory, Relation, Rule, Schema, SourceLine, Text, Texts};
 use lists::{Bytes, Copies, Seq};
+use meaning::types::Sort;
 use std::alloc::Global;
 
-/// The text of a schema: its declarations, one on a line, each with a line feed at its end.
+/// The text of a schema: its declarations, one on a line, each with a line feed at its end. Where some column holds
+/// integers, the line `schema 2` stands before them.
 ///
 /// Foreign keys are printed as the rules that they became, and all constants are printed, those of rules too. The text
 /// is read as the same schema again, but for the lines of its rules; it may be longer than the text that was read.
@@ -35,12 +40,53 @@ fn schema_bytes(alloc: Global, schema: &Schema) -> Result<Vec<u8>, NoMemory>
 {
     let relations = schema.relations.as_slice();
     let mut out = Vec::new(alloc);
+    print_version(&mut out, has_integers(relations))?;
     print_relations(&mut out, relations)?;
     print_methods(alloc, &mut out, relations, schema.methods.as_slice())?;
     print_rules(&mut out, relations, schema.rules.as_slice())?;
     print_constants(&mut out, schema.constants.as_slice())?;
     print_sources(&mut out, relations, schema.sources.as_slice())?;
     Ok(out)
+}
+
+// Whether some column holds integers.
+fn has_integers(relations: &[Relation]) -> bool
+    ensures { result ≡ has_integers relations.now }
+{
+    relations.iter().any(|relation| holds_integers(relation))
+}
+
+fn holds_integers(relation: &Relation) -> bool
+    ensures { result ≡ holds_integers relation.now }
+{
+    relation.sorts.as_slice().iter().any(|sort| is_int(sort))
+}
+
+fn is_int(sort: &Sort) -> bool
+    ensures { result ≡ is_int sort.now }
+{
+    matches!(sort, Sort::Int)
+}
+
+// The line of version 2, where columns have sorts.
+fn print_version(out: &mut Vec<u8>, has_sorts: bool) -> Result<(), NoMemory>
+    ensures written { OnOk result (out.new.items ≡ out.old.items ++ lines_text (version_lines has_sorts)) }
+    ensures utf8 { OnOk result (KeepsUtf8 out.old.items out.new.items) }
+{
+    if has_sorts {
+        print_second_version(out)
+    } else {
+        Ok(())
+    }
+}
+
+fn print_second_version(out: &mut Vec<u8>) -> Result<(), NoMemory>
+    ensures written { OnOk result (out.new.items ≡ out.old.items ++ lines_text (version_pieces ∷ [])) }
+    ensures utf8 { OnOk result (KeepsUtf8 out.old.items out.new.items) }
+{
+    word(out, false, "schema")?;
+    number(out, 2)?;
+    end_line(out)
 }
 
 fn print_relations(out: &mut Vec<u8>, relations: &[Relation]) -> Result<(), NoMemory>
@@ -60,7 +106,12 @@ fn print_relation(out: &mut Vec<u8>, relation: &Relation) -> Result<(), NoMemory
     ensures utf8 { OnOk result (KeepsUtf8 out.old.items out.new.items) }
 {
     word(out, false, "relation")?;
-    listing(out, &relation.name, relation.columns.as_slice())?;
+    typed_listing(
+        out,
+        &relation.name,
+        relation.columns.as_slice(),
+        relation.sorts.as_slice(),
+    )?;
     end_line(out)
 }
 

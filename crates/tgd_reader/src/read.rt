@@ -2,7 +2,7 @@
 ghost use Rattle.std.specs.Prelude.{◌≡◌, ◌<◌, ◌≤◌, ◌^◌, length, IfOk, IfErr, OnOk};
 ghost use Rattle.access_schema.specs.declared.schema.Schema.{Schema};
 ghost use Rattle.access_schema.specs.Content.{Builds};
-ghost use Rattle.access_schema.specs.Faults.{AreNamed, AreFaultless};
+ghost use Rattle.access_schema.specs.Faults.{AreNamed, HaveSorts, AreFaultless};
 ghost use Rattle.tgd_reader.specs.SchemaText.{IsSchemaText, IsReadFault, IsReadAs, IsFaultyPart};
 
 use crate::fault::ReadFault;
@@ -42,6 +42,7 @@ fn declared_schema(alloc: Global, declared: Declared) -> Result<Schema, ReadFaul
     requires few { length declared.parts < 2 ^ 32 }
     requires lines { length declared.lines ≡ length declared.parts }
     requires named { AreNamed declared.parts }
+    requires sorts { HaveSorts declared.parts }
     ensures schema { IfOk result (Builds declared.parts) }
     ensures faultless { OnOk result (AreFaultless declared.parts) }
     ensures fault { IfErr result (IsFaultyPart declared) }

@@ -1,7 +1,0 @@
-use Rattle.std.proofs.Common.{◌≡◌, ◌-◌, [], length}
-use Rattle.pq_text.specs.Lexemes.{members}
-use Rattle.tgd_reader.specs.Reading.{atom_at}
-use Rattle.tgd_reader.proofs.listed.atoms.Given as goal
-
-abbrev pub invariant-loop : goal.invariant-loop
-invariant-loop l = members atom_at (length l.fn.cursor - l.counter) l.list l.cursor ≡ members atom_at (length l.fn.cursor) [] l.fn.cursor
