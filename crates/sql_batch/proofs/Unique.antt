@@ -49,6 +49,7 @@ module _ (schema : Schema) (bytes : List ℕ) where
   clash (fault.WrongWidth o) tokens h k are = absurd (omega (arith, k))
   clash (fault.UnknownName o) tokens h k are = absurd (omega (arith, k))
   clash (fault.Ambiguous o) tokens h k are = absurd (omega (arith, k))
+  clash (fault.WrongSort o) tokens h k are = absurd (omega (arith, k))
 
   queries_one : (parts : List Part) (ss ts : List Statement) → AreQueries schema bytes parts ss → AreQueries schema bytes parts ts → ss ≡ ts
   queries_one [] [] [] a b = refl

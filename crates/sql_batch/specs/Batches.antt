@@ -31,7 +31,7 @@ pub record IsBatchText (schema : Schema) (bytes : List ℕ) (statements : List S
 
 -- ---- faults
 
--- the kinds of faults in the order in which they are looked for: no UTF-8, no tokens, no query, limits, widths, names
+-- the kinds of faults in the order in which they are looked for: no UTF-8, no tokens, no query, limits, widths, names, sorts
 abbrev pub kind_of : SqlFault → ℕ
 kind_of fault.NoMemory = 0
 kind_of (fault.NotUtf8 offset) = 1
@@ -42,6 +42,7 @@ kind_of (fault.OverLimit limit) = 4
 kind_of (fault.WrongWidth offset) = WIDTHS
 kind_of (fault.UnknownName offset) = 6
 kind_of (fault.Ambiguous offset) = 6
+kind_of (fault.WrongSort offset) = 7
 
 -- The text has no fault of a kind before this one: it is a query, or it has a fault of this kind or a later one.
 abbrev pub Reaches : Schema → List ℕ → ℕ → Type 0
@@ -60,8 +61,8 @@ pub record IsFirstFault (schema : Schema) (bytes : List ℕ) (parts : List Part)
   pub earlier : (other : Part) → Contains before other → Reaches schema (alone bytes other) (kind_of f + 1)
   pub later : (other : Part) → Contains after other → Reaches schema (alone bytes other) (kind_of f)
 
--- The parts have the fault: that of one of them, and then they are not too many where it is of widths or names; or they
--- are too many.
+-- The parts have the fault: that of one of them, and then they are not too many where it is of widths, names or sorts; or
+-- they are too many.
 pub data IsFaultOfQueries (schema : Schema) (bytes : List ℕ) (parts : List Part) (f : SqlFault) : Type 0 where
   of_one : IsFirstFault schema bytes parts f → (WIDTHS ≤ kind_of f → length parts ≤ MOST_STATEMENTS) →
       IsFaultOfQueries schema bytes parts f

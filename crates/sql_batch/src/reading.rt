@@ -33,6 +33,7 @@ pub fn kind_of(fault: &SqlFault) -> u32
         SqlFault::OverLimit(_) => 4,
         SqlFault::WrongWidth { .. } => WIDTHS,
         SqlFault::UnknownName { .. } | SqlFault::Ambiguous { .. } => 6,
+        SqlFault::WrongSort { .. } => 7,
     }
 }
 

@@ -122,4 +122,5 @@ statement_fits schema bytes statement is = record {
   bounded = λ select c.
       let (raw, among, means) = meant schema bytes is.raws statement.selects select is.means c in
       bounded schema bytes raw select means (is.within.each raw among) (is.written.text.items raw among) (is.written.text.froms raw among);
+  sorted = is.sorted;
 }

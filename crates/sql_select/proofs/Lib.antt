@@ -12,6 +12,7 @@ pub mod Resolved
 pub mod Meanings
 pub mod Limiting
 pub mod Wide
+pub mod Sorted
 pub mod Unique
 pub mod Fitting
 pub mod Answering

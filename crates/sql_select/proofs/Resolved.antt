@@ -65,3 +65,4 @@ module _ (relations : List Relation) (parts : NamedSelect) where
   naming_fault (Err (fault.WrongWidth offset)) e = absurd e
   naming_fault (Err (fault.OverLimit limit)) e = absurd e
   naming_fault (Err (fault.Lex f)) e = absurd e
+  naming_fault (Err (fault.WrongSort offset)) e = absurd e

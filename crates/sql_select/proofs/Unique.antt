@@ -27,11 +27,14 @@ use Rattle.sql_select.specs.Grammar.{IsText, S0, StopsAt}
 use Rattle.sql_select.specs.Limits.{AreWithinLimits, IsOver}
 use Rattle.sql_select.specs.Widths.{AreAlikeWide, IsFirstOtherWide, select_offsets}
 use Rattle.sql_select.specs.Naming.{named_select}
-use Rattle.sql_select.specs.Statements.{AreTokens, IsWritten, Means, IsStatementText, IsFirstNameFault, IsLexFault, IsMisfit, offset_of, begins_unsupported, first_written, IsWrongWidth, IsSqlFault}
+use Rattle.sql_select.specs.Statements.{AreTokens, IsWritten, Means, IsStatementText, IsFirstNameFault, IsLexFault, IsMisfit, offset_of, begins_unsupported, first_written, IsWrongWidth, IsWrongSort, IsSqlFault}
 use Rattle.sql_select.proofs.Complete.{one_reading}
 use Rattle.sql_select.proofs.Leading.{one_rest}
 use Rattle.sql_select.proofs.Faults.{no_misfit, pieces_long}
+use Rattle.sql_select.specs.Sorts.{IsFirstUnsorted}
+use Rattle.access_schema.specs.Meaning.{meaning_of}
 use Rattle.sql_select.proofs.Wide.{width_clash, one_number}
+use Rattle.sql_select.proofs.Sorted.{one_offset, sorted_clash}
 use Rattle.sql_select.proofs.Meanings.{one_select, no_name_fault, one_name_fault}
 use Rattle.pq_text.proofs.FirstBad.{utf8_clash, one_bad}
 
@@ -172,6 +175,26 @@ module _ (schema : Schema) (bytes : List ℕ) where
   name_clash : (s : Statement) (raws : List RawSelect) (f : NameFault) → IsStatementText schema bytes s → IsWritten bytes raws → IsFirstNameFault schema.relations bytes raws f → ⊥
   name_clash s raws f is w h = no_first_fault is.raws s.selects f is.means (subst (λ rs. IsFirstNameFault schema.relations bytes rs f) (one_raws bytes raws is.raws w is.written) h)
 
+  -- where names have a meaning, what they mean and where the first condition that is not sorted begins is one
+  sort_clash : (s : Statement) (o : ℕ) → IsStatementText schema bytes s → IsWrongSort schema bytes o → ⊥
+  sort_clash s o is h =
+      let same : h.raws ≡ is.raws = one_raws bytes h.raws is.raws h.written is.written in
+      let means = subst (λ rs. AllZip (Means schema.relations bytes) rs h.selects) same h.means in
+      let selects : h.selects ≡ s.selects = one_meaning is.raws h.selects s.selects means is.means in
+      sorted_clash (meaning_of schema) h.raws s.selects o is.sorted (subst (λ ss. IsFirstUnsorted (meaning_of schema) h.raws ss o) selects h.first)
+
+  one_sort : (o p : ℕ) → IsWrongSort schema bytes o → IsWrongSort schema bytes p → o ≡ p
+  one_sort o p h h' =
+      let same : h'.raws ≡ h.raws = one_raws bytes h'.raws h.raws h'.written h.written in
+      let means = subst (λ rs. AllZip (Means schema.relations bytes) rs h'.selects) same h'.means in
+      let selects : h'.selects ≡ h.selects = one_meaning h.raws h'.selects h.selects means h.means in
+      let first = subst (λ rs. IsFirstUnsorted (meaning_of schema) rs h'.selects p) same h'.first in
+      one_offset (meaning_of schema) h.raws h.selects o p h.first (subst (λ ss. IsFirstUnsorted (meaning_of schema) h.raws ss p) selects first)
+
+  name_sort_clash : (raws : List RawSelect) (f : NameFault) (o : ℕ) → IsWritten bytes raws → IsFirstNameFault schema.relations bytes raws f → IsWrongSort schema bytes o → ⊥
+  name_sort_clash raws f o w h is =
+      no_first_fault is.raws is.selects f is.means (subst (λ rs. IsFirstNameFault schema.relations bytes rs f) (one_raws bytes raws is.raws w is.written) h)
+
   pub no_fault : (s : Statement) (f : SqlFault) → IsStatementText schema bytes s → IsSqlFault schema bytes f → f ≡ fault.NoMemory
   no_fault s fault.NoMemory is h = refl
   no_fault s (fault.NotUtf8 o) is h = absurd (utf8_clash bytes o h is.written.lexed.utf8)
@@ -182,6 +205,7 @@ module _ (schema : Schema) (bytes : List ℕ) where
   no_fault s (fault.WrongWidth o) is h = absurd (alike_clash bytes is.raws o is.written is.wide h)
   no_fault s (fault.UnknownName o) is h = absurd (name_clash s h.0 (name.Unknown o) is h.1 h.4)
   no_fault s (fault.Ambiguous o) is h = absurd (name_clash s h.0 (name.Ambiguous o) is h.1 h.4)
+  no_fault s (fault.WrongSort o) is h = absurd (sort_clash s o is h)
 
   -- two faults of names are one
   one_first_fault : (raws : List RawSelect) (f g : NameFault) → IsFirstNameFault schema.relations bytes raws f → IsFirstNameFault schema.relations bytes raws g → f ≡ g
@@ -219,6 +243,7 @@ module _ (schema : Schema) (bytes : List ℕ) where
   one_fault (fault.WrongWidth ao) fault.NoMemory h h' some some' = absurd (some' refl)
   one_fault (fault.UnknownName ao) fault.NoMemory h h' some some' = absurd (some' refl)
   one_fault (fault.Ambiguous ao) fault.NoMemory h h' some some' = absurd (some' refl)
+  one_fault (fault.WrongSort ao) fault.NoMemory h h' some some' = absurd (some' refl)
   one_fault (fault.NotUtf8 ao) (fault.NotUtf8 bo) h h' some some' = ap (λ n. fault.NotUtf8 n) (one_bad bytes ao bo h h')
   one_fault (fault.NotUtf8 ao) (fault.Lex bo) h h' some some' = absurd (utf8_clash bytes ao h h'.0)
   one_fault (fault.NotUtf8 ao) (fault.Syntax bo) h h' some some' = absurd (utf8_clash bytes ao h h'.1.lexed.utf8)
@@ -227,6 +252,7 @@ module _ (schema : Schema) (bytes : List ℕ) where
   one_fault (fault.NotUtf8 ao) (fault.WrongWidth bo) h h' some some' = absurd (utf8_clash bytes ao h h'.2.utf8)
   one_fault (fault.NotUtf8 ao) (fault.UnknownName bo) h h' some some' = absurd (utf8_clash bytes ao h h'.1.lexed.utf8)
   one_fault (fault.NotUtf8 ao) (fault.Ambiguous bo) h h' some some' = absurd (utf8_clash bytes ao h h'.1.lexed.utf8)
+  one_fault (fault.NotUtf8 ao) (fault.WrongSort bo) h h' some some' = absurd (utf8_clash bytes ao h h'.written.lexed.utf8)
   one_fault (fault.Lex ao) (fault.NotUtf8 bo) h h' some some' = absurd (utf8_clash bytes bo h' h.0)
   one_fault (fault.Lex ao) (fault.Lex bo) h h' some some' = ap (λ n. fault.Lex n) (one_lex bytes ao bo h.1 h'.1)
   one_fault (fault.Lex ao) (fault.Syntax bo) h h' some some' = absurd (lex_clash bytes ao h'.1.tokens h.1 h'.1.lexed)
@@ -235,6 +261,7 @@ module _ (schema : Schema) (bytes : List ℕ) where
   one_fault (fault.Lex ao) (fault.WrongWidth bo) h h' some some' = absurd (lex_clash bytes ao h'.1 h.1 h'.2)
   one_fault (fault.Lex ao) (fault.UnknownName bo) h h' some some' = absurd (lex_clash bytes ao h'.1.tokens h.1 h'.1.lexed)
   one_fault (fault.Lex ao) (fault.Ambiguous bo) h h' some some' = absurd (lex_clash bytes ao h'.1.tokens h.1 h'.1.lexed)
+  one_fault (fault.Lex ao) (fault.WrongSort bo) h h' some some' = absurd (lex_clash bytes ao h'.written.tokens h.1 h'.written.lexed)
   one_fault (fault.Syntax ao) (fault.NotUtf8 bo) h h' some some' = absurd (utf8_clash bytes bo h' h.1.lexed.utf8)
   one_fault (fault.Syntax ao) (fault.Lex bo) h h' some some' = absurd (lex_clash bytes bo h.1.tokens h'.1 h.1.lexed)
   one_fault (fault.Syntax ao) (fault.Syntax bo) h h' some some' = ap (λ n. fault.Syntax n) (h.3 ∙ ap (λ ts. offset_of bytes ts) (one_after bytes h.0 h'.0 h.1 h'.1) ∙ sym h'.3)
@@ -243,6 +270,7 @@ module _ (schema : Schema) (bytes : List ℕ) where
   one_fault (fault.Syntax ao) (fault.WrongWidth bo) h h' some some' = absurd (misfit_clash bytes h'.0 h.0 (width_written bytes bo h') h.1)
   one_fault (fault.Syntax ao) (fault.UnknownName bo) h h' some some' = absurd (misfit_clash bytes h'.0 h.0 h'.1 h.1)
   one_fault (fault.Syntax ao) (fault.Ambiguous bo) h h' some some' = absurd (misfit_clash bytes h'.0 h.0 h'.1 h.1)
+  one_fault (fault.Syntax ao) (fault.WrongSort bo) h h' some some' = absurd (misfit_clash bytes h'.raws h.0 h'.written h.1)
   one_fault (fault.Unsupported aw ao) (fault.NotUtf8 bo) h h' some some' = absurd (utf8_clash bytes bo h' h.1.lexed.utf8)
   one_fault (fault.Unsupported aw ao) (fault.Lex bo) h h' some some' = absurd (lex_clash bytes bo h.1.tokens h'.1 h.1.lexed)
   one_fault (fault.Unsupported aw ao) (fault.Syntax bo) h h' some some' = let same = one_after bytes h.0 h'.0 h.1 h'.1 in let never : true ≡ false = sym h.2 ∙ ap (λ ts. begins_unsupported bytes ts) same ∙ h'.2 in absurd (cc)
@@ -251,6 +279,7 @@ module _ (schema : Schema) (bytes : List ℕ) where
   one_fault (fault.Unsupported aw ao) (fault.WrongWidth bo) h h' some some' = absurd (misfit_clash bytes h'.0 h.0 (width_written bytes bo h') h.1)
   one_fault (fault.Unsupported aw ao) (fault.UnknownName bo) h h' some some' = absurd (misfit_clash bytes h'.0 h.0 h'.1 h.1)
   one_fault (fault.Unsupported aw ao) (fault.Ambiguous bo) h h' some some' = absurd (misfit_clash bytes h'.0 h.0 h'.1 h.1)
+  one_fault (fault.Unsupported aw ao) (fault.WrongSort bo) h h' some some' = absurd (misfit_clash bytes h'.raws h.0 h'.written h.1)
   one_fault (fault.OverLimit ao) (fault.NotUtf8 bo) h h' some some' = absurd (utf8_clash bytes bo h' h.1.lexed.utf8)
   one_fault (fault.OverLimit ao) (fault.Lex bo) h h' some some' = absurd (lex_clash bytes bo h.1.tokens h'.1 h.1.lexed)
   one_fault (fault.OverLimit ao) (fault.Syntax bo) h h' some some' = absurd (misfit_clash bytes h.0 h'.0 h.1 h'.1)
@@ -259,6 +288,7 @@ module _ (schema : Schema) (bytes : List ℕ) where
   one_fault (fault.OverLimit ao) (fault.WrongWidth bo) h h' some some' = absurd (over_clash bytes h.0 ao h.2 (subst AreWithinLimits (one_raws bytes h'.0 h.0 (width_written bytes bo h') h.1) h'.4))
   one_fault (fault.OverLimit ao) (fault.UnknownName bo) h h' some some' = absurd (over_clash bytes h.0 ao h.2 (subst AreWithinLimits (one_raws bytes h'.0 h.0 h'.1 h.1) h'.2))
   one_fault (fault.OverLimit ao) (fault.Ambiguous bo) h h' some some' = absurd (over_clash bytes h.0 ao h.2 (subst AreWithinLimits (one_raws bytes h'.0 h.0 h'.1 h.1) h'.2))
+  one_fault (fault.OverLimit ao) (fault.WrongSort bo) h h' some some' = absurd (over_clash bytes h.0 ao h.2 (subst AreWithinLimits (one_raws bytes h'.raws h.0 h'.written h.1) h'.within))
   one_fault (fault.WrongWidth ao) (fault.NotUtf8 bo) h h' some some' = absurd (utf8_clash bytes bo h' h.2.utf8)
   one_fault (fault.WrongWidth ao) (fault.Lex bo) h h' some some' = absurd (lex_clash bytes bo h.1 h'.1 h.2)
   one_fault (fault.WrongWidth ao) (fault.Syntax bo) h h' some some' = absurd (misfit_clash bytes h.0 h'.0 (width_written bytes ao h) h'.1)
@@ -267,6 +297,7 @@ module _ (schema : Schema) (bytes : List ℕ) where
   one_fault (fault.WrongWidth ao) (fault.WrongWidth bo) h h' some some' = ap (λ n. fault.WrongWidth n) (one_width bytes ao bo h h')
   one_fault (fault.WrongWidth ao) (fault.UnknownName bo) h h' some some' = absurd (alike_clash bytes h'.0 ao h'.1 h'.3 h)
   one_fault (fault.WrongWidth ao) (fault.Ambiguous bo) h h' some some' = absurd (alike_clash bytes h'.0 ao h'.1 h'.3 h)
+  one_fault (fault.WrongWidth ao) (fault.WrongSort bo) h h' some some' = absurd (alike_clash bytes h'.raws ao h'.written h'.wide h)
   one_fault (fault.UnknownName ao) (fault.NotUtf8 bo) h h' some some' = absurd (utf8_clash bytes bo h' h.1.lexed.utf8)
   one_fault (fault.UnknownName ao) (fault.Lex bo) h h' some some' = absurd (lex_clash bytes bo h.1.tokens h'.1 h.1.lexed)
   one_fault (fault.UnknownName ao) (fault.Syntax bo) h h' some some' = absurd (misfit_clash bytes h.0 h'.0 h.1 h'.1)
@@ -275,6 +306,7 @@ module _ (schema : Schema) (bytes : List ℕ) where
   one_fault (fault.UnknownName ao) (fault.WrongWidth bo) h h' some some' = absurd (alike_clash bytes h.0 bo h.1 h.3 h')
   one_fault (fault.UnknownName ao) (fault.UnknownName bo) h h' some some' = ap (λ n. fault.UnknownName n) (unknown_same ao bo (names_one h.0 h'.0 (name.Unknown ao) (name.Unknown bo) h.1 h'.1 h.4 h'.4))
   one_fault (fault.UnknownName ao) (fault.Ambiguous bo) h h' some some' = absurd (unknown_ambiguous ao bo (names_one h.0 h'.0 (name.Unknown ao) (name.Ambiguous bo) h.1 h'.1 h.4 h'.4))
+  one_fault (fault.UnknownName ao) (fault.WrongSort bo) h h' some some' = absurd (name_sort_clash h.0 (name.Unknown ao) bo h.1 h.4 h')
   one_fault (fault.Ambiguous ao) (fault.NotUtf8 bo) h h' some some' = absurd (utf8_clash bytes bo h' h.1.lexed.utf8)
   one_fault (fault.Ambiguous ao) (fault.Lex bo) h h' some some' = absurd (lex_clash bytes bo h.1.tokens h'.1 h.1.lexed)
   one_fault (fault.Ambiguous ao) (fault.Syntax bo) h h' some some' = absurd (misfit_clash bytes h.0 h'.0 h.1 h'.1)
@@ -283,3 +315,13 @@ module _ (schema : Schema) (bytes : List ℕ) where
   one_fault (fault.Ambiguous ao) (fault.WrongWidth bo) h h' some some' = absurd (alike_clash bytes h.0 bo h.1 h.3 h')
   one_fault (fault.Ambiguous ao) (fault.UnknownName bo) h h' some some' = absurd (unknown_ambiguous bo ao (sym (names_one h.0 h'.0 (name.Ambiguous ao) (name.Unknown bo) h.1 h'.1 h.4 h'.4)))
   one_fault (fault.Ambiguous ao) (fault.Ambiguous bo) h h' some some' = ap (λ n. fault.Ambiguous n) (ambiguous_same ao bo (names_one h.0 h'.0 (name.Ambiguous ao) (name.Ambiguous bo) h.1 h'.1 h.4 h'.4))
+  one_fault (fault.Ambiguous ao) (fault.WrongSort bo) h h' some some' = absurd (name_sort_clash h.0 (name.Ambiguous ao) bo h.1 h.4 h')
+  one_fault (fault.WrongSort ao) (fault.NotUtf8 bo) h h' some some' = absurd (utf8_clash bytes bo h' h.written.lexed.utf8)
+  one_fault (fault.WrongSort ao) (fault.Lex bo) h h' some some' = absurd (lex_clash bytes bo h.written.tokens h'.1 h.written.lexed)
+  one_fault (fault.WrongSort ao) (fault.Syntax bo) h h' some some' = absurd (misfit_clash bytes h.raws h'.0 h.written h'.1)
+  one_fault (fault.WrongSort ao) (fault.Unsupported bw bo) h h' some some' = absurd (misfit_clash bytes h.raws h'.0 h.written h'.1)
+  one_fault (fault.WrongSort ao) (fault.OverLimit bo) h h' some some' = absurd (over_clash bytes h'.0 bo h'.2 (subst AreWithinLimits (one_raws bytes h.raws h'.0 h.written h'.1) h.within))
+  one_fault (fault.WrongSort ao) (fault.WrongWidth bo) h h' some some' = absurd (alike_clash bytes h.raws bo h.written h.wide h')
+  one_fault (fault.WrongSort ao) (fault.UnknownName bo) h h' some some' = absurd (name_sort_clash h'.0 (name.Unknown bo) ao h'.1 h'.4 h)
+  one_fault (fault.WrongSort ao) (fault.Ambiguous bo) h h' some some' = absurd (name_sort_clash h'.0 (name.Ambiguous bo) ao h'.1 h'.4 h)
+  one_fault (fault.WrongSort ao) (fault.WrongSort bo) h h' some some' = ap (λ n. fault.WrongSort n) (one_sort ao bo h h')

@@ -4,6 +4,7 @@ pub mod Limits
 pub mod Widths
 pub mod Naming
 pub mod Names
+pub mod Sorts
 pub mod Statements
 pub mod Known
 pub mod Steps

@@ -26,6 +26,7 @@ use Rattle.sql_select.specs.Limits.{AreWithinLimits, IsOver}
 use Rattle.sql_select.specs.Widths.{AreAlikeWide, IsFirstOtherWide, select_offsets}
 use Rattle.sql_select.specs.Naming.{named_select}
 use Rattle.sql_select.specs.Names.{IsMeaning, IsNameFault}
+use Rattle.sql_select.specs.Sorts.{SelectsAreSorted, IsFirstUnsorted}
 
 -- The bytes are UTF-8, and their tokens, up to the end, are these.
 pub record AreTokens (bytes : List ℕ) (tokens : List Token) : Type 0 where
@@ -43,13 +44,14 @@ abbrev pub Means : List Relation → List ℕ → RawSelect → Select → Type 
 Means relations bytes raw select = IsMeaning relations (named_select bytes raw) select
 
 -- The bytes are the statement over the schema: its selects, within the limits and of one width, with each name one that
--- is there.
+-- is there, and each condition sorted.
 pub record IsStatementText (schema : Schema) (bytes : List ℕ) (statement : Statement) : Type 0 where
   pub raws : List RawSelect
   pub written : IsWritten bytes raws
   pub within : AreWithinLimits raws
   pub wide : AreAlikeWide raws
   pub means : AllZip (Means schema.relations bytes) raws statement.selects
+  pub sorted : SelectsAreSorted (meaning_of schema) statement.selects
 
 -- ---- what a statement keeps
 
@@ -62,7 +64,8 @@ pub record IsBounded (select : Select) : Type 0 where
   pub froms : length select.froms ≤ MOST_FROMS
   pub conditions : length select.conditions ≤ MOST_CONDITIONS
 
--- The statement has one select or more and not too many, of one width, each over the schema and within the limits.
+-- The statement has one select or more and not too many, of one width, each over the schema, within the limits and with
+-- conditions that are sorted.
 pub record StatementFits (schema : Schema) (statement : Statement) : Type 0 where
   pub some : 1 ≤ length statement.selects
   pub few : length statement.selects ≤ MOST_SELECTS
@@ -70,6 +73,7 @@ pub record StatementFits (schema : Schema) (statement : Statement) : Type 0 wher
       length first.items ≡ length second.items
   pub fits : (select : Select) → Contains statement.selects select → SelectFits (meaning_of schema) select
   pub bounded : (select : Select) → Contains statement.selects select → IsBounded select
+  pub sorted : SelectsAreSorted (meaning_of schema) statement.selects
 
 -- ---- the columns of a result
 
@@ -122,7 +126,18 @@ IsWrongWidth bytes offset =
     × AreWithinLimits raws
     × ((number : ℕ) × IsFirstOtherWide raws number × (slice_get (select_offsets bytes tokens) number ≡ Some offset))
 
--- The bytes have the fault. Faults are looked for in the order: no UTF-8, no tokens, no query, limits, widths, names.
+-- The names of the selects have a meaning, and the first condition that is not sorted begins at the offset.
+pub record IsWrongSort (schema : Schema) (bytes : List ℕ) (offset : ℕ) : Type 0 where
+  pub raws : List RawSelect
+  pub written : IsWritten bytes raws
+  pub within : AreWithinLimits raws
+  pub wide : AreAlikeWide raws
+  pub selects : List Select
+  pub means : AllZip (Means schema.relations bytes) raws selects
+  pub first : IsFirstUnsorted (meaning_of schema) raws selects offset
+
+-- The bytes have the fault. Faults are looked for in the order: no UTF-8, no tokens, no query, limits, widths, names,
+-- sorts.
 abbrev pub IsSqlFault : Schema → List ℕ → SqlFault → Type 0
 IsSqlFault schema bytes fault.NoMemory = Unit {0}
 IsSqlFault schema bytes (fault.NotUtf8 offset) = IsFirstBad bytes offset
@@ -139,3 +154,4 @@ IsSqlFault schema bytes (fault.UnknownName offset) =
 IsSqlFault schema bytes (fault.Ambiguous offset) =
     (raws : List RawSelect) × IsWritten bytes raws × AreWithinLimits raws × AreAlikeWide raws
     × IsFirstNameFault schema.relations bytes raws (name.Ambiguous offset)
+IsSqlFault schema bytes (fault.WrongSort offset) = IsWrongSort schema bytes offset

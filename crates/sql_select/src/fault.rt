@@ -10,7 +10,8 @@ use std::alloc::{AllocError, AllocFailed};
 /// Why a text is no query over a schema, in the order in which faults are looked for. An offset counts bytes from 0.
 ///
 /// `Lex` never holds `NoMemory`. `Unsupported` carries the token as it is written. `WrongWidth` is at the word `select` of
-/// the first select that has another number of items than the first one.
+/// the first select that has another number of items than the first one, and `WrongSort` at the first condition that
+/// compares columns of two sorts, or an integer column with the literal of no integer.
 #[derive(Debug, Drop)]
 pub enum SqlFault {
     NoMemory,
@@ -22,6 +23,7 @@ pub enum SqlFault {
     WrongWidth { offset: u32 },
     OverLimit(Limit),
     Lex(LexFault),
+    WrongSort { offset: u32 },
 }
 
 impl From<AllocError> for SqlFault {

@@ -16,6 +16,7 @@ mod piece;
 mod raw;
 mod reading;
 mod resolve;
+mod sorts;
 mod state;
 mod statement;
 mod widths;

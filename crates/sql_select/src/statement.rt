@@ -2,11 +2,13 @@
 ghost use Rattle.std.specs.Prelude.{◌≡◌, ◌≤◌, ◌<◌, ◌^◌, length, IfOk, IfErr, MatchResult};
 ghost use Rattle.std.specs.List.{AllByRecursion, AllZip};
 ghost use Rattle.meaning.specs.declared.types.Statement.{Statement};
+ghost use Rattle.access_schema.specs.Meaning.{meaning_of};
 ghost use Rattle.sql_select.specs.declared.fault.SqlFault.TheVariants.{NoMemory};
 ghost use Rattle.sql_select.specs.Limits.{IsWithinLimits};
 ghost use Rattle.sql_select.specs.Naming.{named_select};
 ghost use Rattle.sql_select.specs.Resolving.{AreNarrow};
 ghost use Rattle.sql_select.specs.Select.{IsNamesFault, IsNamingFault};
+ghost use Rattle.sql_select.specs.Sorts.{SelectsAreSorted, HaveAllConditions, IsSortFault};
 ghost use Rattle.sql_select.specs.Spanning.{SelectStands};
 ghost use Rattle.sql_select.specs.Statements.{Means, IsStatementText, StatementFits, IsSqlFault, result_names};
 
@@ -15,6 +17,7 @@ use crate::naming::named_select;
 use crate::piece::RawSelect;
 use crate::raw::read_raws;
 use crate::resolve::resolve_select;
+use crate::sorts::unsorted_offset;
 use access_schema::Schema;
 use lists::{Seq, Texts};
 use meaning::types::{Relation, Select, Statement};
@@ -52,9 +55,30 @@ fn read_text(alloc: Global, text: &str, schema: &Schema) -> Result<Statement, Sq
     ensures fault { IfErr result (IsSqlFault schema.now text.now) }
 {
     let raws = read_raws(alloc, text)?;
-    match resolve_selects(alloc, text, schema.relations.as_slice(), raws.as_slice()) {
-        Ok(selects) => Ok(Statement { selects }),
+    let parts = raws.as_slice();
+    match resolve_selects(alloc, text, schema.relations.as_slice(), parts) {
+        Ok(selects) => sorted_statement(schema, parts, selects),
         Err(fault) => Err(fault),
+    }
+}
+
+// The statement of these selects, or the fault of their first condition that is not sorted.
+fn sorted_statement(
+    schema: &Schema,
+    raws: &[RawSelect],
+    selects: Seq<Select>,
+) -> Result<Statement, SqlFault>
+    requires { HaveAllConditions raws.now selects }
+    ensures same { IfOk result (λ statement. statement.selects ≡ selects) }
+    ensures sorted { IfOk result (λ statement. SelectsAreSorted (meaning_of schema.now) selects) }
+    ensures fault { IfErr result (IsSortFault (meaning_of schema.now) raws.now selects) }
+{
+    match unsorted_offset(schema, raws, selects.as_slice()) {
+        None => Ok(Statement { selects }),
+        Some(offset) => {
+            drop(selects);
+            Err(SqlFault::WrongSort { offset })
+        }
     }
 }
 
