@@ -4,8 +4,8 @@ use Rattle.meaning.specs.declared.types.Statement.{Statement}
 use Rattle.meaning.specs.declared.types.Plan.{Plan}
 use Rattle.access_schema.specs.declared.schema.Schema.{Schema}
 use Rattle.source_trait.specs.Causes.{Rose}
-use Rattle.plan_check.specs.declared.verdict.Verdict.{Verdict}
-use Rattle.plan_check.specs.declared.verdict.Verdict.TheVariants as verdict
+use Rattle.findings.specs.declared.verdict.Verdict.{Verdict}
+use Rattle.findings.specs.declared.verdict.Verdict.TheVariants as verdict
 use Rattle.plan_check.specs.Verdicts.{IsVerdict}
 use Rattle.explain.specs.Verdicts.{IsVerdictText}
 use Rattle.command_io.specs.declared.stop.Stop.{Stop}

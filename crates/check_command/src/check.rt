@@ -14,9 +14,10 @@ use command_io::{
     FileNames, Outcome, Outputs, Outside, Stop, plan_of_file, print, read_texts, tell,
 };
 use explain::verdict_text;
+use findings::Verdict;
 use lists::{Bytes, Text};
 use meaning::types::{Plan, Statement};
-use plan_check::{Verdict, judge};
+use plan_check::judge;
 use source_trait::{Files, Sink};
 use std::alloc::Global;
 

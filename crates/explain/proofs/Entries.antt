@@ -4,10 +4,10 @@ use Rattle.std.specs.Prelude.{nat_eq, codes, ◌&&◌, not, if◌then◌else◌}
 use Rattle.std.specs.Fmt.{decimal, digits, digits_onto, digit_glyph}
 use Rattle.std.proofs.lemmas.Bool.{eqb-true}
 use Rattle.meaning.specs.declared.types.Plan.{Plan}
-use Rattle.access_cost.specs.declared.least.Least.{Least}
-use Rattle.access_cost.specs.declared.least.Least.TheVariants.{Shown, SearchSpent, FiringsSpent}
-use Rattle.no_plan_witness.specs.declared.decision.Chosen.{Chosen}
-use Rattle.no_plan_witness.specs.declared.decision.Chosen.TheVariants.{NoRow, Branch}
+use Rattle.findings.specs.declared.least.Least.{Least}
+use Rattle.findings.specs.declared.least.Least.TheVariants.{Shown, SearchSpent, FiringsSpent}
+use Rattle.findings.specs.declared.decision.Chosen.{Chosen}
+use Rattle.findings.specs.declared.decision.Chosen.TheVariants.{NoRow, Branch}
 use Rattle.plan_form.specs.Fitting.{IsWritable}
 use Rattle.plan_form.specs.Grammar.{SaysPlan}
 use Rattle.plan_form.specs.Printing.{plan_text}

@@ -15,7 +15,7 @@ use Rattle.meaning.specs.Instances.{FitsRelation, IsInstance}
 use Rattle.access_schema.specs.declared.schema.Schema.{Schema}
 use Rattle.access_schema.specs.Meaning.{meaning_of}
 use Rattle.plan_form.specs.Grammar.{IsOfForm}
-use Rattle.no_plan_witness.specs.declared.refutation.Witness.{Witness}
+use Rattle.findings.specs.declared.refutation.Witness.{Witness}
 use Rattle.explain.specs.declared.progress.Progress.{Progress}
 use Rattle.explain.specs.declared.progress.Progress.TheVariants.{Opening, Opened, Answered, First, Second, Ended}
 use Rattle.explain.specs.Grammar.{word_form, opening_form, answer_form, name_of, fact_form, facts_forms, witness_forms, FitsSchema, AreWitnessLines, BeginWitness}

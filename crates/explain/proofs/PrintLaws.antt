@@ -17,7 +17,7 @@ use Rattle.meaning.specs.Instances.{FitsRelation, IsInstance}
 use Rattle.pq_text.proofs.Forms.{some_listed, some_long}
 use Rattle.access_schema.specs.declared.schema.Schema.{Schema}
 use Rattle.access_schema.specs.Meaning.{meaning_of}
-use Rattle.no_plan_witness.specs.declared.refutation.Witness.{Witness}
+use Rattle.findings.specs.declared.refutation.Witness.{Witness}
 use Rattle.fact_lines.specs.Lines.{relation_text, fact_text, IsListing}
 use Rattle.explain.specs.Printing.{pair_text, IsPrintedWitness}
 use Rattle.explain.specs.Grammar.{word_form, opening_form, answer_form, row_form, name_of, fact_form, facts_forms, witness_forms, FitsSchema, SaysWitness, IsReadAs}

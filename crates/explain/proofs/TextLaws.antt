@@ -11,7 +11,7 @@ use Rattle.pq_text.proofs.Lexing.{lines_one}
 use Rattle.pq_text.proofs.FirstBad.{utf8_clash}
 use Rattle.access_schema.specs.declared.schema.Schema.{Schema}
 use Rattle.plan_form.specs.Grammar.{written}
-use Rattle.no_plan_witness.specs.declared.refutation.Witness.{Witness}
+use Rattle.findings.specs.declared.refutation.Witness.{Witness}
 use Rattle.explain.specs.declared.fault.WitnessReadFault.{WitnessReadFault}
 use Rattle.explain.specs.declared.fault.WitnessReadFault.TheVariants as faults
 use Rattle.explain.specs.declared.progress.Progress.{Progress}

@@ -14,7 +14,7 @@ use Rattle.meaning.specs.Instances.{IsInstance, IsWithin}
 use Rattle.access_schema.specs.declared.schema.Schema.{Schema}
 use Rattle.access_schema.specs.Meaning.{meaning_of}
 use Rattle.plan_form.specs.Grammar.{IsOfForm, written}
-use Rattle.no_plan_witness.specs.declared.refutation.Witness.{Witness}
+use Rattle.findings.specs.declared.refutation.Witness.{Witness}
 use Rattle.explain.specs.declared.fault.WitnessReadFault.{WitnessReadFault}
 use Rattle.explain.specs.declared.fault.WitnessReadFault.TheVariants.{NoMemory, NotUtf8, Line as LineFault}
 

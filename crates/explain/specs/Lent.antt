@@ -1,7 +1,7 @@
 -- Pairs of instances whose rows are lent.
 use Rattle.std.specs.Prelude.{ℕ, List, map}
 use Rattle.fact_lines.specs.Lent.{Lent, lent_fact}
-use Rattle.no_plan_witness.specs.declared.refutation.Witness.{Witness}
+use Rattle.findings.specs.declared.refutation.Witness.{Witness}
 
 -- the pair of facts that are lent, and an answer
 abbrev pub lent_pair : List Lent → List Lent → List (List ℕ) → Witness

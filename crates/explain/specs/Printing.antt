@@ -18,13 +18,13 @@ use Rattle.meaning.specs.Triggers.{bound}
 use Rattle.fact_lines.specs.Lines.{fact_text, IsListing}
 use Rattle.access_schema.specs.declared.schema.Schema.{Schema}
 use Rattle.plan_form.specs.Printing.{plan_text}
-use Rattle.no_plan_witness.specs.declared.refutation.Witness.{Witness}
-use Rattle.access_cost.specs.declared.least.Least.{Least}
-use Rattle.access_cost.specs.declared.least.Least.TheVariants.{Shown, SearchSpent, FiringsSpent}
-use Rattle.no_plan_witness.specs.declared.decision.Chosen.{Chosen}
-use Rattle.no_plan_witness.specs.declared.decision.Chosen.TheVariants.{NoRow, Branch}
-use Rattle.no_plan_witness.specs.declared.decision.Decision.{Decision}
-use Rattle.no_plan_witness.specs.declared.decision.Decision.TheVariants.{Plan, NoPlan, Undecided}
+use Rattle.findings.specs.declared.refutation.Witness.{Witness}
+use Rattle.findings.specs.declared.least.Least.{Least}
+use Rattle.findings.specs.declared.least.Least.TheVariants.{Shown, SearchSpent, FiringsSpent}
+use Rattle.findings.specs.declared.decision.Chosen.{Chosen}
+use Rattle.findings.specs.declared.decision.Chosen.TheVariants.{NoRow, Branch}
+use Rattle.findings.specs.declared.decision.Decision.{Decision}
+use Rattle.findings.specs.declared.decision.Decision.TheVariants.{Plan, NoPlan, Undecided}
 
 -- ---- refutations
 

@@ -9,10 +9,10 @@ use Rattle.meaning.specs.declared.types.Fact.{Fact}
 use Rattle.meaning.specs.declared.types.Trigger.{Trigger}
 use Rattle.access_schema.specs.declared.schema.Schema.{Schema}
 use Rattle.plan_form.specs.Printing.{illegal_text}
-use Rattle.plan_check.specs.declared.verdict.Side.{Side}
-use Rattle.plan_check.specs.declared.verdict.Side.TheVariants as side
-use Rattle.plan_check.specs.declared.verdict.Verdict.{Verdict}
-use Rattle.plan_check.specs.declared.verdict.Verdict.TheVariants as verdict
+use Rattle.findings.specs.declared.verdict.Side.{Side}
+use Rattle.findings.specs.declared.verdict.Side.TheVariants as side
+use Rattle.findings.specs.declared.verdict.Verdict.{Verdict}
+use Rattle.findings.specs.declared.verdict.Verdict.TheVariants as verdict
 use Rattle.fact_lines.specs.Lines.{fact_text, IsListing}
 use Rattle.explain.specs.Printing.{trigger_text}
 

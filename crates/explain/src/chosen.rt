@@ -6,11 +6,10 @@ ghost use Rattle.plan_form.specs.Printing.{plan_text};
 ghost use Rattle.explain.specs.Printing.{entry_line, entry_lines, entry_text, least_text, planned_text};
 
 use crate::push::push_number;
-use access_cost::Least;
 use fact_lines::push_str;
+use findings::{Chosen, ChosenList, Least};
 use lists::{Bytes, NoMemory};
 use meaning::types::Plan;
-use no_plan_witness::{Chosen, ChosenList};
 use plan_form::plan_text;
 use std::alloc::Global;
 

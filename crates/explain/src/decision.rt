@@ -7,8 +7,8 @@ use crate::chosen::planned_text;
 use crate::firings::undecided_text;
 use crate::refutation::witness_text;
 use access_schema::Schema;
+use findings::Decision;
 use lists::{Bytes, NoMemory};
-use no_plan_witness::Decision;
 use std::alloc::Global;
 
 /// The text of a decision: the plan behind a comment line for each select, the refutation, or the firings that were spent.

@@ -13,8 +13,8 @@ use fact_lines::push_str;
 use homomorphism::variables_width;
 use lists::{Bytes, NoMemory};
 use meaning::types::{Firing, Firings, Ground, Trigger, Val};
-use pq_text::{print_name, print_value};
-use std::alloc::Global;
+use pq_text::{Prints, print_listed, print_name, print_value};
+use std::alloc::{AllocError, Global};
 
 /// The text of a select that is not decided: how many firings were spent, the number of the select counted from 1, and the
 /// firings in order.
@@ -162,23 +162,20 @@ fn push_vals(out: &mut Vec<u8>, vals: &[Val]) -> Result<(), NoMemory>
     ensures text { OnOk result (out.new.items ≡ out.old.items ++ listed val_text vals.now) }
     ensures utf8 { OnOk result (KeepsUtf8 out.old.items out.new.items) }
 {
-    let [first, rest @ ..] = vals else {
-        return Ok(());
-    };
-    push_val(out, first)?;
-    push_further_vals(out, rest)
+    print_listed(out, &ValText, vals)
 }
 
-// Appends a comma, a blank and a value, for each.
-fn push_further_vals(out: &mut Vec<u8>, vals: &[Val]) -> Result<(), NoMemory>
-    ensures text { OnOk result (out.new.items ≡ out.old.items ++ flat_map (λ y. codes ", " ++ val_text y) vals.now) }
-    ensures utf8 { OnOk result (KeepsUtf8 out.old.items out.new.items) }
-{
-    for val in vals {
-        push_str(out, ", ")?;
-        push_val(out, val)?;
+// Constants and labels as they are printed.
+struct ValText;
+
+impl Prints for ValText {
+    type Item = Val;
+
+    ghost text = { λ form. val_text };
+
+    fn print(&self, out: &mut Vec<u8>, item: &Val) -> Result<(), AllocError> {
+        push_val(out, item)
     }
-    Ok(())
 }
 
 // Appends a constant or a label.

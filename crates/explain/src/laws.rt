@@ -1,9 +1,9 @@
 // What printed decisions promise their readers: laws on the definitions alone, as functions that do nothing.
 ghost use Rattle.std.specs.Prelude.{List, ℕ};
 ghost use Rattle.access_schema.specs.declared.schema.Schema.{Schema};
-ghost use Rattle.no_plan_witness.specs.declared.refutation.Witness.{Witness};
+ghost use Rattle.findings.specs.declared.refutation.Witness.{Witness};
 ghost use Rattle.meaning.specs.declared.types.Plan.{Plan};
-ghost use Rattle.no_plan_witness.specs.declared.decision.Chosen.{Chosen};
+ghost use Rattle.findings.specs.declared.decision.Chosen.{Chosen};
 ghost use Rattle.plan_form.specs.Fitting.{IsWritable};
 ghost use Rattle.plan_form.specs.Grammar.{SaysPlan};
 ghost use Rattle.explain.specs.Printing.{IsPrintedWitness, planned_text};

@@ -4,9 +4,9 @@ ghost use Rattle.pq_text.specs.Lexemes.{Gives, GivesRest};
 ghost use Rattle.explain.specs.Reading.{is_lone, opening_at, opened_at, begun_at, answer_at, fact_at, fact_of, next_at, GivesNext};
 
 use access_schema::Schema;
+use findings::Witness;
 use lists::{Row, Seq, Text};
 use meaning::types::{Fact, Instance};
-use no_plan_witness::Witness;
 use pq_text::{Cursor, Lexeme, Misfit};
 use std::alloc::Global;
 

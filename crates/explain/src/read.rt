@@ -1,6 +1,6 @@
 // Refutations from text.
 ghost use Rattle.std.specs.Prelude.{◌≡◌, ◌≤◌, ◌^◌, length, IfOk, IfErr};
-ghost use Rattle.no_plan_witness.specs.declared.refutation.Witness.{Witness};
+ghost use Rattle.findings.specs.declared.refutation.Witness.{Witness};
 ghost use Rattle.explain.specs.declared.progress.Progress.TheVariants.{Opening};
 ghost use Rattle.explain.specs.Grammar.{IsWitnessText, IsWitnessReadFault, OkOrNoMemory};
 ghost use Rattle.explain.specs.Reading.{witness_of, progress_from, ProgressGives, HasLineFault};
@@ -8,7 +8,7 @@ ghost use Rattle.explain.specs.Reading.{witness_of, progress_from, ProgressGives
 use crate::fault::WitnessReadFault;
 use crate::progress::{Progress, next};
 use access_schema::Schema;
-use no_plan_witness::Witness;
+use findings::Witness;
 use pq_text::{Line, Misfit, next_line, read_utf8, text_lines};
 use std::alloc::Global;
 

@@ -7,9 +7,10 @@ ghost use Rattle.explain.specs.Lent.{lent_pair};
 ghost use Rattle.explain.specs.Printing.{pair_text, IsPrintedWitness};
 
 use access_schema::Schema;
-use fact_lines::{ascending, push_facts, push_str, push_values};
+use fact_lines::{ascending, push_facts, push_str};
+use findings::Witness;
 use lists::{Bytes, NoMemory, Row, Text};
-use no_plan_witness::Witness;
+use pq_text::print_values;
 use std::alloc::Global;
 
 /// The text of a refutation: the answer, and the facts of both instances, each once and in ascending order.
@@ -46,7 +47,7 @@ fn push_refutation(
     ensures utf8 { OnOk result (KeepsUtf8 out.old.items out.new.items) }
 {
     push_str(out, "no plan\nanswer ")?;
-    push_values(out, answer)?;
+    print_values(out, answer)?;
     push_str(out, "\nfirst\n")?;
     push_facts(out, schema, first)?;
     push_str(out, "second\n")?;

@@ -10,11 +10,12 @@ ghost use Rattle.explain.specs.Verdicts.{separation_text, IsPrintedSeparation, s
 use crate::firings::push_trigger;
 use crate::push::push_number;
 use access_schema::Schema;
-use fact_lines::{ascending, push_facts, push_str, push_values};
+use fact_lines::{ascending, push_facts, push_str};
+use findings::{Side, Verdict};
 use lists::{Bytes, NoMemory, Row, Text};
 use meaning::types::{Instance, Trigger, Triggers};
-use plan_check::{Side, Verdict};
 use plan_form::{PlanFault, illegal_text};
+use pq_text::print_values;
 use std::alloc::Global;
 
 /// The text of a verdict: the word `equivalent`, the line of the plan's fault, the row and the instance that separate, with each fact
@@ -79,7 +80,7 @@ fn push_separation(
     ensures utf8 { OnOk result (KeepsUtf8 out.old.items out.new.items) }
 {
     push_str(out, word)?;
-    push_values(out, row)?;
+    print_values(out, row)?;
     push_str(out, "\ninstance\n")?;
     push_facts(out, schema, facts)?;
     push_str(out, "end\n")

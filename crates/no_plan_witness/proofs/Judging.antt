@@ -15,7 +15,7 @@ use Rattle.meaning.specs.Access.{IsAccessible}
 use Rattle.meaning.specs.Claims.{Refutes}
 use Rattle.data_verify.specs.declared.broken.Broken.{Broken}
 use Rattle.data_verify.specs.Breaking.{IsFirstBroken}
-use Rattle.no_plan_witness.specs.declared.refutation.Witness.{Witness}
+use Rattle.findings.specs.declared.refutation.Witness.{Witness}
 use Rattle.no_plan_witness.specs.declared.fault.WitnessFault.{WitnessFault}
 use Rattle.no_plan_witness.specs.declared.fault.WitnessFault.TheVariants.{NoMemory, RuleBroken, NotIncluded, NotAnswered, StillAnswered}
 use Rattle.no_plan_witness.specs.declared.fault.Which.TheVariants.{First, Second}

@@ -26,7 +26,7 @@ use Rattle.meaning.specs.Claims.{Refutes}
 use Rattle.meaning_laws.proofs.Kept.{kept_opening, kept_run}
 use Rattle.meaning_laws.proofs.Renaming.{naming_exists, answer_renamed}
 use Rattle.meaning_laws.proofs.Witness.{witness_refutes}
-use Rattle.no_plan_witness.specs.declared.refutation.Witness.{Witness}
+use Rattle.findings.specs.declared.refutation.Witness.{Witness}
 use Rattle.no_plan_witness.specs.Texts.{labels_in, numbered_text, Names, text_under, AreNamesFor}
 use Rattle.no_plan_witness.specs.Witnesses.{IsWitnessOf}
 use Rattle.no_plan_witness.proofs.Counting.{numbered_apart}

@@ -11,7 +11,7 @@ use Rattle.meaning.specs.Values.{Value}
 use Rattle.meaning.specs.Matching.{MeetsRule, Meets, itself, FactsOf}
 use Rattle.meaning.specs.Answers.{Answers}
 use Rattle.meaning.specs.Access.{IsAccessible}
-use Rattle.no_plan_witness.specs.declared.refutation.Witness.{Witness}
+use Rattle.findings.specs.declared.refutation.Witness.{Witness}
 use Rattle.no_plan_witness.specs.declared.fault.WitnessFault.{WitnessFault}
 use Rattle.no_plan_witness.specs.declared.fault.WitnessFault.TheVariants.{NoMemory, RuleBroken, NotIncluded, NotAnswered, StillAnswered}
 use Rattle.no_plan_witness.specs.declared.fault.Which.TheVariants.{First, Second}

@@ -4,7 +4,7 @@ use Rattle.meaning.specs.declared.types.Ground.{Ground}
 use Rattle.meaning.specs.declared.types.Val.{Val}
 use Rattle.meaning.specs.Values.{Value}
 use Rattle.meaning.specs.Homomorphisms.{image, renamed}
-use Rattle.no_plan_witness.specs.declared.refutation.Witness.{Witness}
+use Rattle.findings.specs.declared.refutation.Witness.{Witness}
 use Rattle.no_plan_witness.specs.Texts.{Names, text_under, AreNamesFor}
 
 -- The pair is the facts of both lists, with the texts of their labels, and the answer is the head with these.

@@ -3,8 +3,8 @@ ghost use Rattle.std.specs.Prelude.{◌≡◌, IfOk};
 ghost use Rattle.no_plan_witness.specs.Witnesses.{IsWitnessOf};
 
 use crate::naming::Naming;
-use crate::refutation::Witness;
 use accessible_copy::Proof;
+use findings::Witness;
 use lists::{Copies, NoMemory, Texts};
 use meaning::types::{Ground, Vals};
 use std::alloc::Global;

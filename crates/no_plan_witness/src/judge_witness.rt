@@ -11,9 +11,9 @@ ghost use Rattle.no_plan_witness.specs.Judging.{known_of, IsFirstUnmet, IsInclud
 
 use crate::accessible::{accessible_part, has};
 use crate::fault::{Which, WitnessFault};
-use crate::refutation::Witness;
 use access_schema::Schema;
 use data_verify::verify;
+use findings::Witness;
 use lists::{Copies, NoMemory, Row, Texts};
 use meaning::types::{Fact, Instance, Statement};
 use sql_conjunctive::answers;

@@ -11,7 +11,7 @@ ghost use Rattle.meaning.specs.Runs.{Proof, IsRun, opening, frozen_head, IsStuck
 ghost use Rattle.meaning.specs.Fitting.{RulesFit, QueryFits, QueryHasConstants, IsKept};
 ghost use Rattle.meaning.specs.Conjunctive.{StandFor};
 ghost use Rattle.meaning.specs.Claims.{Refutes};
-ghost use Rattle.no_plan_witness.specs.declared.refutation.Witness.{Witness};
+ghost use Rattle.findings.specs.declared.refutation.Witness.{Witness};
 ghost use Rattle.no_plan_witness.specs.declared.fault.WitnessFault.{WitnessFault as Fault};
 ghost use Rattle.no_plan_witness.specs.declared.fault.WitnessFault.TheVariants.{NoMemory};
 ghost use Rattle.no_plan_witness.specs.Witnesses.{IsWitnessOf};

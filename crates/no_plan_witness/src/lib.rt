@@ -1,4 +1,4 @@
-//! Refutations: two instances and a row, which show that a statement has no plan; and what is decided of a statement.
+//! Refutations: two instances and a row, which show that a statement has no plan.
 //!
 //! Crates above use this: `witness` gives the pair of a proof, and by the law `witnesses_refute` it refutes where nothing is active
 //! in the proof and no query has a goal. `named_pair` does the same for facts that are put together otherwise, by the law
@@ -8,7 +8,6 @@
 
 mod accessible;
 mod constants;
-mod decision;
 mod fault;
 mod find_witness;
 mod free_texts;
@@ -16,11 +15,8 @@ mod judge_witness;
 mod labels;
 pub mod laws;
 mod naming;
-mod refutation;
 
-pub use decision::{Chosen, ChosenList, Decision};
 pub use fault::{Which, WitnessFault};
 pub use find_witness::{base_facts, copy_facts, named_pair, witness};
 pub use judge_witness::check_witness;
 pub use naming::Naming;
-pub use refutation::Witness;

@@ -19,8 +19,8 @@ use Rattle.meaning_laws.proofs.Judging.{rows_are_answers}
 use Rattle.access_schema.specs.declared.schema.Schema.{Schema}
 use Rattle.access_schema.specs.Meaning.{meaning_of}
 use Rattle.access_schema.proofs.Keeping.{well_formed}
-use Rattle.plan_check.specs.declared.verdict.Verdict.{Verdict}
-use Rattle.plan_check.specs.declared.verdict.Verdict.TheVariants as verdict
+use Rattle.findings.specs.declared.verdict.Verdict.{Verdict}
+use Rattle.findings.specs.declared.verdict.Verdict.TheVariants as verdict
 use Rattle.plan_check.specs.declared.trial.Tried.{Tried}
 use Rattle.plan_check.specs.declared.trial.Tried.TheVariants as all
 use Rattle.sql_conjunctive.specs.Queries.{IsSelectForm}
@@ -29,7 +29,7 @@ use Rattle.plan_check.specs.Trials.{AnswersForm, AnswersSome, FormIsContained, F
 use Rattle.plan_check.specs.Verdicts.{known_of, IsLegalOver, GivesSelect, AnswersAlone, IsKept, IsWithin, NoneLost, NoneAdded, IsVerdict, verdict_of, IsConclusion}
 use Rattle.plan_check.specs.Verdicts.IsConclusion.{same, lost, added, select_spent, branch_spent}
 use Rattle.plan_check.specs.Verdicts.IsVerdict.{equivalent, loses, adds, undecided}
-use Rattle.plan_check.specs.declared.verdict.Side.TheVariants as side
+use Rattle.findings.specs.declared.verdict.Side.TheVariants as side
 use Rattle.plan_extract.proofs.Zips.{zip_left, zip_right, zip_at, zip_from}
 use Rattle.plan_check.proofs.Trying.{contained_none}
 

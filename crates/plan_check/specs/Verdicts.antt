@@ -25,10 +25,10 @@ use Rattle.sql_conjunctive.specs.Queries.{IsSelectForm}
 use Rattle.plan_form.specs.declared.fault.PlanFault.{PlanFault}
 use Rattle.plan_form.specs.declared.fault.PlanFaultKind.TheVariants.{WrongWidth}
 use Rattle.plan_form.specs.Faults.{IsFirstFault}
-use Rattle.plan_check.specs.declared.verdict.Side.{Side}
-use Rattle.plan_check.specs.declared.verdict.Side.TheVariants as side
-use Rattle.plan_check.specs.declared.verdict.Verdict.{Verdict}
-use Rattle.plan_check.specs.declared.verdict.Verdict.TheVariants as verdict
+use Rattle.findings.specs.declared.verdict.Side.{Side}
+use Rattle.findings.specs.declared.verdict.Side.TheVariants as side
+use Rattle.findings.specs.declared.verdict.Verdict.{Verdict}
+use Rattle.findings.specs.declared.verdict.Verdict.TheVariants as verdict
 use Rattle.plan_check.specs.declared.trial.Tried.{Tried}
 use Rattle.plan_check.specs.declared.trial.Tried.TheVariants as all
 use Rattle.plan_check.specs.Forms.{IsBranchForm}

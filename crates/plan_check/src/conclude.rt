@@ -1,10 +1,10 @@
+use findings::{Side, Verdict};
 // The verdict of the trials of both sides.
 ghost use Rattle.std.specs.Prelude.{◌≡◌};
 ghost use Rattle.plan_check.specs.declared.trial.Tried.TheVariants.{Contained};
 ghost use Rattle.plan_check.specs.Verdicts.{verdict_of};
 
 use crate::trial::Tried;
-use crate::verdict::{Side, Verdict};
 
 /// The verdict where the selects of the statement and the branches of the plan were tried: a row that one side lacks, then the first trial
 /// whose firings are spent, and otherwise that the plan is equivalent.

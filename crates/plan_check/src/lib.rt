@@ -14,7 +14,5 @@ pub mod laws;
 mod legality;
 mod rows;
 mod trial;
-mod verdict;
 
 pub use judge_plan::judge;
-pub use verdict::{Side, Verdict};

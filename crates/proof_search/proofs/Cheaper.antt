@@ -24,8 +24,8 @@ use Rattle.rule_pass.specs.Levels.{AreShort}
 use Rattle.rule_pass.proofs.Bounds.{orderly}
 use Rattle.rule_pass.proofs.Chains.{are_short}
 use Rattle.least_search.specs.declared.node.Node.{Node}
-use Rattle.access_cost.specs.declared.least.Least.{Least}
-use Rattle.access_cost.specs.declared.least.Least.TheVariants as known_cost
+use Rattle.findings.specs.declared.least.Least.{Least}
+use Rattle.findings.specs.declared.least.Least.TheVariants as known_cost
 use Rattle.least_search.specs.declared.space.Move.{Move}
 use Rattle.least_search.specs.declared.search.Ended.{Ended}
 use Rattle.least_search.specs.declared.search.Ended.TheVariants as ended

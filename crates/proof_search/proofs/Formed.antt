@@ -31,8 +31,8 @@ use Rattle.access_schema.specs.Invariant.{terms_of}
 use Rattle.access_schema.proofs.Ordered.{ordered_from, bound_is}
 use Rattle.access_schema.proofs.Keeping.{well_formed}
 use Rattle.access_schema.proofs.Texts.{once_known, once_taken}
-use Rattle.access_cost.specs.declared.least.Least.{Least}
-use Rattle.access_cost.specs.declared.least.Least.TheVariants.{Shown, SearchSpent, FiringsSpent}
+use Rattle.findings.specs.declared.least.Least.{Least}
+use Rattle.findings.specs.declared.least.Least.TheVariants.{Shown, SearchSpent, FiringsSpent}
 use Rattle.rule_pass.specs.declared.pass.TheConstants.{MOST_FIRINGS}
 use Rattle.sql_select.specs.Known.{literals_in}
 use Rattle.sql_select.specs.Statements.{StatementFits}
@@ -41,11 +41,11 @@ use Rattle.sql_conjunctive.specs.Queries.{IsQueryOf, IsSelectForm}
 use Rattle.sql_conjunctive.proofs.Counted.{bounded_terms, ordered_short, terms_few}
 use Rattle.plan_extract.proofs.Read.{schema_narrow}
 use Rattle.plan_extract.proofs.Zips.{zip_left, zip_right, zip_at, zip_from, zip_length}
-use Rattle.no_plan_witness.specs.declared.refutation.Witness.{Witness}
-use Rattle.no_plan_witness.specs.declared.decision.Chosen.{Chosen as Entry}
-use Rattle.no_plan_witness.specs.declared.decision.Chosen.TheVariants as chosen
-use Rattle.no_plan_witness.specs.declared.decision.Decision.{Decision}
-use Rattle.no_plan_witness.specs.declared.decision.Decision.TheVariants as decision
+use Rattle.findings.specs.declared.refutation.Witness.{Witness}
+use Rattle.findings.specs.declared.decision.Chosen.{Chosen as Entry}
+use Rattle.findings.specs.declared.decision.Chosen.TheVariants as chosen
+use Rattle.findings.specs.declared.decision.Decision.{Decision}
+use Rattle.findings.specs.declared.decision.Decision.TheVariants as decision
 use Rattle.no_plan_witness.proofs.Literals.{have_literals}
 use Rattle.proof_search.specs.declared.outcome.Choice.{Choice}
 use Rattle.proof_search.specs.declared.question.Questions.{Questions}

@@ -23,7 +23,7 @@ use Rattle.accessible_copy.specs.Goals.{IsGoal}
 use Rattle.accessible_copy.specs.Rounds.{GoesOn}
 use Rattle.proof_search.specs.Searches.{IsSearch}
 use Rattle.plan_extract.specs.Branches.{IsBranchFor, IsProofFor}
-use Rattle.no_plan_witness.specs.declared.refutation.Witness.{Witness}
+use Rattle.findings.specs.declared.refutation.Witness.{Witness}
 use Rattle.proof_search.specs.Branches.{IsRefutingPair, IsSpentLog, HasBranch, IsOpen}
 use Rattle.proof_search.specs.Outcomes.{IsFirst, IsFirstStuck, IsFirstSpent}
 use Rattle.proof_search.specs.declared.outcome.First.{First}

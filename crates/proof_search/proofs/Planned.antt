@@ -7,8 +7,8 @@ use Rattle.lists.proofs.Members.{contains_here, contains_there}
 use Rattle.meaning.specs.declared.types.Branch.{Branch}
 use Rattle.meaning.specs.declared.types.Query.{Query}
 use Rattle.meaning.specs.declared.types.SchemaParts.{SchemaParts}
-use Rattle.no_plan_witness.specs.declared.decision.Chosen.{Chosen as Entry}
-use Rattle.no_plan_witness.specs.declared.decision.Chosen.TheVariants as chosen
+use Rattle.findings.specs.declared.decision.Chosen.{Chosen as Entry}
+use Rattle.findings.specs.declared.decision.Chosen.TheVariants as chosen
 use Rattle.proof_search.specs.declared.outcome.Choice.{Choice}
 use Rattle.proof_search.specs.Forms.{queries_in, branches_in, IsEntryOf, AreEntriesOf}
 

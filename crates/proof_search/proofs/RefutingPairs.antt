@@ -24,7 +24,7 @@ use Rattle.accessible_copy.specs.Proving.{Proving, IsOrdered, firings_of, log_of
 use Rattle.accessible_copy.specs.Rounds.{IsAllQuiet}
 use Rattle.small_base.specs.Closed.{HasMore, IsClosed}
 use Rattle.small_base.specs.Closing.{IsClosing}
-use Rattle.no_plan_witness.specs.declared.refutation.Witness.{Witness}
+use Rattle.findings.specs.declared.refutation.Witness.{Witness}
 use Rattle.no_plan_witness.specs.Texts.{text_under}
 use Rattle.no_plan_witness.specs.Witnesses.{IsWitnessOf}
 use Rattle.no_plan_witness.proofs.Refuting.{stuck_refutes, stuck_answer}

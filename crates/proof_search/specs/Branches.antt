@@ -12,7 +12,7 @@ use Rattle.meaning.specs.Claims.{Refutes}
 use Rattle.meaning.specs.Conjunctive.{StandFor}
 use Rattle.meaning.specs.Extract.{IsQueryRival}
 use Rattle.rule_pass.specs.declared.pass.TheConstants.{MOST_FIRINGS}
-use Rattle.no_plan_witness.specs.declared.refutation.Witness.{Witness}
+use Rattle.findings.specs.declared.refutation.Witness.{Witness}
 
 -- The branch is a rival for its query, among all the queries, as wide as its head, and has at most a step for each firing of a proof.
 pub record IsQueryBranch (schema : SchemaParts) (known : List Value) (queries : List Query) (query : Query) (branch : Branch) : Type 0 where

@@ -18,8 +18,8 @@ use Rattle.least_search.specs.Walks.{CanGain, IsNode}
 use Rattle.least_search.specs.Costs.{IsLeastCost, IsEnough, best_cost}
 use Rattle.exposure_search.specs.Trials.{HasMoreToDo}
 use Rattle.exposure_search.specs.Exploring.{Exploring, IsFounded, space_size, CanExpose, GainsAt, HasGoalAt, HasMatchAt, HasTry, HasRunBeyond}
-use Rattle.access_cost.specs.declared.least.Least.{Least}
-use Rattle.access_cost.specs.declared.least.Least.TheVariants.{Shown, SearchSpent, FiringsSpent}
+use Rattle.findings.specs.declared.least.Least.{Least}
+use Rattle.findings.specs.declared.least.Least.TheVariants.{Shown, SearchSpent, FiringsSpent}
 use Rattle.proof_search.specs.declared.outcome.Choice.{Choice}
 use Rattle.proof_search.specs.Branches.{IsQueryBranch}
 use Rattle.proof_search.specs.Chosen.{AreSpent, HasLongRun}

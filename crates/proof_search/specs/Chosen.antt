@@ -15,12 +15,12 @@ use Rattle.meaning.specs.Runs.{Proof, IsRun, IsBaseRun, opening, opening_state}
 use Rattle.meaning.specs.Triggers.{State, IsQuiet}
 use Rattle.exposure_search.specs.Tries.{exposures_in}
 use Rattle.exposure_search.specs.Trials.{HasMoreToDo}
-use Rattle.access_cost.specs.declared.least.Least.{Least}
-use Rattle.access_cost.specs.declared.least.Least.TheVariants.{Shown, SearchSpent, FiringsSpent}
+use Rattle.findings.specs.declared.least.Least.{Least}
+use Rattle.findings.specs.declared.least.Least.TheVariants.{Shown, SearchSpent, FiringsSpent}
 use Rattle.access_schema.specs.declared.schema.Schema.{Schema}
 use Rattle.access_schema.specs.Meaning.{meaning_of}
-use Rattle.no_plan_witness.specs.declared.decision.Chosen.{Chosen as Entry}
-use Rattle.no_plan_witness.specs.declared.decision.Chosen.TheVariants as chosen
+use Rattle.findings.specs.declared.decision.Chosen.{Chosen as Entry}
+use Rattle.findings.specs.declared.decision.Chosen.TheVariants as chosen
 use Rattle.sql_conjunctive.specs.Form.{Clashes, IsNumbered}
 use Rattle.proof_search.specs.Plans.{known_of}
 

@@ -6,10 +6,10 @@ use Rattle.meaning.specs.declared.types.Query.{Query}
 use Rattle.meaning.specs.declared.types.SchemaParts.{SchemaParts}
 use Rattle.meaning.specs.declared.types.Statement.{Statement}
 use Rattle.meaning.specs.Costs.{IsCost}
-use Rattle.no_plan_witness.specs.declared.decision.Chosen.{Chosen as Entry}
-use Rattle.no_plan_witness.specs.declared.decision.Chosen.TheVariants as chosen
-use Rattle.no_plan_witness.specs.declared.decision.Decision.{Decision}
-use Rattle.no_plan_witness.specs.declared.decision.Decision.TheVariants as decision
+use Rattle.findings.specs.declared.decision.Chosen.{Chosen as Entry}
+use Rattle.findings.specs.declared.decision.Chosen.TheVariants as chosen
+use Rattle.findings.specs.declared.decision.Decision.{Decision}
+use Rattle.findings.specs.declared.decision.Decision.TheVariants as decision
 use Rattle.rule_pass.specs.declared.pass.TheConstants.{MOST_FIRINGS}
 use Rattle.sql_select.specs.Statements.{StatementFits}
 use Rattle.sql_conjunctive.specs.Queries.{IsSelectForm}

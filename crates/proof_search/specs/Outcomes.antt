@@ -5,7 +5,7 @@ use Rattle.meaning.specs.declared.types.SchemaParts.{SchemaParts}
 use Rattle.meaning.specs.declared.types.Query.{Query}
 use Rattle.meaning.specs.declared.types.Firing.{Firing}
 use Rattle.meaning.specs.Values.{Value}
-use Rattle.no_plan_witness.specs.declared.refutation.Witness.{Witness}
+use Rattle.findings.specs.declared.refutation.Witness.{Witness}
 use Rattle.proof_search.specs.declared.outcome.First.{First}
 use Rattle.proof_search.specs.declared.outcome.QueryOutcome.{QueryOutcome}
 use Rattle.proof_search.specs.declared.outcome.QueryOutcome.TheVariants as one

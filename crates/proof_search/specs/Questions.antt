@@ -10,7 +10,7 @@ use Rattle.access_schema.specs.Meaning.{meaning_of}
 use Rattle.rule_pass.specs.declared.pass.TheConstants.{MOST_FIRINGS}
 use Rattle.accessible_copy.specs.Proving.{Proving}
 use Rattle.exposure_search.specs.Exploring.{Exploring}
-use Rattle.no_plan_witness.specs.declared.refutation.Witness.{Witness}
+use Rattle.findings.specs.declared.refutation.Witness.{Witness}
 use Rattle.proof_search.specs.declared.outcome.Choice.{Choice}
 use Rattle.proof_search.specs.declared.outcome.QueryOutcome.{QueryOutcome}
 use Rattle.proof_search.specs.declared.outcome.First.{First}

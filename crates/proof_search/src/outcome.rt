@@ -1,9 +1,7 @@
 // What searches come to.
-
-use access_cost::Least;
+use findings::{Least, Witness};
 use lists::Seq;
 use meaning::types::{Branch, Firings};
-use no_plan_witness::Witness;
 
 /// Choices in order.
 pub type Choices = Seq<Choice>;

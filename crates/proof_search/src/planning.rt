@@ -7,11 +7,10 @@ ghost use Rattle.rule_pass.specs.declared.pass.TheConstants.{MOST_FIRINGS};
 ghost use Rattle.proof_search.specs.Forms.{queries_in, branches_in, IsEntryOf, AreEntriesOf, IsPlanOf};
 
 use crate::outcome::{Choice, Choices};
-use access_cost::cost;
-use access_schema::Schema;
+use access_schema::{Schema, cost};
+use findings::{Chosen, ChosenList, Decision};
 use lists::{NoMemory, Seq};
 use meaning::types::{Branch, Plan, Query};
-use no_plan_witness::{Chosen, ChosenList, Decision};
 use std::alloc::Global;
 
 /// The plan of the branches that are chosen, of that width, with an entry for each select: no row where it has no query, and else the cost

@@ -6,7 +6,7 @@ use crate::exposing::Turn;
 use crate::proving::prove;
 use crate::question::Question;
 use crate::reading::branch_in;
-use access_cost::cost;
+use access_schema::cost;
 use lists::NoMemory;
 use meaning::types::Branch;
 use std::alloc::Global;

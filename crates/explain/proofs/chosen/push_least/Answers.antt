@@ -3,7 +3,7 @@ use Rattle.std.specs.Prelude.{codes}
 use Rattle.std.specs.Fmt.{decimal}
 use Rattle.std.proofs.lemmas.Result.{on_ok_weaker}
 use Rattle.lists.proofs.Members.{joined_twice}
-use Rattle.access_cost.specs.declared.least.Least.{Least}
+use Rattle.findings.specs.declared.least.Least.{Least}
 use Rattle.explain.specs.Printing.{least_text}
 use Rattle.explain.proofs.chosen.push_least.Goals as goal
 

@@ -2,7 +2,7 @@ use Rattle.std.proofs.Common.{◌≡◌, ◌∙◌, List, refl, sym, subst, map}
 use Rattle.std.specs.Str.{IsUtf8}
 use Rattle.std.proofs.lemmas.Str.{IsUtf8-nil}
 use Rattle.meaning.specs.declared.types.Fact.{Fact}
-use Rattle.no_plan_witness.specs.declared.refutation.Witness.{Witness}
+use Rattle.findings.specs.declared.refutation.Witness.{Witness}
 use Rattle.fact_lines.specs.Lent.{lent_fact}
 use Rattle.fact_lines.specs.Lines.{IsListing}
 use Rattle.explain.specs.Lent.{lent_pair}

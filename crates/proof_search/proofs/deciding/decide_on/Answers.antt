@@ -3,7 +3,7 @@ use Rattle.std.specs.List.{AllZip}
 use Rattle.access_schema.specs.Meaning.{meaning_of}
 use Rattle.sql_conjunctive.specs.Queries.{IsSelectForm}
 use Rattle.plan_extract.proofs.Zips.{zip_length}
-use Rattle.no_plan_witness.specs.declared.decision.Decision.TheVariants as decision
+use Rattle.findings.specs.declared.decision.Decision.TheVariants as decision
 use Rattle.proof_search.specs.Choices.{IsChoice}
 use Rattle.proof_search.specs.Outcomes.{IsFirstStuck, IsFirstSpent}
 use Rattle.proof_search.specs.Questions.{IsChoiceFor}

@@ -1,7 +1,7 @@
 // What is decided of a statement.
 
+use crate::least::Least;
 use crate::refutation::Witness;
-use access_cost::Least;
 use lists::Seq;
 use meaning::types::{Firings, Plan};
 
