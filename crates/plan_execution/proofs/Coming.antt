@@ -1,10 +1,12 @@
 -- How far a plan has come: before its rounds, one round more, one that stopped, and all of them.
-use Rattle.std.proofs.Common.{◌≡◌, ◌↔◌, inl, inr, ⊎_elim, ℕ, suc, ◌+◌, ◌<◌, ◌≤◌, List, [], ◌∷◌, ◌++◌, length, length-append, Option, None, Some, refl, sym, ◌∙◌, ap, subst, arith}
-use Rattle.std.specs.Prelude.{Contains, slice_get}
+use Rattle.std.proofs.Common.{◌≡◌, ◌↔◌, inl, inr, ⊎_elim, ℕ, zero, suc, ◌+◌, ◌-◌, ◌^◌, ◌<◌, ◌≤◌, min, List, [], ◌∷◌, ◌++◌, length, length-append, Option, None, Some, refl, sym, ◌∙◌, ap, subst, arith}
+use Rattle.std.specs.Prelude.{Contains, Result, Ok, Err, slice_get}
+use denote.Ref.{Bor, MutBor}
 use Rattle.std.proofs.lemmas.List.{append-nil}
 use Rattle.lists.proofs.Members.{contains_got, contains_none, got_below, some_injective}
 use Rattle.meaning.specs.declared.types.Fact.{Fact}
 use Rattle.meaning.specs.declared.types.Step.{Step}
+use Rattle.meaning.specs.declared.types.Branch.{Branch}
 use Rattle.meaning.specs.declared.types.Plan.{Plan}
 use Rattle.meaning.specs.declared.types.Request.{Request}
 use Rattle.meaning.specs.declared.types.SchemaParts.{SchemaParts}
@@ -16,27 +18,37 @@ use Rattle.access_schema.specs.Meaning.{meaning_of}
 use Rattle.access_schema.proofs.Keeping.{well_formed}
 use Rattle.source_trait.specs.Asking.{RowList, Seen}
 use Rattle.source_trait.specs.declared.lanes.Lane.{Lane}
+use Rattle.source_trait.specs.declared.source.CallFault.{CallFault}
+use Rattle.source_trait.specs.declared.source.CallFault.TheVariants as call
 use Rattle.middleware.specs.Asked.{IsStepRequest}
-use Rattle.middleware.specs.LaneBranches.{LanesHoldPlan}
-use Rattle.middleware.specs.LaneRounds.{NoneStopped}
+use Rattle.middleware.specs.Branches.{AreAskable}
+use Rattle.middleware.specs.LaneBranches.{OnEach, LanesHoldPlan}
+use Rattle.middleware.specs.LaneAsking.{AsksWanted}
+use Rattle.middleware.specs.LaneRounds.{AsksSome, NoneStopped}
 use Rattle.middleware.specs.declared.fault.RunFault.{RunFault}
 use Rattle.middleware.specs.declared.fault.RunFault.TheVariants as fault
-use Rattle.middleware.proofs.LaneShares.{AsksEach-refl, AsksEach-trans, AsksSome-none}
+use Rattle.middleware.proofs.LaneShares.{AsksEach-refl, AsksEach-trans, AsksSome-none, each_some}
 use Rattle.middleware.proofs.PlanHeld.{plan_held_later}
-use Rattle.middleware.proofs.LaneBranching.{each_asked}
+use Rattle.middleware.proofs.LaneBranching.{askable_steps, each_asked}
+use Rattle.middleware.proofs.Laning.{wanted_length}
 use Rattle.middleware.proofs.Steps.{in_append}
+use Rattle.request_rounds.specs.Rounds.{AsksSo, Halts, Stops, Went}
+use Rattle.request_rounds.specs.Rounds.Stops.{over as past_limit, refused, untaken, unturned}
+use Rattle.request_rounds.specs.declared.rounds.Turned.{Turned}
+use Rattle.request_rounds.specs.declared.rounds.Reached.{Reached}
+use Rattle.request_rounds.specs.declared.rounds.Halt.{Halt}
+use Rattle.request_rounds.proofs.Going.{went_long}
 use Rattle.shared_rounds.specs.SharedRounds.{Anew, AreRounds, Turn, turns_of}
 use Rattle.shared_rounds.proofs.Counting.{is_nth}
 use Rattle.shared_rounds.proofs.Turning.{alone}
-use Rattle.plan_course.specs.Courses.{AreReadyBranches, IsAt, IsBefore, Knows}
+use Rattle.plan_course.specs.Courses.{AreReadyBranches, CanNumber, IsAt, IsBefore, Knows}
 use Rattle.plan_course.specs.Turns.{AreOfTurn}
 use Rattle.plan_course.specs.declared.course.Course.{Course}
 use Rattle.plan_course.specs.declared.turns.Pending.{Pending}
 use Rattle.plan_course.proofs.Standing.{IsAtStep, at_step}
 use Rattle.plan_execution.specs.PlanRounds.{AreOfPlan, IsRoundAt, LanesDone, PlanCause, PlanHalts}
-use Rattle.plan_execution.specs.Rounding.{Asks, AskingStops, HasCome, RoundGoes, RoundStops, StopCause, asks_in}
-use Rattle.plan_execution.specs.Rounding.RoundStops.{unasked, asked}
-use Rattle.plan_execution.specs.declared.rounds.Reached.{Reached}
+use Rattle.plan_execution.specs.Rounding.{CanName, HasCome, MayAsk, Takes, Turns, asks_in, fault_of}
+use Rattle.plan_execution.proofs.Asking.{asks_long, may_ask, numbers_fit, relation_held}
 use Rattle.plan_execution.proofs.Before.{at_round, before_end, before_start, before_turn, rest_asked, rest_unasked}
 
 -- requests of a step of the plan are requests of the plan
@@ -72,7 +84,7 @@ module _ {S : Type 0} (seen : S → Seen) (schema : Schema) (plan : Plan)
   -- ---- before the rounds
 
   pub come_none : (course : Course) → IsAt plan 0 course → ((instance : List Fact) → Knows parts instance plan course)
-      → HasCome schema plan seen cap 0 (record { course = course; made = 0 }) old old
+      → HasCome schema plan seen cap 0 (record { progress = course; made = 0 }) old old
   come_none course at knows = record {
     at = at;
     list = [];
@@ -99,46 +111,139 @@ module _ {S : Type 0} (seen : S → Seen) (schema : Schema) (plan : Plan)
 
   -- ---- behind n rounds
 
-  module _ (n : ℕ) (reached : Reached) (before : List (Lane S))
+  module _ (n : ℕ) (reached : Reached Course) (before : List (Lane S))
       (come : HasCome schema plan seen cap n reached old before) where
     held : (instance : List Fact) → LanesHoldPlan seen schema plan old instance
         → LanesHoldPlan seen schema plan before instance
     held instance holds = plan_held_later seen schema plan old before
         (each_asked seen schema come.list old before come.asks) instance holds
 
-    asks_of_plan : (pending : Pending) → Asks schema plan reached.course pending
-        → AreOfPlan parts plan (come.list ++ asks_in pending)
-    asks_of_plan pending asks = of_both parts plan come.list (asks_in pending) come.of_plan
-        (of_turns parts plan n (slice_get (turns_of plan) n) refl (asks_in pending) (asks.of_turn n come.at))
+    module _ (turned : Turned Pending) (turns : Turns schema plan reached.progress turned) where
+      abbrev now : List Request
+      now = asks_in turned.what
 
-    -- one round more
-    pub come_more : (next : Reached) (after : List (Lane S)) → RoundGoes schema plan seen reached next before after
-        → next.made ≤ cap
-        → HasCome schema plan seen cap (n + 1) next old after
-    come_more next after goes within = record {
-      at = goes.goes.at reached.course n goes.asks.is come.at;
-      list = come.list ++ now;
-      asks = AsksEach-trans seen schema come.list now old before after come.asks goes.goes.asks;
-      count = let a = come.count in let b = goes.goes.made_is in omega (arith, a, b, length-append come.list now);
-      within = within;
-      of_plan = asks_of_plan goes.pending goes.asks;
-      knows = λ instance holds. goes.goes.knows reached.course instance goes.asks.is (held instance holds)
-          (come.knows instance holds);
-      are = λ instance holds.
-          let one : suc n ≡ n + 1 = omega arith in
-          subst (λ m. AreRounds parts instance (plan ∷ []) Anew m (come.list ++ now)) one (
-            come.list,
-            now ∷ [],
-            come.are instance holds,
-            (goes.asks.turn n instance come.at (come.knows instance holds), tt),
-            ap (λ (l : List Request). come.list ++ l) (sym (append-nil now)),
-          );
-    }
-      where
-        now : List Request
-        now = asks_in goes.pending
+      with_these : AreOfPlan parts plan (come.list ++ now)
+      with_these = of_both parts plan come.list now come.of_plan
+          (of_turns parts plan n (slice_get (turns_of plan) n) refl now (turns.of_turn n come.at))
 
-    -- ---- a round that stopped
+      count : turned.wanted ≡ length now
+      count = turns.count ∙ sym (asks_long turned.what)
+
+      -- one round more
+      pub come_more : reached.made + turned.wanted ≤ cap → (answers : List RowList) (after : List (Lane S))
+          → AsksWanted seen schema turned.what.method turned.what.wanted.requests (Ok answers) before after
+          → (next : Reached Course) → Takes plan turned.what answers next.progress
+          → next.made ≡ reached.made + turned.wanted → HasCome schema plan seen cap (n + 1) next old after
+      come_more room answers after asked next takes made = record {
+        at = takes.at schema reached.progress n turns.is come.at;
+        list = come.list ++ now;
+        asks = AsksEach-trans seen schema come.list now old before after come.asks asked.asks;
+        count = let a = come.count in let b = count in omega (arith, a, b, made, length-append come.list now);
+        within = omega (arith, made, room);
+        of_plan = with_these;
+        knows = λ instance holds. takes.knows schema reached.progress instance turns.is ready (come.knows instance holds)
+            (asked.answers instance
+            (relation_held schema plan reached.progress turned.what turns.is seen before instance (held instance holds)));
+        are = λ instance holds.
+            let one : suc n ≡ n + 1 = omega arith in
+            subst (λ m. AreRounds parts instance (plan ∷ []) Anew m (come.list ++ now)) one (
+              come.list,
+              now ∷ [],
+              come.are instance holds,
+              (turns.turn n instance come.at (come.knows instance holds), tt),
+              ap (λ (l : List Request). come.list ++ l) (sym (append-nil now)),
+            );
+      }
+
+      -- ---- a round that stopped
+
+      its : IsAtStep plan n reached.progress turns.is.its
+      its = at_step plan n reached.progress turns.is.its turns.is.of_plan come.at
+
+      is_before : (reached.progress.branch ≡ its.turn.branch) × (reached.progress.step ≡ its.turn.step)
+      is_before = subst (λ (o : Option Turn). IsBefore plan o reached.progress) its.got come.at.before
+
+      of_its : (request : Request) → Contains now request → IsStepRequest parts its.turn.its request
+      of_its = subst (λ (o : Option Turn). AreOfTurn parts o now) its.got (turns.of_turn n come.at)
+
+      round_is : (instance : List Fact) → LanesHoldPlan seen schema plan old instance
+          → IsRoundAt parts plan instance its.turn.branch its.turn.step come.list now
+      round_is instance holds = at_round parts instance plan n its.turn its.got come.list (come.are instance holds) now
+          (turns.turn n instance come.at (come.knows instance holds))
+
+      -- there was no memory
+      memory : (after : List (Lane S)) → PlanCause seen schema plan cap come.list now old before after fault.NoMemory
+      memory after = record {
+        branch = its.turn.branch;
+        step = its.turn.step;
+        rounds = λ instance holds. inl (round_is instance holds);
+      }
+
+      -- a call failed
+      failed : reached.made + turned.wanted ≤ cap → (after : List (Lane S))
+          → AsksWanted seen schema turned.what.method turned.what.wanted.requests (Err call.Failed) before after
+          → PlanCause seen schema plan cap come.list now old before after
+          (fault.CallFailed turned.what.branch turned.what.step)
+      failed room after asked =
+          let b = turns.is.asks.branch_is in
+          let s = turns.is.asks.step_is in
+          let some = asked.some refl in
+          let long = asks_long turned.what in
+          record {
+            its_branch = turns.is.its;
+            its_step = its.turn.its;
+            method = turned.what.method;
+            there = record {
+              of_plan = ap (slice_get plan.branches) b ∙ turns.is.of_plan;
+              of_branch = ap (slice_get turns.is.its.steps) s ∙ its.of_branch;
+            };
+            named = subst (λ (x : Step). IsMethod parts x.method turned.what.method)
+                (some_injective turns.is.asks.step its.turn.its (sym turns.is.asks.of_branch ∙ its.of_branch))
+                turns.is.asks.named;
+            some = omega (arith, some, long);
+            of_step = of_its;
+            fits = let made = come.count in let these = count in omega (arith, room, made, these);
+            fails = asked.failed refl;
+            rounds = λ instance holds.
+                subst (λ k. IsRoundAt parts plan instance k turned.what.step come.list now) (sym (b ∙ is_before.0))
+                (subst (λ k. IsRoundAt parts plan instance its.turn.branch k come.list now) (sym (s ∙ is_before.1))
+                (round_is instance holds));
+          }
+
+      -- the round would pass the limit
+      over : (wanted : ℕ) → wanted ≡ min turned.wanted (2 ^ 32 - 1) → cap ≤ 1000000 → NoneStopped before
+          → cap < reached.made + turned.wanted
+          → PlanCause seen schema plan cap come.list now old before before (fault.OverCalls reached.made wanted cap)
+      over wanted is small going past = (
+        refl,
+        record {
+          branch = its.turn.branch;
+          step = its.turn.step;
+          total_is = come.count;
+          within = come.within;
+          over = let within = come.within in omega (arith, within, past, small, is);
+          wanted_is = is ∙ ap (λ k. min k (2 ^ 32 - 1)) count;
+          unasked = refl;
+          going = going;
+          rounds = round_is;
+        },
+      )
+
+      halts_for : (why : RunFault) (after : List (Lane S)) → AsksSome seen schema now before after
+          → PlanCause seen schema plan cap come.list now old before after why
+          → PlanHalts seen schema plan cap why old after
+      halts_for why after asks cause = record {
+        middle = before;
+        earlier = come.list;
+        now = now;
+        asks_earlier = come.asks;
+        asks_now = asks;
+        of_plan = with_these;
+        part = λ instance holds. rest_asked parts instance plan
+            (well_formed schema) ready n its.turn its.got come.list (come.are instance holds) now
+            (turns.turn n instance come.at (come.knows instance holds));
+        cause = cause;
+      }
 
     -- in which nothing was asked
     halts_unasked : n < length (turns_of plan) → PlanHalts seen schema plan cap fault.NoMemory old before
@@ -164,96 +269,6 @@ module _ {S : Type 0} (seen : S → Seen) (schema : Schema) (plan : Plan)
           };
         }
 
-    -- in which something was asked, or is known
-    module _ (small : cap ≤ 1000000) (going : NoneStopped before) (pending : Pending) (after : List (Lane S))
-        (asks : Asks schema plan reached.course pending) where
-      abbrev now : List Request
-      now = asks_in pending
-
-      its : IsAtStep plan n reached.course asks.is.its
-      its = at_step plan n reached.course asks.is.its asks.is.of_plan come.at
-
-      is_before : (reached.course.branch ≡ its.turn.branch) × (reached.course.step ≡ its.turn.step)
-      is_before = subst (λ (o : Option Turn). IsBefore plan o reached.course) its.got come.at.before
-
-      of_its : (request : Request) → Contains now request → IsStepRequest parts its.turn.its request
-      of_its = subst (λ (o : Option Turn). AreOfTurn parts o now) its.got (asks.of_turn n come.at)
-
-      round_is : (instance : List Fact) → LanesHoldPlan seen schema plan old instance
-          → IsRoundAt parts plan instance its.turn.branch its.turn.step come.list now
-      round_is instance holds = at_round parts instance plan n its.turn its.got come.list (come.are instance holds) now
-          (asks.turn n instance come.at (come.knows instance holds))
-
-      cause_of : (why : RunFault) → StopCause schema plan seen cap pending reached.made before after why
-          → PlanCause seen schema plan cap come.list now old before after why
-      cause_of fault.NoMemory c = record {
-        branch = its.turn.branch;
-        step = its.turn.step;
-        rounds = λ instance holds. inl (round_is instance holds);
-      }
-      cause_of (fault.NoSource rel) c = absurd c
-      cause_of (fault.UnknownKind rel) c = absurd c
-      cause_of (fault.Attach rel why) c = absurd c
-      cause_of (fault.CallFailed branch step) (branch_is, step_is, some, fits, fails) =
-          let b : branch ≡ reached.course.branch = branch_is ∙ asks.is.asks.branch_is in
-          let s : step ≡ reached.course.step = step_is ∙ asks.is.asks.step_is in
-          record {
-            its_branch = asks.is.its;
-            its_step = its.turn.its;
-            method = pending.method;
-            there = record {
-              of_plan = ap (slice_get plan.branches) b ∙ asks.is.of_plan;
-              of_branch = ap (slice_get asks.is.its.steps) s ∙ its.of_branch;
-            };
-            named = subst (λ (x : Step). IsMethod parts x.method pending.method)
-                (some_injective asks.is.asks.step its.turn.its (sym asks.is.asks.of_branch ∙ its.of_branch))
-                asks.is.asks.named;
-            some = some;
-            of_step = of_its;
-            fits = let made = come.count in omega (arith, fits, made);
-            fails = fails;
-            rounds = λ instance holds.
-                subst (λ k. IsRoundAt parts plan instance k step come.list now) (sym (b ∙ is_before.0))
-                (subst (λ k. IsRoundAt parts plan instance its.turn.branch k come.list now) (sym (s ∙ is_before.1))
-                (round_is instance holds));
-          }
-      cause_of (fault.OverCalls total wanted cap_told) (cap_is, total_is, within, wanted_is, over, same) = (
-        cap_is,
-        record {
-          branch = its.turn.branch;
-          step = its.turn.step;
-          total_is = total_is ∙ come.count;
-          within = omega (arith, total_is, within);
-          over = omega (arith, total_is, wanted_is, over, small);
-          wanted_is = wanted_is;
-          unasked = same;
-          going = subst (λ (l : List (Lane S)). NoneStopped l) (sym same) going;
-          rounds = round_is;
-        },
-      )
-
-      halts_asked : (why : RunFault) → AskingStops schema plan seen cap pending reached.made why before after
-          → PlanHalts seen schema plan cap why old after
-      halts_asked why stops = record {
-        middle = before;
-        earlier = come.list;
-        now = now;
-        asks_earlier = come.asks;
-        asks_now = stops.asks;
-        of_plan = asks_of_plan pending asks;
-        part = λ instance holds. rest_asked parts instance plan
-            (well_formed schema) ready n its.turn its.got come.list (come.are instance holds) now
-            (asks.turn n instance come.at (come.knows instance holds));
-        cause = cause_of why stops.cause;
-      }
-
-    pub halts_in : cap ≤ 1000000 → NoneStopped before → n < length (turns_of plan)
-        → (why : RunFault) (after : List (Lane S))
-        → RoundStops schema plan seen cap reached before why after → PlanHalts seen schema plan cap why old after
-    halts_in small going less why after unasked = halts_unasked less
-    halts_in small going less why after (asked pending its end asks stops) = halts_asked small going pending end asks
-        its stops
-
     -- ---- behind the last round
 
     module _ (last : n ≡ length (turns_of plan)) where
@@ -263,7 +278,7 @@ module _ {S : Type 0} (seen : S → Seen) (schema : Schema) (plan : Plan)
           (subst (λ m. AreRounds parts instance (plan ∷ []) Anew m come.list) last (come.are instance holds))
 
       pub done_all : (rows : RowList)
-          → ((instance : List Fact) → Knows parts instance plan reached.course → (row : List (List ℕ))
+          → ((instance : List Fact) → Knows parts instance plan reached.progress → (row : List (List ℕ))
           → Contains rows row ↔ IsRow parts plan instance row)
           → LanesDone seen schema plan rows reached.made old before
       done_all rows exactly = record {
@@ -292,3 +307,121 @@ module _ {S : Type 0} (seen : S → Seen) (schema : Schema) (plan : Plan)
           rounds = λ instance holds. inr (refl, before_end parts instance plan come.list (requests_are instance holds));
         };
       }
+
+  -- ---- round by round
+
+  module _ {M N : Type 0} (turn : Course → Result (Turned Pending) M → Type 0)
+      (ask : Bor Pending → MutBor (List (Lane S)) → Result (List RowList) CallFault → MutBor (List (Lane S)) → Type 0)
+      (take : Pending → List RowList → Result Course N → Type 0)
+      (turns : (course : Course) (turned : Turned Pending) → turn course (Ok turned)
+      → Turns schema plan course turned)
+      (asked : (pending : Pending) (before : List (Lane S)) (result : Result (List RowList) CallFault)
+      (after : List (Lane S)) → AsksSo ask pending before result after
+      → AsksWanted seen schema pending.method pending.wanted.requests result before after)
+      (takes : (pending : Pending) (answers : List RowList) (next : Course) → take pending answers (Ok next)
+      → Takes plan pending answers next)
+      (course : Course) (at : IsAt plan 0 course) (knows : (instance : List Fact) → Knows parts instance plan course)
+    where
+      abbrev start : Reached Course
+      start = record { progress = course; made = 0 }
+
+      pub come_all : (n : ℕ) (reached : Reached Course) (new : List (Lane S))
+          → Went turn ask take cap n start old reached new → HasCome schema plan seen cap n reached old new
+      come_all zero reached new (is, same) =
+          subst (λ (l : List (Lane S)). HasCome schema plan seen cap 0 reached old l) (sym same)
+          (subst (λ (r : Reached Course). HasCome schema plan seen cap 0 r old old) (sym is)
+          (come_none course at knows))
+      come_all (suc n) reached new (r, middle, went, goes) =
+          let one : n + 1 ≡ suc n = omega arith in
+          subst (λ m. HasCome schema plan seen cap m reached old new) one
+          (come_more n r middle (come_all n r middle went) goes.turned (turns r.progress goes.turned goes.wants.0)
+          goes.wants.1 goes.answers new (asked goes.turned.what middle (Ok goes.answers) new goes.asked) reached
+          (takes goes.turned.what goes.answers reached.progress goes.taken) goes.made)
+
+      -- no lane is stopped behind a round
+      pub going_on : (n : ℕ) (reached : Reached Course) (new : List (Lane S))
+          → Went turn ask take cap n start old reached new → NoneStopped old → NoneStopped new
+      going_on zero reached new (is, same) going = subst (λ (l : List (Lane S)). NoneStopped l) (sym same) going
+      going_on (suc n) reached new (r, middle, went, goes) going =
+          (asked goes.turned.what middle (Ok goes.answers) new goes.asked).going
+
+      -- the next step may be asked
+      pub may_ask_next : (length old ≤ 8) → 0 < length old → cap ≤ 1000000 → NoneStopped old
+          → ((its : Branch) → Contains plan.branches its → OnEach old (λ kinds. AreAskable seen schema kinds its.steps))
+          → (n : ℕ) (reached : Reached Course) (middle : List (Lane S)) → Went turn ask take cap n start old reached middle
+          → (turned : Turned Pending) → turn reached.progress (Ok turned) → reached.made + turned.wanted ≤ cap
+          → MayAsk schema seen turned.what middle
+      may_ask_next few some small going askable n reached middle went turned t room =
+          let long = went_long turn ask take cap start old n reached middle went in
+          let is = turns reached.progress turned t in
+          let come = come_all n reached middle went in
+          record {
+            some = (omega (arith, some, long), omega (arith, few, long));
+            going = going_on n reached middle went going;
+            askable = may_ask schema plan reached.progress turned.what is.is seen middle
+                (λ its among. askable_steps seen schema its.steps old middle
+                (each_asked seen schema come.list old middle come.asks) (askable its among));
+            few = let count = is.count in omega (arith, count, room, small);
+            values = λ values among. wanted_length turned.what.places turned.what.method.inputs turned.what.wanted.rows
+                turned.what.wanted.requests values is.is.asks.wanted among;
+          }
+
+      module _ (rounds : ℕ) (fits : rounds ≤ length (turns_of plan)) (why : Halt Pending CallFault)
+          (new : List (Lane S)) (halts : Halts turn ask take cap rounds start old why new) where
+        abbrev before : List (Lane S)
+        before = halts.middle
+
+        come : HasCome schema plan seen cap halts.n halts.reached old before
+        come = come_all halts.n halts.reached before halts.went
+
+        -- the step whose call failed can be numbered
+        pub can_name : CanNumber plan → CanName why
+        can_name can = go why new halts.stops
+          where
+            go : (w : Halt Pending CallFault) (l : List (Lane S)) → Stops turn ask take cap halts.reached before w l
+                → CanName w
+            go w l unturned = tt
+            go w l (past_limit turned wanted t past is) = tt
+            go w l (refused turned e after wants a) =
+                numbers_fit schema plan halts.reached.progress turned.what
+                (turns halts.reached.progress turned wants.0).is can
+            go w l (untaken turned answers after wants a) = tt
+
+        -- the rounds of the plan stopped
+        pub halts_in : cap ≤ 1000000 → (0 < rounds → NoneStopped old)
+            → PlanHalts seen schema plan cap (fault_of cap why) old new
+        halts_in small going = go why new halts.stops
+          where
+            less : halts.n < length (turns_of plan)
+            less = let l = halts.less in omega (arith, l, fits)
+
+            some : 0 < rounds
+            some = let l = halts.less in omega (arith, l)
+
+            go : (w : Halt Pending CallFault) (l : List (Lane S)) → Stops turn ask take cap halts.reached before w l
+                → PlanHalts seen schema plan cap (fault_of cap w) old l
+            go w l unturned = halts_unasked halts.n halts.reached before come less
+            go w l (past_limit turned wanted t past wanted_is) =
+                let is = turns halts.reached.progress turned t in
+                halts_for halts.n halts.reached before come turned is
+                (fault.OverCalls halts.reached.made wanted cap) before
+                (AsksSome-none seen schema (asks_in turned.what) before)
+                (over halts.n halts.reached before come turned is wanted wanted_is small
+                (going_on halts.n halts.reached before halts.went (going some)) past)
+            go w l (refused turned call.NoMemory after wants a) =
+                let is = turns halts.reached.progress turned wants.0 in
+                halts_for halts.n halts.reached before come turned is fault.NoMemory after
+                (asked turned.what before (Err call.NoMemory) after a).refused
+                (memory halts.n halts.reached before come turned is after)
+            go w l (refused turned call.Failed after wants a) =
+                let is = turns halts.reached.progress turned wants.0 in
+                let its = asked turned.what before (Err call.Failed) after a in
+                halts_for halts.n halts.reached before come turned is
+                (fault.CallFailed turned.what.branch turned.what.step) after its.refused
+                (failed halts.n halts.reached before come turned is wants.1 after its)
+            go w l (untaken turned answers after wants a) =
+                let is = turns halts.reached.progress turned wants.0 in
+                halts_for halts.n halts.reached before come turned is fault.NoMemory after
+                (each_some seen schema (asks_in turned.what) before after
+                (asked turned.what before (Ok answers) after a).asks)
+                (memory halts.n halts.reached before come turned is after)

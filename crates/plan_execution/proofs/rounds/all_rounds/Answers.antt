@@ -1,9 +1,11 @@
-use Rattle.std.proofs.Common.{◌≡◌, ℕ, refl, subst, arith}
+use Rattle.std.proofs.Common.{rules, sym, subst, arith}
 use Rattle.access_schema.specs.Meaning.{meaning_of}
 use Rattle.access_schema.proofs.Keeping.{well_formed}
-use Rattle.middleware.proofs.LaneBranching.{askable_steps, each_asked}
-use Rattle.plan_execution.specs.Rounding.{HasCome}
-use Rattle.plan_execution.proofs.Coming.{come_more, come_none, halts_in, halts_unbegun}
+use Rattle.middleware.specs.LaneAsking.{AsksWanted}
+use Rattle.request_rounds.proofs.Going.{asked_so}
+use Rattle.plan_execution.specs.PlanRounds.{PlanHalts}
+use Rattle.plan_execution.specs.Rounding.{MayAsk}
+use Rattle.plan_execution.proofs.Coming.{can_name, come_all, going_on, halts_in, halts_unbegun, may_ask_next}
 use Rattle.plan_execution.proofs.rounds.all_rounds.Goals as goal
 
 pub start-requires : goal.start-requires
@@ -13,52 +15,90 @@ pub returns-in_default-clause-stops : goal.returns-in_default-clause-stops
 returns-in_default-clause-stops g c =
     halts_unbegun g.S.Source.seen c.args.schema.now c.args.plan.now c.requires.ready.0 c.args.cap c.args.lanes.now
 
-pub loop-init : goal.loop-init
-loop-init g c = record {
-  come = come_none g.S.Source.seen c.args.schema.now c.args.plan.now c.requires.ready.0 c.args.cap c.args.lanes.now
-      c.in-Ok.course c.in-Ok.ensures.at
-      (λ instance. c.in-Ok.ensures.knows (meaning_of c.args.schema.now) instance
-      (well_formed c.args.schema.now) c.requires.ready.0);
-  going = c.requires.going;
-  idle = λ e. refl;
+pub ask_rounds-requires : goal.ask_rounds-requires
+ask_rounds-requires g c = record {
+  can = λ n reached middle less went. record {
+    turns = (
+      c.requires.ready.0,
+      (
+        n,
+        (come_all g.S.Source.seen c.args.schema.now c.args.plan.now c.requires.ready.0 c.args.cap c.args.lanes.now _ _ _
+            (λ course turned h. h)
+            (asked_so _ (λ p b r a. AsksWanted g.S.Source.seen c.args.schema.now p.method p.wanted.requests r b a)
+            (λ shown lent result left h. h))
+            (λ pending answers next h. h) c.in-Ok.course c.in-Ok.ensures.at
+            (λ instance. c.in-Ok.ensures.knows (meaning_of c.args.schema.now) instance
+            (well_formed c.args.schema.now) c.requires.ready.0)
+            n reached middle went).at,
+        let fits = c.requires.steps in omega (arith, fits, less),
+      ),
+    );
+    asks = λ turned wants shown lent shown_is lent_is. (
+      subst (λ p. MayAsk c.args.schema.now g.S.Source.seen p lent.now) (sym shown_is)
+          (subst (λ l. MayAsk c.args.schema.now g.S.Source.seen turned.what l) (sym lent_is)
+          (may_ask_next g.S.Source.seen c.args.schema.now c.args.plan.now c.requires.ready.0 c.args.cap c.args.lanes.now
+          _ _ _ (λ course turned h. h)
+          (asked_so _ (λ p b r a. AsksWanted g.S.Source.seen c.args.schema.now p.method p.wanted.requests r b a)
+          (λ shown lent result left h. h))
+          (λ pending answers next h. h) c.in-Ok.course c.in-Ok.ensures.at
+          (λ instance. c.in-Ok.ensures.knows (meaning_of c.args.schema.now) instance
+          (well_formed c.args.schema.now) c.requires.ready.0)
+          c.requires.lanes.1 (c.requires.lanes.0 (omega (arith, less))) c.requires.cap
+          (c.requires.going (omega (arith, less))) c.requires.askable
+          n reached middle went turned wants.0 wants.1)),
+      search rules,
+    );
+    takes = λ turned answers after wants asked. (
+      (c.args.schema.now, reached.progress, wants.0.is),
+      λ its among. (c.requires.ready.0 its among).output,
+    );
+  };
 }
 
-pub next_round-requires-clause-askable : goal.next_round-requires-clause-askable
-next_round-requires-clause-askable g c κs within = λ its among.
-    let come = c.loop.invariant.come in
-    askable_steps g.S.Source.seen c.args.schema.now its.steps c.args.lanes.now c.loop.lanes
-    (each_asked g.S.Source.seen c.args.schema.now come.list c.args.lanes.now c.loop.lanes come.asks)
-    (c.requires.askable its among)
+pub fault_of-requires : goal.fault_of-requires
+fault_of-requires g c =
+    can_name g.S.Source.seen c.args.schema.now c.args.plan.now c.requires.ready.0 c.args.cap c.args.lanes.now _ _ _
+    (λ course turned h. h)
+    (asked_so _ (λ p b r a. AsksWanted g.S.Source.seen c.args.schema.now p.method p.wanted.requests r b a)
+    (λ shown lent result left h. h))
+    (λ pending answers next h. h) c.in-Ok.course c.in-Ok.ensures.at
+    (λ instance. c.in-Ok.ensures.knows (meaning_of c.args.schema.now) instance
+    (well_formed c.args.schema.now) c.requires.ready.0)
+    c.args.steps c.requires.steps c.in-Err.halt c.ask_rounds.new.lanes c.in-Err.ensures.halts c.requires.ready.1
 
-pub next_round-requires-clause-at : goal.next_round-requires-clause-at
-next_round-requires-clause-at g c κs within =
-    (c.loop.counter, c.loop.invariant.come.at, let fits = c.requires.steps in omega (arith, fits))
+pub returns-in-Ok-ask_rounds-clause-come : goal.returns-in-Ok-ask_rounds-clause-come
+returns-in-Ok-ask_rounds-clause-come g c =
+    come_all g.S.Source.seen c.args.schema.now c.args.plan.now c.requires.ready.0 c.args.cap c.args.lanes.now _ _ _
+    (λ course turned h. h)
+    (asked_so _ (λ p b r a. AsksWanted g.S.Source.seen c.args.schema.now p.method p.wanted.requests r b a)
+    (λ shown lent result left h. h))
+    (λ pending answers next h. h) c.in-Ok.course c.in-Ok.ensures.at
+    (λ instance. c.in-Ok.ensures.knows (meaning_of c.args.schema.now) instance
+    (well_formed c.args.schema.now) c.requires.ready.0)
+    c.args.steps c.in-Ok-ask_rounds.reached c.ask_rounds.new.lanes c.in-Ok-ask_rounds.ensures.went
 
-pub next_round-requires-clause-cap : goal.next_round-requires-clause-cap
-next_round-requires-clause-cap g c κs within = (c.loop.invariant.come.within, c.requires.cap)
-
-pub loop-preserved : goal.loop-preserved
-loop-preserved g c = record {
-  come = come_more g.S.Source.seen c.args.schema.now c.args.plan.now c.requires.ready.0 c.args.cap c.args.lanes.now
-      c.loop.counter c.loop.reached c.loop.lanes
-      c.loop.invariant.come c.in-Ok-next_round.next c.next_round.new.lanes c.in-Ok-next_round.ensures.goes
-      c.in-Ok-next_round.ensures.within;
-  going = λ some. c.in-Ok-next_round.ensures.goes.goes.going;
-  idle = λ e. absurd (omega (arith, e));
-}
+pub returns-in-Ok-ask_rounds-clause-going : goal.returns-in-Ok-ask_rounds-clause-going
+returns-in-Ok-ask_rounds-clause-going g c = λ some.
+    going_on g.S.Source.seen c.args.schema.now c.args.plan.now c.requires.ready.0 c.args.cap c.args.lanes.now _ _ _
+    (λ course turned h. h)
+    (asked_so _ (λ p b r a. AsksWanted g.S.Source.seen c.args.schema.now p.method p.wanted.requests r b a)
+    (λ shown lent result left h. h))
+    (λ pending answers next h. h) c.in-Ok.course c.in-Ok.ensures.at
+    (λ instance. c.in-Ok.ensures.knows (meaning_of c.args.schema.now) instance
+    (well_formed c.args.schema.now) c.requires.ready.0)
+    c.args.steps c.in-Ok-ask_rounds.reached c.ask_rounds.new.lanes c.in-Ok-ask_rounds.ensures.went
+    (c.requires.going some)
 
 pub returns-in-Err-clause-stops : goal.returns-in-Err-clause-stops
 returns-in-Err-clause-stops g c =
-    halts_in g.S.Source.seen c.args.schema.now c.args.plan.now c.requires.ready.0 c.args.cap c.args.lanes.now
-    c.loop.counter c.loop.reached c.loop.lanes
-    c.loop.invariant.come c.requires.cap (c.loop.invariant.going (omega arith))
-    (let fits = c.requires.steps in omega (arith, fits)) c.in-Err.fault
-    c.next_round.new.lanes c.in-Err.ensures.stops
-
-pub returns-clause-come : goal.returns-clause-come
-returns-clause-come g c =
-    let over = c.loop-test.false in
-    let under = c.loop.auto.counter-end in
-    let same : c.loop.counter ≡ c.args.steps = omega (arith, over, under) in
-    subst (λ (n : ℕ). HasCome c.args.schema.now c.args.plan.now g.S.Source.seen c.args.cap n c.loop.reached
-    c.args.lanes.now c.loop.lanes) same c.loop.invariant.come
+    subst (λ why. PlanHalts g.S.Source.seen c.args.schema.now c.args.plan.now c.args.cap why
+    c.args.lanes.now c.ask_rounds.new.lanes) (sym c.fault_of.ensures)
+    (halts_in g.S.Source.seen c.args.schema.now c.args.plan.now c.requires.ready.0 c.args.cap c.args.lanes.now _ _ _
+    (λ course turned h. h)
+    (asked_so _ (λ p b r a. AsksWanted g.S.Source.seen c.args.schema.now p.method p.wanted.requests r b a)
+    (λ shown lent result left h. h))
+    (λ pending answers next h. h) c.in-Ok.course c.in-Ok.ensures.at
+    (λ instance. c.in-Ok.ensures.knows (meaning_of c.args.schema.now) instance
+    (well_formed c.args.schema.now) c.requires.ready.0)
+    c.args.steps c.requires.steps c.in-Err.halt c.ask_rounds.new.lanes c.in-Err.ensures.halts
+    c.requires.cap c.requires.going)
