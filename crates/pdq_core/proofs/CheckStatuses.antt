@@ -12,8 +12,8 @@ use Rattle.meaning.specs.Triggers.{State, fired}
 use Rattle.meaning.specs.Runs.{IsBaseRun, IsFirstActive, opening_state}
 use Rattle.access_schema.specs.declared.schema.Schema.{Schema}
 use Rattle.access_schema.specs.Meaning.{meaning_of}
-use Rattle.plan_check.specs.declared.verdict.Verdict.{Verdict}
-use Rattle.plan_check.specs.declared.verdict.Side.TheVariants as side
+use Rattle.findings.specs.declared.verdict.Verdict.{Verdict}
+use Rattle.findings.specs.declared.verdict.Side.TheVariants as side
 use Rattle.plan_check.specs.Trials.{IsSpent}
 use Rattle.plan_check.specs.Verdicts.{IsVerdict}
 use Rattle.plan_check.specs.Verdicts.IsIllegalOver.{unlawful, other_width}

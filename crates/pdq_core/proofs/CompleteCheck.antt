@@ -3,8 +3,8 @@ use Rattle.std.proofs.Common.{ℕ, List, Result}
 use Rattle.meaning.specs.declared.types.Plan.{Plan}
 use Rattle.meaning.specs.declared.types.Statement.{Statement}
 use Rattle.access_schema.specs.declared.schema.Schema.{Schema}
-use Rattle.plan_check.specs.declared.verdict.Verdict.{Verdict}
-use Rattle.plan_check.specs.declared.verdict.Verdict.TheVariants as verdict
+use Rattle.findings.specs.declared.verdict.Verdict.{Verdict}
+use Rattle.findings.specs.declared.verdict.Verdict.TheVariants as verdict
 use Rattle.command_io.specs.declared.stop.Stop.{Stop}
 use Rattle.command_io.specs.declared.outcome.Outcome.{Outcome}
 use Rattle.command_io.specs.Moments.{Moment, outputs_of}

@@ -3,7 +3,7 @@ use Rattle.std.proofs.Common.{◌≡◌, ◌∙◌, ◌++◌, ℕ, Bool, true, f
 use Rattle.meaning.specs.declared.types.Statement.{Statement}
 use Rattle.meaning.specs.declared.types.Plan.{Plan}
 use Rattle.access_schema.specs.declared.schema.Schema.{Schema}
-use Rattle.no_plan_witness.specs.declared.decision.Chosen.{Chosen}
+use Rattle.findings.specs.declared.decision.Chosen.{Chosen}
 use Rattle.explain.specs.Printing.{planned_text}
 use Rattle.source_trait.specs.Asking.{Seen}
 use Rattle.source_trait.specs.declared.lanes.Lane.{Lane}

@@ -3,7 +3,7 @@ use Rattle.std.proofs.Common.{◌≡◌, ℕ, false, List, [], Result, refl, sub
 use Rattle.meaning.specs.declared.types.Plan.{Plan}
 use Rattle.meaning.specs.declared.types.Statement.{Statement}
 use Rattle.access_schema.specs.declared.schema.Schema.{Schema}
-use Rattle.no_plan_witness.specs.declared.decision.Chosen.{Chosen}
+use Rattle.findings.specs.declared.decision.Chosen.{Chosen}
 use Rattle.tgd_reader.proofs.Exactly.{no_fault as schema_fault}
 use Rattle.sql_select.specs.Statements.{IsStatementText}
 use Rattle.sql_select.proofs.Unique.{one_statement, no_fault as query_fault}

@@ -5,7 +5,7 @@ use Rattle.meaning.specs.declared.types.Firing.{Firing}
 use Rattle.meaning.specs.declared.types.Plan.{Plan}
 use Rattle.meaning.specs.declared.types.Statement.{Statement}
 use Rattle.access_schema.specs.declared.schema.Schema.{Schema}
-use Rattle.no_plan_witness.specs.declared.decision.Chosen.{Chosen}
+use Rattle.findings.specs.declared.decision.Chosen.{Chosen}
 use Rattle.proof_search.specs.Decisions.{IsUndecided}
 use Rattle.run_command.specs.Deciding.{IsPlanned}
 use Rattle.pdq_core.specs.Statuses.{HasPlan, RunsOn}

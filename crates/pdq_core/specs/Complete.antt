@@ -15,7 +15,7 @@ use Rattle.tgd_reader.specs.SchemaText.{IsSchemaText}
 use Rattle.sql_select.specs.Statements.{IsStatementText}
 use Rattle.sql_batch.specs.Batches.{IsBatchText}
 use Rattle.plan_form.specs.Grammar.{IsPlanText}
-use Rattle.no_plan_witness.specs.declared.decision.Chosen.{Chosen}
+use Rattle.findings.specs.declared.decision.Chosen.{Chosen}
 use Rattle.explain.specs.Printing.{planned_text}
 use Rattle.source_trait.specs.Asking.{RowList, Rises, Seen, offered_now, facts_of}
 use Rattle.source_trait.specs.Causes.{Rose}
