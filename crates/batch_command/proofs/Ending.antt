@@ -9,10 +9,10 @@ use Rattle.meaning.specs.declared.types.Plan.{Plan}
 use Rattle.meaning.specs.declared.types.Firing.{Firing}
 use Rattle.access_schema.specs.declared.schema.Schema.{Schema}
 use Rattle.sql_select.specs.Statements.{StatementFits}
-use Rattle.no_plan_witness.specs.declared.refutation.Witness.{Witness}
-use Rattle.no_plan_witness.specs.declared.decision.Chosen.{Chosen}
-use Rattle.no_plan_witness.specs.declared.decision.Decision.{Decision}
-use Rattle.no_plan_witness.specs.declared.decision.Decision.TheVariants.{Plan as Planned, NoPlan, Undecided}
+use Rattle.findings.specs.declared.refutation.Witness.{Witness}
+use Rattle.findings.specs.declared.decision.Chosen.{Chosen}
+use Rattle.findings.specs.declared.decision.Decision.{Decision}
+use Rattle.findings.specs.declared.decision.Decision.TheVariants.{Plan as Planned, NoPlan, Undecided}
 use Rattle.command_io.specs.declared.stop.Stop.{Stop}
 use Rattle.command_io.specs.declared.outcome.Outcome.{Outcome}
 use Rattle.command_io.specs.declared.outcome.Outcome.TheVariants as outcome

@@ -8,8 +8,8 @@ use Rattle.meaning.specs.declared.types.Plan.{Plan}
 use Rattle.meaning.specs.declared.types.Firing.{Firing}
 use Rattle.access_schema.specs.declared.schema.Schema.{Schema}
 use Rattle.source_trait.specs.Causes.{Rose}
-use Rattle.no_plan_witness.specs.declared.decision.Chosen.{Chosen}
-use Rattle.no_plan_witness.specs.declared.decision.Decision.{Decision}
+use Rattle.findings.specs.declared.decision.Chosen.{Chosen}
+use Rattle.findings.specs.declared.decision.Decision.{Decision}
 use Rattle.proof_search.specs.Decisions.{IsUndecided}
 use Rattle.explain.specs.Printing.{IsDecisionText, planned_text, undecided_text}
 use Rattle.command_io.specs.declared.stop.Stop.{Stop}

@@ -2,7 +2,7 @@
 ghost use Rattle.std.specs.Prelude.{◌≡◌, ◌≢◌, ◌≤◌, ◌<◌, ◌+◌, ◌^◌, ◌++◌, ◌∷◌, [], ◌⊎◌, ℕ, List, OnOk, OnErr, IfOk, IfErr, Contains, length};
 ghost use Rattle.meaning.specs.declared.types.Statement.{Statement};
 ghost use Rattle.source_trait.specs.Causes.{Rose};
-ghost use Rattle.no_plan_witness.specs.declared.decision.Chosen.{Chosen};
+ghost use Rattle.findings.specs.declared.decision.Chosen.{Chosen};
 ghost use Rattle.sql_select.specs.Statements.{StatementFits};
 ghost use Rattle.command_io.specs.Writing.{TookAll};
 ghost use Rattle.run_command.specs.Ends.{AreWithin};
@@ -13,8 +13,8 @@ ghost use Rattle.batch_command.specs.Deciding.{Told, AreTold, EndsAt, Halts, IsN
 use crate::lines::numbered_text;
 use access_schema::Schema;
 use command_io::{FileNames, Outcome, Stop, print, tell};
+use findings::Decision;
 use meaning::types::{Plan, Statement};
-use no_plan_witness::Decision;
 use run_command::{Limits, decided};
 use source_trait::Sink;
 use std::alloc::Global;

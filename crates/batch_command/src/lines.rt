@@ -4,8 +4,8 @@ ghost use Rattle.batch_command.specs.Deciding.{query_line, IsNumbered};
 
 use access_schema::Schema;
 use explain::decision_text;
+use findings::Decision;
 use lists::{Bytes, NoMemory};
-use no_plan_witness::Decision;
 use pq_text::print_number;
 use std::alloc::Global;
 

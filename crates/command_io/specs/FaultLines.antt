@@ -77,6 +77,7 @@ schema_what part.WrongArity = codes "wrong arity"
 schema_what part.UnknownColumn = codes "unknown column"
 schema_what (part.OverLimit limit) = codes "over the limit of " ++ limit_name limit
 schema_what part.Recursive = codes "recursive rules"
+schema_what part.WrongSort = codes "wrong sort"
 
 -- The line of a fault of a schema text.
 abbrev pub schema_line : ReadFault → List ℕ
@@ -102,6 +103,7 @@ query_line (query.Ambiguous offset) = codes "query: ambiguous name at byte " ++ 
 query_line (query.WrongWidth offset) = codes "query: wrong width at byte " ++ decimal offset ++ codes "\n"
 query_line (query.OverLimit limit) = codes "query: " ++ (codes "over the limit of " ++ limit_name limit) ++ codes "\n"
 query_line (query.Lex fault) = lex_line fault
+query_line (query.WrongSort offset) = codes "query: wrong sort at byte " ++ decimal offset ++ codes "\n"
 
 -- The line of a fault of a plan text.
 abbrev pub plan_line : PlanReadFault → List ℕ

@@ -50,6 +50,12 @@ pub fn query_line(alloc: Global, fault: &SqlFault) -> Result<Vec<u8>, AllocError
         ),
         SqlFault::OverLimit(limit) => limit_line(alloc, *limit),
         SqlFault::Lex(fault) => lex_line(alloc, *fault),
+        SqlFault::WrongSort { offset } => number_line(
+            alloc,
+            b"query: wrong sort at byte ",
+            *offset,
+            b"\n",
+        ),
     }
 }
 

@@ -88,6 +88,7 @@ fn push_what(text: &mut Vec<u8>, fault: SchemaFault) -> Result<(), AllocError>
         SchemaFault::UnknownColumn => text.extend_from_slice(b"unknown column"),
         SchemaFault::OverLimit(limit) => push_over(text, limit),
         SchemaFault::Recursive => text.extend_from_slice(b"recursive rules"),
+        SchemaFault::WrongSort => text.extend_from_slice(b"wrong sort"),
     }
 }
 

@@ -31,11 +31,11 @@ use Rattle.std.specs.Str.{IsUtf8}
 use Rattle.meaning.specs.declared.types.Firing.{Firing}
 use Rattle.sql_select.specs.Statements.{StatementFits}
 use Rattle.plan_form.specs.Fitting.{PlanFits}
-use Rattle.no_plan_witness.specs.declared.refutation.Witness.{Witness}
-use Rattle.no_plan_witness.specs.declared.decision.Chosen.{Chosen}
-use Rattle.no_plan_witness.specs.declared.decision.Decision.{Decision}
+use Rattle.findings.specs.declared.refutation.Witness.{Witness}
+use Rattle.findings.specs.declared.decision.Chosen.{Chosen}
+use Rattle.findings.specs.declared.decision.Decision.{Decision}
 use Rattle.explain.specs.Printing.{planned_text}
-use Rattle.no_plan_witness.specs.declared.decision.Decision.TheVariants.{Plan as Planned, NoPlan, Undecided}
+use Rattle.findings.specs.declared.decision.Decision.TheVariants.{Plan as Planned, NoPlan, Undecided}
 use Rattle.proof_search.specs.Plans.{IsPlanFor}
 use Rattle.run_command.specs.Deciding.{IsPlanned, IsDecided, Written}
 use Rattle.run_command.specs.Deciding.IsDecided.{plan as right_plan, no_plan as right_pair, undecided as right_log}

@@ -16,10 +16,10 @@ use Rattle.access_schema.specs.declared.schema.Schema.{Schema}
 use Rattle.access_schema.specs.Meaning.{meaning_of}
 use Rattle.sql_select.specs.Statements.{StatementFits}
 use Rattle.plan_form.specs.Fitting.{PlanFits}
-use Rattle.no_plan_witness.specs.declared.refutation.Witness.{Witness}
-use Rattle.no_plan_witness.specs.declared.decision.Chosen.{Chosen}
-use Rattle.no_plan_witness.specs.declared.decision.Decision.{Decision}
-use Rattle.no_plan_witness.specs.declared.decision.Decision.TheVariants.{NoPlan}
+use Rattle.findings.specs.declared.refutation.Witness.{Witness}
+use Rattle.findings.specs.declared.decision.Chosen.{Chosen}
+use Rattle.findings.specs.declared.decision.Decision.{Decision}
+use Rattle.findings.specs.declared.decision.Decision.TheVariants.{NoPlan}
 use Rattle.fact_lines.specs.Lines.{IsListing}
 use Rattle.explain.specs.Printing.{IsPrintedWitness, IsDecisionText, planned_text}
 use Rattle.explain.specs.Grammar.{FitsSchema, HasSameFacts, IsReadAs}

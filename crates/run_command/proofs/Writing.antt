@@ -5,7 +5,7 @@ use Rattle.std.specs.Str.{IsUtf8}
 use Rattle.access_schema.specs.declared.schema.Schema.{Schema}
 use Rattle.command_io.specs.declared.stop.Stop.{Stop}
 use Rattle.command_io.specs.Writing.{TookAll, TookPart}
-use Rattle.no_plan_witness.specs.declared.decision.Decision.{Decision}
+use Rattle.findings.specs.declared.decision.Decision.{Decision}
 use Rattle.explain.specs.Printing.{IsDecisionText}
 use Rattle.run_command.specs.Deciding.{Written, TookPartOf}
 

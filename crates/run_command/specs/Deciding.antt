@@ -7,10 +7,10 @@ use Rattle.meaning.specs.declared.types.Firing.{Firing}
 use Rattle.access_schema.specs.declared.schema.Schema.{Schema}
 use Rattle.plan_form.specs.Fitting.{PlanFits}
 use Rattle.plan_form.specs.Grammar.{IsPlanText}
-use Rattle.no_plan_witness.specs.declared.refutation.Witness.{Witness}
-use Rattle.no_plan_witness.specs.declared.decision.Chosen.{Chosen}
-use Rattle.no_plan_witness.specs.declared.decision.Decision.{Decision}
-use Rattle.no_plan_witness.specs.declared.decision.Decision.TheVariants.{Plan, NoPlan, Undecided}
+use Rattle.findings.specs.declared.refutation.Witness.{Witness}
+use Rattle.findings.specs.declared.decision.Chosen.{Chosen}
+use Rattle.findings.specs.declared.decision.Decision.{Decision}
+use Rattle.findings.specs.declared.decision.Decision.TheVariants.{Plan, NoPlan, Undecided}
 use Rattle.proof_search.specs.Plans.{IsPlanFor}
 use Rattle.proof_search.specs.Chosen.{AreChosen}
 use Rattle.proof_search.specs.Decisions.{IsRefutation, IsUndecided}

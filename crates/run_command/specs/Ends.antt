@@ -29,8 +29,8 @@ use Rattle.command_io.specs.Executing.{ExecutesOrStops, Delivers}
 use Rattle.command_io.specs.Verified.{VerifiesOrStops}
 use Rattle.rule_pass.specs.declared.pass.TheConstants.{MOST_FIRINGS}
 use Rattle.proof_search.specs.declared.deciding.TheConstants.{MOST_UNITS}
-use Rattle.no_plan_witness.specs.declared.decision.Chosen.{Chosen}
-use Rattle.no_plan_witness.specs.declared.decision.Decision.{Decision}
+use Rattle.findings.specs.declared.decision.Chosen.{Chosen}
+use Rattle.findings.specs.declared.decision.Decision.{Decision}
 use Rattle.explain.specs.Printing.{IsDecisionText, planned_text, undecided_text}
 use Rattle.proof_search.specs.Decisions.{IsUndecided}
 use Rattle.run_command.specs.Deciding.{IsPlanned, IsDecided, IsRefuted, TookPartOf}

@@ -11,7 +11,7 @@ use Rattle.command_io.specs.Moments.{Moment, Outputs, outputs_of, ResultStop}
 use Rattle.command_io.specs.Writing.{TookAll}
 use Rattle.command_io.specs.FaultLines.{Names}
 use Rattle.command_io.specs.Telling.{StopsFor}
-use Rattle.no_plan_witness.specs.declared.decision.Decision.{Decision}
+use Rattle.findings.specs.declared.decision.Decision.{Decision}
 use Rattle.explain.specs.Printing.{IsDecisionText}
 use Rattle.run_command.specs.Deciding.{IsDecided, Shows, TookPartOf}
 

@@ -10,8 +10,8 @@ ghost use Rattle.run_command.specs.Deciding.{IsDecided, Written, TookPartOf, out
 use access_schema::Schema;
 use command_io::{Outcome, Stop, print};
 use explain::decision_text;
+use findings::Decision;
 use meaning::types::Statement;
-use no_plan_witness::Decision;
 use proof_search::decide;
 use source_trait::Sink;
 use std::alloc::Global;

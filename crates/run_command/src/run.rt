@@ -18,9 +18,9 @@ use access_schema::Schema;
 use command_io::{
     FileNames, Outcome, Outputs, Outside, Report, Stop, deliver, deliver_verified, read_texts, tell,
 };
+use findings::Decision;
 use lists::Text;
 use meaning::types::{Plan, Statement};
-use no_plan_witness::Decision;
 use source_trait::{Files, Lane, Sink, Source};
 use sql_select::result_names;
 use std::alloc::Global;

@@ -44,6 +44,7 @@ pub struct System<R> {
 }
 
 impl<R> System<R> {
+    /// The files of the system by this value, which stands for permission to open them. Takes no memory.
     pub fn new(rt: R) -> System<R> {
         System { rt }
     }
@@ -69,6 +70,7 @@ pub struct RealFiles<O> {
 }
 
 impl<O: Opens> RealFiles<O> {
+    /// Files by this opener, of which no read has failed. Takes no memory.
     pub fn new(opener: O) -> RealFiles<O>
         ensures opener { result.opener ≡ opener }
         ensures failures { result.failures ≡ 0 }
@@ -209,6 +211,7 @@ pub struct RealSink<W> {
 }
 
 impl<W: Tells + Drop> RealSink<W> {
+    /// A sink over this writer, of which no write has failed. Takes no memory.
     pub fn new(writer: W) -> RealSink<W>
         ensures writer { result.writer ≡ writer }
         ensures failures { result.failures ≡ 0 }
