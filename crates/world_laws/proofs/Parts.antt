@@ -16,10 +16,10 @@ use Rattle.tgd_reader.specs.Printed.{part_pieces, atom_pieces, listing_pieces}
 use Rattle.tgd_reader.proofs.Writing.{lines_text-append}
 use Rattle.world_source.specs.Formulas.{locator}
 use Rattle.world_source.specs.Texts.{relation_lines, method_lines, rule_lines, source_line, schema_text}
-use Rattle.world_laws.specs.World.{relation_name, method_name, columns}
+use Rattle.world_laws.specs.World.{relation_name, method_name, columns, sorts}
 
 abbrev pub relation_part : ℕ → Part
-relation_part k = RelationPart (relation_name k) columns
+relation_part k = RelationPart (relation_name k) columns sorts
 
 abbrev pub method_part : List (List ℕ) → ℕ → Part
 method_part inputs k = MethodPart (method_name k) (relation_name k) inputs 1

@@ -1,9 +1,13 @@
 -- The query text of a world is its statement.
 use Rattle.std.proofs.Common.{◌≡◌, ◌∙◌, ℕ, zero, suc, false, List, [], ◌∷◌, length, drop, ap, refl, sym, subst, arith}
 use Rattle.std.specs.Prelude.{Result, Ok, Err}
+use Rattle.std.specs.List.{range_with_len}
 use Rattle.std.specs.Str.{IsUtf8}
-use Rattle.lists.proofs.Members.{contains_one, some_injective}
+use Rattle.std.specs.Prelude.{Some, slice_get}
+use Rattle.lists.proofs.Members.{contains_one, got_mapped, some_injective}
 use Rattle.meaning.specs.declared.types.Relation.{Relation}
+use Rattle.meaning.specs.declared.types.Sort.TheVariants.{Int}
+use Rattle.meaning.specs.Sorts.{HoldsIntegers}
 use Rattle.meaning.specs.declared.types.Statement.{Statement}
 use Rattle.pq_text.specs.declared.token.Token.{Token}
 use Rattle.pq_text.specs.declared.token.Style.TheVariants.{Sql}
@@ -12,6 +16,7 @@ use Rattle.pq_text.specs.declared.scan.Found.TheVariants.{Begins, Bad, Open}
 use Rattle.pq_text.specs.Tokens.{gap_from, token_at, Lexes}
 use Rattle.pq_text.proofs.PrintedTexts.{ascii_utf8}
 use Rattle.access_schema.specs.declared.schema.Schema.{Schema}
+use Rattle.access_schema.specs.Meaning.{meaning_of}
 use Rattle.sql_select.specs.declared.piece.Piece.{Piece}
 use Rattle.sql_select.specs.declared.piece.RawSelect.{RawSelect}
 use Rattle.sql_select.specs.declared.state.State.TheVariants as state
@@ -26,9 +31,10 @@ use Rattle.sql_select.specs.declared.fault.SqlFault.{SqlFault}
 use Rattle.sql_select.specs.declared.fault.SqlFault.TheVariants.{NoMemory}
 use Rattle.sql_select.proofs.Said.{all_sound}
 use Rattle.sql_select.proofs.Resolved.{means}
+use Rattle.sql_select.proofs.Sorted.{texts_sorted}
 use Rattle.sql_select.proofs.Unique.{one_statement, no_fault}
 use Rattle.world_source.specs.Texts.{query_text}
-use Rattle.world_laws.specs.World.{world_relations, world_select, world_statement, IsWorldSchema}
+use Rattle.world_laws.specs.World.{sorts, relation_with, world_relations, world_select, world_statement, IsWorldSchema}
 
 -- ---- the tokens of a text
 
@@ -92,6 +98,18 @@ are_tokens (suc k) text from = go (token_at Sql start (drop start text)) refl (�
 abbrev Stands : List Relation → Type 0
 Stands relations = IsMeaning relations (named_select query_text raw) world_select
 
+-- no column of a world holds integers
+no_integers : (n : ℕ) (schema : Schema) → IsWorldSchema n schema → (rel place : ℕ) → HoldsIntegers (meaning_of schema) rel place → ⊥
+no_integers n schema is rel place (relation, got, at) =
+    let there : slice_get world_relations rel ≡ Some relation = subst (λ rs. slice_get rs rel ≡ Some relation) is.relations got in
+    let (k, _, same) = got_mapped relation_with (range_with_len 1 8) rel relation there in
+    none place (subst (λ (r : Relation). slice_get r.sorts place ≡ Some Int) (sym same) at)
+  where
+    none : (place : ℕ) → slice_get sorts place ≡ Some Int → ⊥
+    none zero e = absurd (cc)
+    none (suc zero) e = absurd (cc)
+    none (suc (suc k)) e = absurd (cc)
+
 pub is_statement : (n : ℕ) (schema : Schema) → IsWorldSchema n schema → IsStatementText schema query_text world_statement
 is_statement n schema is = record {
   raws = raw ∷ [];
@@ -106,6 +124,7 @@ is_statement n schema is = record {
   };
   wide = λ first other at there. ap (λ (r : RawSelect). length r.items) (sym (contains_one raw other there) ∙ some_injective raw first at);
   means = (subst Stands (sym is.relations) (means world_relations (named_select query_text raw) (Ok world_select) is_resolved), tt);
+  sorted = λ select there. texts_sorted (meaning_of schema) (no_integers n schema is) select;
 }
 
 pub statement_alone : (n : ℕ) (schema : Schema) (statement : Statement) → IsWorldSchema n schema → IsStatementText schema query_text statement → statement ≡ world_statement

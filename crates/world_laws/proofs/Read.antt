@@ -1,6 +1,6 @@
 -- The schema text of a world declares the schema of the world, and no other.
 use Rattle.std.proofs.Common.{◌≡◌, ◌+◌, ◌<◌, ◌≤◌, ◌^◌, ℕ, zero, suc, Bool, true, false, not, List, [], ◌∷◌, ◌++◌, ◌-◌, Ok, ⊎_elim, take, slice_get, Option, None, Some, refl, sym, ap, subst, ◌∙◌, append_assoc, arith}
-use Rattle.std.specs.Prelude.{◌&&◌, Contains, codes, flat_map}
+use Rattle.std.specs.Prelude.{◌&&◌, ◌⊎◌, Contains, codes, flat_map}
 use Rattle.std.specs.List.{range_with_len, AllByRecursion}
 use Rattle.std.specs.Str.{IsUtf8}
 use Rattle.std.specs.Fmt.{decimal}
@@ -13,6 +13,8 @@ use Rattle.lists.proofs.Booleans.{both_true}
 use Rattle.meaning.specs.declared.types.Term.TheVariants.{Var}
 use Rattle.meaning.specs.declared.types.Atom.{Atom}
 use Rattle.meaning.specs.declared.types.Relation.{Relation}
+use Rattle.meaning.specs.declared.types.Sort.{Sort}
+use Rattle.meaning.specs.declared.types.Sort.TheVariants.{Text, Int}
 use Rattle.meaning.specs.declared.types.Rule.{Rule}
 use Rattle.meaning.specs.declared.types.Method.{Method}
 use Rattle.meaning.specs.declared.types.SchemaParts.{SchemaParts}
@@ -20,13 +22,16 @@ use Rattle.meaning.specs.RuleOrder.{Feeds}
 use Rattle.meaning.specs.Plans.{IsWellFormed}
 use Rattle.pq_text.proofs.PrintedTexts.{number_utf8, ascii_utf8}
 use Rattle.access_schema.specs.declared.part.Part.{Part}
+use Rattle.access_schema.specs.declared.part.NamedTerm.{NamedTerm}
+use Rattle.access_schema.specs.declared.part.NamedTerm.TheVariants.{Var as Named, Const as Said}
 use Rattle.access_schema.specs.declared.fault.Limit.{Limit}
 use Rattle.access_schema.specs.declared.fault.SchemaFault.{SchemaFault}
-use Rattle.access_schema.specs.declared.fault.SchemaFault.TheVariants.{DuplicateName, UnknownRelation, WrongArity, UnknownColumn, OverLimit, Recursive}
+use Rattle.access_schema.specs.declared.fault.SchemaFault.TheVariants.{DuplicateName, UnknownRelation, WrongArity, UnknownColumn, OverLimit, Recursive, WrongSort}
 use Rattle.access_schema.specs.declared.schema.Schema.{Schema}
 use Rattle.access_schema.specs.Content.{Builds, relations_of, rule_of, rules_of}
 use Rattle.access_schema.specs.Feeding.{IsChain, AreRecursive}
-use Rattle.access_schema.specs.Faults.{repeats_name, uses_unknown, has_wrong_arity, has_unknown_column, passed_limit, IsFaultOf, AreFaultless, IsNamed, AreNamed}
+use Rattle.access_schema.specs.Faults.{repeats_name, uses_unknown, has_wrong_arity, has_unknown_column, passed_limit, IsFaultOf, AreFaultless, IsNamed, AreNamed, HasSorts, HaveSorts}
+use Rattle.access_schema.specs.SortFaults.{sorted_terms, HasTwoSorts, HasOtherConstant, HasWrongSort}
 use Rattle.access_schema.specs.Invariant.{IsSchema}
 use Rattle.access_schema.proofs.Prefixes.{given_by, given_from}
 use Rattle.access_schema.specs.Meaning.{meaning_of}
@@ -51,14 +56,18 @@ use Rattle.world_laws.proofs.Parts.{relation_part, method_part, atom, rule_part,
 atom_plain : (k : ℕ) (first second : ℕ) → IsPlainAtom (atom k (first ∷ []) (second ∷ []))
 atom_plain k first second = (tt, tt, (tt, (tt, tt)))
 
-world_plain : (n : ℕ) → AllByRecursion IsPlain (world_parts n)
-world_plain n =
-    all_appended IsPlain relation_parts (method_parts ++ (rule_parts ++ source_parts n)) (all_mapped IsPlain relation_part (range_with_len 1 8) (λ k _. (tt, tt, (tt, (tt, tt)))))
-    (all_appended IsPlain method_parts (rule_parts ++ source_parts n) ((tt, tt, tt, omega arith), all_mapped IsPlain (method_part (codes "a" ∷ [])) (range_with_len 2 7) (λ k _. (tt, tt, (tt, tt), omega arith)))
-    (all_appended IsPlain rule_parts (source_parts n) (all_mapped IsPlain rule_part (range_with_len 1 7) (λ k _. (tt, (atom_plain k 120 121, tt), tt, (atom_plain (k + 1) 121 122, tt))))
-    (all_mapped IsPlain (source_part n) (range_with_len 1 8) (λ k _. (tt, tt)))))
+-- a part that can be printed, with columns of texts
+abbrev IsOfTexts : Part → Type 0
+IsOfTexts part = IsPlain false part
 
-on_lines : (n : ℕ) → (printed_parts (world_parts n)).parts ≡ world_parts n
+world_plain : (n : ℕ) → AllByRecursion IsOfTexts (world_parts n)
+world_plain n =
+    all_appended IsOfTexts relation_parts (method_parts ++ (rule_parts ++ source_parts n)) (all_mapped IsOfTexts relation_part (range_with_len 1 8) (λ k _. (tt, tt, (tt, (tt, tt)), refl, (refl, (refl, tt)))))
+    (all_appended IsOfTexts method_parts (rule_parts ++ source_parts n) ((tt, tt, tt, omega arith), all_mapped IsOfTexts (method_part (codes "a" ∷ [])) (range_with_len 2 7) (λ k _. (tt, tt, (tt, tt), omega arith)))
+    (all_appended IsOfTexts rule_parts (source_parts n) (all_mapped IsOfTexts rule_part (range_with_len 1 7) (λ k _. (tt, (atom_plain k 120 121, tt), tt, (atom_plain (k + 1) 121 122, tt))))
+    (all_mapped IsOfTexts (source_part n) (range_with_len 1 8) (λ k _. (tt, tt)))))
+
+on_lines : (n : ℕ) → (printed_parts false (world_parts n)).parts ≡ world_parts n
 unfolding atom_pieces listing_pieces
 on_lines n = rw (decimal_digit 1 (omega arith)) refl
 
@@ -153,6 +162,50 @@ module _ (n : ℕ) where
       let all : Contains (rules_of (relations_of (world_parts n)) (world_parts n)) rule = given_from (rule_of (relations_of (world_parts n))) (world_parts n) part rule (within part (contains_got front k part at)) gives in
       all_member IsStep world_rules rule world_steps (subst (λ (rules : List Rule). Contains rules rule) built_rules all)
 
+  -- no rule has a variable or a constant at an integer column
+  rule_texts : (terms : List (NamedTerm × Sort)) → AllByRecursion (λ pair. pair.1 ≡ Text) terms → HasTwoSorts terms ⊎ HasOtherConstant terms → ⊥
+  rule_texts terms all has = ⊎_elim
+      (λ two. let never : Int ≡ Text = all_member (λ pair. pair.1 ≡ Text) terms (Named two.0, Int) all two.1 in absurd (cc))
+      (λ other. let never : Int ≡ Text = all_member (λ pair. pair.1 ≡ Text) terms (Said other.0, Int) all other.1 in absurd (cc))
+      has
+
+  abbrev HasNone : Part → Type 0
+  HasNone part = HasWrongSort (relations_of (world_parts n)) part → ⊥
+
+  texts : (k : ℕ) → AllByRecursion (λ pair. pair.1 ≡ Text) (sorted_terms (relations_of (world_parts n)) (atom k (codes "x") (codes "y") ∷ atom (k + 1) (codes "y") (codes "z") ∷ [])) → HasNone (rule_part k)
+  texts k all = rule_texts (sorted_terms (relations_of (world_parts n)) (atom k (codes "x") (codes "y") ∷ atom (k + 1) (codes "y") (codes "z") ∷ [])) all
+
+  no_wrong_sort : (part : Part) → Contains (world_parts n) part → HasNone part
+  no_wrong_sort part there = all_member HasNone (world_parts n) part all there
+    where
+      rules : AllByRecursion HasNone rule_parts
+      rules = (
+        texts 1 (refl, (refl, (refl, (refl, tt)))),
+        (
+          texts 2 (refl, (refl, (refl, (refl, tt)))),
+          (
+            texts 3 (refl, (refl, (refl, (refl, tt)))),
+            (
+              texts 4 (refl, (refl, (refl, (refl, tt)))),
+              (
+                texts 5 (refl, (refl, (refl, (refl, tt)))),
+                (
+                  texts 6 (refl, (refl, (refl, (refl, tt)))),
+                  (texts 7 (refl, (refl, (refl, (refl, tt)))), tt),
+                ),
+              ),
+            ),
+          ),
+        ),
+      )
+
+      all : AllByRecursion HasNone (world_parts n)
+      all =
+          all_appended HasNone relation_parts (method_parts ++ (rule_parts ++ source_parts n)) (all_mapped HasNone relation_part (range_with_len 1 8) (λ k _ is. is))
+          (all_appended HasNone method_parts (rule_parts ++ source_parts n) (λ is. is, all_mapped HasNone (method_part (codes "a" ∷ [])) (range_with_len 2 7) (λ k _ is. is))
+          (all_appended HasNone rule_parts (source_parts n) rules
+          (all_mapped HasNone (source_part n) (range_with_len 1 8) (λ k _ is. is))))
+
   no_fault : (index : ℕ) (part : Part) → slice_get (world_parts n) index ≡ Some part → Free (repeats_name (take index (world_parts n)) part) (uses_unknown (relations_of (world_parts n)) part) (has_wrong_arity (relations_of (world_parts n)) part) (has_unknown_column (relations_of (world_parts n)) part) (passed_limit (take index (world_parts n)) part) →
       (fault : SchemaFault) → IsFaultOf (relations_of (world_parts n)) (take index (world_parts n)) part fault → ⊥
   no_fault index part at none DuplicateName has = let e = none.names in cc
@@ -165,6 +218,7 @@ module _ (n : ℕ) where
       (front_steps (take index (world_parts n) ++ part ∷ []) (λ other there. ⊎_elim (contains_take index (world_parts n) other) (λ last. subst (Contains (world_parts n)) (contains_one part other last) (contains_got (world_parts n) index part at))
       (Contains-append_cases (take index (world_parts n)) (part ∷ []) other there)))
       has.1
+  no_fault index part at none WrongSort has = no_wrong_sort part (contains_got (world_parts n) index part at) has
 
   world_faultless : AreFaultless (world_parts n)
   world_faultless index fault (part, at, has) =
@@ -186,8 +240,18 @@ module _ (n : ℕ) where
           (all_appended IsNamed rule_parts (source_parts n) (all_mapped IsNamed rule_part (range_with_len 1 7) (λ k _. tt))
           (all_mapped IsNamed (source_part n) (range_with_len 1 8) (λ k _. listed 119 (codes "orld")))))
 
+  world_sorted : HaveSorts (world_parts n)
+  world_sorted part there = all_member HasSorts (world_parts n) part all there
+    where
+      all : AllByRecursion HasSorts (world_parts n)
+      all =
+          all_appended HasSorts relation_parts (method_parts ++ (rule_parts ++ source_parts n)) (all_mapped HasSorts relation_part (range_with_len 1 8) (λ k _. refl))
+          (all_appended HasSorts method_parts (rule_parts ++ source_parts n) (tt, all_mapped HasSorts (method_part (codes "a" ∷ [])) (range_with_len 2 7) (λ k _. tt))
+          (all_appended HasSorts rule_parts (source_parts n) (all_mapped HasSorts rule_part (range_with_len 1 7) (λ k _. tt))
+          (all_mapped HasSorts (source_part n) (range_with_len 1 8) (λ k _. tt))))
+
   world_valid : IsSchema world_relations world_methods world_rules [] (world_sources n)
-  world_valid = is_schema (world_parts n) world_faultless world_named
+  world_valid = is_schema (world_parts n) world_faultless world_named world_sorted
 
   pub world_schema : Schema
   world_schema = record { relations = world_relations; methods = world_methods; rules = world_rules; constants = []; sources = world_sources n; valid = world_valid }
@@ -210,13 +274,13 @@ module _ (n : ℕ) where
   text_utf8 : n < 2 ^ 64 → IsUtf8 (schema_text n)
   text_utf8 fits = IsUtf8-append ((relation_lines ++ method_lines) ++ rule_lines) (source_lines n) (ascii_utf8 ((relation_lines ++ method_lines) ++ rule_lines) refl) (lines_utf8 fits (range_with_len 1 8) steps_small)
 
-  has_parts : n < 2 ^ 64 → HasParts (schema_text n) (printed_parts (world_parts n))
-  has_parts fits = subst (λ (text : List ℕ). HasParts text (printed_parts (world_parts n))) (world_text n fits) (parts_again (world_parts n) (world_plain n))
+  has_parts : n < 2 ^ 64 → HasParts (schema_text n) (printed_parts false (world_parts n))
+  has_parts fits = subst (λ (text : List ℕ). HasParts text (printed_parts false (world_parts n))) (world_text n fits) (parts_again false (world_parts n) (world_plain n))
 
   declares : n < 2 ^ 64 → DeclaresSchema (schema_text n) world_schema
   unfolding world_schema
   declares fits = record {
-    declared = printed_parts (world_parts n);
+    declared = printed_parts false (world_parts n);
     parts = has_parts fits;
     faultless = subst AreFaultless (sym (on_lines n)) world_faultless;
     builds = subst (λ (parts : List Part). Builds parts world_schema) (sym (on_lines n)) (record { relations = refl; methods = refl; rules = refl; constants = refl; sources = refl });

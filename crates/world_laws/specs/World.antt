@@ -3,6 +3,8 @@ use Rattle.std.specs.Prelude.{◌≡◌, ◌+◌, ◌-◌, ◌++◌, ℕ, List, 
 use Rattle.std.specs.List.{range_with_len}
 use Rattle.meaning.specs.declared.types.Term.TheVariants.{Var}
 use Rattle.meaning.specs.declared.types.Relation.{Relation}
+use Rattle.meaning.specs.declared.types.Sort.{Sort}
+use Rattle.meaning.specs.declared.types.Sort.TheVariants.{Text}
 use Rattle.meaning.specs.declared.types.Method.{Method}
 use Rattle.meaning.specs.declared.types.Rule.{Rule}
 use Rattle.meaning.specs.declared.types.Operand.TheVariants.{Column}
@@ -29,8 +31,11 @@ method_name k = lettered (codes "m") k
 abbrev pub columns : List (List ℕ)
 columns = codes "a" ∷ codes "b" ∷ []
 
+abbrev pub sorts : List Sort
+sorts = Text ∷ Text ∷ []
+
 abbrev pub relation_with : ℕ → Relation
-relation_with k = record { name = relation_name k; columns = columns }
+relation_with k = record { name = relation_name k; columns = columns; sorts = sorts }
 
 abbrev pub world_relations : List Relation
 world_relations = map relation_with (range_with_len 1 8)

@@ -9,7 +9,7 @@ use Rattle.std.proofs.lemmas.Bool.Decides.{nat_tests}
 use Rattle.std.proofs.lemmas.Fmt.{decimal_digit, digits_value-decimal}
 use Rattle.std.proofs.lemmas.List.Sums.{split_at_first, passes_at_first}
 use Rattle.pq_text.specs.Numbers.{value_of}
-use Rattle.pq_text.proofs.Digits.{value_numerals}
+use Rattle.lists.proofs.Digits.{value_numerals}
 use Rattle.world_source.specs.Formulas.{IsInRange, in_range, locator, number_of, numbers_of}
 
 -- a number that is written is the one that is read

@@ -1,4 +1,0 @@
-pub mod Deciding
-pub mod Generators
-pub mod Ends
-pub mod Runs
