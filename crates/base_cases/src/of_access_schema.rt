@@ -1,5 +1,5 @@
 // Parts whose names are there or not.
-use access_schema::{Part, Parts, are_named};
+use access_schema::{Part, Parts, Sort, Sorts, are_named};
 use lists::{NoMemory, Text, Texts};
 use std::alloc::Global;
 use std::test::Fail;
@@ -12,11 +12,17 @@ fn texts(alloc: Global, all: &[&str]) -> Result<Texts, NoMemory> {
     Ok(made)
 }
 
+/// A relation of texts.
 fn relation(alloc: Global, name: &str, columns: &[&str]) -> Result<Part, NoMemory> {
+    let mut sorts = Sorts::new(alloc);
+    for _ in columns {
+        sorts.push(Sort::Text)?;
+    }
     let columns = texts(alloc, columns)?;
     Ok(Part::Relation {
         name: Text::from_str(alloc, name)?,
         columns,
+        sorts,
     })
 }
 

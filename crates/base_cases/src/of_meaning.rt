@@ -3,7 +3,7 @@ use lists::{Copies, Exact, NoMemory, Seq, Text};
 use meaning::types::{
     Atom, Branch, Fact, Firing, Ground, Operand, Out, Place, Request, Step, Term, Trigger, Val,
 };
-use meaning::{columns_made, is_of_relation};
+use meaning::{columns_made, is_integer, is_of_relation};
 use std::alloc::Global;
 use std::test::Fail;
 
@@ -61,6 +61,40 @@ fn is_of(alloc: Global, rel: u32) -> Result<bool, NoMemory> {
 fn a_fact_is_of_its_relation(rt: HostRuntime) -> Result<(), Fail> {
     assert!(rt; is_of(rt.alloc(), 1)?);
     assert!(rt; !is_of(rt.alloc(), 0)?);
+    Ok(())
+}
+
+#[test]
+fn an_integer_has_one_spelling(rt: HostRuntime) -> Result<(), Fail> {
+    for (text, is) in [
+        ("0", true),
+        ("-5", true),
+        ("10", true),
+        ("9223372036854775807", true),
+        ("-9223372036854775808", true),
+        ("-0", false),
+        ("+1", false),
+        ("01", false),
+        ("-01", false),
+        (" 1", false),
+        ("1 ", false),
+        ("", false),
+        ("-", false),
+        ("--1", false),
+        ("1-", false),
+        ("9223372036854775808", false),
+        ("-9223372036854775809", false),
+        ("18446744073709551616", false),
+        ("-18446744073709551616", false),
+        ("99999999999999999999", false),
+        ("1_0", false),
+        ("1.0", false),
+        ("x", false),
+        ("١", false),
+        ("1١", false),
+    ] {
+        assert_eq!(rt; is_integer(text.as_bytes()), is, "{text}");
+    }
     Ok(())
 }
 

@@ -33,6 +33,7 @@ pub fn fault_text(alloc: Global, fault: &SqlFault) -> Result<String, NoMemory> {
         SqlFault::UnknownName { offset } => format!(in alloc; "unknown {offset}"),
         SqlFault::Ambiguous { offset } => format!(in alloc; "ambiguous {offset}"),
         SqlFault::WrongWidth { offset } => format!(in alloc; "width {offset}"),
+        SqlFault::WrongSort { offset } => format!(in alloc; "sort {offset}"),
     }
 }
 

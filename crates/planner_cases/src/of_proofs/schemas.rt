@@ -1,6 +1,9 @@
 // Schemas from lines of words.
-use access_schema::{NamedAtom, NamedAtoms, NamedTerm, NamedTerms, Part, Parts, Schema, are_named};
+use access_schema::{
+    NamedAtom, NamedAtoms, NamedTerm, NamedTerms, Part, Parts, Schema, are_named, have_sorts,
+};
 use lists::{NoMemory, Seq, Text, Texts};
+use meaning::types::{Sort, Sorts};
 use std::alloc::Global;
 
 /// Employees behind a lookup by number, and a directory that has each of them.
@@ -47,11 +50,22 @@ pub(crate) fn words(alloc: Global, line: &str) -> Result<Texts, NoMemory> {
     Ok(made)
 }
 
+/// The sorts of so many columns of texts.
+fn text_sorts(alloc: Global, count: usize) -> Result<Sorts, NoMemory> {
+    let mut sorts = Seq::new(alloc);
+    for _ in 0..count {
+        sorts.push(Sort::Text)?;
+    }
+    Ok(sorts)
+}
+
 pub(crate) fn relation(alloc: Global, name: &str, columns: &str) -> Result<Part, NoMemory> {
     let columns = words(alloc, columns)?;
+    let sorts = text_sorts(alloc, columns.len())?;
     Ok(Part::Relation {
         name: Text::from_str(alloc, name)?,
         columns,
+        sorts,
     })
 }
 
@@ -96,7 +110,7 @@ fn part(alloc: Global, said: &[&str; 4]) -> Result<Part, NoMemory> {
 }
 
 pub(crate) fn built(alloc: Global, parts: Parts) -> Result<Schema, NoMemory> {
-    if parts.len() > 100 || !are_named(parts.as_slice()) {
+    if parts.len() > 100 || !are_named(parts.as_slice()) || !have_sorts(parts.as_slice()) {
         return Err(NoMemory);
     }
     match Schema::build(alloc, parts) {

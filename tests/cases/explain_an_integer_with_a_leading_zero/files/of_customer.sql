@@ -1,0 +1,1 @@
+SELECT DISTINCT status FROM orders WHERE custkey = '05'
