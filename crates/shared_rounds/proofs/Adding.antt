@@ -5,13 +5,13 @@ use Rattle.std.specs.Cmp.Lexicographic.{pointwise, nat_list_eq_equiv}
 use Rattle.std.proofs.lemmas.Bool.{both_ways}
 use Rattle.std.proofs.lemmas.Bool.Decides.{nat_tests}
 use Rattle.std.proofs.lemmas.List.{append-nil}
-use Rattle.lists.proofs.Members.{contains_here, contains_there, contains_cases, contains_none, contains_one}
+use Rattle.std.proofs.lemmas.List.Elements.{Contains-append_left, Contains-push, Contains-push_cases}
+use Rattle.lists.proofs.Members.{contains_here, contains_there, contains_cases, contains_none}
 use Rattle.lists.proofs.Booleans.{both_true, and_true, one_true, both_false}
 use Rattle.lists.proofs.Orders.{text_is, rows_equiv, rows_same_equal}
 use Rattle.meaning.specs.declared.types.Request.{Request}
 use Rattle.meaning.specs.Search.{AreDistinct}
 use Rattle.shared_rounds.specs.SharedRounds.{same_request, is_asked, Once, to_ask}
-use Rattle.shared_rounds.proofs.Turning.{in_append, append_first, append_second}
 
 -- ---- the test of requests
 
@@ -52,7 +52,7 @@ not_in (first ∷ rest) request is c =
 pub distinct_push : {X : Type 0} (xs : List X) (x : X) → AreDistinct xs → (Contains xs x → ⊥) → AreDistinct (xs ++ x ∷ [])
 distinct_push [] x d new = (contains_none x, tt)
 distinct_push (y ∷ xs) x d new = (
-  (λ c. ⊎_elim d.0 (λ h. new (subst (λ z. Contains (y ∷ xs) z) (sym (contains_one x y h)) (contains_here y xs))) (in_append xs (x ∷ []) y c)),
+  (λ c. ⊎_elim d.0 (λ e. new (subst (λ z. Contains (y ∷ xs) z) (sym e) (contains_here y xs))) (Contains-push_cases xs x y c)),
   distinct_push xs x d.1 (λ c. new (contains_there y xs x c)),
 )
 
@@ -88,9 +88,10 @@ asked_members (request ∷ requests) asked r = by_test (λ l. Contains l r ↔ (
     ))
     (λ e. let ih = asked_members requests (asked ++ request ∷ []) r in (
       (λ c. ⊎_elim
-          (λ h. ⊎_elim inl (λ s. inr (subst (λ (x : Request). Contains (request ∷ requests) x) (contains_one request r s) (contains_here request requests))) (in_append asked (request ∷ []) r h))
+          (λ h. ⊎_elim inl (λ s. inr (subst (λ (x : Request). Contains (request ∷ requests) x) s (contains_here request requests)))
+          (Contains-push_cases asked request r h))
           (λ h. inr (contains_there request requests r h)) (ih.0 c)),
-      ⊎_elim (λ h. ih.1 (inl (append_first asked (request ∷ []) r h))) (λ h. ⊎_elim
-          (λ s. ih.1 (inl (append_second asked (request ∷ []) r (subst (λ (x : Request). Contains (request ∷ []) x) s (contains_here request [])))))
+      ⊎_elim (λ h. ih.1 (inl (Contains-append_left asked (request ∷ []) r h))) (λ h. ⊎_elim
+          (λ s. ih.1 (inl (subst (λ (x : Request). Contains (asked ++ request ∷ []) x) s (Contains-push asked request))))
           (λ t. ih.1 (inr t)) (contains_cases request requests r h)),
     ))

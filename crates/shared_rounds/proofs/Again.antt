@@ -4,7 +4,7 @@ use Rattle.std.specs.Prelude.{Contains, slice_get}
 use Rattle.std.specs.List.{AllZip}
 use Rattle.std.proofs.lemmas.List.{append-nil}
 use Rattle.std.proofs.lemmas.List.Concat.{flat_map-append}
-use Rattle.lists.proofs.Members.{contains_here, contains_there, contains_joined}
+use Rattle.lists.proofs.Members.{contains_here, contains_there, contains_joined, zip_push}
 use Rattle.meaning.specs.declared.types.SchemaParts.{SchemaParts}
 use Rattle.meaning.specs.declared.types.Fact.{Fact}
 use Rattle.meaning.specs.declared.types.Plan.{Plan}
@@ -22,12 +22,6 @@ none_new (request ∷ requests) asked all =
     asked_push (request ∷ []) requests asked
     ∙ ap (λ (l : List Request). with_asked l requests) (asked_twice asked request (all request (contains_here request requests)))
     ∙ none_new requests asked (λ r c. all r (contains_there request requests r c))
-
-zip_push : {A B : Type 0} (R : A → B → Type 0) (xs : List A) (ys : List B) (x : A) (y : B) → AllZip R xs ys → R x y → AllZip R (xs ++ x ∷ []) (ys ++ y ∷ [])
-zip_push R [] [] x y z r = (r, tt)
-zip_push R [] (w ∷ ys) x y z r = absurd z
-zip_push R (v ∷ xs) [] x y z r = absurd z
-zip_push R (v ∷ xs) (w ∷ ys) x y z r = (z.0, zip_push R xs ys x y z.1 r)
 
 zip_split : {A B : Type 0} (R : A → B → Type 0) (xs : List A) (x : A) (ys : List B) → AllZip R (xs ++ x ∷ []) ys → (front : List B) × (y : B) × (ys ≡ front ++ y ∷ []) × AllZip R xs front × R x y
 zip_split R [] x [] z = absurd z

@@ -7,7 +7,8 @@ use Rattle.std.proofs.lemmas.Bool.{both_ways, cases_lt}
 use Rattle.std.proofs.lemmas.Bool.Decides.{nat_tests}
 use Rattle.std.proofs.lemmas.List.{append-nil, map-append, take_more, length-map}
 use Rattle.std.proofs.lemmas.Option.{slice_get_read, slice_get_within}
-use Rattle.lists.proofs.Members.{contains_got, contains_one, got_before, got_push, some_injective, contains_here, head_is, tail_is}
+use Rattle.std.proofs.lemmas.List.Elements.{Contains-append_left, Contains-push, Contains-push_cases}
+use Rattle.lists.proofs.Members.{contains_got, got_before, got_push, some_injective, head_is, tail_is}
 use Rattle.lists.proofs.Booleans.{both_true, and_true}
 use Rattle.lists.proofs.Orders.{text_is, rows_equiv, rows_ties, rows_same_equal}
 use Rattle.meaning.specs.declared.types.Request.{Request}
@@ -18,7 +19,6 @@ use Rattle.shared_rounds.specs.Books.{asked_in, requests_with, with_asked, is_fo
 use Rattle.shared_rounds.specs.Books.Notes.{found, added}
 use Rattle.shared_rounds.specs.declared.book.Shelf.{Shelf}
 use Rattle.shared_rounds.specs.declared.book.Book.{Book}
-use Rattle.shared_rounds.proofs.Turning.{in_append, append_first, append_second}
 use Rattle.shared_rounds.proofs.Adding.{asked_in as asked_there, not_in}
 
 -- ---- one request more
@@ -177,7 +177,7 @@ key_self values = sym (rows_ties values values) ∙ rows_equiv.refl values
 -- what a request finds, where another one is added
 other_found : (asked : List Request) (r q : Request) (o : Option ℕ) → (r ≡ q → ⊥) → MatchOption o (Contains asked q → ⊥) (λ k. slice_get asked k ≡ Some q)
     → MatchOption o (Contains (asked ++ r ∷ []) q → ⊥) (λ k. slice_get (asked ++ r ∷ []) k ≡ Some q)
-other_found asked r q None apart h = λ c. ⊎_elim h (λ d. apart (contains_one r q d)) (in_append asked (r ∷ []) q c)
+other_found asked r q None apart h = λ c. ⊎_elim h apart (Contains-push_cases asked r q c)
 other_found asked r q (Some k) apart h = got_before asked (r ∷ []) k (slice_get_within asked k q h) ∙ h
 
 at_found : (shelves : List Shelf) (asked : List Request) (q : Request) (k : ℕ) → FindsEach shelves asked → number_in shelves q ≡ Some k → slice_get asked k ≡ Some q
@@ -298,10 +298,10 @@ module _ (kind : List ℕ) (rel : ℕ) (positions : List ℕ) (list : List (List
     request_more = ap (requests_with rel positions) taken ∙ map-append (λ (v : List (List ℕ)). record { rel = rel; positions = positions; values = v }) (first_of n) (values ∷ [])
 
     in_more : (v : List (List ℕ)) → Contains (first_of n) v → Contains (first_of (n + 1)) v
-    in_more v c = subst (λ (l : List (List (List ℕ))). Contains l v) (sym taken) (append_first (first_of n) (values ∷ []) v c)
+    in_more v c = subst (λ (l : List (List (List ℕ))). Contains l v) (sym taken) (Contains-append_left (first_of n) (values ∷ []) v c)
 
     last_in : Contains (first_of (n + 1)) values
-    last_in = subst (λ (l : List (List (List ℕ))). Contains l values) (sym taken) (append_second (first_of n) (values ∷ []) values (contains_here values []))
+    last_in = subst (λ (l : List (List (List ℕ))). Contains l values) (sym taken) (Contains-push (first_of n) values)
 
     pub notes_more : (place : ℕ) (mid new : Book) (shelf after : Shelf) (numbers more : List ℕ) (number : ℕ) → NotesAll kind rel positions (first_of n) old mid numbers
         → IsPlace mid.shelves.items rel positions place → shelf ≡ get_or mid.shelves.items place shelf → new.shelves.items ≡ set mid.shelves.items place after
@@ -374,15 +374,13 @@ module _ (kind : List ℕ) (rel : ℕ) (positions : List ℕ) (list : List (List
                   ∙ ap (slice_get (asked_in mid.asked.items ++ record { rel = rel; positions = positions; values = values } ∷ [])) first
                   ∙ got_push (asked_in mid.asked.items) (record { rel = rel; positions = positions; values = values }));
               kinds = λ ask c. ⊎_elim (kinds_stay ask)
-                  (λ h.
-                  let e : ask_at shelf kind values ≡ ask = contains_one (ask_at shelf kind values) ask h in
-                  inr (
+                  (λ e. inr (
                     ap (λ (x : Ask). x.kind) (sym e),
                     ap (λ (x : Ask). x.request.rel) (sym e) ∙ ap (λ (r : Request). r.rel) request,
                     ap (λ (x : Ask). x.request.positions) (sym e) ∙ ap (λ (r : Request). r.positions) request,
                     subst (λ (x : Ask). Contains (first_of (n + 1)) x.request.values) e last_in,
                   ))
-                  (in_append mid.asked.items (ask_at shelf kind values ∷ []) ask (subst (λ (l : List Ask). Contains l ask) a.after_is c));
+                  (Contains-push_cases mid.asked.items (ask_at shelf kind values) ask (subst (λ (l : List Ask). Contains l ask) a.after_is c));
               onward = (
                 so_far.onward.0 ++ ask_at shelf kind values ∷ [],
                 a.after_is ∙ ap (λ (l : List Ask). l ++ ask_at shelf kind values ∷ []) so_far.onward.1 ∙ append_assoc old.asked.items so_far.onward.0 (ask_at shelf kind values ∷ []),

@@ -5,6 +5,7 @@ use Rattle.std.specs.List.{AllZip}
 use Rattle.std.proofs.lemmas.Bool.{cases_lt}
 use Rattle.std.proofs.lemmas.List.{append-nil, take_all}
 use Rattle.std.proofs.lemmas.Option.{slice_get_past, slice_get_within}
+use Rattle.std.proofs.lemmas.List.Elements.{Contains-append_left, Contains-append_right}
 use Rattle.lists.proofs.Members.{contains_here, contains_there, contains_cases, contains_none, got_below, contains_joined, joined_from}
 use Rattle.meaning.specs.declared.types.SchemaParts.{SchemaParts}
 use Rattle.meaning.specs.declared.types.Fact.{Fact}
@@ -12,7 +13,7 @@ use Rattle.meaning.specs.declared.types.Plan.{Plan}
 use Rattle.meaning.specs.declared.types.Request.{Request}
 use Rattle.meaning.specs.Search.{AreDistinct}
 use Rattle.shared_rounds.specs.SharedRounds.{Turn, turns_of, AreAskedAt, IsTurn, Once, wanted_in, AreRounds, IsWanted, IsOfPlans}
-use Rattle.shared_rounds.proofs.Turning.{append_first, append_second, AreOf, of_branches, branches_of, one_of, at_one}
+use Rattle.shared_rounds.proofs.Turning.{AreOf, of_branches, branches_of, one_of, at_one}
 use Rattle.shared_rounds.proofs.Adding.{asked_distinct, asked_members}
 
 -- ---- pairs of two lists
@@ -121,10 +122,10 @@ module _ (schema : SchemaParts) (facts : List Fact) where
           front ++ own,
           more,
           (λ round less turn is request c. ⊎_elim
-              (λ l. append_first front own request (has round l turn is request c))
+              (λ l. Contains-append_left front own request (has round l turn is request c))
               (λ l.
               let at : round ≡ n = omega (arith, l, less) in
-              append_second front own request
+              Contains-append_right front own request
               (same_turn (slice_get (turns_of plan) n) turn own (subst (λ k. IsTurn schema facts k plan turn) at is) its request c))
               (cases_lt round n)),
         )

@@ -1,10 +1,13 @@
 -- The requests of a plan's steps, one step after another.
-use Rattle.std.proofs.Common.{◌≡◌, ◌↔◌, ℕ, zero, suc, ◌+◌, ◌≤◌, List, [], ◌∷◌, ◌++◌, length, take, Option, Some, refl, sym, ◌∙◌, ap, subst, append_assoc, inl, inr, ⊎_elim, ◌⊎◌, arith}
+use Rattle.std.proofs.Common.{◌≡◌, ◌↔◌, ℕ, zero, suc, ◌+◌, ◌≤◌, List, [], ◌∷◌, ◌++◌, length, take, Option, Some, refl, sym, ◌∙◌, ap, subst, append_assoc, ⊎_elim, arith}
 use Rattle.std.specs.Prelude.{Contains, slice_get}
 use Rattle.std.proofs.lemmas.List.{append-nil, take_all}
 use Rattle.std.proofs.Math.Seq.{take-suc}
 use Rattle.std.proofs.lemmas.Option.{slice_get_within, get_or_from_slice_get}
-use Rattle.lists.proofs.Members.{contains_here, contains_there, contains_cases, contains_none, got_below}
+use Rattle.std.proofs.lemmas.List.Elements.{Contains-append_cases}
+-- by these names plan_batches cites them
+pub use Rattle.std.proofs.lemmas.List.Elements.{Contains-append_cases as in_append, Contains-append_left as append_first, Contains-append_right as append_second}
+use Rattle.lists.proofs.Members.{contains_none, got_below}
 use Rattle.meaning.specs.declared.types.SchemaParts.{SchemaParts}
 use Rattle.meaning.specs.declared.types.Fact.{Fact}
 use Rattle.meaning.specs.declared.types.Step.{Step}
@@ -13,22 +16,6 @@ use Rattle.meaning.specs.declared.types.Plan.{Plan}
 use Rattle.meaning.specs.declared.types.Request.{Request}
 use Rattle.meaning.specs.Requests.{IsRound, AreStepsRequests, AreBranchesRequests, AreRequests}
 use Rattle.shared_rounds.specs.SharedRounds.{Turn, turns_from, turns_in, turns_of, AreAskedAt, IsTurn, Anew, AreRounds}
-
--- ---- members of lists joined end to end
-
-pub in_append : {X : Type 0} (xs ys : List X) (x : X) → Contains (xs ++ ys) x → Contains xs x ⊎ Contains ys x
-in_append [] ys x c = inr c
-in_append (y ∷ xs) ys x c = ⊎_elim (λ e. inl (subst (λ z. Contains (y ∷ xs) z) e (contains_here y xs)))
-    (λ h. ⊎_elim (λ l. inl (contains_there y xs x l)) inr (in_append xs ys x h)) (contains_cases y (xs ++ ys) x c)
-
-pub append_first : {X : Type 0} (xs ys : List X) (x : X) → Contains xs x → Contains (xs ++ ys) x
-append_first [] ys x c = absurd (omega arith)
-append_first (y ∷ xs) ys x c = ⊎_elim (λ e. subst (λ z. Contains (y ∷ (xs ++ ys)) z) e (contains_here y (xs ++ ys)))
-    (λ h. contains_there y (xs ++ ys) x (append_first xs ys x h)) (contains_cases y xs x c)
-
-pub append_second : {X : Type 0} (xs ys : List X) (x : X) → Contains ys x → Contains (xs ++ ys) x
-append_second [] ys x c = c
-append_second (y ∷ xs) ys x c = contains_there y (xs ++ ys) x (append_second xs ys x c)
 
 -- one more of a list
 pub one_taken : {X : Type 0} (xs : List X) (n : ℕ) (x : X) → slice_get xs n ≡ Some x → take (suc n) xs ≡ take n xs ++ x ∷ []
@@ -98,7 +85,7 @@ module _ (schema : SchemaParts) (facts : List Fact) where
       ⊎_elim
       (λ h. (0, turn, now, refl, round, h))
       (λ h. let (n, its, own, at, is, among) = at_one turns later more request h in (suc n, its, own, at, is, among))
-      (in_append now later request (subst (λ (l : List Request). Contains l request) e c))
+      (Contains-append_cases now later request (subst (λ (l : List Request). Contains l request) e c))
 
   -- ---- the rounds of one plan, asked anew
 
