@@ -10,7 +10,7 @@ use Rattle.row_text.specs.Packed.{values_of}
 use Rattle.source_trait.specs.Asking.{HaveArity, RowList}
 use Rattle.source_trait.specs.declared.source.AttachFault.{AttachFault}
 use Rattle.source_trait.specs.declared.source.AttachFault.TheVariants.{BadRow, NotUtf8}
-use Rattle.csv_sources.specs.DataFile.{all_text, first_fault, row_fault, unless}
+use Rattle.csv_sources.specs.DataFile.{all_text, fields_at, first_fault, row_fault, rows_at, unless}
 use Rattle.csv_sources.proofs.Fields.{AllText-from_all_text}
 use Rattle.csv_sources.proofs.Rows.{arity_more, row_bad, rows_step}
 
@@ -30,7 +30,7 @@ text_at (field ∷ fields) zero all = all.0
 text_at (field ∷ fields) (suc place) all = text_at fields place all.1
 
 -- the fields of a row of text at places are text
-pub text_under : (places : List ℕ) (fields : List (List ℕ)) → AllText fields → AllText (map (λ p. get_or fields p []) places)
+pub text_under : (places : List ℕ) (fields : List (List ℕ)) → AllText fields → AllText (fields_at places fields)
 unfolding AllText
 text_under [] fields all = tt
 text_under (place ∷ places) fields all = (text_at fields place all, text_under places fields all)
@@ -63,17 +63,16 @@ pub record AreGathered (width : ℕ) (places : List ℕ) (n : ℕ) (values : Lis
   pub rows : RowList
   pub gathered : values_of rows ≡ values
   pub fit : HaveArity (length places) rows
-  pub same : unless (first_fault width 1 all) (map (λ row. map (λ p. get_or row p []) places) all)
-      ≡ unless (first_fault width n left) (rows ++ map (λ row. map (λ p. get_or row p []) places) left)
+  pub same : rows_at width places all ≡ unless (first_fault width n left) (rows ++ map (fields_at places) left)
 
 pub gathered_none : (width : ℕ) (places : List ℕ) (values : List (List ℕ)) (all : RowList) → values ≡ [] → AreGathered width places 1 values all all
 gathered_none width places values all none = record { rows = []; gathered = sym none; fit = tt; same = refl }
 
 -- the first record that is left is gathered
 pub gathered_more : (width : ℕ) (places : List ℕ) (n : ℕ) (values more : List (List ℕ)) (all old left : RowList) (row : List (List ℕ)) → old ≡ row ∷ left → row_fault width n row ≡ None
-    → more ≡ values ++ map (λ p. get_or row p []) places → AreGathered width places n values all old → AreGathered width places (n + 1) more all left
+    → more ≡ values ++ fields_at places row → AreGathered width places n values all old → AreGathered width places (n + 1) more all left
 gathered_more width places n values more all old left row taken whole added done =
-    let picked = map (λ p. get_or row p []) places in
+    let picked = fields_at places row in
     record {
       rows = done.rows ++ picked ∷ [];
       gathered = values_push done.rows picked ∙ ap (λ (l : List (List ℕ)). l ++ picked) done.gathered ∙ sym added;
@@ -83,14 +82,14 @@ gathered_more width places n values more all old left row taken whole added done
 
 -- where none is left all are gathered
 pub gathered_all : (width : ℕ) (places : List ℕ) (n : ℕ) (values : List (List ℕ)) (all left : RowList) (done : AreGathered width places n values all left) → left ≡ []
-    → Ok done.rows ≡ unless (first_fault width 1 all) (map (λ row. map (λ p. get_or row p []) places) all)
+    → Ok done.rows ≡ rows_at width places all
 gathered_all width places n values all left done none =
-    sym (done.same ∙ ap (λ (l : RowList). unless (first_fault width n l) (done.rows ++ map (λ row. map (λ p. get_or row p []) places) l)) none ∙ ap Ok (append-nil done.rows))
+    sym (done.same ∙ ap (λ (l : RowList). unless (first_fault width n l) (done.rows ++ map (fields_at places) l)) none ∙ ap Ok (append-nil done.rows))
 
 -- the first record that is left has the first fault
 pub gathered_fault : (width : ℕ) (places : List ℕ) (n : ℕ) (values : List (List ℕ)) (all old left : RowList) (row : List (List ℕ)) (fault : AttachFault) → old ≡ row ∷ left
-    → row_fault width n row ≡ Some fault → AreGathered width places n values all old → Err fault ≡ unless (first_fault width 1 all) (map (λ row. map (λ p. get_or row p []) places) all)
+    → row_fault width n row ≡ Some fault → AreGathered width places n values all old → Err fault ≡ rows_at width places all
 gathered_fault width places n values all old left row fault taken bad done =
     sym (done.same
-    ∙ ap (λ (l : RowList). unless (first_fault width n l) (done.rows ++ map (λ row. map (λ p. get_or row p []) places) l)) taken
-    ∙ row_bad width n row left (done.rows ++ map (λ row. map (λ p. get_or row p []) places) (row ∷ left)) fault bad)
+    ∙ ap (λ (l : RowList). unless (first_fault width n l) (done.rows ++ map (fields_at places) l)) taken
+    ∙ row_bad width n row left (done.rows ++ map (fields_at places) (row ∷ left)) fault bad)

@@ -9,7 +9,7 @@ use Rattle.csv.specs.declared.parser.State.TheVariants as st
 use Rattle.source_trait.specs.Asking.{HaveArity, RowList}
 use Rattle.source_trait.specs.declared.source.AttachFault.{AttachFault}
 use Rattle.source_trait.specs.declared.source.AttachFault.TheVariants.{BadHeader}
-use Rattle.csv_sources.specs.DataFile.{after_marks, fields_under, first_fault, first_of, header_fault, offer_of, place_in, row_fault, unless}
+use Rattle.csv_sources.specs.DataFile.{after_marks, fields_at, fields_under, first_fault, first_of, header_fault, offer_of, place_in, row_fault, rows_at, unless}
 
 -- a row with a fault is the first one that is answered
 pub row_bad : (width n : ℕ) (row : List (List ℕ)) (left all : RowList) (fault : AttachFault) → row_fault width n row ≡ Some fault → unless (first_fault width n (row ∷ left)) all ≡ Err fault
@@ -23,14 +23,14 @@ row_more width n f done row left h =
     ∙ ap (unless (first_fault width (n + 1) left)) (sym (append_assoc done (f row ∷ []) (map f left)))
 
 -- the fields at the places of the columns' names are those under the names
-under_places : (header columns row : List (List ℕ)) → map (λ p. get_or row p []) (map (place_in header) columns) ≡ fields_under header columns row
+under_places : (header columns row : List (List ℕ)) → fields_at (map (place_in header) columns) row ≡ fields_under header columns row
 under_places header [] row = refl
 under_places header (c ∷ columns) row = ap (λ (l : List (List ℕ)). get_or row (place_in header c) [] ∷ l) (under_places header columns row)
 
-pub rows_under_places : (header columns : List (List ℕ)) (rows : RowList) → map (λ row. map (λ p. get_or row p []) (map (place_in header) columns)) rows ≡ map (fields_under header columns) rows
+pub rows_under_places : (header columns : List (List ℕ)) (rows : RowList) → map (fields_at (map (place_in header) columns)) rows ≡ map (fields_under header columns) rows
 rows_under_places header columns [] = refl
 rows_under_places header columns (row ∷ rows) =
-    ap (λ (r : List (List ℕ)). r ∷ map (λ row. map (λ p. get_or row p []) (map (place_in header) columns)) rows) (under_places header columns row)
+    ap (λ (r : List (List ℕ)). r ∷ map (fields_at (map (place_in header) columns)) rows) (under_places header columns row)
     ∙ ap (λ (l : RowList). fields_under header columns row ∷ l) (rows_under_places header columns rows)
 
 -- a text has no more records than bytes and one
@@ -78,18 +78,18 @@ offer_bad columns header rows all fault e h =
     sym (ap (offer_of columns) e ∙ ap (λ o. unless (first_of o (first_fault (length header) 1 rows)) (map (fields_under header columns) rows)) (sym h))
 
 pub offer_rows : (columns header : List (List ℕ)) (rows all : RowList) (places : List ℕ) (offer : Result RowList AttachFault) → all ≡ header ∷ rows → None ≡ header_fault header columns → places ≡ map (place_in header) columns
-    → offer ≡ unless (first_fault (length header) 1 rows) (map (λ row. map (λ p. get_or row p []) places) rows) → offer ≡ offer_of columns all
+    → offer ≡ rows_at (length header) places rows → offer ≡ offer_of columns all
 offer_rows columns header rows all places offer e h at is =
     is
-    ∙ ap (λ (ps : List ℕ). unless (first_fault (length header) 1 rows) (map (λ row. map (λ p. get_or row p []) ps) rows)) at
+    ∙ ap (λ (ps : List ℕ). rows_at (length header) ps rows) at
     ∙ ap (unless (first_fault (length header) 1 rows)) (rows_under_places header columns rows)
     ∙ sym (ap (offer_of columns) e ∙ ap (λ o. unless (first_of o (first_fault (length header) 1 rows)) (map (fields_under header columns) rows)) (sym h))
 
 -- a record without a fault adds its fields at the places to the rows
-pub rows_step : (width n : ℕ) (places : List ℕ) (done more old left : RowList) (row text : List (List ℕ)) → old ≡ row ∷ left → row_fault width n row ≡ None → text ≡ row → more ≡ done ++ map (λ p. get_or text p []) places ∷ []
-    → unless (first_fault width n old) (done ++ map (λ row. map (λ p. get_or row p []) places) old) ≡ unless (first_fault width (n + 1) left) (more ++ map (λ row. map (λ p. get_or row p []) places) left)
+pub rows_step : (width n : ℕ) (places : List ℕ) (done more old left : RowList) (row text : List (List ℕ)) → old ≡ row ∷ left → row_fault width n row ≡ None → text ≡ row → more ≡ done ++ fields_at places text ∷ []
+    → unless (first_fault width n old) (done ++ map (fields_at places) old) ≡ unless (first_fault width (n + 1) left) (more ++ map (fields_at places) left)
 rows_step width n places done more old left row text taken good same added =
-    let f = λ (r : List (List ℕ)). map (λ p. get_or r p []) places in
+    let f = fields_at places in
     let added_is : more ≡ done ++ f row ∷ [] = added ∙ ap (λ (r : List (List ℕ)). done ++ f r ∷ []) same in
     ap (λ (l : RowList). unless (first_fault width n l) (done ++ map f l)) taken
     ∙ row_more width n f done row left good
@@ -99,5 +99,5 @@ arity_push : (arity : ℕ) (rows : RowList) (row : List (List ℕ)) → HaveArit
 arity_push arity [] row all one = (one, tt)
 arity_push arity (first ∷ rows) row all one = (all.0, arity_push arity rows row all.1 one)
 
-pub arity_more : (places : List ℕ) (done more : RowList) (text : List (List ℕ)) → HaveArity (length places) done → more ≡ done ++ map (λ p. get_or text p []) places ∷ [] → HaveArity (length places) more
-arity_more places done more text all added = rw added (arity_push (length places) done (map (λ p. get_or text p []) places) all (length-map places (λ p. get_or text p [])))
+pub arity_more : (places : List ℕ) (done more : RowList) (text : List (List ℕ)) → HaveArity (length places) done → more ≡ done ++ fields_at places text ∷ [] → HaveArity (length places) more
+arity_more places done more text all added = rw added (arity_push (length places) done (fields_at places text) all (length-map places (λ p. get_or text p [])))

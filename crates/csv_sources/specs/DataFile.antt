@@ -65,6 +65,14 @@ abbrev pub unless : Option AttachFault → RowList → Result RowList AttachFaul
 unless None rows = Ok rows
 unless (Some fault) rows = Err fault
 
+-- the fields of a row at these places; one that is not there is empty
+abbrev pub fields_at : List ℕ → List (List ℕ) → List (List ℕ)
+fields_at places row = map (λ p. slice_index_or row p []) places
+
+-- the fields at these places of each row, or what is wrong with the first that is no row of this width
+abbrev pub rows_at : ℕ → List ℕ → RowList → Result RowList AttachFault
+rows_at width places rows = unless (first_fault width 1 rows) (map (fields_at places) rows)
+
 -- what records offer, of which the first is the header
 abbrev pub offer_of : List (List ℕ) → RowList → Result RowList AttachFault
 offer_of columns [] = Err (BadHeader 0)

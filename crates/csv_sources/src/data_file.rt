@@ -1,12 +1,11 @@
 // The rows of a data file.
-ghost use Rattle.std.specs.Prelude.{◌≡◌, ◌≤◌, ◌<◌, ◌+◌, ◌++◌, ◌^◌, drop, length, map, slice_index_or, IfOk, IfErr, OnOk, [], ◌∷◌, List, ℕ, Ok, None, Some};
-ghost use Rattle.std.specs.List.{AllByRecursion};
+ghost use Rattle.std.specs.Prelude.{◌≡◌, ◌≤◌, ◌<◌, ◌+◌, ◌++◌, ◌^◌, drop, length, slice_index_or, IfOk, IfErr, OnOk, [], List, ℕ, Ok, None, Some};
 ghost use Rattle.csv.specs.Reading.{default_config, records};
 ghost use Rattle.csv.specs.Records.{AllText, fields_of, partial_of};
 ghost use Rattle.row_text.specs.Packed.{values_of};
 ghost use Rattle.source_trait.specs.Asking.{HaveArity};
 ghost use Rattle.csv_sources.specs.Records.{IsReading, records_left};
-ghost use Rattle.csv_sources.specs.DataFile.{AreText, after_marks, file_offer, first_fault, row_fault, unless};
+ghost use Rattle.csv_sources.specs.DataFile.{AreText, after_marks, fields_at, file_offer, row_fault, rows_at};
 
 use crate::folder::FILE_LIMIT;
 use crate::header::{header_fault, places_of};
@@ -73,7 +72,7 @@ fn rows_behind(
     requires behind { records_left reader.old ≡ drop 1 (records default_config text.now) }
     requires few { length (records_left reader.old) < 2 ^ 32 }
     requires some { 1 ≤ length places.now }
-    ensures offer { IfOk result (λ offer. offer ≡ unless (first_fault width 1 (records_left reader.old)) (map (λ row. map (λ p. slice_index_or row p []) places.now) (records_left reader.old))) }
+    ensures offer { IfOk result (λ offer. offer ≡ rows_at width places.now (records_left reader.old)) }
     ensures fit { IfOk result (λ offer. IfOk offer (HaveArity (length places.now))) }
 {
     let count = value_count(text, places.len());
@@ -111,7 +110,7 @@ fn ascii_rows(
     requires some { 1 ≤ length places.now }
     requires none { fields_of values ≡ [] }
     requires fresh { partial_of values ≡ [] }
-    ensures offer { IfOk result (λ offer. offer ≡ unless (first_fault width 1 (records_left reader.old)) (map (λ row. map (λ p. slice_index_or row p []) places.now) (records_left reader.old))) }
+    ensures offer { IfOk result (λ offer. offer ≡ rows_at width places.now (records_left reader.old)) }
     ensures fit { IfOk result (λ offer. IfOk offer (HaveArity (length places.now))) }
 {
     let mut values = values;
@@ -140,7 +139,7 @@ fn text_rows(
     requires few { length (records_left reader.old) < 2 ^ 32 }
     requires some { 1 ≤ length places.now }
     requires none { fields_of values ≡ [] }
-    ensures offer { IfOk result (λ offer. offer ≡ unless (first_fault width 1 (records_left reader.old)) (map (λ row. map (λ p. slice_index_or row p []) places.now) (records_left reader.old))) }
+    ensures offer { IfOk result (λ offer. offer ≡ rows_at width places.now (records_left reader.old)) }
     ensures fit { IfOk result (λ offer. IfOk offer (HaveArity (length places.now))) }
 {
     let mut values = values;
@@ -177,7 +176,7 @@ fn text_row(row: ByteRecord, width: usize, number: u32) -> Result<StringRecord, 
 // Adds the fields of a row at the places behind the values that are there; a field that is not there is empty.
 fn push_fields(values: &mut ByteRecord, row: &ByteRecord, places: &[usize]) -> Result<(), NoMemory>
     requires { partial_of values.old ≡ [] }
-    ensures fields { OnOk result (fields_of values.new ≡ fields_of values.old ++ map (λ p. slice_index_or (fields_of row.now) p []) places.now) }
+    ensures fields { OnOk result (fields_of values.new ≡ fields_of values.old ++ fields_at places.now (fields_of row.now)) }
     ensures whole { OnOk result (partial_of values.new ≡ []) }
 {
     for place in places {
@@ -201,7 +200,7 @@ fn push_texts(
     row: &StringRecord,
     places: &[usize],
 ) -> Result<(), NoMemory>
-    ensures { OnOk result (fields_of values.new ≡ fields_of values.old ++ map (λ p. slice_index_or (fields_of row.now) p []) places.now) }
+    ensures { OnOk result (fields_of values.new ≡ fields_of values.old ++ fields_at places.now (fields_of row.now)) }
 {
     for place in places {
         values.push_field(text_at(row, *place))?;

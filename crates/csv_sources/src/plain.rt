@@ -3,7 +3,7 @@ ghost use Rattle.std.specs.Prelude.{◌≡◌, ◌↔◌, ◌≤◌, ◌<◌, �
 ghost use Rattle.csv.specs.Reading.{default_config, records};
 ghost use Rattle.csv.specs.Records.{fields_of, partial_of};
 ghost use Rattle.source_trait.specs.Asking.{HaveArity};
-ghost use Rattle.csv_sources.specs.DataFile.{AreText, first_fault, unless};
+ghost use Rattle.csv_sources.specs.DataFile.{AreText, fields_at, rows_at};
 ghost use Rattle.csv_sources.specs.Plain.{IsPlain};
 
 use crate::data_file::packed;
@@ -49,7 +49,7 @@ pub(crate) fn plain_rows(
     requires some { 1 ≤ length places.now }
     requires none { fields_of values ≡ [] }
     requires fresh { partial_of values ≡ [] }
-    ensures offer { IfOk result (λ offer. offer ≡ unless (first_fault width 1 (records default_config text.now)) (map (λ row. map (λ p. slice_index_or row p []) places.now) (records default_config text.now))) }
+    ensures offer { IfOk result (λ offer. offer ≡ rows_at width places.now (records default_config text.now)) }
     ensures fit { IfOk result (λ offer. IfOk offer (HaveArity (length places.now))) }
 {
     let mut values = values;
@@ -106,7 +106,7 @@ fn is_blank(line: &[&[u8]], field: &[u8]) -> bool
 // Adds the fields at the places behind the values that are there; a field that is not there is empty.
 fn push_slices(values: &mut ByteRecord, fields: &[&[u8]], places: &[usize]) -> Result<(), NoMemory>
     requires { partial_of values.old ≡ [] }
-    ensures fields { OnOk result (fields_of values.new ≡ fields_of values.old ++ map (λ p. slice_index_or (map (λ f. f.now) fields.now) p []) places.now) }
+    ensures fields { OnOk result (fields_of values.new ≡ fields_of values.old ++ fields_at places.now (map (λ f. f.now) fields.now)) }
     ensures whole { OnOk result (partial_of values.new ≡ []) }
 {
     for place in places {

@@ -1,11 +1,11 @@
-use Rattle.std.proofs.Common.{◌≡◌, ◌+◌, ◌<◌, ◌≤◌, ◌∷◌, Some, None, ◌∙◌, sym, ap, arith, drop, length, false, true, map, get_or, [], rules, List, ℕ}
+use Rattle.std.proofs.Common.{◌≡◌, ◌<◌, ◌≤◌, ◌∷◌, Some, None, ◌∙◌, sym, ap, arith, drop, length, false, true, map, rules, List, ℕ}
 use Rattle.std.specs.Prelude.{Ok, Err, Result, IfOk}
 use Rattle.std.specs.declared.alloc.AllocError.{AllocError}
 use Rattle.csv.specs.Reading.{default_config, records, strip_bom}
 use Rattle.csv.specs.Records.{fields_of}
 use Rattle.source_trait.specs.Asking.{RowList}
 use Rattle.source_trait.specs.declared.source.AttachFault.{AttachFault}
-use Rattle.csv_sources.specs.DataFile.{after_marks, offer_of, first_fault, header_fault, place_in, unless}
+use Rattle.csv_sources.specs.DataFile.{after_marks, offer_of, header_fault, place_in, rows_at}
 use Rattle.csv_sources.specs.Records.{records_left}
 use Rattle.csv_sources.proofs.Rows.{few_records, marks_shorten, no_mark_left, offer_bad, offer_none, offer_rows}
 use Rattle.csv_sources.proofs.data_file.read_offer.Goals as goal
@@ -49,9 +49,9 @@ rows_behind-requires-clause-few c =
 -- what the rows under a good header offer
 under : (columns header : List (List ℕ)) (rows all : RowList) (places : List ℕ) (width : ℕ) (result : Result (Result RowList AttachFault) AllocError) → all ≡ header ∷ rows → None ≡ header_fault header columns
     → places ≡ map (place_in header) columns → width ≡ length header
-    → IfOk result (λ offer. offer ≡ unless (first_fault width 1 rows) (map (λ row. map (λ p. get_or row p []) places) rows)) → IfOk result (λ offer. offer ≡ offer_of columns all)
+    → IfOk result (λ offer. offer ≡ rows_at width places rows) → IfOk result (λ offer. offer ≡ offer_of columns all)
 under columns header rows all places width (Ok offer) first good at wide is =
-    offer_rows columns header rows all places offer first good at (is ∙ ap (λ n. unless (first_fault n 1 rows) (map (λ row. map (λ p. get_or row p []) places) rows)) wide)
+    offer_rows columns header rows all places offer first good at (is ∙ ap (λ n. rows_at n places rows) wide)
 under columns header rows all places width (Err e) first good at wide is = tt
 
 pub returns-clause-offer : goal.returns-clause-offer

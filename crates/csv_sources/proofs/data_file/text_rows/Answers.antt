@@ -1,7 +1,7 @@
-use Rattle.std.proofs.Common.{◌≡◌, ◌+◌, ◌∷◌, ◌∙◌, ap, arith, length, map, get_or, [], ◌++◌, true, None, rules, List, ℕ}
+use Rattle.std.proofs.Common.{◌≡◌, ◌+◌, ◌∷◌, ◌∙◌, ap, arith, length, ◌++◌, true, None, rules, List, ℕ}
 use Rattle.csv.specs.Records.{fields_of}
 use Rattle.source_trait.specs.Asking.{RowList}
-use Rattle.csv_sources.specs.DataFile.{row_fault}
+use Rattle.csv_sources.specs.DataFile.{fields_at, row_fault}
 use Rattle.csv_sources.specs.Records.{records_left}
 use Rattle.csv_sources.proofs.Gathered.{gathered_more, gathered_none}
 use Rattle.csv_sources.proofs.data_file.text_rows.Goals as goal
@@ -20,8 +20,8 @@ loop-record-preserved c =
     let left = records_left c.next_record.new.reader in
     let taken : records_left c.loop-record.reader ≡ row ∷ left = c.in_ok-next_record.ensures.taken found in
     let whole : row_fault c.args.width (c.loop-record.number + 1) row ≡ None = c.in-Ok.ensures.whole in
-    let added : fields_of c.push_texts.new.values ≡ fields_of c.loop-record.values ++ map (λ p. get_or row p []) c.args.places.now =
-    c.in_ok-push_texts.ensures ∙ ap (λ (l : List (List ℕ)). fields_of c.loop-record.values ++ map (λ p. get_or l p []) c.args.places.now) c.in-Ok.ensures.same in
+    let added : fields_of c.push_texts.new.values ≡ fields_of c.loop-record.values ++ fields_at c.args.places.now row =
+    c.in_ok-push_texts.ensures ∙ ap (λ (l : List (List ℕ)). fields_of c.loop-record.values ++ fields_at c.args.places.now l) c.in-Ok.ensures.same in
     record {
       reading = c.in_ok-next_record.ensures.reading;
       count = omega (arith, c.loop-record.invariant.count, ap (λ (l : RowList). length l) taken);

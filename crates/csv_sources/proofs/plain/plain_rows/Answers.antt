@@ -1,10 +1,10 @@
-use Rattle.std.proofs.Common.{◌≡◌, ◌≢◌, ◌+◌, ◌∷◌, ◌++◌, [], ◌∙◌, sym, ap, arith, get_or, length, map, subst, Some, None, rules, List, ℕ}
+use Rattle.std.proofs.Common.{◌≡◌, ◌≢◌, ◌+◌, ◌∷◌, ◌++◌, ◌∙◌, sym, ap, arith, length, map, subst, Some, None, rules, List, ℕ}
 use Rattle.std.proofs.lemmas.List.{length-map}
 use Rattle.csv.specs.Reading.{default_config, records}
 use Rattle.csv.specs.Records.{AllText, fields_of}
 use Rattle.source_trait.specs.Asking.{RowList}
 use Rattle.source_trait.specs.declared.source.AttachFault.TheVariants.{BadRow}
-use Rattle.csv_sources.specs.DataFile.{AreText, row_fault}
+use Rattle.csv_sources.specs.DataFile.{AreText, fields_at, row_fault}
 use Rattle.csv_sources.proofs.Gathered.{AllText-append, AllText-of_whole, gathered_fault, gathered_more, gathered_none, of_another_width, of_width, text_under}
 use denote.Ref.{Bor}
 use Rattle.csv_sources.proofs.plain.plain_rows.Goals as goal
@@ -31,9 +31,9 @@ loop-fields-preserved c =
     let all = subst AreText taken c.loop-fields.invariant.ascii in
     let wide : length row ≡ c.args.width = length-map c.cut_record.new.fields.items (λ f. f.now) ∙ search rules in
     let whole : row_fault c.args.width number row ≡ None = of_width c.args.width number row wide all.0 in
-    let added : fields_of c.push_slices.new.values ≡ fields_of c.loop-fields.values ++ map (λ p. get_or row p []) places =
+    let added : fields_of c.push_slices.new.values ≡ fields_of c.loop-fields.values ++ fields_at places row =
     c.in_ok-push_slices.ensures.fields
-    ∙ ap (λ (l : List (Bor (List ℕ))). fields_of c.loop-fields.values ++ map (λ p. get_or (map (λ f. f.now) l) p []) places) c.as_slice.ensures.value in
+    ∙ ap (λ (l : List (Bor (List ℕ))). fields_of c.loop-fields.values ++ fields_at places (map (λ f. f.now) l)) c.as_slice.ensures.value in
     record {
       plain = cut.0;
       count = omega (arith, c.loop-fields.invariant.count, ap (λ (l : RowList). length l) taken);
