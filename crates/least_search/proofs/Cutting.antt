@@ -2,7 +2,7 @@
 use Rattle.std.proofs.Common.{◌≡◌, ◌⊎◌, ℕ, zero, suc, ◌+◌, ◌<◌, ◌≤◌, List, [], ◌∷◌, ◌++◌, length, Bool, true, false, Some, refl, sym, ap, ◌∙◌, subst, inl, inr, ⊎_elim, arith, length-set}
 use Rattle.std.specs.Prelude.{Contains, ◌&&◌, map, slice_set, slice_get, slice_index_or, if◌then◌else◌, Option, None, IfSome}
 use Rattle.std.proofs.lemmas.List.Elements.{Contains-push_cases}
-use Rattle.std.proofs.lemmas.Bool.{cases_Bool}
+use Rattle.std.proofs.lemmas.Bool.{cases_Bool, cases_eq}
 use Rattle.lists.proofs.Members.{contains_here, contains_there, contains_cases, contains_map, contains_mapped}
 use Rattle.least_search.specs.declared.space.Move.{Move}
 use Rattle.least_search.specs.declared.cuts.Cut.{Cut}
@@ -15,13 +15,7 @@ use Rattle.least_search.proofs.Sets.{none_length}
 use Rattle.least_search.proofs.Searched.{IsGuide}
 use Rattle.least_search.specs.Sides.{IsNearSide, HaveLeft, LeastOf, HasPaid, HavePaid, HasPaidFor, AreResidues, no_residue, whole}
 
--- two numbers are the same or not, and so two moves
-num_or_not : (a b : ℕ) → (a ≡ b) ⊎ (a ≡ b → ⊥)
-num_or_not zero zero = inl refl
-num_or_not zero (suc b) = inr (λ e. omega arith)
-num_or_not (suc a) zero = inr (λ e. omega arith)
-num_or_not (suc a) (suc b) = ⊎_elim (λ e. inl (ap suc e)) (λ ne. inr (λ e. ne (omega arith))) (num_or_not a b)
-
+-- two moves are the same or not
 abbrev move_of : ℕ → ℕ → ℕ → Move
 move_of fact method cost = record { fact = fact; method = method; cost = cost }
 
@@ -30,9 +24,9 @@ same_move a b f m c = let e : move_of a.fact a.method a.cost ≡ move_of b.fact 
 
 move_or_not : (a b : Move) → (a ≡ b) ⊎ (a ≡ b → ⊥)
 move_or_not a b =
-    ⊎_elim (λ f. ⊎_elim (λ m. ⊎_elim (λ c. inl (same_move a b f m c)) (λ ne. inr (λ e. ne (ap (λ (x : Move). x.cost) e))) (num_or_not a.cost b.cost))
-    (λ ne. inr (λ e. ne (ap (λ (x : Move). x.method) e))) (num_or_not a.method b.method))
-    (λ ne. inr (λ e. ne (ap (λ (x : Move). x.fact) e))) (num_or_not a.fact b.fact)
+    ⊎_elim (λ f. ⊎_elim (λ m. ⊎_elim (λ c. inl (same_move a b f m c)) (λ ne. inr (λ e. ne (ap (λ (x : Move). x.cost) e))) (cases_eq a.cost b.cost))
+    (λ ne. inr (λ e. ne (ap (λ (x : Move). x.method) e))) (cases_eq a.method b.method))
+    (λ ne. inr (λ e. ne (ap (λ (x : Move). x.fact) e))) (cases_eq a.fact b.fact)
 
 HasStep : List Residue → Move → Type 0
 HasStep residues move = (residue : Residue) × Contains residues residue × (residue.step ≡ move)

@@ -1,18 +1,13 @@
 -- Sets have the same key only where they are the same, and one more mark changes one number of a key.
 use Rattle.std.proofs.Common.{◌≡◌, ℕ, zero, suc, ◌+◌, ◌-◌, ◌*◌, ◌/◌, ◌%◌, ◌^◌, ◌<◌, ◌≤◌, List, [], ◌∷◌, ◌++◌, length, take, drop, Bool, true, false, Some, refl, sym, ap, ◌∙◌, subst, arith, pow-suc, add-one, length-drop}
 use Rattle.std.specs.Prelude.{slice_get, slice_set, slice_index_or, replicate}
-use Rattle.std.proofs.lemmas.List.{length-set, set-set, set-get_or, get_or-set_same, take-append-drop, drop-set-lt, drop-set-add, nil_from_length}
+use Rattle.std.proofs.lemmas.List.{length-set, set-set, set-get_or, get_or-set_same, get_or_read, take-append-drop, drop-set-lt, drop-set-add, nil_from_length}
 use Rattle.std.proofs.lemmas.Nat.{pow_pos, div-add-mod', mod_below}
 use Rattle.std.proofs.lemmas.Option.{slice_get_within}
+use Rattle.lists.proofs.Members.{head_is, tail_is}
 use Rattle.least_search.specs.Walks.{no_facts}
 use Rattle.least_search.proofs.Sets.{none_length}
 use Rattle.least_search.specs.Packing.{digit, word, words, packed}
-
-head_same : (x y : ℕ) (xs ys : List ℕ) → x ∷ xs ≡ y ∷ ys → x ≡ y
-head_same x y xs ys e = cc
-
-tail_same : (x y : ℕ) (xs ys : List ℕ) → x ∷ xs ≡ y ∷ ys → xs ≡ ys
-tail_same x y xs ys e = cc
 
 -- a number and its last binary digit
 last_digit : (u v : ℕ) (m n : Bool) → u * 2 + digit m ≡ v * 2 + digit n → (u ≡ v) × (m ≡ n)
@@ -34,10 +29,10 @@ word_same (suc count) (m ∷ a) (n ∷ b) len e =
 words_same : (count : ℕ) (a b : List Bool) → length a ≡ length b → length a ≤ count * 64 → words count a ≡ words count b → a ≡ b
 words_same zero a b len few e = nil_from_length a (omega arith) ∙ sym (nil_from_length b (omega arith))
 words_same (suc count) a b len few e =
-    let front : take 64 a ≡ take 64 b = word_same 64 a b len (head_same (word 64 a) (word 64 b) (words count (drop 64 a)) (words count (drop 64 b)) e) in
+    let front : take 64 a ≡ take 64 b = word_same 64 a b len (head_is (word 64 a) (word 64 b) (words count (drop 64 a)) (words count (drop 64 b)) e) in
     let one : length (drop 64 a) ≡ length a - 64 = length-drop 64 a in
     let other : length (drop 64 b) ≡ length b - 64 = length-drop 64 b in
-    let back : drop 64 a ≡ drop 64 b = words_same count (drop 64 a) (drop 64 b) (omega arith) (omega arith) (tail_same (word 64 a) (word 64 b) (words count (drop 64 a)) (words count (drop 64 b)) e) in
+    let back : drop 64 a ≡ drop 64 b = words_same count (drop 64 a) (drop 64 b) (omega arith) (omega arith) (tail_is (word 64 a) (word 64 b) (words count (drop 64 a)) (words count (drop 64 b)) e) in
     sym (take-append-drop 64 a) ∙ ap (λ s. s ++ drop 64 a) front ∙ ap (λ s. take 64 b ++ s) back ∙ take-append-drop 64 b
 
 -- the numbers of a key have place for all marks
@@ -50,8 +45,8 @@ room n =
 -- sets with one key are one set
 pub packed_same : (a b : List Bool) → packed a ≡ packed b → a ≡ b
 packed_same a b e =
-    let len : length a ≡ length b = head_same (length a) (length b) (words (suc (length a / 64)) a) (words (suc (length b / 64)) b) e in
-    let marks : words (suc (length a / 64)) a ≡ words (suc (length b / 64)) b = tail_same (length a) (length b) (words (suc (length a / 64)) a) (words (suc (length b / 64)) b) e in
+    let len : length a ≡ length b = head_is (length a) (length b) (words (suc (length a / 64)) a) (words (suc (length b / 64)) b) e in
+    let marks : words (suc (length a / 64)) a ≡ words (suc (length b / 64)) b = tail_is (length a) (length b) (words (suc (length a / 64)) a) (words (suc (length b / 64)) b) e in
     words_same (suc (length a / 64)) a b len (room (length a)) (marks ∙ ap (λ (n : ℕ). words (suc (n / 64)) b) (sym len))
 
 -- one more mark is one more digit
@@ -118,6 +113,14 @@ module _ (set : List Bool) (fact : ℕ) (free : slice_get set fact ≡ Some fals
       let low : length set % 64 < 64 = mod_below (length set) 64 (omega arith) in
       let count : length (words (suc (length set / 64)) set) ≡ suc (length set / 64) = words_length (suc (length set / 64)) set in
       omega arith
+
+  -- so it is in numbers that are a key of that length
+  module _ (key ws : List ℕ) (long : length (packed set) ≡ length key) (is : ws ≡ key) where
+    pub word_there : fact / 64 + 1 < length ws
+    word_there = let within = place_within in let same = ap length is in omega arith
+
+    pub word_is : (number : ℕ) → number ≡ slice_index_or ws (fact / 64 + 1) number → number ≡ slice_index_or key (fact / 64 + 1) 0
+    word_is number at = get_or_read ws (fact / 64 + 1) number word_there at 0 ∙ ap (λ (xs : List ℕ). slice_index_or xs (fact / 64 + 1) 0) is
 
   -- the key with one more mark
   pub packed_more : packed (slice_set set fact true) ≡ slice_set (packed set) (fact / 64 + 1) (slice_index_or (packed set) (fact / 64 + 1) 0 + 2 ^ (fact % 64))

@@ -75,9 +75,7 @@ impl SetKey {
         requires { (set : List Bool) × (self.old ≡ packed set) × (slice_get set fact ≡ Some false) }
         ensures { (set : List Bool) → self.old ≡ packed set → self.new ≡ packed (slice_set set fact true) }
     {
-        let place = fact / 64 + 1;
-        let word = self.words[place] + digit(fact);
-        self.words[place] = word;
+        self.words[fact / 64 + 1] += digit(fact);
     }
 
     /// Takes the mark of a fact away. Takes no memory.
@@ -85,9 +83,7 @@ impl SetKey {
         requires { (set : List Bool) × (self.old ≡ packed (slice_set set fact true)) × (slice_get set fact ≡ Some false) }
         ensures { (set : List Bool) → self.old ≡ packed (slice_set set fact true) → slice_get set fact ≡ Some false → self.new ≡ packed set }
     {
-        let place = fact / 64 + 1;
-        let word = self.words[place] - digit(fact);
-        self.words[place] = word;
+        self.words[fact / 64 + 1] -= digit(fact);
     }
 }
 
