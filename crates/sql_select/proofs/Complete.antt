@@ -44,14 +44,9 @@ module _ (finished : List RawSelect) where
 
   item_read : (raw : RawSelect) (o : RawOperand) (a : Alias) (rest : List Piece) → ItemRead raw (record { operand = o; alias = a }) rest
   item_read raw (operand.Plain n) alias.Missing rest = (refl, refl)
-  item_read raw (operand.Plain n) (alias.Alone m) rest = (refl, refl)
-  item_read raw (operand.Plain n) (alias.After m) rest = (refl, refl)
   item_read raw (operand.Prefixed p n) alias.Missing rest = (refl, refl)
-  item_read raw (operand.Prefixed p n) (alias.Alone m) rest = (refl, refl)
-  item_read raw (operand.Prefixed p n) (alias.After m) rest = (refl, refl)
   item_read raw (operand.Value v) alias.Missing rest = (refl, refl)
-  item_read raw (operand.Value v) (alias.Alone m) rest = (refl, refl)
-  item_read raw (operand.Value v) (alias.After m) rest = (refl, refl)
+  item_read raw _ _ rest = (refl, refl)
 
   -- what may close a FROM item
   pub record FromRead (raw : RawSelect) (from : RawFrom) (rest : List Piece) : Type 0 where
@@ -66,8 +61,7 @@ module _ (finished : List RawSelect) where
     where
       go : (a : Alias) → FromRead raw (record { relation = from.relation; alias = a }) rest
       go alias.Missing = record { comma = refl; asks = refl; union = refl; semicolon = refl; end = refl }
-      go (alias.Alone m) = record { comma = refl; asks = refl; union = refl; semicolon = refl; end = refl }
-      go (alias.After m) = record { comma = refl; asks = refl; union = refl; semicolon = refl; end = refl }
+      go _ = record { comma = refl; asks = refl; union = refl; semicolon = refl; end = refl }
 
   pub record ConditionRead (raw : RawSelect) (c : RawCondition) (rest : List Piece) : Type 0 where
     pub more : on finished state.Left raw (shown_condition c ++ piece.And ∷ rest) ≡ on finished state.Left (added (done.Condition c) raw) rest
@@ -77,14 +71,9 @@ module _ (finished : List RawSelect) where
 
   condition_read : (raw : RawSelect) (l r : RawOperand) (rest : List Piece) → ConditionRead raw (record { left = l; right = r }) rest
   condition_read raw (operand.Plain a) (operand.Plain d) rest = record { more = refl; union = refl; semicolon = refl; end = refl }
-  condition_read raw (operand.Plain a) (operand.Prefixed e d) rest = record { more = refl; union = refl; semicolon = refl; end = refl }
-  condition_read raw (operand.Plain a) (operand.Value f) rest = record { more = refl; union = refl; semicolon = refl; end = refl }
   condition_read raw (operand.Prefixed b a) (operand.Plain d) rest = record { more = refl; union = refl; semicolon = refl; end = refl }
-  condition_read raw (operand.Prefixed b a) (operand.Prefixed e d) rest = record { more = refl; union = refl; semicolon = refl; end = refl }
-  condition_read raw (operand.Prefixed b a) (operand.Value f) rest = record { more = refl; union = refl; semicolon = refl; end = refl }
   condition_read raw (operand.Value c) (operand.Plain d) rest = record { more = refl; union = refl; semicolon = refl; end = refl }
-  condition_read raw (operand.Value c) (operand.Prefixed e d) rest = record { more = refl; union = refl; semicolon = refl; end = refl }
-  condition_read raw (operand.Value c) (operand.Value f) rest = record { more = refl; union = refl; semicolon = refl; end = refl }
+  condition_read raw _ _ rest = record { more = refl; union = refl; semicolon = refl; end = refl }
 
   -- a select with these items, and FROM items so far
   abbrev with_froms : RawSelect → List RawFrom → RawSelect

@@ -59,10 +59,4 @@ module _ (relations : List Relation) (parts : NamedSelect) where
   naming_fault (Err fault.NoMemory) e = tt
   naming_fault (Err (fault.UnknownName offset)) e = subst IsRight e is_right
   naming_fault (Err (fault.Ambiguous offset)) e = subst IsRight e is_right
-  naming_fault (Err (fault.NotUtf8 offset)) e = absurd e
-  naming_fault (Err (fault.Syntax offset)) e = absurd e
-  naming_fault (Err (fault.Unsupported word offset)) e = absurd e
-  naming_fault (Err (fault.WrongWidth offset)) e = absurd e
-  naming_fault (Err (fault.OverLimit limit)) e = absurd e
-  naming_fault (Err (fault.Lex f)) e = absurd e
-  naming_fault (Err (fault.WrongSort offset)) e = absurd e
+  naming_fault (Err _) e = absurd e

@@ -250,19 +250,7 @@ moves state.Item raw ps (piece.Name t) at = item_more raw ps [] (piece.Name t �
 moves state.Item raw ps (piece.Value t) at = item_more raw ps [] (piece.Value t ∷ []) (piece.Value t) refl at
 moves state.Item raw ps _ at = tt
 moves (state.ItemName n) raw ps piece.Dot at = item_more raw ps (piece.Name n ∷ []) (piece.Name n ∷ piece.Dot ∷ []) piece.Dot refl at
-moves (state.ItemName n) raw ps (piece.Name t) at = operand_moves raw ps (operand.Plain n) (piece.Name t) at
-moves (state.ItemName n) raw ps (piece.Value t) at = operand_moves raw ps (operand.Plain n) (piece.Value t) at
-moves (state.ItemName n) raw ps piece.Select at = operand_moves raw ps (operand.Plain n) piece.Select at
-moves (state.ItemName n) raw ps piece.Distinct at = operand_moves raw ps (operand.Plain n) piece.Distinct at
-moves (state.ItemName n) raw ps piece.From at = operand_moves raw ps (operand.Plain n) piece.From at
-moves (state.ItemName n) raw ps piece.Where at = operand_moves raw ps (operand.Plain n) piece.Where at
-moves (state.ItemName n) raw ps piece.And at = operand_moves raw ps (operand.Plain n) piece.And at
-moves (state.ItemName n) raw ps piece.As at = operand_moves raw ps (operand.Plain n) piece.As at
-moves (state.ItemName n) raw ps piece.Union at = operand_moves raw ps (operand.Plain n) piece.Union at
-moves (state.ItemName n) raw ps piece.Comma at = operand_moves raw ps (operand.Plain n) piece.Comma at
-moves (state.ItemName n) raw ps piece.Equals at = operand_moves raw ps (operand.Plain n) piece.Equals at
-moves (state.ItemName n) raw ps piece.Semicolon at = operand_moves raw ps (operand.Plain n) piece.Semicolon at
-moves (state.ItemName n) raw ps piece.Other at = operand_moves raw ps (operand.Plain n) piece.Other at
+moves (state.ItemName n) raw ps p at = operand_moves raw ps (operand.Plain n) p at
 moves (state.ItemDot n) raw ps (piece.Name t) at = item_more raw ps (piece.Name n ∷ piece.Dot ∷ []) (piece.Name n ∷ piece.Dot ∷ piece.Name t ∷ []) (piece.Name t) refl at
 moves (state.ItemDot n) raw ps _ at = tt
 moves (state.ItemOperand o) raw ps p at = operand_moves raw ps o p at
@@ -273,18 +261,7 @@ moves state.From raw ps (piece.Name t) at = from_more raw ps [] (piece.Name t �
 moves state.From raw ps _ at = tt
 moves (state.FromName n) raw ps piece.As at = from_more raw ps (piece.Name n ∷ []) (piece.Name n ∷ piece.As ∷ []) piece.As refl at
 moves (state.FromName n) raw ps (piece.Name t) at = from_more raw ps (piece.Name n ∷ []) (piece.Name n ∷ piece.Name t ∷ []) (piece.Name t) refl at
-moves (state.FromName n) raw ps (piece.Value t) at = from_moves raw ps (record { relation = n; alias = alias.Missing }) (piece.Value t) at
-moves (state.FromName n) raw ps piece.Select at = from_moves raw ps (record { relation = n; alias = alias.Missing }) piece.Select at
-moves (state.FromName n) raw ps piece.Distinct at = from_moves raw ps (record { relation = n; alias = alias.Missing }) piece.Distinct at
-moves (state.FromName n) raw ps piece.From at = from_moves raw ps (record { relation = n; alias = alias.Missing }) piece.From at
-moves (state.FromName n) raw ps piece.Where at = from_moves raw ps (record { relation = n; alias = alias.Missing }) piece.Where at
-moves (state.FromName n) raw ps piece.And at = from_moves raw ps (record { relation = n; alias = alias.Missing }) piece.And at
-moves (state.FromName n) raw ps piece.Union at = from_moves raw ps (record { relation = n; alias = alias.Missing }) piece.Union at
-moves (state.FromName n) raw ps piece.Comma at = from_moves raw ps (record { relation = n; alias = alias.Missing }) piece.Comma at
-moves (state.FromName n) raw ps piece.Dot at = from_moves raw ps (record { relation = n; alias = alias.Missing }) piece.Dot at
-moves (state.FromName n) raw ps piece.Equals at = from_moves raw ps (record { relation = n; alias = alias.Missing }) piece.Equals at
-moves (state.FromName n) raw ps piece.Semicolon at = from_moves raw ps (record { relation = n; alias = alias.Missing }) piece.Semicolon at
-moves (state.FromName n) raw ps piece.Other at = from_moves raw ps (record { relation = n; alias = alias.Missing }) piece.Other at
+moves (state.FromName n) raw ps p at = from_moves raw ps (record { relation = n; alias = alias.Missing }) p at
 moves (state.FromAs n) raw ps (piece.Name t) at = from_more raw ps (piece.Name n ∷ piece.As ∷ []) (piece.Name n ∷ piece.As ∷ piece.Name t ∷ []) (piece.Name t) refl at
 moves (state.FromAs n) raw ps _ at = tt
 moves (state.FromEnd from) raw ps p at = from_moves raw ps from p at
@@ -292,19 +269,7 @@ moves state.Left raw ps (piece.Name t) at = condition_more raw ps [] (piece.Name
 moves state.Left raw ps (piece.Value t) at = condition_more raw ps [] (piece.Value t ∷ []) (piece.Value t) refl at
 moves state.Left raw ps _ at = tt
 moves (state.LeftName n) raw ps piece.Dot at = condition_more raw ps (piece.Name n ∷ []) (piece.Name n ∷ piece.Dot ∷ []) piece.Dot refl at
-moves (state.LeftName n) raw ps (piece.Name t) at = left_moves raw ps (operand.Plain n) (piece.Name t) at
-moves (state.LeftName n) raw ps (piece.Value t) at = left_moves raw ps (operand.Plain n) (piece.Value t) at
-moves (state.LeftName n) raw ps piece.Select at = left_moves raw ps (operand.Plain n) piece.Select at
-moves (state.LeftName n) raw ps piece.Distinct at = left_moves raw ps (operand.Plain n) piece.Distinct at
-moves (state.LeftName n) raw ps piece.From at = left_moves raw ps (operand.Plain n) piece.From at
-moves (state.LeftName n) raw ps piece.Where at = left_moves raw ps (operand.Plain n) piece.Where at
-moves (state.LeftName n) raw ps piece.And at = left_moves raw ps (operand.Plain n) piece.And at
-moves (state.LeftName n) raw ps piece.As at = left_moves raw ps (operand.Plain n) piece.As at
-moves (state.LeftName n) raw ps piece.Union at = left_moves raw ps (operand.Plain n) piece.Union at
-moves (state.LeftName n) raw ps piece.Comma at = left_moves raw ps (operand.Plain n) piece.Comma at
-moves (state.LeftName n) raw ps piece.Equals at = left_moves raw ps (operand.Plain n) piece.Equals at
-moves (state.LeftName n) raw ps piece.Semicolon at = left_moves raw ps (operand.Plain n) piece.Semicolon at
-moves (state.LeftName n) raw ps piece.Other at = left_moves raw ps (operand.Plain n) piece.Other at
+moves (state.LeftName n) raw ps p at = left_moves raw ps (operand.Plain n) p at
 moves (state.LeftDot n) raw ps (piece.Name t) at = condition_more raw ps (piece.Name n ∷ piece.Dot ∷ []) (piece.Name n ∷ piece.Dot ∷ piece.Name t ∷ []) (piece.Name t) refl at
 moves (state.LeftDot n) raw ps _ at = tt
 moves (state.LeftEnd l) raw ps p at = left_moves raw ps l p at
@@ -312,19 +277,7 @@ moves (state.Right l) raw ps (piece.Name t) at = condition_more raw ps (shown_op
 moves (state.Right l) raw ps (piece.Value t) at = condition_more raw ps (shown_operand l ++ piece.Equals ∷ []) (shown_operand l ++ piece.Equals ∷ piece.Value t ∷ []) (piece.Value t) (append_assoc (shown_operand l) (piece.Equals ∷ []) (piece.Value t ∷ [])) at
 moves (state.Right l) raw ps _ at = tt
 moves (state.RightName l n) raw ps piece.Dot at = condition_more raw ps (shown_operand l ++ piece.Equals ∷ piece.Name n ∷ []) (shown_operand l ++ piece.Equals ∷ piece.Name n ∷ piece.Dot ∷ []) piece.Dot (append_assoc (shown_operand l) (piece.Equals ∷ piece.Name n ∷ []) (piece.Dot ∷ [])) at
-moves (state.RightName l n) raw ps (piece.Name t) at = condition_moves raw ps (record { left = l; right = operand.Plain n }) (piece.Name t) at
-moves (state.RightName l n) raw ps (piece.Value t) at = condition_moves raw ps (record { left = l; right = operand.Plain n }) (piece.Value t) at
-moves (state.RightName l n) raw ps piece.Select at = condition_moves raw ps (record { left = l; right = operand.Plain n }) piece.Select at
-moves (state.RightName l n) raw ps piece.Distinct at = condition_moves raw ps (record { left = l; right = operand.Plain n }) piece.Distinct at
-moves (state.RightName l n) raw ps piece.From at = condition_moves raw ps (record { left = l; right = operand.Plain n }) piece.From at
-moves (state.RightName l n) raw ps piece.Where at = condition_moves raw ps (record { left = l; right = operand.Plain n }) piece.Where at
-moves (state.RightName l n) raw ps piece.And at = condition_moves raw ps (record { left = l; right = operand.Plain n }) piece.And at
-moves (state.RightName l n) raw ps piece.As at = condition_moves raw ps (record { left = l; right = operand.Plain n }) piece.As at
-moves (state.RightName l n) raw ps piece.Union at = condition_moves raw ps (record { left = l; right = operand.Plain n }) piece.Union at
-moves (state.RightName l n) raw ps piece.Comma at = condition_moves raw ps (record { left = l; right = operand.Plain n }) piece.Comma at
-moves (state.RightName l n) raw ps piece.Equals at = condition_moves raw ps (record { left = l; right = operand.Plain n }) piece.Equals at
-moves (state.RightName l n) raw ps piece.Semicolon at = condition_moves raw ps (record { left = l; right = operand.Plain n }) piece.Semicolon at
-moves (state.RightName l n) raw ps piece.Other at = condition_moves raw ps (record { left = l; right = operand.Plain n }) piece.Other at
+moves (state.RightName l n) raw ps p at = condition_moves raw ps (record { left = l; right = operand.Plain n }) p at
 moves (state.RightDot l n) raw ps (piece.Name t) at = condition_more raw ps (shown_operand l ++ piece.Equals ∷ piece.Name n ∷ piece.Dot ∷ []) (shown_operand l ++ piece.Equals ∷ piece.Name n ∷ piece.Dot ∷ piece.Name t ∷ []) (piece.Name t) (append_assoc (shown_operand l) (piece.Equals ∷ piece.Name n ∷ piece.Dot ∷ []) (piece.Name t ∷ [])) at
 moves (state.RightDot l n) raw ps _ at = tt
 moves (state.RightEnd c) raw ps p at = condition_moves raw ps c p at

@@ -235,15 +235,7 @@ module _ (schema : Schema) (bytes : List ℕ) where
 
   pub one_fault : (f g : SqlFault) → IsSqlFault schema bytes f → IsSqlFault schema bytes g → f ≢ fault.NoMemory → g ≢ fault.NoMemory → f ≡ g
   one_fault fault.NoMemory g h h' some some' = absurd (some refl)
-  one_fault (fault.NotUtf8 ao) fault.NoMemory h h' some some' = absurd (some' refl)
-  one_fault (fault.Lex ao) fault.NoMemory h h' some some' = absurd (some' refl)
-  one_fault (fault.Syntax ao) fault.NoMemory h h' some some' = absurd (some' refl)
-  one_fault (fault.Unsupported aw ao) fault.NoMemory h h' some some' = absurd (some' refl)
-  one_fault (fault.OverLimit ao) fault.NoMemory h h' some some' = absurd (some' refl)
-  one_fault (fault.WrongWidth ao) fault.NoMemory h h' some some' = absurd (some' refl)
-  one_fault (fault.UnknownName ao) fault.NoMemory h h' some some' = absurd (some' refl)
-  one_fault (fault.Ambiguous ao) fault.NoMemory h h' some some' = absurd (some' refl)
-  one_fault (fault.WrongSort ao) fault.NoMemory h h' some some' = absurd (some' refl)
+  one_fault _ fault.NoMemory h h' some some' = absurd (some' refl)
   one_fault (fault.NotUtf8 ao) (fault.NotUtf8 bo) h h' some some' = ap (λ n. fault.NotUtf8 n) (one_bad bytes ao bo h h')
   one_fault (fault.NotUtf8 ao) (fault.Lex bo) h h' some some' = absurd (utf8_clash bytes ao h h'.0)
   one_fault (fault.NotUtf8 ao) (fault.Syntax bo) h h' some some' = absurd (utf8_clash bytes ao h h'.1.lexed.utf8)

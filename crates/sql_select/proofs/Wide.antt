@@ -157,11 +157,7 @@ further_ones (raw ∷ raws) =
 
 query_words : (raws : List RawSelect) → words_in (shown_query raws) ≡ length raws
 query_words [] = refl
-query_words (raw ∷ raws) =
-    let sum = words_append (shown raw) (further shown piece.Union raws) in
-    let one = shown_one raw in
-    let rest = further_ones raws in
-    omega (arith, sum, one, rest)
+query_words (raw ∷ raws) = let all = further_ones (raw ∷ raws) in omega (arith, all)
 
 text_words : (raws : List RawSelect) (pieces : List Piece) → IsText raws pieces → words_in pieces ≡ length raws
 text_words raws pieces is = ⊎_elim
