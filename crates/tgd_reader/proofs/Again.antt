@@ -226,21 +226,15 @@ module _ (s : Schema) (parts : List Part) (all : AllByRecursion (IsOf s) parts) 
     λ column there none. (s.valid.relations_are.columns of.0 of.1).named column (subst (λ (cs : List (List ℕ)). Contains cs column) of.3 there) none,
   )
   part_named (MethodPart name relation inputs cost) of = λ none. s.valid.methods_are.named of.0 of.1 (sym of.2 ∙ none)
-  part_named (RulePart line body head) of = tt
-  part_named (KeyPart line relation columns target target_columns) of = tt
-  part_named (ConstantPart text) of = tt
   part_named (SourcePart relation kind locator) of = λ none. s.valid.sources_are.named of.0 of.1 (sym of.3 ∙ none)
+  part_named _ of = tt
 
   pub named : AreNamed parts
   named = λ part there. part_named part (all_member (IsOf s) parts part all there)
 
   part_sorted : (part : Part) → IsOf s part → HasSorts part
   part_sorted (RelationPart name columns sorts) of = ap length of.4 ∙ s.valid.relations_are.sorts of.0 of.1 ∙ sym (ap length of.3)
-  part_sorted (MethodPart name relation inputs cost) of = tt
-  part_sorted (RulePart line body head) of = tt
-  part_sorted (KeyPart line relation columns target target_columns) of = tt
-  part_sorted (ConstantPart text) of = tt
-  part_sorted (SourcePart relation kind locator) of = tt
+  part_sorted _ of = tt
 
   pub sorted : HaveSorts parts
   sorted = λ part there. part_sorted part (all_member (IsOf s) parts part all there)

@@ -69,11 +69,7 @@ NoSort ls = (word_next (codes "int") ls ≡ false) × (word_next (codes "text") 
 
 symbol_no_word : (k : TokenKind) → kind_is_symbol k ≡ true → kind_is_word k ≡ false
 symbol_no_word kinds.Word e = absurd cc
-symbol_no_word kinds.Quoted e = refl
-symbol_no_word kinds.Text e = refl
-symbol_no_word kinds.Number e = refl
-symbol_no_word kinds.Symbol e = refl
-symbol_no_word kinds.Eol e = refl
+symbol_no_word _ e = refl
 
 no_word : (text symbol : List ℕ) (ls : List Lexeme) (ss : List Slot) (rest : List Lexeme) → Takes ls (Mark symbol ∷ ss) rest → word_next text ls ≡ false
 no_word text symbol [] ss rest t = absurd t

@@ -6,7 +6,7 @@ use Rattle.std.proofs.lemmas.Bool.{eqb-true, eq-eqb}
 use Rattle.lists.proofs.Booleans.{first_true}
 use Rattle.lists.proofs.Members.{some_injective}
 use Rattle.pq_text.specs.declared.token.TokenKind.{TokenKind}
-use Rattle.pq_text.specs.declared.token.TokenKind.TheVariants.{Word, Quoted, Text, Number, Symbol, Eol}
+use Rattle.pq_text.specs.declared.token.TokenKind.TheVariants.{Word, Quoted}
 use Rattle.pq_text.specs.declared.lexeme.Lexeme.{Lexeme}
 use Rattle.pq_text.specs.Lexemes.{◌>>=◌, comma, kind_names, kind_is_symbol, symbol_at, word_at, name_at, value_at, text_at, number_at, names_at, end_at, word_next}
 use Rattle.pq_text.specs.Forms.{Slot, Key, Mark, Name, Value, Quote, Digits, Takes, list_form, further_form, name_form, IsSome}
@@ -99,10 +99,7 @@ rule_again number ls body head w v w' v' t =
 name_is_no_symbol : (k : TokenKind) → kind_names k ≡ true → kind_is_symbol k ≡ false
 name_is_no_symbol Word e = refl
 name_is_no_symbol Quoted e = refl
-name_is_no_symbol Text e = absurd cc
-name_is_no_symbol Number e = absurd cc
-name_is_no_symbol Symbol e = absurd cc
-name_is_no_symbol Eol e = absurd cc
+name_is_no_symbol _ e = absurd cc
 
 inputs_cases : (ls : List Lexeme) (o : Option (List Lexeme)) (xs : List (List ℕ)) (rest : List Lexeme) → symbol_at (codes ")") ls ≡ o → inputs_or ls o ≡ Some (xs, rest) → Takes ls (list_form name_form xs ++ Mark (codes ")") ∷ []) rest
 inputs_cases ls (Some after) xs rest next e =

@@ -79,9 +79,7 @@ read_only bytes (Err (faults.Schema line fault)) ok err schema is =
 
 nothing_told : (schema : Schema) (fault : ReadFault) → IsReadAs schema (Err fault) → fault ≡ faults.NoMemory
 nothing_told schema faults.NoMemory is = refl
-nothing_told schema (faults.NotUtf8 offset) is = absurd is
-nothing_told schema (faults.Line line) is = absurd is
-nothing_told schema (faults.Schema line fault) is = absurd is
+nothing_told schema _ is = absurd is
 
 -- The text of a schema has no fault.
 pub no_fault : (bytes : List ℕ) (schema : Schema) (fault : ReadFault) → IsSchemaText bytes schema → IsReadFault bytes fault → fault ≡ faults.NoMemory

@@ -10,7 +10,7 @@ use Rattle.pq_text.specs.Forms.{Slot, Key, Mark, Name, Quote, Digits, Takes, fur
 use Rattle.pq_text.proofs.Forms.{Takes-split, name_some}
 use Rattle.lists.proofs.Members.{contains_cases}
 use Rattle.access_schema.specs.declared.part.Part.{Part}
-use Rattle.access_schema.specs.declared.part.Part.TheVariants.{Relation, Method, Rule, ForeignKey, Constant, Source}
+use Rattle.access_schema.specs.declared.part.Part.TheVariants.{Relation, Method, Source}
 use Rattle.access_schema.specs.Faults.{IsNamed, AreNamed, HasSorts, HaveSorts}
 use Rattle.tgd_reader.specs.declared.parts.Declared.{Declared}
 use Rattle.tgd_reader.specs.declared.column.Column.{Column}
@@ -62,21 +62,15 @@ part_named v number ls (Method name relation inputs cost) d =
     let after : List Slot = Key (codes "on") ∷ Name relation ∷ Mark (codes "(") ∷ (list_form name_form inputs ++ Mark (codes ")") ∷ Key (codes "cost") ∷ Digits digits ∷ []) in
     let m = behind ls (Key (codes "method")) (Name name ∷ after) [] d in
     name_some m.0 name after [] m.1
-part_named v number ls (Rule line body head) d = tt
-part_named v number ls (ForeignKey line relation columns target target_columns) d = tt
-part_named v number ls (Constant text) d = tt
 part_named v number ls (Source relation kind locator) d =
     let m = behind ls (Key (codes "source")) (Name relation ∷ Name kind ∷ Quote locator ∷ []) [] d in
     let n = behind m.0 (Name relation) (Name kind ∷ Quote locator ∷ []) [] m.1 in
     name_some n.0 kind (Quote locator ∷ []) [] n.1
+part_named v number ls _ d = tt
 
 part_sorted : (v : Bool) (number : ℕ) (ls : List Lexeme) (part : Part) → IsDeclaration v number ls part → HasSorts part
 part_sorted v number ls (Relation name columns sorts) d = ap length d.4 ∙ length-map d.0 sort_of ∙ sym (length-map d.0 name_of) ∙ sym (ap length d.3)
-part_sorted v number ls (Method name relation inputs cost) d = tt
-part_sorted v number ls (Rule line body head) d = tt
-part_sorted v number ls (ForeignKey line relation columns target target_columns) d = tt
-part_sorted v number ls (Constant text) d = tt
-part_sorted v number ls (Source relation kind locator) d = tt
+part_sorted v number ls _ d = tt
 
 -- what holds of each declaration holds of each part of some lines
 module _ (v : Bool) (P : Part → Type 0) (each : (number : ℕ) (ls : List Lexeme) (part : Part) → IsDeclaration v number ls part → P part) where

@@ -304,12 +304,8 @@ part_declared v n (Source relation kind locator) plain =
 -- ---- texts
 
 has_part : (v : Bool) (n : ℕ) (part : Part) (P : List Part → List ℕ → Type 0) (parts : List Part) (lines : List ℕ) → IsPlain v part → P parts lines → HasPart v n (map piece_lexeme (part_pieces part)) (on_line n part ∷ parts) (n ∷ lines) P
-has_part v n (Relation name columns sorts) P parts lines plain more = (part_declared v n (Relation name columns sorts) plain, refl, more)
-has_part v n (Method name relation inputs cost) P parts lines plain more = (part_declared v n (Method name relation inputs cost) plain, refl, more)
-has_part v n (Rule line body head) P parts lines plain more = (part_declared v n (Rule line body head) plain, refl, more)
 has_part v n (ForeignKey line relation columns target target_columns) P parts lines plain more = absurd plain
-has_part v n (Constant text) P parts lines plain more = (part_declared v n (Constant text) plain, refl, more)
-has_part v n (Source relation kind locator) P parts lines plain more = (part_declared v n (Source relation kind locator) plain, refl, more)
+has_part v n part P parts lines plain more = (part_declared v n part plain, refl, more)
 
 are_parts : (v : Bool) (n : ℕ) (parts : List Part) → AllByRecursion (IsPlain v) parts → AreParts v (numbered n (map part_pieces parts)) (placed_from n parts) (lines_from n parts)
 are_parts v n [] all = (refl, refl)

@@ -5,7 +5,7 @@ use Rattle.std.specs.List.{AllByRecursion}
 use Rattle.lists.proofs.Members.{some_injective}
 use Rattle.pq_text.specs.declared.lexeme.Lexeme.{Lexeme}
 use Rattle.pq_text.specs.declared.token.TokenKind.{TokenKind}
-use Rattle.pq_text.specs.declared.token.TokenKind.TheVariants.{Word, Quoted, Text, Number, Symbol, Eol}
+use Rattle.pq_text.specs.declared.token.TokenKind.TheVariants.{Word, Quoted}
 use Rattle.pq_text.specs.Lexemes.{◌>>=◌, comma, kind_names, kind_is_value, is_name, is_value, symbol_at, name_at, names_at}
 use Rattle.pq_text.specs.Forms.{Mark, Name, Takes, list_form, name_form, IsSome}
 use Rattle.pq_text.proofs.Forms.{bind_some, Takes-append, Takes-split, symbol_found, symbol_again, name_found, name_again, Any, all_any, Finds, Rereads, list_found, list_again, names_found, names_again, other_symbol}
@@ -22,10 +22,7 @@ use Rattle.tgd_reader.specs.Grammar.{term_form, atom_form, listing_form, IsAtom}
 value_no_name : (k : TokenKind) → kind_is_value k ≡ true → kind_names k ≡ false
 value_no_name Word e = absurd cc
 value_no_name Quoted e = absurd cc
-value_no_name Text e = refl
-value_no_name Number e = refl
-value_no_name Symbol e = absurd cc
-value_no_name Eol e = absurd cc
+value_no_name _ e = refl
 
 abbrev front : Lexeme → List Lexeme → Bool → Option (List ℕ × List Lexeme)
 front l ls b = cond b (Some (l.text, ls)) None

@@ -9,7 +9,7 @@ use Rattle.meaning.specs.declared.types.Method.{Method}
 use Rattle.meaning.specs.declared.types.Rule.{Rule}
 use Rattle.lists.proofs.Members.{contains_here, contains_there, contains_got, got_below}
 use Rattle.access_schema.specs.declared.part.Part.{Part}
-use Rattle.access_schema.specs.declared.part.Part.TheVariants.{Relation as RelationPart, Method as MethodPart, Rule as RulePart, ForeignKey as KeyPart, Constant as ConstantPart, Source as SourcePart}
+use Rattle.access_schema.specs.declared.part.Part.TheVariants.{Relation as RelationPart, Method as MethodPart, Rule as RulePart, Constant as ConstantPart, Source as SourcePart}
 use Rattle.access_schema.specs.declared.schema.SourceLine.{SourceLine}
 use Rattle.access_schema.specs.declared.schema.Schema.{Schema}
 use Rattle.access_schema.specs.Content.{number_of, columns_of, relation_of, relations_of, places_from, method_of, methods_of, rule_of, rules_of, source_of, sources_of, declared_constants}
@@ -29,44 +29,24 @@ given_placed h same n (part ∷ parts) = cons_same (h (on_line n part)) (h part)
 
 relation_placed : (n : ℕ) (part : Part) → relation_of (on_line n part) ≡ relation_of part
 relation_placed n (RelationPart name columns sorts) = refl
-relation_placed n (MethodPart name relation inputs cost) = refl
-relation_placed n (RulePart line body head) = refl
-relation_placed n (KeyPart line relation columns target target_columns) = refl
-relation_placed n (ConstantPart text) = refl
-relation_placed n (SourcePart relation kind locator) = refl
+relation_placed n _ = refl
 
 method_placed : (relations : List Relation) (n : ℕ) (part : Part) → method_of relations (on_line n part) ≡ method_of relations part
-method_placed relations n (RelationPart name columns sorts) = refl
 method_placed relations n (MethodPart name relation inputs cost) = refl
-method_placed relations n (RulePart line body head) = refl
-method_placed relations n (KeyPart line relation columns target target_columns) = refl
-method_placed relations n (ConstantPart text) = refl
-method_placed relations n (SourcePart relation kind locator) = refl
+method_placed relations n _ = refl
 
 source_placed : (relations : List Relation) (n : ℕ) (part : Part) → source_of relations (on_line n part) ≡ source_of relations part
-source_placed relations n (RelationPart name columns sorts) = refl
-source_placed relations n (MethodPart name relation inputs cost) = refl
-source_placed relations n (RulePart line body head) = refl
-source_placed relations n (KeyPart line relation columns target target_columns) = refl
-source_placed relations n (ConstantPart text) = refl
 source_placed relations n (SourcePart relation kind locator) = refl
+source_placed relations n _ = refl
 
 rule_placed : (relations : List Relation) (n : ℕ) (part : Part) → option_map without_line (rule_of relations (on_line n part)) ≡ option_map without_line (rule_of relations part)
-rule_placed relations n (RelationPart name columns sorts) = refl
-rule_placed relations n (MethodPart name relation inputs cost) = refl
 rule_placed relations n (RulePart line body head) = refl
-rule_placed relations n (KeyPart line relation columns target target_columns) = refl
-rule_placed relations n (ConstantPart text) = refl
-rule_placed relations n (SourcePart relation kind locator) = refl
+rule_placed relations n _ = refl
 
 pub constants_placed : (n : ℕ) (parts : List Part) → flat_map declared_constants (placed_from n parts) ≡ flat_map declared_constants parts
 constants_placed n [] = refl
-constants_placed n (RelationPart name columns sorts ∷ parts) = constants_placed (line_behind n (RelationPart name columns sorts)) parts
-constants_placed n (MethodPart name relation inputs cost ∷ parts) = constants_placed (line_behind n (MethodPart name relation inputs cost)) parts
-constants_placed n (RulePart line body head ∷ parts) = constants_placed (line_behind n (RulePart line body head)) parts
-constants_placed n (KeyPart line relation columns target target_columns ∷ parts) = constants_placed (line_behind n (KeyPart line relation columns target target_columns)) parts
 constants_placed n (ConstantPart text ∷ parts) = ap (λ texts. text ∷ texts) (constants_placed (line_behind n (ConstantPart text)) parts)
-constants_placed n (SourcePart relation kind locator ∷ parts) = constants_placed (line_behind n (SourcePart relation kind locator)) parts
+constants_placed n (part ∷ parts) = constants_placed (line_behind n part) parts
 
 -- ---- what the declarations of a schema give
 

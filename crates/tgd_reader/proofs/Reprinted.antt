@@ -42,12 +42,8 @@ IsOf s (ConstantPart text) = Contains s.constants text
 IsOf s (SourcePart relation kind locator) = (x : SourceLine) × Contains s.sources x × (relation ≡ name_at s.relations x.rel) × (kind ≡ x.kind)
 
 on_line_of : (s : Schema) (n : ℕ) (part : Part) → IsOf s part → IsOf s (on_line n part)
-on_line_of s n (RelationPart name columns sorts) of = of
-on_line_of s n (MethodPart name relation inputs cost) of = of
 on_line_of s n (RulePart line body head) of = of
-on_line_of s n (KeyPart line relation columns target target_columns) of = of
-on_line_of s n (ConstantPart text) of = of
-on_line_of s n (SourcePart relation kind locator) of = of
+on_line_of s n _ of = of
 
 placed_of : (s : Schema) (n : ℕ) (parts : List Part) → AllByRecursion (IsOf s) parts → AllByRecursion (IsOf s) (placed_from n parts)
 placed_of s n [] all = tt
@@ -87,20 +83,15 @@ rule_constant s body head rule of in_body in_head c there =
     among_contains s.constants c ((s.valid.rules_are.fit rule of).constants_are c used)
 
 part_constant : (s : Schema) (part : Part) → IsOf s part → (c : List ℕ) → Contains (part_constants part) c → Contains s.constants c
-part_constant s (RelationPart name columns sorts) of c there = absurd (omega arith)
-part_constant s (MethodPart name relation inputs cost) of c there = absurd (omega arith)
 part_constant s (RulePart line body head) of c there = rule_constant s body head of.0 of.1 of.2 of.3 c there
 part_constant s (KeyPart line relation columns target target_columns) of c there = absurd of
 part_constant s (ConstantPart text) of c there = ⊎_elim (λ same. subst (λ (t : List ℕ). Contains s.constants t) same of) (λ later. absurd (omega arith)) (contains_cases text [] c there)
-part_constant s (SourcePart relation kind locator) of c there = absurd (omega arith)
+part_constant s _ of c there = absurd (omega arith)
 
 only_rule : (s : Schema) (part : Part) → IsOf s part → (c : List ℕ) → Contains (rule_constants part) c → Contains s.constants c
-only_rule s (RelationPart name columns sorts) of c there = absurd (omega arith)
-only_rule s (MethodPart name relation inputs cost) of c there = absurd (omega arith)
 only_rule s (RulePart line body head) of c there = rule_constant s body head of.0 of.1 of.2 of.3 c there
 only_rule s (KeyPart line relation columns target target_columns) of c there = absurd of
-only_rule s (ConstantPart text) of c there = absurd (omega arith)
-only_rule s (SourcePart relation kind locator) of c there = absurd (omega arith)
+only_rule s _ of c there = absurd (omega arith)
 
 pub flat_within : (s : Schema) (g : Part → List (List ℕ)) → ((part : Part) → IsOf s part → (c : List ℕ) → Contains (g part) c → Contains s.constants c) → (parts : List Part) → AllByRecursion (IsOf s) parts → (c : List ℕ) → Contains (flat_map g parts) c → Contains s.constants c
 flat_within s g go [] all c there = absurd (omega arith)

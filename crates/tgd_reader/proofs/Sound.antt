@@ -27,27 +27,15 @@ use Rattle.tgd_reader.proofs.Faultless.{repeats_none, names_differ, fresh_key}
 
 relation_key : (part : Part) (name : List ℕ) → is_relation_named name part ≡ true → option_map (λ (r : Relation). r.name) (relation_of part) ≡ Some name
 relation_key (RelationPart other columns sorts) name holds = ap Some (text_is other name holds)
-relation_key (MethodPart other relation inputs cost) name holds = absurd cc
-relation_key (RulePart line body head) name holds = absurd cc
-relation_key (KeyPart line relation columns target target_columns) name holds = absurd cc
-relation_key (ConstantPart text) name holds = absurd cc
-relation_key (SourcePart relation kind locator) name holds = absurd cc
+relation_key _ name holds = absurd cc
 
 method_key : (relations : List Relation) (part : Part) (name : List ℕ) → is_method_named name part ≡ true → option_map (λ (m : Method). m.name) (method_of relations part) ≡ Some name
-method_key relations (RelationPart other columns sorts) name holds = absurd cc
 method_key relations (MethodPart other relation inputs cost) name holds = ap Some (text_is other name holds)
-method_key relations (RulePart line body head) name holds = absurd cc
-method_key relations (KeyPart line relation columns target target_columns) name holds = absurd cc
-method_key relations (ConstantPart text) name holds = absurd cc
-method_key relations (SourcePart relation kind locator) name holds = absurd cc
+method_key relations _ name holds = absurd cc
 
 source_key : (relations : List Relation) (part : Part) (name : List ℕ) → is_source_of name part ≡ true → option_map (λ (x : SourceLine). x.rel) (source_of relations part) ≡ Some (number_of relations name)
-source_key relations (RelationPart other columns sorts) name holds = absurd cc
-source_key relations (MethodPart other relation inputs cost) name holds = absurd cc
-source_key relations (RulePart line body head) name holds = absurd cc
-source_key relations (KeyPart line relation columns target target_columns) name holds = absurd cc
-source_key relations (ConstantPart text) name holds = absurd cc
 source_key relations (SourcePart relation kind locator) name holds = ap (λ (n : List ℕ). Some (number_of relations n)) (text_is relation name holds)
+source_key relations _ name holds = absurd cc
 
 module _ (s : Schema) (parts earlier later : List Part) (rs : relations_of parts ≡ s.relations) (ms : methods_of s.relations parts ≡ s.methods) (ss : sources_of s.relations parts ≡ s.sources) where
   relation_new : (name : List ℕ) (columns : List (List ℕ)) (sorts : List Sort) → parts ≡ earlier ++ RelationPart name columns sorts ∷ later → list_any (is_relation_named name) earlier ≡ false

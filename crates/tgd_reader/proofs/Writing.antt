@@ -1,11 +1,10 @@
 -- Pieces and declarations that are written one behind another.
-use Rattle.std.proofs.Common.{◌≡◌, ℕ, ◌+◌, ◌<◌, ◌^◌, ◌%◌, Bool, true, false, List, [], ◌∷◌, ◌++◌, length, slice_get, get_or, take, drop, ◌-◌, Option, Some, refl, sym, ap, subst, ◌∙◌, append_assoc, arith}
+use Rattle.std.proofs.Common.{◌≡◌, ℕ, ◌+◌, ◌<◌, ◌^◌, ◌%◌, Bool, true, false, List, [], ◌∷◌, ◌++◌, length, slice_get, get_or, ◌-◌, Option, Some, refl, sym, ap, subst, ◌∙◌, append_assoc, arith}
 use Rattle.std.specs.Prelude.{◌&&◌, ◌||◌, map, codes, slice_index_or}
 use Rattle.std.specs.Fmt.{decimal}
 use Rattle.std.specs.List.{AllByRecursion}
 use Rattle.std.proofs.lemmas.Fmt.{decimal_by_steps}
 use Rattle.std.proofs.lemmas.List.{append-nil, map-append}
-use Rattle.std.proofs.Math.Seq.{take-length}
 use Rattle.pq_text.specs.Tokens.{is_digit}
 use Rattle.pq_text.specs.Printing.{is_small, all_small, is_bare, printed_name}
 use Rattle.pq_text.specs.Pieces.{Piece, behind_blank, text_of, lines_text, name_piece, mark_piece, word_piece, number_piece, list_pieces, further_pieces}
@@ -89,11 +88,6 @@ pub variable_written : (old a b c : List ℕ) (spaced : Bool) (n : ℕ) → n < 
 variable_written old a b c spaced n fits p q r = variable_case old a b c spaced (printed_name (variable_name n)) (decimal n) (printed-variable n fits) p q r
 
 -- ---- lists of members
-
--- a list whose first member is taken off
-pub split_first : {X : Type 0} (xs : List X) (x : X) → 0 < length xs → x ≡ get_or xs 0 x → xs ≡ x ∷ take (length xs - 1) (drop 1 xs)
-split_first [] x some is = absurd (omega arith)
-split_first (y ∷ ys) x some is = let k : length (y ∷ ys) - 1 ≡ length ys = omega arith in cc (is, ap (λ n. take n ys) k ∙ take-length ys)
 
 pub further_written : {X : Type 0} (item : Bool → X → List Piece) (x : X) (xs : List X) (a b c total : List ℕ) → Writes a b (mark_piece false (codes ",") ∷ []) → Writes b c (item true x) → a ++ text_of (further_pieces item (x ∷ xs)) ≡ total → c ++ text_of (further_pieces item xs) ≡ total
 further_written item x xs a b c total p q h = more_pieces a c total (mark_piece false (codes ",") ∷ item true x) (further_pieces item xs) (writes_then a b c (mark_piece false (codes ",") ∷ []) (item true x) p q) h

@@ -5,7 +5,8 @@ use Rattle.meaning.specs.declared.types.Atom.{Atom}
 use Rattle.pq_text.specs.Pieces.{list_pieces, further_pieces}
 use Rattle.tgd_reader.specs.Printed.{atom_pieces, named_atom}
 use Rattle.tgd_reader.specs.Printing.{Writes}
-use Rattle.tgd_reader.proofs.Writing.{split_first, writes_then}
+use Rattle.lists.proofs.Places.{split_first}
+use Rattle.tgd_reader.proofs.Writing.{writes_then}
 use Rattle.tgd_reader.proofs.pieces.atoms.Goals as goal
 
 pub returns-in_ok-atom-in-len1-up-clause-written : goal.returns-in_ok-atom-in-len1-up-clause-written

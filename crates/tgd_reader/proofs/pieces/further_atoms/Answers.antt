@@ -5,7 +5,8 @@ use Rattle.meaning.specs.declared.types.Atom.{Atom}
 use Rattle.pq_text.specs.Pieces.{text_of, further_pieces}
 use Rattle.tgd_reader.specs.Printed.{atom_pieces, named_atom}
 use Rattle.tgd_reader.specs.Printing.{IsPlaced}
-use Rattle.tgd_reader.proofs.Writing.{split_first, further_written}
+use Rattle.lists.proofs.Places.{split_first}
+use Rattle.tgd_reader.proofs.Writing.{further_written}
 use Rattle.tgd_reader.proofs.pieces.further_atoms.Goals as goal
 
 pub loop-left-preserved : goal.loop-left-preserved
