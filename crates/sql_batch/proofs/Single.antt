@@ -13,7 +13,7 @@ use Rattle.sql_select.specs.declared.piece.Piece.{Piece}
 use Rattle.sql_select.specs.declared.piece.Piece.TheVariants as piece
 use Rattle.sql_select.specs.declared.state.State.TheVariants as state
 use Rattle.sql_select.specs.Words.{written, piece_for, piece_of, pieces_of}
-use Rattle.sql_select.specs.Grammar.{Place, S0, S1, I0, I1, I2, I3, I4, I5, F0, F1, F2, F3, C0, C1, C2, C3, C4, C5, C6, C7, E, next, Leads}
+use Rattle.sql_select.specs.Grammar.{Place, S0, E, next, Leads}
 use Rattle.sql_select.specs.Reading.{started}
 use Rattle.sql_select.specs.Statements.{IsStatementText}
 use Rattle.sql_select.proofs.Complete.{complete}
@@ -24,51 +24,16 @@ use Rattle.sql_batch.specs.Batches.{AreQueries, IsBatchText}
 
 semicolon_piece : (k : TokenKind) (t : Token) (w : List ℕ) → (is_symbol k && pointwise nat_eq (codes ";") w) ≡ true → piece_for k t w ≡ piece.Semicolon
 semicolon_piece kind.Symbol t w e = subst (λ (bs : List ℕ). piece_for kind.Symbol t bs ≡ piece.Semicolon) (text_is (codes ";") w e) refl
-semicolon_piece kind.Word t w e = absurd (cc)
-semicolon_piece kind.Quoted t w e = absurd (cc)
-semicolon_piece kind.Text t w e = absurd (cc)
-semicolon_piece kind.Number t w e = absurd (cc)
-semicolon_piece kind.Eol t w e = absurd (cc)
+semicolon_piece _ t w e = absurd (cc)
 
 -- a semicolon leads to the place behind a query, and nothing from there
 to_end : (p r : Place) → next p piece.Semicolon ≡ Some r → r ≡ E
-to_end S0 r e = absurd (cc)
-to_end S1 r e = absurd (cc)
-to_end I0 r e = absurd (cc)
-to_end I1 r e = absurd (cc)
-to_end I2 r e = absurd (cc)
-to_end I3 r e = absurd (cc)
-to_end I4 r e = absurd (cc)
-to_end I5 r e = absurd (cc)
-to_end F0 r e = absurd (cc)
-to_end F1 r e = cc
-to_end F2 r e = absurd (cc)
-to_end F3 r e = cc
-to_end C0 r e = absurd (cc)
-to_end C1 r e = absurd (cc)
-to_end C2 r e = absurd (cc)
-to_end C3 r e = absurd (cc)
-to_end C4 r e = absurd (cc)
-to_end C5 r e = cc
-to_end C6 r e = absurd (cc)
-to_end C7 r e = cc
-to_end E r e = absurd (cc)
+to_end E r e = cc
+to_end _ r e = cc
 
 nothing_behind : (x : Piece) (r : Place) → next E x ≡ Some r → ⊥
-nothing_behind (piece.Name t) r e = absurd (cc)
-nothing_behind (piece.Value t) r e = absurd (cc)
-nothing_behind piece.Select r e = absurd (cc)
-nothing_behind piece.Distinct r e = absurd (cc)
-nothing_behind piece.From r e = absurd (cc)
-nothing_behind piece.Where r e = absurd (cc)
-nothing_behind piece.And r e = absurd (cc)
-nothing_behind piece.As r e = absurd (cc)
-nothing_behind piece.Union r e = absurd (cc)
-nothing_behind piece.Comma r e = absurd (cc)
-nothing_behind piece.Dot r e = absurd (cc)
-nothing_behind piece.Equals r e = absurd (cc)
-nothing_behind piece.Semicolon r e = absurd (cc)
 nothing_behind piece.Other r e = absurd (cc)
+nothing_behind _ r e = absurd (cc)
 
 -- tokens of one query are not cut
 uncut : (bytes : List ℕ) (from : ℕ) (tokens : List Token) (p q : Place) → Leads p (pieces_of bytes tokens) q → cut_from bytes from tokens ≡ record { from = from; to = length bytes } ∷ []

@@ -43,13 +43,7 @@ module _ (schema : Schema) (bytes : List ℕ) where
   clash (fault.Lex lex.NoMemory) tokens h k are = absurd h.1
   clash (fault.Lex (lex.BadByte o)) tokens h k are = let e : lex.BadByte o ≡ lex.NoMemory = tokens_only Sql bytes (Err (lex.BadByte o)) tt h.1 tokens are.lexes in absurd (cc)
   clash (fault.Lex (lex.OpenQuote o)) tokens h k are = let e : lex.OpenQuote o ≡ lex.NoMemory = tokens_only Sql bytes (Err (lex.OpenQuote o)) tt h.1 tokens are.lexes in absurd (cc)
-  clash (fault.Syntax o) tokens h k are = absurd (omega (arith, k))
-  clash (fault.Unsupported word o) tokens h k are = absurd (omega (arith, k))
-  clash (fault.OverLimit l) tokens h k are = absurd (omega (arith, k))
-  clash (fault.WrongWidth o) tokens h k are = absurd (omega (arith, k))
-  clash (fault.UnknownName o) tokens h k are = absurd (omega (arith, k))
-  clash (fault.Ambiguous o) tokens h k are = absurd (omega (arith, k))
-  clash (fault.WrongSort o) tokens h k are = absurd (omega (arith, k))
+  clash _ tokens h k are = absurd (omega (arith, k))
 
   queries_one : (parts : List Part) (ss ts : List Statement) → AreQueries schema bytes parts ss → AreQueries schema bytes parts ts → ss ≡ ts
   queries_one [] [] [] a b = refl
