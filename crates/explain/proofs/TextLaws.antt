@@ -15,36 +15,25 @@ use Rattle.findings.specs.declared.refutation.Witness.{Witness}
 use Rattle.explain.specs.declared.fault.WitnessReadFault.{WitnessReadFault}
 use Rattle.explain.specs.declared.fault.WitnessReadFault.TheVariants as faults
 use Rattle.explain.specs.declared.progress.Progress.{Progress}
-use Rattle.explain.specs.declared.progress.Progress.TheVariants.{Opening, Opened, Answered, First, Second, Ended}
+use Rattle.explain.specs.declared.progress.Progress.TheVariants.{Opening, Ended}
 use Rattle.explain.specs.Grammar.{AreWitnessLines, SaysWitness, IsWitnessText, BeginWitness, HasMisfit, Stops, IsFirstMisfit, IsWitnessReadFault, OkOrNoMemory}
-use Rattle.explain.specs.Reading.{next_at, next_progress, progress_from, witness_of, ProgressGives, HasLineFault}
+use Rattle.explain.specs.Reading.{next_at, progress_from, witness_of, ProgressGives, HasLineFault}
 use Rattle.explain.proofs.Following.{AreRead, read_from, lines_found, witness_again, read_begin, begin_read, ended_are}
 use Rattle.plan_form.proofs.ByLines as by_lines
 use Rattle.plan_form.proofs.ByLines.{written-append}
 
--- ---- reading the lines, as it is defined for refutations and by lines in general
-
-same_turn : (go other : Progress → Result Progress ℕ) → ((more : Progress) → go more ≡ other more) → (number : ℕ) (done : Progress) (tokens : List Lexeme) (o : Option Progress) →
-    next_progress go number done tokens o ≡ by_lines.turn other number done tokens o
-same_turn go other same number done [] o = same done
-same_turn go other same number done (t ∷ ts) None = refl
-same_turn go other same number done (t ∷ ts) (Some more) = same more
+-- ---- reading the lines
 
 module _ (schema : Schema) where
-  same_progress : (lines : List Line) (done : Progress) → progress_from schema done lines ≡ by_lines.progress_from (next_at schema) done lines
-  same_progress [] done = refl
-  same_progress (line ∷ lines) done =
-      same_turn (λ more. progress_from schema more lines) (λ more. by_lines.progress_from (next_at schema) more lines) (λ more. same_progress lines more) line.number done line.tokens (next_at schema done line.tokens)
-
   all_read : (lines : List Line) (last : Progress) → progress_from schema Opening lines ≡ Ok last → read_from schema Opening (written lines) ≡ Some last
-  all_read lines last e = by_lines.all_read (next_at schema) lines Opening last (sym (same_progress lines Opening) ∙ e)
+  all_read lines last e = by_lines.all_read (next_at schema) lines Opening last e
 
   are_read : (lines : List Line) (last : Progress) → progress_from schema Opening lines ≡ Ok last → AreRead schema Opening (written lines) last
   are_read lines last e = lines_found schema (written lines) Opening last tt (all_read lines last e)
 
   has_misfit : (lines : List Line) (number : ℕ) → progress_from schema Opening lines ≡ Err number → HasMisfit schema lines number
   has_misfit lines number e =
-      let r = by_lines.lines_halt (next_at schema) lines number Opening (sym (same_progress lines Opening) ∙ e) in
+      let r = by_lines.lines_halt (next_at schema) lines number Opening e in
       record {
         before = r.front;
         line = r.line;
@@ -60,12 +49,8 @@ module _ (schema : Schema) where
   -- ---- texts
 
   ended_is : (last : Progress) (pair : Witness) → witness_of last ≡ Some pair → last ≡ Ended pair
-  ended_is Opening pair e = absurd cc
-  ended_is Opened pair e = absurd cc
-  ended_is (Answered answer) pair e = absurd cc
-  ended_is (First answer first) pair e = absurd cc
-  ended_is (Second answer first second) pair e = absurd cc
   ended_is (Ended other) pair e = cc
+  ended_is _ pair e = absurd cc
 
   pub text_read : (text : List ℕ) (told : TextLines) (last : Progress) (pair : Witness) → AreLines text told → told.broken ≡ None → progress_from schema Opening told.whole ≡ Ok last → witness_of last ≡ Some pair → SaysWitness schema text pair
   text_read text told last pair lines whole e ends =

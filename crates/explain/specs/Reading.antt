@@ -9,6 +9,7 @@ use Rattle.pq_text.specs.Lexemes.{◌>>=◌, symbol_at, word_at, name_at, values
 use Rattle.meaning.specs.declared.types.Relation.{Relation}
 use Rattle.meaning.specs.declared.types.Fact.{Fact}
 use Rattle.access_schema.specs.declared.schema.Schema.{Schema}
+use Rattle.plan_form.specs.ByLines as by_lines
 use Rattle.findings.specs.declared.refutation.Witness.{Witness}
 use Rattle.explain.specs.declared.fault.WitnessReadFault.{WitnessReadFault}
 use Rattle.explain.specs.declared.fault.WitnessReadFault.TheVariants as faults
@@ -88,17 +89,9 @@ next_at schema (Second answer first second) ls =
     else (fact_at schema.relations ls >>= λ x. Some (Second answer first (second ++ x.0 ∷ [])))
 next_at schema (Ended pair) ls = None
 
--- a line without tokens is passed over, and a line that does not fit is named by its number
-abbrev pub next_progress : (Progress → Result Progress ℕ) → ℕ → Progress → List Lexeme → Option Progress → Result Progress ℕ
-next_progress go number done [] read = go done
-next_progress go number done (t ∷ ts) None = Err number
-next_progress go number done (t ∷ ts) (Some more) = go more
-
 -- what has been read behind the lines, or the number of the first line that does not fit
 abbrev pub progress_from : Schema → Progress → List Line → Result Progress ℕ
-progress_from schema done [] = Ok done
-progress_from schema done (line ∷ lines) =
-    next_progress (λ more. progress_from schema more lines) line.number done line.tokens (next_at schema done line.tokens)
+progress_from schema = by_lines.progress_from (next_at schema)
 
 -- the pair, where its last line has been read
 abbrev pub witness_of : Progress → Option Witness

@@ -8,6 +8,7 @@ use Rattle.pq_text.specs.declared.lexeme.Line.{Line}
 use Rattle.pq_text.specs.Lexemes.{◌>>=◌}
 use Rattle.pq_text.specs.Forms.{Slot}
 use Rattle.pq_text.proofs.Forms.{bind_some}
+use Rattle.plan_form.specs.ByLines.{turn, progress_from}
 use Rattle.plan_form.specs.Grammar.{IsOfForm, behind_tokens, written}
 
 -- ---- lists of lines and forms
@@ -97,19 +98,10 @@ module _ {P : Type 0} where
   good_is : (a b : P) → good a ≡ good b → a ≡ b
   good_is a b e = cc
 
-  abbrev pub turn : (P → Result P ℕ) → ℕ → P → List Lexeme → Option P → Result P ℕ
-  turn go number done [] o = go done
-  turn go number done (t ∷ ts) None = Err number
-  turn go number done (t ∷ ts) (Some more) = go more
-
 bad_is : (P : Type 0) (a b : ℕ) → bad {P = P} a ≡ bad b → a ≡ b
 bad_is P a b e = cc
 
 module _ {P : Type 0} (next : P → List Lexeme → Option P) where
-  abbrev pub progress_from : P → List Line → Result P ℕ
-  progress_from done [] = Ok done
-  progress_from done (line ∷ lines) = turn (λ more. progress_from more lines) line.number done line.tokens (next done line.tokens)
-
   -- ---- all lines are read
 
   line_read : (go : P → Result P ℕ) (number : ℕ) (done last : P) (tokens : List Lexeme) (others : List (List Lexeme)) →
@@ -121,9 +113,9 @@ module _ {P : Type 0} (next : P → List Lexeme → Option P) where
       step None e = absurd cc
       step (Some more) e = again more e
 
-  pub all_read : (lines : List Line) (done last : P) → progress_from done lines ≡ good last → read_from next done (written lines) ≡ Some last
+  pub all_read : (lines : List Line) (done last : P) → progress_from next done lines ≡ good last → read_from next done (written lines) ≡ Some last
   all_read [] done last e = ap (λ (p : P). Some p) (good_is done last e)
-  all_read (line ∷ lines) done last e = line_read (λ more. progress_from more lines) line.number done last line.tokens (written lines) (λ more h. all_read lines more last h) e
+  all_read (line ∷ lines) done last e = line_read (λ more. progress_from next more lines) line.number done last line.tokens (written lines) (λ more h. all_read lines more last h) e
 
   -- ---- a line does not fit
 
@@ -137,20 +129,25 @@ module _ {P : Type 0} (next : P → List Lexeme → Option P) where
     pub read : read_from next done (written front) ≡ Some last
     pub none : read_from next last (behind_tokens line.tokens []) ≡ None
 
+  -- a line that is read stands before one that does not fit
+  halts_behind : (line : Line) (lines : List Line) (number : ℕ) (done more : P) (r : Halts more lines number) →
+      read_from next done (behind_tokens line.tokens (written r.front)) ≡ Some r.last → Halts done (line ∷ lines) number
+  halts_behind line lines number done more r read = record {
+    front = line ∷ r.front;
+    line = r.line;
+    behind = r.behind;
+    whole = ap (λ (ls : List Line). line ∷ ls) r.whole;
+    number_is = r.number_is;
+    last = r.last;
+    read = read;
+    none = r.none;
+  }
+
   line_halts : (line : Line) (lines : List Line) (go : P → Result P ℕ) (number : ℕ) (done : P) (tokens : List Lexeme) → line.tokens ≡ tokens →
       ((more : P) → go more ≡ bad number → Halts more lines number) → turn go line.number done tokens (next done tokens) ≡ bad number → Halts done (line ∷ lines) number
   line_halts line lines go number done [] is again e =
       let r = again done e in
-      record {
-        front = line ∷ r.front;
-        line = r.line;
-        behind = r.behind;
-        whole = ap (λ (ls : List Line). line ∷ ls) r.whole;
-        number_is = r.number_is;
-        last = r.last;
-        read = subst (λ (ts : List Lexeme). read_from next done (behind_tokens ts (written r.front)) ≡ Some r.last) (sym is) r.read;
-        none = r.none;
-      }
+      halts_behind line lines number done done r (subst (λ (ts : List Lexeme). read_from next done (behind_tokens ts (written r.front)) ≡ Some r.last) (sym is) r.read)
   line_halts line lines go number done (t ∷ ts) is again e = step (next done (t ∷ ts)) refl e
     where
       step : (o : Option P) → next done (t ∷ ts) ≡ o → turn go line.number done (t ∷ ts) o ≡ bad number → Halts done (line ∷ lines) number
@@ -167,20 +164,12 @@ module _ {P : Type 0} (next : P → List Lexeme → Option P) where
           }
       step (Some more) at e =
           let r = again more e in
-          record {
-            front = line ∷ r.front;
-            line = r.line;
-            behind = r.behind;
-            whole = ap (λ (ls : List Line). line ∷ ls) r.whole;
-            number_is = r.number_is;
-            last = r.last;
-            read = subst (λ (us : List Lexeme). read_from next done (behind_tokens us (written r.front)) ≡ Some r.last) (sym is) (ap (λ (o : Option P). o >>= λ more. read_from next more (written r.front)) at ∙ r.read);
-            none = r.none;
-          }
+          halts_behind line lines number done more r
+          (subst (λ (us : List Lexeme). read_from next done (behind_tokens us (written r.front)) ≡ Some r.last) (sym is) (ap (λ (o : Option P). o >>= λ more. read_from next more (written r.front)) at ∙ r.read))
 
-  pub lines_halt : (lines : List Line) (number : ℕ) (done : P) → progress_from done lines ≡ bad number → Halts done lines number
+  pub lines_halt : (lines : List Line) (number : ℕ) (done : P) → progress_from next done lines ≡ bad number → Halts done lines number
   lines_halt [] number done e = absurd cc
-  lines_halt (line ∷ lines) number done e = line_halts line lines (λ more. progress_from more lines) number done line.tokens refl (λ more h. lines_halt lines number more h) e
+  lines_halt (line ∷ lines) number done e = line_halts line lines (λ more. progress_from next more lines) number done line.tokens refl (λ more h. lines_halt lines number more h) e
 
   -- with the line that does not fit nothing is read
   pub halted : (lines : List Line) (number : ℕ) (done : P) (r : Halts done lines number) → read_from next done (written (r.front ++ r.line ∷ [])) ≡ None

@@ -47,6 +47,57 @@ bad spot = Err spot
 spot_is : {T : Type 0} (a b : Spot) → bad {T = T} a ≡ bad b → a ≡ b
 spot_is a b e = cc
 
+-- ---- the first member of a list that is at fault
+
+-- from position p on: the members before are lawful, and the one at this position is not
+record FirstFrom {X : Type 0} (Lawful : List X → Type 0) (Fault : List X → X → Type 0) (position p : ℕ) (xs : List X) :
+    Type 0 where
+  pub q : ℕ
+  pub position_is : position ≡ p + q
+  pub member : X
+  pub at : slice_get xs q ≡ Some member
+  pub lawful : Lawful (take q xs)
+  pub is : Fault (take q xs) member
+
+module _ {X : Type 0} {Lawful : List X → Type 0} {Fault : List X → X → Type 0} {position : ℕ} where
+  first_here : (p : ℕ) (x : X) (xs : List X) → position ≡ p → Lawful [] → Fault [] x →
+      FirstFrom Lawful Fault position p (x ∷ xs)
+  first_here p x xs same none is =
+      record { q = 0; position_is = omega arith; member = x; at = refl; lawful = none; is = is }
+
+  first_behind : {LawfulBehind : List X → Type 0} {FaultBehind : List X → X → Type 0} (p : ℕ) (x : X) (xs : List X) →
+      FirstFrom LawfulBehind FaultBehind position (p + 1) xs →
+      ((front : List X) → LawfulBehind front → Lawful (x ∷ front)) →
+      ((front : List X) (member : X) → FaultBehind front member → Fault (x ∷ front) member) →
+      FirstFrom Lawful Fault position p (x ∷ xs)
+  first_behind p x xs r lawful fault =
+      let position_is = r.position_is in
+      record {
+        q = suc r.q;
+        position_is = omega (arith, position_is);
+        member = r.member;
+        at = r.at;
+        lawful = lawful (take r.q xs) r.lawful;
+        is = fault (take r.q xs) r.member r.is;
+      }
+
+  first_of : (xs : List X) → FirstFrom Lawful Fault position 0 xs →
+      (member : X) × (slice_get xs position ≡ Some member) × Lawful (take position xs) × Fault (take position xs) member
+  first_of xs r =
+      let position_is = r.position_is in
+      let same : r.q ≡ position = omega (arith, position_is) in
+      let P : ℕ → Type 0 = λ q. (slice_get xs q ≡ Some r.member) × Lawful (take q xs) × Fault (take q xs) r.member in
+      let (at, lawful, is) = subst P same (r.at, r.lawful, r.is) in
+      (r.member, at, lawful, is)
+
+abbrev AllBefore : {X : Type 0} → (X → Type 0) → List X → Type 0
+AllBefore Lawful front = (earlier : _) → Contains front earlier → Lawful earlier
+
+all_before : {X : Type 0} (Lawful : X → Type 0) (x : X) (front : List X) → Lawful x → AllBefore Lawful front →
+    AllBefore Lawful (x ∷ front)
+all_before Lawful x front here each earlier c =
+    ⊎_elim (λ s. subst Lawful s here) (λ more. each earlier more) (contains_cases x front earlier c)
+
 -- ---- places
 
 module _ (constants : List (List ℕ)) (inputs : List ℕ) (began : ℕ) where
@@ -65,14 +116,11 @@ module _ (constants : List (List ℕ)) (inputs : List ℕ) (began : ℕ) where
   place_is_fault p columns New kind e =
       ⊎_elim (λ g. (g.1, input_in inputs p g.0)) (λ n. absurd (none_never kind n.1)) (then_is (is_input_at inputs p) InputNotKnown kind None e)
 
-  -- from position p on: the places before it are lawful, and the one at this place is not
-  record FaultFrom (p columns : ℕ) (places : List Place) (spot : Spot) : Type 0 where
-    pub q : ℕ
-    pub place_is : spot.place ≡ p + q
-    pub place : Place
-    pub at : slice_get places q ≡ Some place
-    pub lawful : AreLawfulPlaces constants inputs began p columns (take q places)
-    pub is : IsPlaceFault constants inputs began spot.place (made columns (take q places)) place spot.kind
+  abbrev FaultOf : Spot → ℕ → List Place → Place → Type 0
+  FaultOf spot columns front place = IsPlaceFault constants inputs began spot.place (made columns front) place spot.kind
+
+  abbrev FaultFrom : ℕ → ℕ → List Place → Spot → Type 0
+  FaultFrom p columns places spot = FirstFrom (AreLawfulPlaces constants inputs began p columns) (FaultOf spot columns) spot.place p places
 
   places_fault : (places : List Place) (p columns : ℕ) (spot : Spot) → judged_places constants inputs began p columns places ≡ Err spot → FaultFrom p columns places spot
   places_fault [] p columns spot h = absurd (cc)
@@ -82,39 +130,19 @@ module _ (constants : List (List ℕ)) (inputs : List ℕ) (began : ℕ) where
           (judged_places constants inputs began (p + 1) (count_place columns place) places ≡ Err spot → FaultFrom (p + 1) (count_place columns place) places spot) →
           unless o p (judged_places constants inputs began (p + 1) (count_place columns place) places) ≡ Err spot → FaultFrom p columns (place ∷ places) spot
       go None e again h =
-          let r = again h in
-          let place_is = r.place_is in
-          record {
-            q = suc r.q;
-            place_is = omega (arith, place_is);
-            place = r.place;
-            at = r.at;
-            lawful = in_front constants inputs began place (take r.q places) p columns e r.lawful;
-            is = subst (λ (m : ℕ). IsPlaceFault constants inputs began spot.place m r.place spot.kind) (made_behind place (take r.q places) columns) r.is;
-          }
+          first_behind p place places (again h) (λ front l. in_front constants inputs began place front p columns e l)
+          (λ front other is. subst (λ (m : ℕ). IsPlaceFault constants inputs began spot.place m other spot.kind)
+          (made_behind place front columns) is)
       go (Some kind) e again h =
           let here : Spot = record { place = p; kind = kind } in
           let same : here ≡ spot = spot_is here spot h in
-          record {
-            q = 0;
-            place_is = ap (λ (s : Spot). s.place) (sym same) ∙ omega arith;
-            place = place;
-            at = refl;
-            lawful = tt;
-            is = subst (λ (s : Spot). IsPlaceFault constants inputs began s.place columns place s.kind) same (place_is_fault p columns place kind e);
-          }
+          first_here p place places (ap (λ (s : Spot). s.place) (sym same)) tt
+          (subst (λ (s : Spot). IsPlaceFault constants inputs began s.place columns place s.kind) same (place_is_fault p columns place kind e))
 
   pub places_have : (places : List Place) (spot : Spot) → judged_places constants inputs began 0 began places ≡ Err spot → HasPlaceFault constants inputs began places spot.place spot.kind
   places_have places spot h =
-      let r = places_fault places 0 began spot h in
-      let place_is = r.place_is in
-      let same : r.q ≡ spot.place = omega (arith, place_is) in
-      record {
-        place = r.place;
-        at = subst (λ (q : ℕ). slice_get places q ≡ Some r.place) same r.at;
-        before = subst (λ (q : ℕ). AreLawfulPlaces constants inputs began 0 began (take q places)) same r.lawful;
-        is = subst (λ (q : ℕ). IsPlaceFault constants inputs began spot.place (made began (take q places)) r.place spot.kind) same r.is;
-      }
+      let (place, at, before, is) = first_of places (places_fault places 0 began spot h) in
+      record { place = place; at = at; before = before; is = is }
 
 -- ---- steps
 
@@ -164,13 +192,11 @@ module _ (schema : SchemaParts) (well : IsWellFormed schema) (constants : List (
       let g = else_is (nat_lt k columns) BadColumn kind e in
       (g.1, ltb-false k columns g.0)
 
-  record OutFrom (columns p : ℕ) (outs : List Out) (spot : Spot) : Type 0 where
-    pub q : ℕ
-    pub place_is : spot.place ≡ p + q
-    pub out : Out
-    pub at : slice_get outs q ≡ Some out
-    pub lawful : (earlier : Out) → Contains (take q outs) earlier → IsLawfulOut constants columns earlier
-    pub is : IsOutFault constants columns out spot.kind
+  abbrev OutFaultOf : Spot → ℕ → List Out → Out → Type 0
+  OutFaultOf spot columns front out = IsOutFault constants columns out spot.kind
+
+  abbrev OutFrom : ℕ → ℕ → List Out → Spot → Type 0
+  OutFrom columns p outs spot = FirstFrom (AllBefore (IsLawfulOut constants columns)) (OutFaultOf spot columns) spot.place p outs
 
   outs_fault : (columns : ℕ) (outs : List Out) (p : ℕ) (spot : Spot) → judged_outs constants columns p outs ≡ Err spot → OutFrom columns p outs spot
   outs_fault columns [] p spot h = absurd (cc)
@@ -179,45 +205,22 @@ module _ (schema : SchemaParts) (well : IsWellFormed schema) (constants : List (
       go : (o : Option PlanFaultKind) → out_fault constants columns out ≡ o → (judged_outs constants columns (p + 1) outs ≡ Err spot → OutFrom columns (p + 1) outs spot) →
           unless o p (judged_outs constants columns (p + 1) outs) ≡ Err spot → OutFrom columns p (out ∷ outs) spot
       go None e again h =
-          let r = again h in
-          let place_is = r.place_is in
-          record {
-            q = suc r.q;
-            place_is = omega (arith, place_is);
-            out = r.out;
-            at = r.at;
-            lawful = λ earlier c. ⊎_elim (λ s. subst (λ (x : Out). IsLawfulOut constants columns x) s (out_lawful schema well constants columns out e)) (λ more. r.lawful earlier more) (contains_cases out (take r.q outs) earlier c);
-            is = r.is;
-          }
+          first_behind p out outs (again h)
+          (λ front each. all_before (IsLawfulOut constants columns) out front
+          (out_lawful schema well constants columns out e) each) (λ front other is. is)
       go (Some kind) e again h =
           let here : Spot = record { place = p; kind = kind } in
           let same : here ≡ spot = spot_is here spot h in
-          record {
-            q = 0;
-            place_is = ap (λ (s : Spot). s.place) (sym same) ∙ omega arith;
-            out = out;
-            at = refl;
-            lawful = λ earlier c. absurd (omega arith);
-            is = subst (λ (s : Spot). IsOutFault constants columns out s.kind) same (out_is_fault columns out kind e);
-          }
+          first_here p out outs (ap (λ (s : Spot). s.place) (sym same)) (λ earlier c. absurd (omega arith))
+          (subst (λ (s : Spot). IsOutFault constants columns out s.kind) same (out_is_fault columns out kind e))
 
   output_fault : (width columns : ℕ) (output : List Out) (spot : Spot) → judged_output constants width columns output ≡ Err spot → IsOutputFault constants columns width output spot.place spot.kind
   output_fault width columns output spot h = go (nat_eq (length output) width) refl h
     where
       go : (b : Bool) → nat_eq (length output) width ≡ b → cond b (judged_outs constants columns 0 output) (Err wrong) ≡ Err spot → IsOutputFault constants columns width output spot.place spot.kind
       go true t h =
-          let r = outs_fault columns output 0 spot h in
-          let place_is = r.place_is in
-          let same : r.q ≡ spot.place = omega (arith, place_is) in
-          inr (
-            eqb-true (length output) width t,
-            record {
-              out = r.out;
-              at = subst (λ (q : ℕ). slice_get output q ≡ Some r.out) same r.at;
-              before = subst (λ (q : ℕ). (earlier : Out) → Contains (take q output) earlier → IsLawfulOut constants columns earlier) same r.lawful;
-              is = r.is;
-            },
-          )
+          let (out, at, before, is) = first_of output (outs_fault columns output 0 spot h) in
+          inr (eqb-true (length output) width t, record { out = out; at = at; before = before; is = is })
       go false t h =
           let same : wrong ≡ spot = spot_is wrong spot h in
           inl (ap (λ (s : Spot). s.kind) (sym same), ap (λ (s : Spot). s.place) (sym same), λ long. clash (nat_eq (length output) width) t (eq-eqb (length output) width long))
@@ -301,13 +304,14 @@ module _ (schema : SchemaParts) (well : IsWellFormed schema) (constants : List (
 
   -- ---- plans
 
-  record BranchFrom (width b : ℕ) (branches : List Branch) (fault : PlanFault) : Type 0 where
-    pub q : ℕ
-    pub branch_is : fault.branch ≡ b + q
-    pub branch : Branch
-    pub at : slice_get branches q ≡ Some branch
-    pub lawful : (earlier : Branch) → Contains (take q branches) earlier → (length earlier.output ≡ width) × IsLawfulBranch schema constants earlier
-    pub is : IsBranchFault schema constants width branch fault.step fault.place fault.kind
+  abbrev LawfulOf : ℕ → Branch → Type 0
+  LawfulOf width branch = (length branch.output ≡ width) × IsLawfulBranch schema constants branch
+
+  abbrev BranchFaultOf : ℕ → PlanFault → List Branch → Branch → Type 0
+  BranchFaultOf width fault front branch = IsBranchFault schema constants width branch fault.step fault.place fault.kind
+
+  abbrev BranchFrom : ℕ → ℕ → List Branch → PlanFault → Type 0
+  BranchFrom width b branches fault = FirstFrom (AllBefore (LawfulOf width)) (BranchFaultOf width fault) fault.branch b branches
 
   branches_fault : (width : ℕ) (branches : List Branch) (b : ℕ) (fault : PlanFault) → judged_branches schema constants width b branches ≡ Err fault → BranchFrom width b branches fault
   branches_fault width [] b fault h = absurd (cc)
@@ -319,37 +323,17 @@ module _ (schema : SchemaParts) (well : IsWellFormed schema) (constants : List (
       go (Err first) e again h =
           let same = fault_is first fault h in
           let f = branch_fault width b x fault (e ∙ ap faulty same) in
-          record {
-            q = 0;
-            branch_is = f.0 ∙ omega arith;
-            branch = x;
-            at = refl;
-            lawful = λ earlier c. absurd (omega arith);
-            is = f.1;
-          }
+          first_here b x branches f.0 (λ earlier c. absurd (omega arith)) f.1
       go (Ok y) e again h =
-          let r = again h in
-          let branch_is = r.branch_is in
-          record {
-            q = suc r.q;
-            branch_is = omega (arith, branch_is);
-            branch = r.branch;
-            at = r.at;
-            lawful = λ earlier c. ⊎_elim (λ s. subst (λ (z : Branch). (length z.output ≡ width) × IsLawfulBranch schema constants z) s (steps_lawful schema well constants width b 0 0 x.steps x.output e)) (λ more. r.lawful earlier more) (contains_cases x (take r.q branches) earlier c);
-            is = r.is;
-          }
+          first_behind b x branches (again h)
+          (λ front each. all_before (LawfulOf width) x front
+          (steps_lawful schema well constants width b 0 0 x.steps x.output e) each) (λ front other is. is)
 
   plan_fault : (plan : Plan) (fault : PlanFault) → judged_branches schema constants plan.width 0 plan.branches ≡ Err fault → IsFirstFault plan schema constants fault
   plan_fault plan fault h =
-      let r = branches_fault plan.width plan.branches 0 fault h in
-      let branch_is = r.branch_is in
-      let same : r.q ≡ fault.branch = omega (arith, branch_is) in
-      record {
-        branch = r.branch;
-        at = subst (λ (q : ℕ). slice_get plan.branches q ≡ Some r.branch) same r.at;
-        before = subst (λ (q : ℕ). (earlier : Branch) → Contains (take q plan.branches) earlier → (length earlier.output ≡ plan.width) × IsLawfulBranch schema constants earlier) same r.lawful;
-        is = r.is;
-      }
+      let (branch, at, before, is) =
+      first_of plan.branches (branches_fault plan.width plan.branches 0 fault h) in
+      record { branch = branch; at = at; before = before; is = is }
 
 ok_is : (r : Result (Unit {0}) PlanFault) → IsOk r → r ≡ Ok tt
 ok_is (Ok x) h = refl

@@ -7,7 +7,7 @@ use Rattle.std.proofs.lemmas.Bool.{leb-true, le-leb}
 use Rattle.lists.proofs.Booleans.{both_true, and_true}
 use Rattle.lists.proofs.Members.{some_injective}
 use Rattle.pq_text.specs.declared.token.TokenKind.{TokenKind}
-use Rattle.pq_text.specs.declared.token.TokenKind.TheVariants.{Word, Quoted, Text, Number, Symbol, Eol}
+use Rattle.pq_text.specs.declared.token.TokenKind.TheVariants.{Word, Symbol}
 use Rattle.pq_text.specs.declared.lexeme.Lexeme.{Lexeme}
 use Rattle.pq_text.specs.Lexemes.{◌>>=◌, comma, kind_is_word, kind_is_symbol, kind_is_value, symbol_at, word_at, name_at, value_at, word_next, end_at}
 use Rattle.pq_text.specs.Forms.{Slot, Key, Mark, Name, Value, Digits, Takes, list_form, IsSome}
@@ -25,28 +25,16 @@ use Rattle.plan_form.proofs.Numbers.{plain_at_found, plain_at_again}
 -- ---- kinds of tokens
 
 value_no_symbol : (k : TokenKind) → kind_is_value k ≡ true → kind_is_symbol k ≡ false
-value_no_symbol Word e = absurd cc
-value_no_symbol Quoted e = absurd cc
-value_no_symbol Text e = refl
-value_no_symbol Number e = refl
 value_no_symbol Symbol e = absurd cc
-value_no_symbol Eol e = absurd cc
+value_no_symbol _ e = refl
 
 value_no_word : (k : TokenKind) → kind_is_value k ≡ true → kind_is_word k ≡ false
 value_no_word Word e = absurd cc
-value_no_word Quoted e = absurd cc
-value_no_word Text e = refl
-value_no_word Number e = refl
-value_no_word Symbol e = absurd cc
-value_no_word Eol e = absurd cc
+value_no_word _ e = refl
 
 word_no_symbol : (k : TokenKind) → kind_is_word k ≡ true → kind_is_symbol k ≡ false
-word_no_symbol Word e = refl
-word_no_symbol Quoted e = absurd cc
-word_no_symbol Text e = absurd cc
-word_no_symbol Number e = absurd cc
 word_no_symbol Symbol e = absurd cc
-word_no_symbol Eol e = absurd cc
+word_no_symbol _ e = refl
 
 no_symbol_value : (text c : List ℕ) (ls : List Lexeme) (ss : List Slot) (rest : List Lexeme) → Takes ls (Value c ∷ ss) rest → symbol_at text ls ≡ None
 no_symbol_value text c [] ss rest t = absurd t

@@ -13,35 +13,24 @@ use Rattle.meaning.specs.declared.types.Plan.{Plan}
 use Rattle.plan_form.specs.declared.fault.PlanReadFault.{PlanReadFault}
 use Rattle.plan_form.specs.declared.fault.PlanReadFault.TheVariants as faults
 use Rattle.plan_form.specs.declared.progress.Progress.{Progress}
-use Rattle.plan_form.specs.declared.progress.Progress.TheVariants.{Opening, Between, Inside, Ended}
+use Rattle.plan_form.specs.declared.progress.Progress.TheVariants.{Opening, Ended}
 use Rattle.plan_form.specs.Grammar.{ArePlanLines, written, SaysPlan, IsPlanText, BeginPlan, HasMisfit, Stops, IsFirstMisfit, IsPlanReadFault, OkOrNoMemory}
-use Rattle.plan_form.specs.Reading.{next_at, next_progress, progress_from, plan_of, ProgressGives, HasLineFault}
+use Rattle.plan_form.specs.Reading.{next_at, progress_from, plan_of, ProgressGives, HasLineFault}
 use Rattle.plan_form.proofs.ByLines as by_lines
 use Rattle.plan_form.proofs.ByLines.{written-append}
 use Rattle.plan_form.proofs.Following.{AreRead, read_from, lines_found, plan_again, read_begin, begin_read, ended_are}
 
--- ---- reading the lines, as it is defined for plans and by lines in general
-
-same_turn : (go other : Progress → Result Progress ℕ) → ((more : Progress) → go more ≡ other more) → (number : ℕ) (done : Progress) (tokens : List Lexeme) (o : Option Progress) →
-    next_progress go number done tokens o ≡ by_lines.turn other number done tokens o
-same_turn go other same number done [] o = same done
-same_turn go other same number done (t ∷ ts) None = refl
-same_turn go other same number done (t ∷ ts) (Some more) = same more
-
-same_progress : (lines : List Line) (done : Progress) → progress_from done lines ≡ by_lines.progress_from next_at done lines
-same_progress [] done = refl
-same_progress (line ∷ lines) done =
-    same_turn (λ more. progress_from more lines) (λ more. by_lines.progress_from next_at more lines) (λ more. same_progress lines more) line.number done line.tokens (next_at done line.tokens)
+-- ---- reading the lines
 
 all_read : (lines : List Line) (last : Progress) → progress_from Opening lines ≡ Ok last → read_from Opening (written lines) ≡ Some last
-all_read lines last e = by_lines.all_read next_at lines Opening last (sym (same_progress lines Opening) ∙ e)
+all_read lines last e = by_lines.all_read next_at lines Opening last e
 
 are_read : (lines : List Line) (last : Progress) → progress_from Opening lines ≡ Ok last → AreRead Opening (written lines) last
 are_read lines last e = lines_found (written lines) Opening last tt (all_read lines last e)
 
 has_misfit : (lines : List Line) (number : ℕ) → progress_from Opening lines ≡ Err number → HasMisfit lines number
 has_misfit lines number e =
-    let r = by_lines.lines_halt next_at lines number Opening (sym (same_progress lines Opening) ∙ e) in
+    let r = by_lines.lines_halt next_at lines number Opening e in
     record {
       before = r.front;
       line = r.line;
@@ -57,10 +46,8 @@ has_misfit lines number e =
 -- ---- texts
 
 ended_is : (last : Progress) (plan : Plan) → plan_of last ≡ Some plan → last ≡ Ended plan
-ended_is Opening plan e = absurd cc
-ended_is (Between width branches) plan e = absurd cc
-ended_is (Inside width branches steps) plan e = absurd cc
 ended_is (Ended other) plan e = cc
+ended_is _ plan e = absurd cc
 
 pub text_read : (text : List ℕ) (told : TextLines) (last : Progress) (plan : Plan) → AreLines text told → told.broken ≡ None → progress_from Opening told.whole ≡ Ok last → plan_of last ≡ Some plan → SaysPlan text plan
 text_read text told last plan lines whole e ends =

@@ -16,6 +16,7 @@ use Rattle.plan_form.specs.declared.fault.PlanReadFault.{PlanReadFault}
 use Rattle.plan_form.specs.declared.fault.PlanReadFault.TheVariants as faults
 use Rattle.plan_form.specs.declared.progress.Progress.{Progress}
 use Rattle.plan_form.specs.declared.progress.Progress.TheVariants.{Opening, Between, Inside, Ended}
+use Rattle.plan_form.specs.ByLines as by_lines
 use Rattle.plan_form.specs.Grammar.{is_decimal, IsFirstMisfit}
 
 -- ---- lines
@@ -108,17 +109,9 @@ next_at (Inside width branches steps) ls =
     else (output_at ls >>= λ x. Some (Between width (branches ++ record { steps = steps; output = x.0 } ∷ [])))
 next_at (Ended plan) ls = None
 
--- a line without tokens is passed over, and a line that does not fit is told by its number
-abbrev pub next_progress : (Progress → Result Progress ℕ) → ℕ → Progress → List Lexeme → Option Progress → Result Progress ℕ
-next_progress go number done [] read = go done
-next_progress go number done (t ∷ ts) None = Err number
-next_progress go number done (t ∷ ts) (Some more) = go more
-
 -- the plan's parts behind the lines, or the number of the first line that does not fit
 abbrev pub progress_from : Progress → List Line → Result Progress ℕ
-progress_from done [] = Ok done
-progress_from done (line ∷ lines) =
-    next_progress (λ more. progress_from more lines) line.number done line.tokens (next_at done line.tokens)
+progress_from = by_lines.progress_from next_at
 
 -- the plan, where its last line has been read
 abbrev pub plan_of : Progress → Option Plan
