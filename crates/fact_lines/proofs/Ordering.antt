@@ -19,7 +19,7 @@ use Rattle.fact_lines.specs.Lines.{fact_cmp, IsListing}
 abbrev fact_same : Fact → Fact → Bool
 fact_same x y = nat_eq x.rel y.rel && pointwise (pointwise nat_eq) x.row y.row
 
-fact_total : IsTotalOrder fact_cmp
+pub fact_total : IsTotalOrder fact_cmp
 fact_total = then_total (on_total (λ (t : Fact). t.rel) nat_cmp_total) (on_total (λ (t : Fact). t.row) rows_total)
 
 fact_ties : (x y : Fact) → fact_same x y ≡ eq_by_cmp fact_cmp x y
