@@ -64,17 +64,21 @@ abbrev pub size_of : List ℕ → Option ℕ
 size_of text =
     if pointwise nat_eq text (decimal (digits_value 10 text)) && (nat_le 1 (digits_value 10 text) && nat_le (digits_value 10 text) 10000) then Some (digits_value 10 text) else None
 
--- The command with these positionals, and these numbers of firings, search units, workers and calls and this flag where it takes them.
+-- The command of a task with these positionals, and these numbers of firings, search units, workers and calls and this flag where it takes them.
+abbrev pub made_task : CommandName → List (List ℕ) → ℕ → ℕ → ℕ → ℕ → Bool → Option Command
+made_task name.Run (schema ∷ query ∷ []) n units lanes calls verify = Some (Run schema query n units lanes calls verify)
+made_task name.Batch (schema ∷ queries ∷ []) n units lanes calls verify = Some (Batch schema queries n units lanes calls)
+made_task name.Exec (schema ∷ plan ∷ []) n units lanes calls verify = Some (Exec schema plan lanes calls)
+made_task name.Crawl (schema ∷ []) n units lanes calls verify = Some (Crawl schema lanes calls)
+made_task name.Reach (schema ∷ query ∷ []) n units lanes calls verify = Some (Reach schema query lanes calls)
+made_task _ _ _ _ _ _ _ = None
+
+-- And so any command.
 abbrev pub made : CommandName → List (List ℕ) → ℕ → ℕ → ℕ → ℕ → Bool → Option Command
 made name.Help [] n units lanes calls verify = Some Help
 made name.Schema (schema ∷ []) n units lanes calls verify = Some (Schema schema)
 made name.Explain (schema ∷ query ∷ []) n units lanes calls verify = Some (Explain schema query n units)
-made name.Run (schema ∷ query ∷ []) n units lanes calls verify = Some (Run schema query n units lanes calls verify)
-made name.Batch (schema ∷ queries ∷ []) n units lanes calls verify = Some (Batch schema queries n units lanes calls)
-made name.Exec (schema ∷ plan ∷ []) n units lanes calls verify = Some (Exec schema plan lanes calls)
 made name.Check (schema ∷ query ∷ plan ∷ []) n units lanes calls verify = Some (Check schema query plan n)
 made name.Verify (schema ∷ []) n units lanes calls verify = Some (Verify schema)
-made name.Crawl (schema ∷ []) n units lanes calls verify = Some (Crawl schema lanes calls)
-made name.Reach (schema ∷ query ∷ []) n units lanes calls verify = Some (Reach schema query lanes calls)
 made name.World (text ∷ []) n units lanes calls verify = option_map (λ size. World size lanes) (size_of text)
-made _ _ _ _ _ _ _ = None
+made which positionals n units lanes calls verify = made_task which positionals n units lanes calls verify

@@ -11,6 +11,8 @@ use Rattle.command_words.specs.declared.table.FlagName.{FlagName}
 use Rattle.command_words.specs.declared.table.FlagName.TheVariants as flag
 use Rattle.command_words.specs.declared.command.Command.TheVariants as code
 use Rattle.command_words.specs.declared.command.Command.{Command as Coded}
+use Rattle.command_words.specs.declared.command.Task.TheVariants as task
+use Rattle.command_words.specs.declared.command.Task.{Task}
 
 -- A command, with the names of its files, the numbers of its options, whether its flags are raised, and the size of a world.
 pub data Command : Type 0 where
@@ -79,15 +81,19 @@ IsCommand words (Crawl schema lanes calls) = Asks words name.Crawl (schema ∷ [
 IsCommand words (Reach schema query lanes calls) = Asks words name.Reach (schema ∷ query ∷ []) (workers_and_calls lanes calls)
 IsCommand words (World size lanes) = Asks words name.World (decimal size ∷ []) (workers lanes) × (1 ≤ size) × (size ≤ 10000)
 
+-- The task with its numbers of workers and calls.
+abbrev pub task_seen_as : ℕ → ℕ → Task → Command
+task_seen_as lanes calls (task.Run schema query n units verify) = Run schema.now query.now n units lanes calls verify
+task_seen_as lanes calls (task.Batch schema queries n units) = Batch schema.now queries.now n units lanes calls
+task_seen_as lanes calls (task.Exec schema plan) = Exec schema.now plan.now lanes calls
+task_seen_as lanes calls (task.Crawl schema) = Crawl schema.now lanes calls
+task_seen_as lanes calls (task.Reach schema query) = Reach schema.now query.now lanes calls
+
 abbrev pub seen_as : Coded → Command
 seen_as code.Help = Help
 seen_as (code.Schema schema) = Schema schema.now
 seen_as (code.Explain schema query n units) = Explain schema.now query.now n units
-seen_as (code.Run schema query n units lanes calls verify) = Run schema.now query.now n units lanes calls verify
-seen_as (code.Batch schema queries n units lanes calls) = Batch schema.now queries.now n units lanes calls
-seen_as (code.Exec schema plan lanes calls) = Exec schema.now plan.now lanes calls
 seen_as (code.Check schema query plan n) = Check schema.now query.now plan.now n
 seen_as (code.Verify schema) = Verify schema.now
-seen_as (code.Crawl schema lanes calls) = Crawl schema.now lanes calls
-seen_as (code.Reach schema query lanes calls) = Reach schema.now query.now lanes calls
+seen_as (code.Calling task lanes calls) = task_seen_as lanes calls task
 seen_as (code.World size lanes) = World size lanes

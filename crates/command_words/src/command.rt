@@ -1,8 +1,8 @@
 // The words of a command line.
 ghost use Rattle.std.specs.Prelude.{◌≡◌, IfSome, IfNone, option_map};
-ghost use Rattle.command_words.specs.Words.{Command as Plain, IsCommand, seen_as};
-ghost use Rattle.command_words.specs.Words.Command.{Explain, Run, Batch, Exec, Check, Crawl, Reach, World};
-ghost use Rattle.command_words.specs.Arguments.{made, words_of, number_of, size_of};
+ghost use Rattle.command_words.specs.Words.{Command as Plain, IsCommand, seen_as, task_seen_as};
+ghost use Rattle.command_words.specs.Words.Command.{World};
+ghost use Rattle.command_words.specs.Arguments.{made, made_task, words_of, number_of, size_of};
 ghost use Rattle.command_words.specs.declared.table.OptionName.TheVariants.{Firings as TheFirings, Search as TheSearch};
 ghost use Rattle.command_words.specs.declared.table.OptionName.TheVariants.{Workers as TheWorkers, Calls as TheCalls};
 
@@ -24,29 +24,6 @@ pub enum Command<'a> {
         firings: u32,
         search: u32,
     },
-    Run {
-        schema: &'a Text,
-        query: &'a Text,
-        firings: u32,
-        search: u32,
-        workers: u32,
-        calls: u32,
-        verify: bool,
-    },
-    Batch {
-        schema: &'a Text,
-        queries: &'a Text,
-        firings: u32,
-        search: u32,
-        workers: u32,
-        calls: u32,
-    },
-    Exec {
-        schema: &'a Text,
-        plan: &'a Text,
-        workers: u32,
-        calls: u32,
-    },
     Check {
         schema: &'a Text,
         query: &'a Text,
@@ -56,20 +33,43 @@ pub enum Command<'a> {
     Verify {
         schema: &'a Text,
     },
-    Crawl {
-        schema: &'a Text,
-        workers: u32,
-        calls: u32,
-    },
-    Reach {
-        schema: &'a Text,
-        query: &'a Text,
+    Calling {
+        task: Task<'a>,
         workers: u32,
         calls: u32,
     },
     World {
         size: u32,
         workers: u32,
+    },
+}
+
+/// A command that takes a number of workers and one of calls.
+#[derive(Clone, Copy)]
+pub enum Task<'a> {
+    Run {
+        schema: &'a Text,
+        query: &'a Text,
+        firings: u32,
+        search: u32,
+        verify: bool,
+    },
+    Batch {
+        schema: &'a Text,
+        queries: &'a Text,
+        firings: u32,
+        search: u32,
+    },
+    Exec {
+        schema: &'a Text,
+        plan: &'a Text,
+    },
+    Crawl {
+        schema: &'a Text,
+    },
+    Reach {
+        schema: &'a Text,
+        query: &'a Text,
     },
 }
 
@@ -92,124 +92,62 @@ fn command_with<'a>(name: CommandName, arguments: Arguments<'a>) -> Option<Comma
         (number_of TheFirings arguments.entry) (number_of TheSearch arguments.entry)
         (number_of TheWorkers arguments.entry) (number_of TheCalls arguments.entry) arguments.entry.verify }
 {
+    if let Some(task) = task_with(name, arguments) {
+        return Some(Command::Calling {
+            task,
+            workers: arguments.number_of(OptionName::Workers),
+            calls: arguments.number_of(OptionName::Calls),
+        });
+    }
     match (name, arguments.positionals) {
         (CommandName::Help, Positionals::Zero) => Some(Command::Help),
         (CommandName::Schema, Positionals::One(schema)) => Some(Command::Schema { schema }),
-        (CommandName::Explain, Positionals::Two(schema, query)) => {
-            Some(explain_with(schema, query, arguments))
-        }
-        (CommandName::Run, Positionals::Two(schema, query)) => {
-            Some(run_with(schema, query, arguments))
-        }
-        (CommandName::Batch, Positionals::Two(schema, queries)) => {
-            Some(batch_with(schema, queries, arguments))
-        }
-        (CommandName::Exec, Positionals::Two(schema, plan)) => {
-            Some(exec_with(schema, plan, arguments))
-        }
-        (CommandName::Check, Positionals::Three(schema, query, plan)) => {
-            Some(check_with(schema, query, plan, arguments))
-        }
+        (CommandName::Explain, Positionals::Two(schema, query)) => Some(Command::Explain {
+            schema,
+            query,
+            firings: arguments.number_of(OptionName::Firings),
+            search: arguments.number_of(OptionName::Search),
+        }),
+        (CommandName::Check, Positionals::Three(schema, query, plan)) => Some(Command::Check {
+            schema,
+            query,
+            plan,
+            firings: arguments.number_of(OptionName::Firings),
+        }),
         (CommandName::Verify, Positionals::One(schema)) => Some(Command::Verify { schema }),
-        (CommandName::Crawl, Positionals::One(schema)) => Some(crawl_with(schema, arguments)),
-        (CommandName::Reach, Positionals::Two(schema, query)) => {
-            Some(reach_with(schema, query, arguments))
-        }
         (CommandName::World, Positionals::One(number)) => world_with(number, arguments),
         _ => None,
     }
 }
 
-fn explain_with<'a>(schema: &'a Text, query: &'a Text, arguments: Arguments<'a>) -> Command<'a>
-    ensures { seen_as result ≡ Explain schema.now query.now
-        (number_of TheFirings arguments.entry) (number_of TheSearch arguments.entry) }
-{
-    Command::Explain {
-        schema,
-        query,
-        firings: arguments.number_of(OptionName::Firings),
-        search: arguments.number_of(OptionName::Search),
-    }
-}
-
-fn run_with<'a>(schema: &'a Text, query: &'a Text, arguments: Arguments<'a>) -> Command<'a>
-    ensures { seen_as result ≡ Run schema.now query.now
+// The task with these arguments; none where the command is no task, or has another number of positionals.
+fn task_with<'a>(name: CommandName, arguments: Arguments<'a>) -> Option<Task<'a>>
+    ensures { option_map (task_seen_as (number_of TheWorkers arguments.entry) (number_of TheCalls arguments.entry)) result
+        ≡ made_task name (words_of arguments.entry.positionals)
         (number_of TheFirings arguments.entry) (number_of TheSearch arguments.entry)
         (number_of TheWorkers arguments.entry) (number_of TheCalls arguments.entry) arguments.entry.verify }
 {
-    Command::Run {
-        schema,
-        query,
-        firings: arguments.number_of(OptionName::Firings),
-        search: arguments.number_of(OptionName::Search),
-        workers: arguments.number_of(OptionName::Workers),
-        calls: arguments.number_of(OptionName::Calls),
-        verify: arguments.verify,
-    }
-}
-
-fn batch_with<'a>(schema: &'a Text, queries: &'a Text, arguments: Arguments<'a>) -> Command<'a>
-    ensures { seen_as result ≡ Batch schema.now queries.now
-        (number_of TheFirings arguments.entry) (number_of TheSearch arguments.entry)
-        (number_of TheWorkers arguments.entry) (number_of TheCalls arguments.entry) }
-{
-    Command::Batch {
-        schema,
-        queries,
-        firings: arguments.number_of(OptionName::Firings),
-        search: arguments.number_of(OptionName::Search),
-        workers: arguments.number_of(OptionName::Workers),
-        calls: arguments.number_of(OptionName::Calls),
-    }
-}
-
-fn exec_with<'a>(schema: &'a Text, plan: &'a Text, arguments: Arguments<'a>) -> Command<'a>
-    ensures { seen_as result ≡ Exec schema.now plan.now
-        (number_of TheWorkers arguments.entry) (number_of TheCalls arguments.entry) }
-{
-    Command::Exec {
-        schema,
-        plan,
-        workers: arguments.number_of(OptionName::Workers),
-        calls: arguments.number_of(OptionName::Calls),
-    }
-}
-
-fn check_with<'a>(
-    schema: &'a Text,
-    query: &'a Text,
-    plan: &'a Text,
-    arguments: Arguments<'a>,
-) -> Command<'a>
-    ensures { seen_as result ≡ Check schema.now query.now plan.now (number_of TheFirings arguments.entry) }
-{
-    Command::Check {
-        schema,
-        query,
-        plan,
-        firings: arguments.number_of(OptionName::Firings),
-    }
-}
-
-fn crawl_with<'a>(schema: &'a Text, arguments: Arguments<'a>) -> Command<'a>
-    ensures { seen_as result ≡ Crawl schema.now (number_of TheWorkers arguments.entry) (number_of TheCalls arguments.entry) }
-{
-    Command::Crawl {
-        schema,
-        workers: arguments.number_of(OptionName::Workers),
-        calls: arguments.number_of(OptionName::Calls),
-    }
-}
-
-fn reach_with<'a>(schema: &'a Text, query: &'a Text, arguments: Arguments<'a>) -> Command<'a>
-    ensures { seen_as result ≡ Reach schema.now query.now
-        (number_of TheWorkers arguments.entry) (number_of TheCalls arguments.entry) }
-{
-    Command::Reach {
-        schema,
-        query,
-        workers: arguments.number_of(OptionName::Workers),
-        calls: arguments.number_of(OptionName::Calls),
+    match (name, arguments.positionals) {
+        (CommandName::Run, Positionals::Two(schema, query)) => Some(Task::Run {
+            schema,
+            query,
+            firings: arguments.number_of(OptionName::Firings),
+            search: arguments.number_of(OptionName::Search),
+            verify: arguments.verify,
+        }),
+        (CommandName::Batch, Positionals::Two(schema, queries)) => Some(Task::Batch {
+            schema,
+            queries,
+            firings: arguments.number_of(OptionName::Firings),
+            search: arguments.number_of(OptionName::Search),
+        }),
+        (CommandName::Exec, Positionals::Two(schema, plan)) => Some(Task::Exec { schema, plan }),
+        (CommandName::Crawl, Positionals::One(schema)) => Some(Task::Crawl { schema }),
+        (CommandName::Reach, Positionals::Two(schema, query)) => Some(Task::Reach {
+            schema,
+            query,
+        }),
+        _ => None,
     }
 }
 

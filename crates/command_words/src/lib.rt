@@ -12,6 +12,6 @@ mod number;
 mod table;
 mod usage;
 
-pub use command::{Command, read_words};
+pub use command::{Command, Task, read_words};
 pub use laws::words_are_one_command;
 pub use usage::usage_text;
