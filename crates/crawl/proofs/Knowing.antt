@@ -133,7 +133,13 @@ one_more xs x v = (
       (λ e. Contains-append_right xs (x ∷ []) v (subst (Contains (x ∷ [])) (sym e) (contains_here x []))) c),
 )
 
--- one more of a list
-pub takes_more : (xs : List Value) (x : Value) (old mid new : KnownValues)
-    → TakesIn (Contains xs) old mid → TakesIn (λ v. v ≡ x) mid new → TakesIn (Contains (xs ++ x ∷ [])) old new
-takes_more xs x = takes_both (Contains xs) (λ v. v ≡ x) (Contains (xs ++ x ∷ [])) (one_more xs x)
+-- one more in front of a list
+one_front : (x : Value) (xs : List Value) (v : Value) → Contains (x ∷ xs) v ↔ (Contains xs v ⊎ (v ≡ x))
+one_front x xs v = (
+  (λ c. ⊎_elim (λ e. inr (sym e)) (λ d. inl d) (contains_cases x xs v c)),
+  (λ c. ⊎_elim (λ d. contains_there x xs v d) (λ e. subst (Contains (x ∷ xs)) (sym e) (contains_here x xs)) c),
+)
+
+pub takes_front : (x : Value) (xs : List Value) (old mid new : KnownValues)
+    → TakesIn (Contains xs) old mid → TakesIn (λ v. v ≡ x) mid new → TakesIn (Contains (x ∷ xs)) old new
+takes_front x xs = takes_both (Contains xs) (λ v. v ≡ x) (Contains (x ∷ xs)) (one_front x xs)

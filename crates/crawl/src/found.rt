@@ -15,7 +15,7 @@ use std::alloc::Global;
 /// found at one place of the known ones.
 #[derive(Drop)]
 pub struct FoundValues {
-    list: Vec<StartedText>,
+    pub list: Vec<StartedText>,
 }
 
 impl FoundValues {
@@ -53,13 +53,6 @@ impl FoundValues {
     {
         self.list.sort_unstable();
         self.list.dedup();
-    }
-
-    /// The values, lent.
-    pub fn as_slice(&self) -> &[StartedText]
-        ensures { result.now ≡ self.now.list.items }
-    {
-        self.list.as_slice()
     }
 
     /// Takes the values of a row, but for those that are shared ones, and copies the row. A value that is a shared one shares its

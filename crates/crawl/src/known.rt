@@ -46,23 +46,25 @@ impl KnownValues {
         self.fresh.len()
     }
 
-    /// Takes values in. Each that was not known is new. Where memory is refused, some of them may have been taken in.
-    pub fn take_in(&mut self, alloc: Global, values: &[StartedText]) -> Result<(), NoMemory>
-        ensures { OnOk result (TakesIn (Contains values.now) self.old self.new) }
+    /// Takes values in, out of a list, which keeps its room. Each that was not known is new. Where memory is refused, some of them may have
+    /// been taken in.
+    pub fn take_in(&mut self, alloc: Global, values: &mut Vec<StartedText>) -> Result<(), NoMemory>
+        ensures { OnOk result (TakesIn (Contains values.old.items) self.old self.new) }
     {
-        for value in values {
+        while let Some(value) = values.pop() {
             self.take_one(alloc, value)?;
         }
         Ok(())
     }
 
-    fn take_one(&mut self, alloc: Global, value: &StartedText) -> Result<(), NoMemory>
-        ensures { OnOk result (TakesIn (λ v. v ≡ value.now) self.old self.new) }
+    fn take_one(&mut self, alloc: Global, value: StartedText) -> Result<(), NoMemory>
+        ensures { OnOk result (TakesIn (λ v. v ≡ value) self.old self.new) }
     {
-        if !self.all.insert(value.copy(alloc)?)? {
+        let fresh = value.text().copy(alloc)?;
+        if !self.all.insert(value)? {
             return Ok(());
         }
-        self.fresh.push(value.text().copy(alloc)?)?;
+        self.fresh.push(fresh)?;
         Ok(())
     }
 

@@ -27,9 +27,9 @@ impl Progress {
     pub fn new(alloc: Global, constants: &[Text]) -> Result<Progress, NoMemory>
         ensures { IfOk result (BeginsWith constants.now) }
     {
-        let found = FoundValues::of(alloc, constants)?;
+        let mut found = FoundValues::of(alloc, constants)?;
         let mut known = KnownValues::new(alloc);
-        known.take_in(alloc, found.as_slice())?;
+        known.take_in(alloc, &mut found.list)?;
         known.arrange();
         Ok(Progress {
             known,

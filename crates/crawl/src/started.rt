@@ -7,9 +7,8 @@ ghost use Rattle.std.specs.Ordering.{nat_cmp};
 ghost use Rattle.row_text.specs.RowText.{row_cmp, row_eq};
 ghost use Rattle.row_text.specs.Starts.{first_of};
 
-use lists::{Copies, Row, Text};
+use lists::{Row, Text};
 use row_text::start_of;
-use std::alloc::{AllocError, Global};
 use std::cmp::Ordering;
 use std::marker::Model;
 
@@ -45,15 +44,6 @@ impl StartedText {
         ensures { result.now ≡ self.now }
     {
         &self.text
-    }
-}
-
-impl Copies for StartedText {
-    fn copy(&self, alloc: Global) -> Result<StartedText, AllocError> {
-        Ok(StartedText {
-            start: self.start,
-            text: self.text.copy(alloc)?,
-        })
     }
 }
 

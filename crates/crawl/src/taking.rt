@@ -27,7 +27,7 @@ pub fn take_round(
     take_answers(alloc, asks, answers, progress)?;
     progress.found.arrange();
     progress.known.settle();
-    progress.known.take_in(alloc, progress.found.as_slice())?;
+    progress.known.take_in(alloc, &mut progress.found.list)?;
     progress.known.arrange();
     progress.made += asks.len() as u32;
     progress.rounds += 1;

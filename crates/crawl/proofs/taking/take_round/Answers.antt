@@ -1,7 +1,4 @@
-use Rattle.std.proofs.Common.{List, refl, subst, arith}
-use Rattle.std.specs.Prelude.{Contains}
-use Rattle.meaning.specs.Values.{Value}
-use Rattle.crawl.specs.Knowing.{TakesIn}
+use Rattle.std.proofs.Common.{refl, arith}
 use Rattle.crawl.specs.declared.progress.Progress.{Progress}
 use Rattle.crawl.specs.Progress.{answered_by}
 use Rattle.crawl.proofs.Gaining.{answered_long, round_taken}
@@ -21,9 +18,7 @@ returns c =
       made = old.made;
       rounds = old.rounds;
     } in
-    let took = subst (λ (l : List Value). TakesIn (Contains l) c.settle.new.self c.take_in.new.self)
-    c.as_slice.ensures c.in_ok-take_in.ensures in
     round_taken (answered_by c.args.asks.now c.args.answers.now) old mid c.take_answers.new.progress refl c.clear.ensures
     refl gains c.arrange.new.self.list.items c.arrange.ensures.same c.settle.new.self c.take_in.new.self
-    c.settle.ensures.all c.settle.ensures.none took _ c.arrange-2.ensures.all c.arrange-2.ensures.same
+    c.settle.ensures.all c.settle.ensures.none c.in_ok-take_in.ensures _ c.arrange-2.ensures.all c.arrange-2.ensures.same
     c.arrange-2.ensures.ascend refl (omega (arith, made, long)) (omega (arith, rounds))
