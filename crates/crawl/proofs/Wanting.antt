@@ -1,5 +1,5 @@
 -- How many requests the next round wants, and which those are.
-use Rattle.std.proofs.Common.{◌≡◌, ◌∙◌, ◌-◌, ◌^◌, ◌≤◌, min, ℕ, Bool, List, [], ◌∷◌, ◌++◌, length, refl, sym, ap, subst, arith}
+use Rattle.std.proofs.Common.{◌≡◌, ◌∙◌, ◌-◌, ◌^◌, ◌≤◌, min, ℕ, Bool, false, List, [], ◌∷◌, ◌++◌, length, refl, sym, ap, subst, arith}
 use Rattle.std.specs.Prelude.{Contains, map, IsSome}
 use Rattle.std.specs.BTreeSet.{IsOrdered}
 use Rattle.std.specs.Ordering.{nat_cmp}
@@ -13,8 +13,9 @@ use Rattle.source_trait.specs.declared.work.Ask.{Ask}
 use Rattle.middleware.specs.PlanSources.{line_for}
 use Rattle.middleware.specs.LaneRounds.{requests_in, HasItsKind, HaveTheirKinds}
 use Rattle.middleware.proofs.Lacking.{the_line}
-use Rattle.crawl_rounds.specs.Rows.{Marked, class_rows}
+use Rattle.crawl_rounds.specs.Rows.{Marked, class_rows, fresh_of}
 use Rattle.crawl_rounds.specs.Rounds.{Class, request_of, round_requests, round_count}
+use Rattle.crawl_rounds.proofs.LastPlace.{of_one}
 use Rattle.crawl_rounds.proofs.RowMembers.{is_class_row}
 use Rattle.crawl_rounds.proofs.RowCounts.{fresh_within, round_counted}
 use Rattle.crawl.specs.declared.known.KnownValues.{KnownValues}
@@ -34,6 +35,16 @@ module _ (known : KnownValues) (all_up : IsOrdered (slice_cmp nat_cmp) known.all
       is ∙ ap (λ m. min m (2 ^ 32 - 1))
       (ap (λ m. round_count first m k classes) (all ∙ sym (all_counted known)) ∙ ap (λ m. round_count first (length (marked_of known)) m classes) (fresh ∙ sym (fresh_counted known all_up its))
       ∙ sym (round_counted first (marked_of known) classes))
+
+-- behind the first round a class with one input is asked with each new value
+asked_each : (schema : Schema) (class : Class) (fresh : List Value) → map (λ v. ask_to schema class (v ∷ [])) fresh ≡ map (ask_to schema class) (map (λ v. [] ++ v ∷ []) fresh)
+asked_each schema class [] = refl
+asked_each schema class (v ∷ vs) = ap (λ (l : List Ask). ask_to schema class (v ∷ []) ∷ l) (asked_each schema class vs)
+
+pub one_asked : (schema : Schema) (class : Class) (values : List Marked) (fresh : List Value) → fresh ≡ fresh_of values → map (λ v. ask_to schema class (v ∷ [])) fresh ≡ map (ask_to schema class) (class_rows false values 1)
+one_asked schema class values fresh same =
+    asked_each schema class fresh
+    ∙ ap (λ (l : List Row). map (ask_to schema class) l) (ap (λ (l : List Value). map (λ v. [] ++ v ∷ []) l) same ∙ sym (of_one values))
 
 -- the requests of the asks of a round
 asked_class : (schema : Schema) (class : Class) (rows : List Row) → requests_in (map (ask_to schema class) rows) ≡ map (request_of class) rows

@@ -18,6 +18,7 @@ ghost use Rattle.crawl.specs.Rounding.{IsLast};
 
 use crate::progress::Progress;
 use crate::round::next_round;
+use crate::spare_asks::Asks;
 use crate::started::StartedRow;
 use access_schema::Schema;
 use crawl_rounds::classes;
@@ -133,8 +134,18 @@ fn all_rounds<R: Threads + Sync, S: Source + Send + Drop>(
         Ok(progress) => progress,
         Err(_) => return Err(RunFault::NoMemory),
     };
+    let mut asks = Asks::new(alloc);
     for _ in 0..cap + 1 {
-        let more = match next_round(rt, alloc, schema, classes, lanes, &mut progress, cap) {
+        let more = match next_round(
+            rt,
+            alloc,
+            schema,
+            classes,
+            lanes,
+            &mut progress,
+            &mut asks,
+            cap,
+        ) {
             Ok(more) => more,
             Err(fault) => return Err(fault),
         };

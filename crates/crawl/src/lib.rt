@@ -10,6 +10,7 @@ mod lanes;
 mod progress;
 mod round;
 mod rows;
+mod spare_asks;
 mod started;
 mod taking;
 

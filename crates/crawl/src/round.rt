@@ -17,6 +17,7 @@ ghost use Rattle.crawl.specs.Rounding.{FreshWithin, AreOrdered, next_requests, I
 
 use crate::asks::find_asks;
 use crate::progress::Progress;
+use crate::spare_asks::Asks;
 use crate::taking::take_round;
 use access_schema::Schema;
 use crawl_rounds::count_round;
@@ -29,7 +30,7 @@ use std::thread::Threads;
 /// How many values are known at most.
 const MOST_VALUES: usize = 4_294_967_295;
 
-/// Asks the next round of the lanes and takes its answers. Says whether there was one.
+/// Asks the next round of the lanes and takes its answers. Says whether there was one. Its requests take the place of those of the last one.
 pub fn next_round<R: Threads + Sync, S: Source + Send + Drop>(
     rt: &R,
     alloc: Global,
@@ -37,6 +38,7 @@ pub fn next_round<R: Threads + Sync, S: Source + Send + Drop>(
     classes: &[(u32, &Places)],
     lanes: &mut [Lane<S>],
     progress: &mut Progress,
+    asks: &mut Asks,
     cap: u32,
 ) -> Result<bool, RunFault>
     requires lanes { (0 < length lanes.old) × (length lanes.old ≤ 8) }
@@ -62,7 +64,7 @@ pub fn next_round<R: Threads + Sync, S: Source + Send + Drop>(
             cap,
         });
     }
-    ask_next(rt, alloc, schema, classes, lanes, progress, cap)
+    ask_next(rt, alloc, schema, classes, lanes, progress, asks, cap)
 }
 
 // Asks the requests of the next round, for which there is room, and takes their answers.
@@ -73,6 +75,7 @@ fn ask_next<R: Threads + Sync, S: Source + Send + Drop>(
     classes: &[(u32, &Places)],
     lanes: &mut [Lane<S>],
     progress: &mut Progress,
+    asks: &mut Asks,
     cap: u32,
 ) -> Result<bool, RunFault>
     requires lanes { (0 < length lanes.old) × (length lanes.old ≤ 8) }
@@ -86,15 +89,15 @@ fn ask_next<R: Threads + Sync, S: Source + Send + Drop>(
     ensures goes { IfOk result (λ more. (more ≡ true) × RoundGoes S.seen schema.now (map lent_class classes.now) cap progress.old progress.new lanes.old lanes.new) }
     ensures stops { IfErr result (λ fault. RoundStops S.seen schema.now (map lent_class classes.now) cap fault progress.old lanes.old lanes.new) }
 {
-    match find_asks(alloc, schema, classes, progress) {
-        Ok(asks) => ask_and_take(
+    match find_asks(alloc, schema, classes, progress, asks) {
+        Ok(()) => ask_and_take(
             rt,
             alloc,
             schema,
             classes,
             lanes,
             progress,
-            asks.as_slice(),
+            asks.list.as_slice(),
             cap,
         ),
         Err(_) => Err(RunFault::NoMemory),

@@ -7,4 +7,4 @@ use Rattle.crawl.proofs.asks.asks_of.Given as goal
 
 -- the requests of the classes so far
 abbrev pub invariant-loop-class : goal.invariant-loop-class
-invariant-loop-class l = l.asks.items ≡ round_asks l.schema l.first (marked_of l.known) (map lent_class (take l.class-index l.classes))
+invariant-loop-class l = l.asks.list.items ≡ round_asks l.schema l.first (marked_of l.known) (map lent_class (take l.class-index l.classes))
