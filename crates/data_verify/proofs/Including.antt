@@ -1,10 +1,9 @@
 -- A rule with one body atom and one head atom, by the keys of the facts of its atoms.
 use Rattle.std.proofs.Common.{◌≡◌, ℕ, List, [], ◌∷◌, map, length, slice_index_or, ◌==◌, Bool, true, false, cond, eqb, refl, sym, ap, ◌∙◌, subst, ⊎_elim, arith, Contains}
 use Rattle.std.specs.Prelude.{◌≢◌}
-use Rattle.std.specs.Ordering.{ordering_then}
-use Rattle.std.specs.declared.cmp.Ordering.{Ordering}
-use Rattle.std.specs.declared.cmp.Ordering.TheVariants.{Less, Equal, Greater}
+use Rattle.std.specs.declared.cmp.Ordering.TheVariants.{Greater}
 use Rattle.std.proofs.lemmas.Bool.{cases_eq, eq-eqb, eqb-true, ne_eqb, and_parts}
+use Rattle.lists.proofs.Orders.{then_equal}
 use Rattle.lists.proofs.Members.{contains_here, contains_there, contains_cases, map_same, contains_none, contains_one}
 use Rattle.meaning.specs.declared.types.Term.{Term}
 use Rattle.meaning.specs.declared.types.Term.TheVariants.{Var, Const}
@@ -161,11 +160,6 @@ module _ (instance : List Fact) (rule : Rule) (body head : Atom) (body_is : rule
 
   one_row : (x y : List (List ℕ)) → row_cmp x y ≢ Greater → row_lists_cmp (x ∷ []) (y ∷ []) ≢ Greater
   one_row x y n g = n (sym (then_equal (row_cmp x y)) ∙ g)
-    where
-      then_equal : (o : Ordering) → ordering_then o Equal ≡ o
-      then_equal Less = refl
-      then_equal Equal = refl
-      then_equal Greater = refl
 
   pub least_breaking : (fact copy : Fact) → IsLeastOf (IsWithout body head variables keys) instance fact → copy ≡ fact → AreLeastBreaking instance rule (copy ∷ [])
   unfolding breaks without one_row one_of

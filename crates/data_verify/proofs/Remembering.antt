@@ -7,7 +7,7 @@ use Rattle.std.specs.Ordering.{ordering_then, is_eq}
 use Rattle.std.specs.declared.cmp.Ordering.{Ordering}
 use Rattle.std.specs.declared.cmp.Ordering.TheVariants.{Less, Equal, Greater}
 use Rattle.lists.proofs.Orders.{rows_equal}
-use Rattle.lists.proofs.Members.{head_is, tail_is}
+use Rattle.lists.proofs.Members.{cons_same, head_is, tail_is}
 use Rattle.meaning.specs.declared.types.Rule.{Rule}
 use Rattle.meaning.specs.declared.types.Ground.{Ground}
 use Rattle.meaning.specs.declared.types.Val.{Val}
@@ -20,14 +20,11 @@ use Rattle.data_verify.specs.Remaining.{remaining_rule}
 use Rattle.data_verify.specs.Settling.{rest_under, rows_behind, AreMet}
 use Rattle.data_verify.proofs.Splitting.{rule_alike, values_alike}
 
-both : {X : Type 0} (x y : X) (xs ys : List X) → x ≡ y → xs ≡ ys → x ∷ xs ≡ y ∷ ys
-both x y xs ys e f = cc
-
 -- lists of rows that tie are the same
 both_tie : (x y : List (List ℕ)) (xs ys : List (List (List ℕ))) (o : Ordering) → row_cmp x y ≡ o →
     (row_lists_cmp xs ys ≡ Equal → xs ≡ ys) → ordering_then o (row_lists_cmp xs ys) ≡ Equal → x ∷ xs ≡ y ∷ ys
 both_tie x y xs ys Less h rest t = absurd (cc)
-both_tie x y xs ys Equal h rest t = both x y xs ys (rows_equal x y h) (rest t)
+both_tie x y xs ys Equal h rest t = cons_same x y xs ys (rows_equal x y h) (rest t)
 both_tie x y xs ys Greater h rest t = absurd (cc)
 
 row_lists_equal : (x y : List (List (List ℕ))) → row_lists_cmp x y ≡ Equal → x ≡ y
@@ -43,7 +40,7 @@ halves : {X Y : Type 0} (f g : X → Y) (xs : List X) (ys zs : List Y) → map f
 halves f g [] ys zs e = (refl, e)
 halves f g (x ∷ xs) ys zs e =
     let (first, second) = halves f g xs ys zs (tail_is (f x) (g x) (map f xs ++ ys) (map g xs ++ zs) e) in
-    (both (f x) (g x) (map f xs) (map g xs) (head_is (f x) (g x) (map f xs ++ ys) (map g xs ++ zs) e) first, second)
+    (cons_same (f x) (g x) (map f xs) (map g xs) (head_is (f x) (g x) (map f xs ++ ys) (map g xs ++ zs) e) first, second)
 
 rest_alike : (rule : Rule) (values other : List Val) → length other ≡ length values →
     rows_behind rule (text_at values) ≡ rows_behind rule (text_at other) →

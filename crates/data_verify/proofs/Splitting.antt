@@ -3,7 +3,7 @@ use Rattle.std.proofs.Common.{◌≡◌, ℕ, ◌+◌, ◌-◌, ◌<◌, List, [
 use Rattle.std.specs.Prelude.{Contains, nat_lt, drop}
 use Rattle.std.proofs.lemmas.Bool.{cases_lt}
 use Rattle.std.proofs.lemmas.Bool.Decides.{nat_tests}
-use Rattle.lists.proofs.Members.{contains_here, contains_there, contains_cases, contains_map, contains_mapped, contains_none, map_same, head_is, tail_is}
+use Rattle.lists.proofs.Members.{contains_here, contains_there, contains_cases, contains_map, contains_mapped, contains_none, map_same, cons_same, head_is, tail_is}
 use Rattle.meaning.specs.declared.types.Term.{Term}
 use Rattle.meaning.specs.declared.types.Term.TheVariants.{Var, Const}
 use Rattle.meaning.specs.declared.types.Atom.{Atom}
@@ -13,17 +13,10 @@ use Rattle.meaning.specs.Matching.{value_of, AreFacts, OccursIn, Extends, itself
 use Rattle.meaning.specs.Triggers.{joined, bound, terms_bound, IsNumbered}
 use Rattle.meaning_laws.proofs.Joined.{joined_below, joined_above}
 use Rattle.meaning_laws.proofs.Deciding.{same_values}
+use Rattle.homomorphism.proofs.Binding.{var_is}
 use Rattle.data_verify.specs.Breaking.{Breaks, row_under, facts_under}
 use Rattle.data_verify.specs.Remaining.{remaining_term, remaining_atom, remaining_atoms, remaining_rule}
-
-both : {X : Type 0} (x y : X) (xs ys : List X) → x ≡ y → xs ≡ ys → x ∷ xs ≡ y ∷ ys
-both x y xs ys e f = cc
-
-const_var : (c : List ℕ) (x : ℕ) → Const c ≡ Var x → ⊥
-const_var c x e = cc
-
-var_is : (x y : ℕ) → Var x ≡ Var y → x ≡ y
-var_is x y e = cc
+use Rattle.data_verify.proofs.Terms.{const_var}
 
 pub are_same : (instance : List Fact) (a b : ℕ → List ℕ) (atoms : List Atom) →
     ((x : ℕ) → OccursIn atoms x → a x ≡ b x) →
@@ -86,17 +79,17 @@ module _ (w : ℕ) (f : ℕ → List ℕ) where
         (map (remaining_term w f) terms)
     unfolding value_remains
     terms_remain [] = refl
-    terms_remain (term ∷ terms) = both _ _ _ _ (value_remains term) (terms_remain terms)
+    terms_remain (term ∷ terms) = cons_same _ _ _ _ (value_remains term) (terms_remain terms)
 
     pub rows_remain : (atoms : List Atom) → map (row_under (joined w f g)) atoms ≡ map (row_under g)
         (remaining_atoms w f atoms)
     rows_remain [] = refl
-    rows_remain (atom ∷ atoms) = both _ _ _ _ (terms_remain atom.terms) (rows_remain atoms)
+    rows_remain (atom ∷ atoms) = cons_same _ _ _ _ (terms_remain atom.terms) (rows_remain atoms)
 
     pub facts_remain : (atoms : List Atom) → facts_under (joined w f g) atoms ≡ facts_under g
         (remaining_atoms w f atoms)
     facts_remain [] = refl
-    facts_remain (atom ∷ atoms) = both _ _ _ _ (ap (λ row. record { rel = atom.rel; row = row })
+    facts_remain (atom ∷ atoms) = cons_same _ _ _ _ (ap (λ row. record { rel = atom.rel; row = row })
         (terms_remain atom.terms)) (facts_remain atoms)
 
     module _ (instance : List Fact) (atoms : List Atom) where

@@ -3,7 +3,7 @@ use Rattle.std.proofs.Common.{◌≡◌, ◌↔◌, ◌⊎◌, ◌==◌, IsTrue,
 use Rattle.std.proofs.lemmas.Bool.{cases_eq, eq-eqb, ne_eqb}
 use Rattle.std.proofs.lemmas.List.{length-map}
 use Rattle.std.proofs.lemmas.Option.{slice_get-get_or}
-use Rattle.lists.proofs.Members.{contains_cases, map_got, some_injective, head_is, tail_is}
+use Rattle.lists.proofs.Members.{contains_cases, map_got, some_injective, cons_same, head_is, tail_is}
 use Rattle.meaning.specs.declared.types.Term.{Term}
 use Rattle.meaning.specs.declared.types.Term.TheVariants.{Var, Const}
 use Rattle.meaning.specs.Matching.{value_of, itself}
@@ -11,9 +11,6 @@ use Rattle.meaning_laws.proofs.Deciding.{same_values}
 use Rattle.homomorphism.proofs.Binding.{apart, none_left, no_left, var_is}
 use Rattle.data_verify.specs.Inclusion.{Fits, StandsAt, FitsBefore}
 use Rattle.data_verify.specs.Keys.{reading}
-
-both : {X : Type 0} (x y : X) (xs ys : List X) → x ≡ y → xs ≡ ys → x ∷ xs ≡ y ∷ ys
-both x y xs ys e f = cc
 
 pub const_var : (c : List ℕ) (x : ℕ) → Const c ≡ Var x → ⊥
 const_var c x e = cc
@@ -51,8 +48,8 @@ stands_rest x value term terms other row first = ((λ s k w e f. s (suc k) w e f
     back s (suc k) w e f = s k w e f
 
 fits_both : (term : Term) (value : List ℕ) (terms : List Term) (row : List (List ℕ)) → FitsBefore term value terms row → Fits terms row → Fits (term ∷ terms) (value ∷ row)
-fits_both (Const c) value terms row first (a, e) = (a, both c value _ row first e)
-fits_both (Var x) value terms row first (a, e) = (changed, both (changed x) value _ row (ap (λ b. cond b value (a x)) (eq-eqb x x refl)) (sym (same_values itself a changed terms same) ∙ e))
+fits_both (Const c) value terms row first (a, e) = (a, cons_same c value _ row first e)
+fits_both (Var x) value terms row first (a, e) = (changed, cons_same (changed x) value _ row (ap (λ b. cond b value (a x)) (eq-eqb x x refl)) (sym (same_values itself a changed terms same) ∙ e))
   where
     changed : ℕ → List ℕ
     changed y = cond (eqb y x) value (a y)

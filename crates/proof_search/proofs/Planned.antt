@@ -1,7 +1,6 @@
 -- The entries of the selects, one after the other.
-use Rattle.std.proofs.Common.{◌≡◌, ◌<◌, ◌-◌, ◌++◌, List, [], ◌∷◌, length, get_or, take, drop, append_assoc, Option, Some, None, sym, ap, ◌∙◌, subst, refl, arith}
+use Rattle.std.proofs.Common.{◌≡◌, ◌-◌, ◌++◌, List, [], ◌∷◌, length, append_assoc, Option, Some, None, sym, ap, ◌∙◌, subst, arith}
 use Rattle.std.specs.Prelude.{Contains}
-use Rattle.std.proofs.Math.Seq.{take-length}
 use Rattle.std.proofs.lemmas.List.{append-nil}
 use Rattle.lists.proofs.Members.{contains_here, contains_there}
 use Rattle.meaning.specs.declared.types.Branch.{Branch}
@@ -11,14 +10,6 @@ use Rattle.findings.specs.declared.decision.Chosen.{Chosen as Entry}
 use Rattle.findings.specs.declared.decision.Chosen.TheVariants as chosen
 use Rattle.proof_search.specs.declared.outcome.Choice.{Choice}
 use Rattle.proof_search.specs.Forms.{queries_in, branches_in, IsEntryOf, AreEntriesOf}
-
-pub split_first : {X : Type 0} (xs : List X) (x : X) → 0 < length xs → x ≡ get_or xs 0 x → xs ≡ x ∷ take (length xs - 1) (drop 1 xs)
-split_first [] x some is = absurd (omega arith)
-split_first (y ∷ ys) x some is = let k : length (y ∷ ys) - 1 ≡ length ys = omega arith in cc (is, ap (λ n. take n ys) k ∙ take-length ys)
-
-pub nothing_left : {X : Type 0} (xs : List X) → length xs < 1 → xs ≡ []
-nothing_left [] short = refl
-nothing_left (x ∷ xs) short = absurd (omega arith)
 
 module _ (schema : SchemaParts) (forms : List (Option Query)) (choices : List Choice) where
   -- entries of the selects that are left, behind those so far, are entries of all

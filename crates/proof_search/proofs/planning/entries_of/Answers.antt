@@ -1,6 +1,7 @@
 use Rattle.std.proofs.Common.{◌-◌, length, take, drop, arith}
 use Rattle.access_schema.specs.Meaning.{meaning_of}
-use Rattle.proof_search.proofs.Planned.{split_first, nothing_left, leads_some, waits, leads_all}
+use Rattle.lists.proofs.Places.{split_first, none_left}
+use Rattle.proof_search.proofs.Planned.{leads_some, waits, leads_all}
 use Rattle.proof_search.proofs.planning.entries_of.Goals as goal
 
 pub entry_of-requires-clause-named : goal.entry_of-requires-clause-named
@@ -24,4 +25,4 @@ loop-left-preserved c =
 pub returns : goal.returns
 returns c =
     leads_all (meaning_of c.args.schema.now) c.args.forms.now c.args.choices.now c.loop-left.left.now c.loop-left.waiting.now c.loop-left.entries
-    (nothing_left c.loop-left.left.now c.in_default.len_below) c.loop-left.invariant
+    (none_left c.loop-left.left.now c.in_default.len_below) c.loop-left.invariant
