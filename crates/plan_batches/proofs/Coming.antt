@@ -38,7 +38,7 @@ use Rattle.plan_batches.specs.Coming.{HasWanted, AreKept, HasCome}
 use Rattle.plan_batches.specs.Each.{Both, Each}
 use Rattle.plan_batches.specs.Kept.{AreAnswered}
 use Rattle.plan_batches.specs.Members.{Begins, Wants, Takes}
-use Rattle.plan_batches.specs.Rounding.{AreReadyPlans, IsStanding, RoundGoes, RoundStops, turns_by}
+use Rattle.plan_batches.specs.Rounding.{AreReadyPlans, IsStanding, turns_by}
 use Rattle.plan_batches.specs.declared.fault.BatchFault.{BatchFault}
 use Rattle.plan_batches.specs.declared.member.Member.{Member}
 use Rattle.plan_batches.specs.declared.member.Going.{Going}
@@ -49,7 +49,8 @@ use Rattle.plan_batches.proofs.Noting.{numbers_onward}
 use Rattle.plan_batches.proofs.Numbering.{numbers_both}
 use Rattle.plan_batches.proofs.Pairing.{zipped}
 use Rattle.plan_batches.proofs.Readying.{step_accesses}
-use Rattle.plan_batches.proofs.Standing.{place, stands_next, wanted_of_plans}
+use Rattle.plan_batches.proofs.Standing.{RoundGoes, place, stands_next, wanted_of_plans}
+use Rattle.plan_batches.proofs.Stopping.{RoundStops}
 use Rattle.plan_batches.proofs.Wanting.{more_are}
 
 module _ {S : Type 0} (seen : S → Seen) (schema : Schema) (plans : List Plan) (old : List (Lane S)) (cap : ℕ) where
@@ -127,7 +128,7 @@ module _ {S : Type 0} (seen : S → Seen) (schema : Schema) (plans : List Plan) 
     })
 
     -- a round that stopped
-    pub halts_in : (why : BatchFault) (after : List (Lane S)) → RoundStops schema plans seen cap progress why before after
+    pub halts_in : (why : BatchFault) (after : List (Lane S)) → RoundStops seen schema plans cap progress why before after
         → RoundsHalt seen schema plans cap why old after
     halts_in why after stops = record {
       n = n;
@@ -136,14 +137,10 @@ module _ {S : Type 0} (seen : S → Seen) (schema : Schema) (plans : List Plan) 
       middle = before;
       whole = come.rounds;
       part = stops.asked;
-      of_plans = go stops.goings stops.wants;
-      are = ⊎_elim (λ e. inl (ap turns_by e)) (λ wants. inr (turns_are stops.goings wants)) stops.wants;
+      of_plans = wanted_of_plans schema plans n progress come.standing stops.goings stops.wants;
+      are = inr (turns_are stops.goings stops.wants);
       cause = stops.cause n come.standing;
     }
-      where
-        go : (goings : List Going) → (goings ≡ []) ⊎ Each (Wants schema) plans progress.members.items goings → AreOfPlans schema plans (wanted_in (turns_by goings))
-        go goings (inl e) = λ request c. absurd (contains_none request (subst (λ (g : List Going). Contains (wanted_in (turns_by g)) request) e c))
-        go goings (inr wants) = wanted_of_plans schema plans n progress come.standing goings wants
 
     -- no memory behind a round
     pub halts_behind : (why : BatchFault) → why ≡ record { plan = 0; fault = fault.NoMemory } → RoundsHalt seen schema plans cap why old before

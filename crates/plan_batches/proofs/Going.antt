@@ -1,155 +1,167 @@
--- One round of a batch: what asking needs, and what it comes to.
-use Rattle.std.proofs.Common.{◌≡◌, ℕ, ◌+◌, ◌-◌, ◌<◌, ◌≤◌, ◌^◌, List, [], ◌∷◌, ◌++◌, length, length-drop, map, drop, take, Some, refl, sym, ◌∙◌, ap, subst, arith}
-use Rattle.std.specs.Prelude.{Contains, IfOk, IfErr, IsSome, Result, Ok, Err, slice_get}
+-- One round of a batch: what asking its requests and taking their answers need, and what they come to.
+use Rattle.std.proofs.Common.{◌≡◌, ℕ, ◌+◌, ◌-◌, ◌<◌, ◌≤◌, ◌^◌, List, ◌++◌, length, length-drop, drop, take, Some, refl, sym, ◌∙◌, ap, subst, arith}
+use Rattle.std.specs.Prelude.{Contains, Ok, slice_get}
 use Rattle.std.proofs.lemmas.List.{map-append, take_all}
 use Rattle.std.proofs.lemmas.Option.{slice_get_within}
-use Rattle.lists.proofs.Members.{contains_got}
 use Rattle.meaning.specs.declared.types.Plan.{Plan}
 use Rattle.meaning.specs.declared.types.Request.{Request}
 use Rattle.meaning.specs.Search.{AreDistinct}
 use Rattle.access_schema.specs.declared.schema.Schema.{Schema}
-use Rattle.access_schema.specs.Meaning.{meaning_of}
 use Rattle.lane_pool.specs.Work.{AllReady}
 use Rattle.source_trait.specs.Asking.{RowList, Seen}
 use Rattle.source_trait.specs.Works.{MayAsk}
 use Rattle.source_trait.specs.declared.lanes.Lane.{Lane}
 use Rattle.source_trait.specs.declared.work.Ask.{Ask}
 use Rattle.middleware.specs.LaneBranches.{OnEach}
-use Rattle.middleware.specs.LaneRounds.{requests_in, HaveTheirKinds, AsksEach, AsksSome, AreAnswers, AskCause, NoneStopped}
+use Rattle.middleware.specs.LaneRounds.{HaveTheirKinds}
 use Rattle.middleware.specs.LaneRunning.{IsAttachedTo}
-use Rattle.middleware.specs.declared.lane_round.AskFault.TheVariants as ask
-use Rattle.middleware.specs.declared.fault.RunFault.{RunFault}
-use Rattle.middleware.specs.declared.fault.RunFault.TheVariants as fault
-use Rattle.middleware.proofs.LaneShares.{each_some}
-use Rattle.shared_rounds.specs.Books.{AreNumbers, asked_in}
+use Rattle.request_rounds.specs.declared.rounds.Turned.{Turned}
+use Rattle.shared_rounds.specs.Books.{asked_in}
 use Rattle.shared_rounds.specs.declared.book.Book.{Book}
 use Rattle.shared_rounds.proofs.Turning.{append_second}
 use Rattle.plan_course.specs.Courses.{HaveOutputs}
-use Rattle.plan_course.specs.Turns.{asks_of}
-use Rattle.plan_batches.specs.Asking.{WasNext, HasTaken, AskedAndTaken, FailsAt, AskingCause, AskingStops}
-use Rattle.plan_batches.specs.Batching.{AreOfPlans, NeedsOf}
-use Rattle.plan_batches.specs.Each.{Both, Each}
-use Rattle.plan_batches.specs.Naming.{CanName, FailsFirst, NumbersBelow, WantsNumber}
-use Rattle.plan_batches.specs.Rounding.{AreReadyPlans, IsStanding, RoundGoes, RoundStops, TurnsNoted}
-use Rattle.plan_batches.specs.declared.fault.BatchFault.{BatchFault}
-use Rattle.plan_batches.specs.declared.member.Member.{Member}
+use Rattle.plan_batches.specs.Asking.{AsksNoted, HasTaken, MayAskNoted, MayTake, asks_in}
+use Rattle.plan_batches.specs.Batching.{NeedsOf}
+use Rattle.plan_batches.specs.Naming.{CanName, HasFirst}
+use Rattle.plan_batches.specs.Rounding.{AreReadyPlans, IsStanding, NotesRound, TurnsNoted}
 use Rattle.plan_batches.specs.declared.member.Going.{Going}
+use Rattle.plan_batches.specs.declared.round.Noted.{Noted}
 use Rattle.plan_batches.specs.declared.round.Progress.{Progress}
 use Rattle.plan_batches.proofs.Readying.{all_ready}
-use Rattle.plan_batches.proofs.Standing.{all_named, kinds_behind, new_of_plans, was_next}
-use Rattle.plan_batches.proofs.Stopping.{stops_asking}
+use Rattle.plan_batches.proofs.Standing.{RoundGoes, all_named, kinds_behind, new_of_plans, was_next}
 use Rattle.plan_batches.proofs.Wanting.{below, distinct_asked, dropped, long_asked, wanted_number}
 
-pub outputs_there : (schema : Schema) (plans : List Plan) → AreReadyPlans schema plans → (plan : Plan) → Contains plans plan → HaveOutputs plan
+pub outputs_there : (schema : Schema) (plans : List Plan) → AreReadyPlans schema plans → (plan : Plan)
+    → Contains plans plan → HaveOutputs plan
 outputs_there schema plans ready plan c its of = ((ready plan c).0 its of).output
 
 -- the last ones of a list that is lent
-pub rest_is : {X : Type 0} (made : ℕ) (xs lent : List X) → lent ≡ xs → take (length lent - made) (drop made lent) ≡ drop made xs
-rest_is made xs lent is = let long = length-drop made lent in take_all (length lent - made) (drop made lent) (omega (arith, long)) ∙ ap (drop made) is
+pub rest_is : {X : Type 0} (made : ℕ) (xs lent : List X) → lent ≡ xs
+    → take (length lent - made) (drop made lent) ≡ drop made xs
+rest_is made xs lent is =
+    let long = length-drop made lent in
+    take_all (length lent - made) (drop made lent) (omega (arith, long)) ∙ ap (drop made) is
 
 -- a request behind the first ones has a number behind theirs
-pub rest_number : {X : Type 0} (made k : ℕ) (xs : List X) (x : X) → made ≤ length xs → slice_get (drop made xs) k ≡ Some x → made + k < length xs
-rest_number made k xs x fits at = let within = slice_get_within (drop made xs) k x at in let long = length-drop made xs in omega (arith, within, long, fits)
+rest_number : {X : Type 0} (made k : ℕ) (xs : List X) (x : X) → made ≤ length xs → slice_get (drop made xs) k ≡ Some x
+    → made + k < length xs
+rest_number made k xs x fits at =
+    let within = slice_get_within (drop made xs) k x at in
+    let long = length-drop made xs in
+    omega (arith, within, long, fits)
 
--- ---- the requests were asked
+module _ (schema : Schema) (plans : List Plan) (n : ℕ) (progress : Progress) (st : IsStanding schema plans n progress)
+    (turned : Turned Noted) (is : NotesRound schema plans progress turned) where
+  abbrev new : Book
+  new = turned.what.book
 
-module _ {S : Type 0} (seen : S → Seen) (plans : List Plan) (book : Book) (kept : List RowList) (goings : List Going) (made : ℕ) (asks : List Ask)
-    (before after : List (Lane S)) where
-  -- and answered
-  module _ (answers : List RowList) (asked : (schema : Schema) → HaveTheirKinds schema asks → AsksEach seen schema (requests_in asks) before after) where
-    pub went : AreAnswers seen before asks answers → NoneStopped after → (next : Progress) → HasTaken plans book kept answers goings next
-        → AskedAndTaken seen plans book kept goings asks next before after
-    went are going next taken = record { asked = asked; going = going; answers = answers; answered = are; taken = taken }
+  abbrev goings : List Going
+  goings = turned.what.goings.items
 
-    -- but not taken
-    pub untaken : (why : BatchFault) → why ≡ record { plan = 0; fault = fault.NoMemory } → AskingStops seen goings made asks why before after
-    untaken why is = subst (λ (w : BatchFault). AskingStops seen goings made asks w before after) (sym is) (record {
-      asked = λ schema kinds. each_some seen schema (requests_in asks) before after (asked schema kinds);
-      cause = refl;
-    })
+  pub made_fits : turned.what.made ≤ length new.asked.items
+  made_fits = let count = is.count in omega (arith, count)
 
-  -- there was no memory
-  pub unanswered : (why : BatchFault) → why ≡ record { plan = 0; fault = fault.NoMemory }
-      → ((schema : Schema) → HaveTheirKinds schema asks → AsksSome seen schema (requests_in asks) before after) → AskingStops seen goings made asks why before after
-  unanswered why is some = subst (λ (w : BatchFault). AskingStops seen goings made asks w before after) (sym is) (record { asked = some; cause = refl })
+  -- the requests of the round are those that were added to the book
+  pub asks_are : asks_in turned.what ≡ is.noted.onward.0
+  asks_are = ap (λ m. drop m new.asked.items) is.made
+      ∙ dropped schema plans progress.members.items progress.book new goings is.noted
 
-  -- a call failed
-  pub failed : (k : ℕ) (why : BatchFault) → FailsFirst goings (made + k) why
-      → ((schema : Schema) → HaveTheirKinds schema asks → AskCause seen schema asks (ask.CallFailed k) before after)
-      → ((schema : Schema) → HaveTheirKinds schema asks → AsksSome seen schema (requests_in asks) before after) → AskingStops seen goings made asks why before after
-  failed k why names cause some = record {
-    asked = some;
-    cause = subst (λ (f : RunFault). AskingCause seen goings made asks why before after f) (sym names.fault_is) (record { k = k; cause = cause; names = names });
+  pub asks_kinds : HaveTheirKinds schema (asks_in turned.what)
+  asks_kinds = subst (HaveTheirKinds schema) (sym asks_are)
+      (kinds_behind schema new.asked.items progress.book.asked.items is.noted.onward.0 is.noted.onward.1
+      (is.noted.kinds st.kinds))
+
+  asks_ready : {S : Type 0} (seen : S → Seen) (lanes : List (Lane S))
+      → ((rel : ℕ) → NeedsOf schema plans rel → OnEach lanes (IsAttachedTo seen schema rel))
+      → AllReady (MayAsk seen) (asks_in turned.what) lanes
+  asks_ready seen lanes attached =
+      subst (λ (l : List Ask). AllReady (MayAsk seen) l lanes) (sym asks_are)
+      (all_ready schema seen plans lanes attached is.noted.onward.0
+      (kinds_behind schema new.asked.items progress.book.asked.items is.noted.onward.0 is.noted.onward.1
+      (is.noted.kinds st.kinds))
+      (λ request c. new_of_plans schema plans n progress st new goings is.noted request
+      (subst (λ (l : List Request). Contains l request) (sym all)
+      (append_second (asked_in progress.book.asked.items) (asked_in is.noted.onward.0) request c))))
+    where
+      all : asked_in new.asked.items ≡ asked_in progress.book.asked.items ++ asked_in is.noted.onward.0
+      all = ap asked_in is.noted.onward.1
+          ∙ map-append (λ (a : Ask). a.request) progress.book.asked.items is.noted.onward.0
+
+  -- the requests of the round may be asked
+  pub may_ask : {S : Type 0} (seen : S → Seen) (lanes : List (Lane S)) → (0 < length lanes) × (length lanes ≤ 8)
+      → ((rel : ℕ) → NeedsOf schema plans rel → OnEach lanes (IsAttachedTo seen schema rel))
+      → length new.asked.items ≤ 1000000
+      → MayAskNoted seen turned.what lanes
+  may_ask seen lanes some attached few = record {
+    some = some;
+    fits = made_fits;
+    few = few;
+    ready = asks_ready seen lanes attached;
   }
 
--- ---- the round
+  -- an answer to each of them may be taken
+  pub may_take : AreReadyPlans schema plans → (answers : List RowList) → length answers ≡ length (asks_in turned.what)
+      → MayTake plans turned.what answers
+  may_take ready answers long = record {
+    goings = was_next schema plans n progress st goings is.noted.wants;
+    outputs = outputs_there schema plans ready;
+    numbers = λ going number among c.
+        let less = below schema plans progress.members.items progress.book new goings is.noted going number among c in
+        let kept = ap length is.kept in
+        let before = st.kept in
+        let made = is.made in
+        let rest = length-drop turned.what.made new.asked.items in
+        let fits = made_fits in
+        omega (arith, less, kept, before, made, long, rest, fits);
+  }
 
-module _ (schema : Schema) (plans : List Plan) (n : ℕ) (progress : Progress) (st : IsStanding schema plans n progress) (new : Book) (goings : List Going)
-    (noted : TurnsNoted schema plans progress.members.items progress.book new goings) where
-  distinct_new : AreDistinct (asked_in new.asked.items)
-  distinct_new = distinct_asked schema plans progress.members.items progress.book new goings noted st.distinct
-
-  pub wants_all : (number : ℕ) → length progress.book.asked.items ≤ number → number < length new.asked.items → WantsNumber goings number
-  wants_all = wanted_number schema plans progress.members.items progress.book new goings noted distinct_new
-
-  pub few_goings : length plans < 2 ^ 32 → length goings < 2 ^ 32
-  few_goings few = let long = noted.wants.third in omega (arith, few, long)
-
-  pub made_fits : length progress.book.asked.items ≤ length new.asked.items
-  made_fits = let long = long_asked schema plans progress.members.items progress.book new goings noted in omega (arith, long)
-
-  pub goings_next : Both WasNext plans goings
-  goings_next = was_next schema plans n progress st goings noted.wants
-
-  pub goings_below : NumbersBelow (length new.asked.items) goings
-  goings_below = below schema plans progress.members.items progress.book new goings noted
+  -- ---- who is named where it stops
 
   pub goings_named : AreReadyPlans schema plans → (going : Going) → Contains goings going → CanName going
-  goings_named ready = all_named schema plans n progress st goings noted.wants ready (asked_in new.asked.items) noted.are
+  goings_named ready = all_named schema plans n progress st goings is.noted.wants ready
+      (asked_in new.asked.items) is.noted.are
 
-  pub asks_kinds : HaveTheirKinds schema (drop (length progress.book.asked.items) new.asked.items)
-  asks_kinds = subst (HaveTheirKinds schema) (sym (dropped schema plans progress.members.items progress.book new goings noted))
-      (kinds_behind schema new.asked.items progress.book.asked.items noted.onward.0 noted.onward.1 (noted.kinds st.kinds))
+  -- a plan wants each request of the round
+  pub has_first : length plans < 2 ^ 32 → (number : ℕ) → number < 2 ^ 32 → turned.what.made ≤ number
+      → number < length new.asked.items
+      → HasFirst goings number
+  has_first few number small over under =
+      let made = is.made in
+      let third = is.noted.wants.third in
+      record {
+        wanted = wanted_number schema plans progress.members.items progress.book new goings is.noted
+            (distinct_asked schema plans progress.members.items progress.book new goings is.noted st.distinct)
+            number (omega (arith, over, made)) under;
+        small = small;
+        few = omega (arith, few, third);
+      }
 
-  pub asks_ready : {S : Type 0} (seen : S → Seen) (lanes : List (Lane S)) → ((rel : ℕ) → NeedsOf schema plans rel → OnEach lanes (IsAttachedTo seen schema rel))
-      → AllReady (MayAsk seen) (drop (length progress.book.asked.items) new.asked.items) lanes
-  asks_ready seen lanes attached =
-      subst (λ (l : List Ask). AllReady (MayAsk seen) l lanes) (sym (dropped schema plans progress.members.items progress.book new goings noted))
-      (all_ready schema seen plans lanes attached noted.onward.0
-      (kinds_behind schema new.asked.items progress.book.asked.items noted.onward.0 noted.onward.1 (noted.kinds st.kinds))
-      (λ request c. new_of_plans schema plans n progress st new goings noted request
-      (subst (λ (l : List Request). Contains l request) (sym all) (append_second (asked_in progress.book.asked.items) (asked_in noted.onward.0) request c))))
-    where
-      all : asked_in new.asked.items ≡ asked_in progress.book.asked.items ++ asked_in noted.onward.0
-      all = ap asked_in noted.onward.1 ∙ map-append (λ (a : Ask). a.request) progress.book.asked.items noted.onward.0
+  pub first_refused : length plans < 2 ^ 32 → length new.asked.items ≤ 1000000 → (k : ℕ) (ask : Ask)
+      → slice_get (asks_in turned.what) k ≡ Some ask
+      → HasFirst goings (turned.what.made + k)
+  first_refused few short k ask at =
+      let under = rest_number turned.what.made k new.asked.items ask made_fits at in
+      has_first few (turned.what.made + k) (omega (arith, under, short)) (omega arith) under
 
-  module _ {S : Type 0} (seen : S → Seen) (cap : ℕ) (before after : List (Lane S)) (within : length new.asked.items ≤ cap) where
-    pub round_goes : (next : Progress)
-        → AskedAndTaken seen plans new progress.kept goings (drop (length progress.book.asked.items) new.asked.items) next before after
-        → RoundGoes schema plans seen cap progress next before after
-    round_goes next went = record {
-      goings = goings;
-      noted = subst (λ (b : Book). TurnsNoted schema plans progress.members.items progress.book b goings) (sym went.taken.book_is) noted;
-      within = subst (λ (b : Book). length b.asked.items ≤ cap) (sym went.taken.book_is) within;
-      asks = drop (length progress.book.asked.items) new.asked.items;
-      more = ap (λ (b : Book). b.asked.items) went.taken.book_is ∙ noted.onward.1 ∙ ap (λ (l : List Ask). progress.book.asked.items ++ l) (sym here);
-      asked = went.asked schema kinds;
-      going = went.going;
-      answers = went.answers;
-      answered = went.answered;
-      kept = went.taken.kept_is;
-      takes = went.taken.takes;
-    }
-      where
-        here : drop (length progress.book.asked.items) new.asked.items ≡ noted.onward.0
-        here = dropped schema plans progress.members.items progress.book new goings noted
+  -- ---- the round was asked whole
 
-        kinds : HaveTheirKinds schema (drop (length progress.book.asked.items) new.asked.items)
-        kinds = subst (HaveTheirKinds schema) (sym here)
-            (kinds_behind schema new.asked.items progress.book.asked.items noted.onward.0 noted.onward.1 (noted.kinds st.kinds))
-
-    pub round_stops : (why : BatchFault)
-        → AskingStops seen goings (length progress.book.asked.items) (drop (length progress.book.asked.items) new.asked.items) why before after
-        → RoundStops schema plans seen cap progress why before after
-    round_stops = stops_asking seen schema plans cap progress new goings noted (drop (length progress.book.asked.items) new.asked.items)
-        (dropped schema plans progress.members.items progress.book new goings noted) before after (noted.kinds st.kinds) within
+  pub round_goes : {S : Type 0} (seen : S → Seen) (cap : ℕ) (before after : List (Lane S))
+      → length new.asked.items ≤ cap → (answers : List RowList)
+      → AsksNoted seen turned.what (Ok answers) before after → (next : Progress)
+      → HasTaken plans turned.what answers next
+      → RoundGoes schema plans seen cap progress next before after
+  round_goes seen cap before after within answers asked next taken = record {
+    goings = goings;
+    noted = subst (λ (b : Book). TurnsNoted schema plans progress.members.items progress.book b goings)
+        (sym taken.book_is) is.noted;
+    within = subst (λ (b : Book). length b.asked.items ≤ cap) (sym taken.book_is) within;
+    asks = asks_in turned.what;
+    more = ap (λ (b : Book). b.asked.items) taken.book_is ∙ is.noted.onward.1
+        ∙ ap (λ (l : List Ask). progress.book.asked.items ++ l) (sym asks_are);
+    asked = asked.asks schema asks_kinds;
+    going = asked.going;
+    answers = answers;
+    answered = asked.answers;
+    kept = taken.kept_is ∙ ap (λ (l : List RowList). l ++ answers) is.kept;
+    takes = taken.takes;
+  }

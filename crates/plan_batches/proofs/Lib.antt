@@ -12,5 +12,6 @@ pub mod Readying
 pub mod Standing
 pub mod Stopping
 pub mod Coming
+pub mod Chaining
 pub mod Ending
 pub mod Attaching

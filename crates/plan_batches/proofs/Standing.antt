@@ -14,7 +14,7 @@ use Rattle.source_trait.specs.Asking.{RowList, Seen}
 use Rattle.source_trait.specs.declared.lanes.Lane.{Lane}
 use Rattle.source_trait.specs.declared.work.Ask.{Ask}
 use Rattle.middleware.specs.Asked.{IsStepRequest}
-use Rattle.middleware.specs.LaneRounds.{HaveTheirKinds}
+use Rattle.middleware.specs.LaneRounds.{requests_in, HaveTheirKinds, AsksEach, AreAnswers, NoneStopped}
 use Rattle.shared_rounds.specs.SharedRounds.{Turn, turns_of, Once, to_ask, wanted_in}
 use Rattle.shared_rounds.specs.Books.{AreNumbers, asked_in}
 use Rattle.shared_rounds.specs.declared.book.Book.{Book}
@@ -29,14 +29,29 @@ use Rattle.plan_batches.specs.Asking.{WasNext}
 use Rattle.plan_course.specs.Courses.{CanNumber}
 use Rattle.plan_batches.specs.Batching.{AreOfPlans, IsNumbered}
 use Rattle.plan_batches.specs.Each.{Both, Each}
-use Rattle.plan_batches.specs.Members.{Wants}
+use Rattle.plan_batches.specs.Members.{Takes, Wants}
 use Rattle.plan_batches.specs.Naming.{CanName, CanNameBy}
-use Rattle.plan_batches.specs.Rounding.{AreReadyPlans, MemberAt, IsStanding, RoundGoes, TurnsNoted, turns_by}
+use Rattle.plan_batches.specs.Rounding.{AreReadyPlans, MemberAt, IsStanding, TurnsNoted, turns_by}
 use Rattle.plan_batches.specs.declared.member.Member.{Member}
 use Rattle.plan_batches.specs.declared.member.Going.{Going}
 use Rattle.plan_batches.specs.declared.round.Progress.{Progress}
 use Rattle.plan_batches.proofs.Numbering.{numbers_long}
 use Rattle.plan_batches.proofs.Wanting.{distinct_asked, wanted_by, wanted_there}
+
+-- The next round was asked whole, and its answers were taken.
+pub record RoundGoes (schema : Schema) (plans : List Plan) {S : Type 0} (seen : S → Seen) (cap : ℕ) (old new : Progress) (before after : List (Lane S))
+    : Type 0 where
+  pub goings : List Going
+  pub noted : TurnsNoted schema plans old.members.items old.book new.book goings
+  pub within : length new.book.asked.items ≤ cap
+  pub asks : List Ask
+  pub more : new.book.asked.items ≡ old.book.asked.items ++ asks
+  pub asked : AsksEach seen schema (requests_in asks) before after
+  pub going : NoneStopped after
+  pub answers : List RowList
+  pub answered : AreAnswers seen before asks answers
+  pub kept : new.kept ≡ old.kept ++ answers
+  pub takes : Each (Takes new.kept) plans goings new.members.items
 
 -- the kinds of the last ones
 pub kinds_behind : (schema : Schema) (all before more : List Ask) → all ≡ before ++ more → HaveTheirKinds schema all → HaveTheirKinds schema more

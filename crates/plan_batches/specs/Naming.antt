@@ -1,11 +1,16 @@
 -- Which plan a fault of a round concerns.
-use Rattle.std.specs.Prelude.{◌≡◌, ◌<◌, ◌^◌, ℕ, List, [], Contains, Some, slice_get}
+use Rattle.std.specs.Prelude.{◌≡◌, ◌+◌, ◌<◌, ◌^◌, ℕ, List, [], Contains, Some, length, slice_get}
 use Rattle.middleware.specs.declared.fault.RunFault.TheVariants as fault
+use Rattle.middleware.specs.declared.lane_round.AskFault.{AskFault}
+use Rattle.middleware.specs.declared.lane_round.AskFault.TheVariants as ask
+use Rattle.request_rounds.specs.declared.rounds.Halt.{Halt}
+use Rattle.request_rounds.specs.declared.rounds.Halt.TheVariants as halt
 use Rattle.plan_course.specs.declared.turns.Next.{Next}
 use Rattle.plan_course.specs.declared.turns.Next.TheVariants as next
 use Rattle.plan_course.specs.declared.turns.Pending.{Pending}
 use Rattle.plan_batches.specs.declared.fault.BatchFault.{BatchFault}
 use Rattle.plan_batches.specs.declared.member.Going.{Going}
+use Rattle.plan_batches.specs.declared.round.Noted.{Noted}
 
 -- one of the plans wants the request of this number
 abbrev pub WantsNumber : List Going → ℕ → Type 0
@@ -36,3 +41,28 @@ pub record FailsFirst (goings : List Going) (number : ℕ) (why : BatchFault) : 
   pub pending : Pending
   pub wants : first.going.next ≡ next.Wants pending
   pub fault_is : why.fault ≡ fault.CallFailed pending.branch pending.step
+
+-- ---- where the rounds stop
+
+-- one of the plans, which can be numbered, wants the request of this number
+pub record HasFirst (goings : List Going) (number : ℕ) : Type 0 where
+  pub wanted : WantsNumber goings number
+  pub small : number < 2 ^ 32
+  pub few : length goings < 2 ^ 32
+
+-- a plan can be named where the rounds stop
+abbrev pub CanNameHalt : Halt Noted AskFault → Type 0
+CanNameHalt halt.NoMemory = Unit {0}
+CanNameHalt (halt.Refused noted ask.NoMemory) = Unit {0}
+CanNameHalt (halt.Refused noted (ask.CallFailed request)) = HasFirst noted.goings.items (noted.made + request)
+    × ((going : Going) → Contains noted.goings.items going → CanName going)
+CanNameHalt (halt.Over noted made wanted) = HasFirst noted.goings.items made
+
+-- Why the plans stop, where their rounds stop for this: the plan is the first that wants the refused request, or the first one that would
+-- pass the cap.
+abbrev pub NamesHalt : ℕ → Halt Noted AskFault → BatchFault → Type 0
+NamesHalt cap halt.NoMemory why = why ≡ record { plan = 0; fault = fault.NoMemory }
+NamesHalt cap (halt.Refused noted ask.NoMemory) why = why ≡ record { plan = 0; fault = fault.NoMemory }
+NamesHalt cap (halt.Refused noted (ask.CallFailed request)) why = FailsFirst noted.goings.items (noted.made + request) why
+NamesHalt cap (halt.Over noted made wanted) why = IsFirstGoing noted.goings.items why.plan made
+    × (why.fault ≡ fault.OverCalls made wanted cap)

@@ -1,26 +1,25 @@
--- One round of a batch: what it asks and takes, or why it stops.
-use Rattle.std.specs.Prelude.{◌≡◌, ◌⊎◌, ◌+◌, ◌<◌, ◌≤◌, ◌++◌, ℕ, List, [], Contains, Some, length, map, slice_get}
-use Rattle.meaning.specs.declared.types.Fact.{Fact}
+-- What the plans of a batch want in a round, and what the rounds before leave for it.
+use Rattle.std.specs.Prelude.{◌≡◌, ◌+◌, ◌++◌, ℕ, List, Contains, IsSome, length, map}
 use Rattle.meaning.specs.declared.types.Plan.{Plan}
 use Rattle.meaning.specs.declared.types.Request.{Request}
 use Rattle.meaning.specs.Search.{AreDistinct}
 use Rattle.access_schema.specs.declared.schema.Schema.{Schema}
 use Rattle.access_schema.specs.Meaning.{meaning_of}
-use Rattle.source_trait.specs.Asking.{RowList, Seen}
-use Rattle.source_trait.specs.declared.lanes.Lane.{Lane}
 use Rattle.source_trait.specs.declared.work.Ask.{Ask}
-use Rattle.middleware.specs.LaneRounds.{requests_in, HaveTheirKinds, AsksEach, AsksSome, AreAnswers, NoneStopped}
-use Rattle.shared_rounds.specs.SharedRounds.{Once, to_ask, wanted_in}
+use Rattle.middleware.specs.PlanSources.{line_for}
+use Rattle.middleware.specs.LaneRounds.{HaveTheirKinds}
+use Rattle.request_rounds.specs.declared.rounds.Turned.{Turned}
+use Rattle.shared_rounds.specs.SharedRounds.{wanted_in}
 use Rattle.shared_rounds.specs.Books.{AreNumbers, IsBook, asked_in, with_asked}
 use Rattle.shared_rounds.specs.declared.book.Book.{Book}
 use Rattle.plan_course.specs.Courses.{AreReadyBranches, CanNumber, IsAt}
 use Rattle.plan_course.specs.Turns.{asks_of}
-use Rattle.plan_batches.specs.Batching.{AreOfPlans, HaltsFor}
+use Rattle.plan_batches.specs.Batching.{AreOfPlans, NeedsOf}
 use Rattle.plan_batches.specs.Each.{Both, Each}
-use Rattle.plan_batches.specs.Members.{Wants, Takes}
-use Rattle.plan_batches.specs.declared.fault.BatchFault.{BatchFault}
+use Rattle.plan_batches.specs.Members.{Wants}
 use Rattle.plan_batches.specs.declared.member.Member.{Member}
 use Rattle.plan_batches.specs.declared.member.Going.{Going}
+use Rattle.plan_batches.specs.declared.round.Noted.{Noted}
 use Rattle.plan_batches.specs.declared.round.Progress.{Progress}
 
 -- each plan is ready, and its branches and steps can be numbered
@@ -58,26 +57,15 @@ module _ (schema : Schema) (plans : List Plan) where
     pub kept : length progress.kept ≡ length progress.book.asked.items
     pub members : Both (MemberAt n) plans progress.members.items
 
-  module _ {S : Type 0} (seen : S → Seen) where
-    -- The next round was asked whole, and its answers were taken.
-    pub record RoundGoes (cap : ℕ) (old new : Progress) (before after : List (Lane S)) : Type 0 where
-      pub goings : List Going
-      pub noted : TurnsNoted schema plans old.members.items old.book new.book goings
-      pub within : length new.book.asked.items ≤ cap
-      pub asks : List Ask
-      pub more : new.book.asked.items ≡ old.book.asked.items ++ asks
-      pub asked : AsksEach seen schema (requests_in asks) before after
-      pub going : NoneStopped after
-      pub answers : List RowList
-      pub answered : AreAnswers seen before asks answers
-      pub kept : new.kept ≡ old.kept ++ answers
-      pub takes : Each (Takes new.kept) plans goings new.members.items
+  -- the plans can say what they want in the next round
+  pub record MayNote (progress : Progress) : Type 0 where
+    pub ready : AreReadyPlans schema plans
+    pub standing : (n : ℕ) × IsStanding n progress
+    pub lines : (rel : ℕ) → NeedsOf schema plans rel → IsSome (line_for rel schema.sources)
 
-    -- The next round stopped: each of its requests was asked at most once. Where there was no memory, not all plans may have said what they
-    -- want.
-    pub record RoundStops (cap : ℕ) (old : Progress) (why : BatchFault) (before after : List (Lane S)) : Type 0 where
-      pub goings : List Going
-      pub wants : (goings ≡ []) ⊎ Each (Wants schema) plans old.members.items goings
-      pub asked : AsksSome seen schema (to_ask Once (asked_in old.book.asked.items) (wanted_in (turns_by goings))) before after
-      pub cause : (n : ℕ) → IsStanding n old
-          → HaltsFor seen schema plans cap n (asked_in old.book.asked.items) (turns_by goings) before after why.plan why.fault
+  -- What the next round wants, noted behind the requests of the rounds before.
+  pub record NotesRound (progress : Progress) (turned : Turned Noted) : Type 0 where
+    pub noted : TurnsNoted schema plans progress.members.items progress.book turned.what.book turned.what.goings.items
+    pub kept : turned.what.kept ≡ progress.kept
+    pub made : turned.what.made ≡ length progress.book.asked.items
+    pub count : length turned.what.book.asked.items ≡ turned.what.made + turned.wanted

@@ -1,13 +1,34 @@
 // Which plan a fault of a round concerns.
-ghost use Rattle.std.specs.Prelude.{◌≡◌, ◌-◌, ◌<◌, ◌^◌, min, Contains, length};
+ghost use Rattle.std.specs.Prelude.{◌≡◌, ◌<◌, ◌^◌, Contains, length};
 ghost use Rattle.middleware.specs.declared.fault.RunFault.TheVariants as fault;
-ghost use Rattle.plan_batches.specs.Naming.{CanName, IsFirstGoing, FailsFirst, WantsNumber};
+ghost use Rattle.plan_batches.specs.Naming.{CanName, CanNameHalt, FailsFirst, IsFirstGoing, NamesHalt, WantsNumber};
 ghost use Rattle.plan_batches.specs.declared.member.Going.{Going};
 
 use crate::fault::BatchFault;
 use crate::member::Going;
-use middleware::RunFault;
+use crate::round::Noted;
+use middleware::{AskFault, RunFault};
 use plan_course::Next;
+use request_rounds::Halt;
+
+/// Why the plans stop where their rounds do.
+pub fn fault_of(halt: &Halt<Noted, AskFault>, cap: u32) -> BatchFault
+    requires { CanNameHalt halt.now }
+    ensures { NamesHalt cap halt.now result }
+{
+    match halt {
+        Halt::NoMemory => no_memory(),
+        Halt::Refused { what, why } => match why {
+            AskFault::NoMemory => no_memory(),
+            AskFault::CallFailed { request } => {
+                call_failed(what.goings.as_slice(), what.made + *request as usize)
+            }
+        },
+        Halt::Over { what, made, wanted } => {
+            over_calls(what.goings.as_slice(), *made, *wanted, cap)
+        }
+    }
+}
 
 /// Where there is no memory.
 pub fn no_memory() -> BatchFault
@@ -19,8 +40,8 @@ pub fn no_memory() -> BatchFault
     }
 }
 
-/// Where the call of the request of a number failed.
-pub fn call_failed(goings: &[Going], number: usize) -> BatchFault
+// Where the call of the request of a number failed.
+fn call_failed(goings: &[Going], number: usize) -> BatchFault
     requires wanted { WantsNumber goings.now number }
     requires few { length goings.now < 2 ^ 32 }
     requires names { (going : Going) → Contains goings.now going → CanName going }
@@ -39,22 +60,16 @@ pub fn call_failed(goings: &[Going], number: usize) -> BatchFault
     }
 }
 
-/// Where a round would pass the cap, before which so many requests were made, and with which there would be so many in all.
-pub fn over_calls(goings: &[Going], made: usize, total: usize, cap: u32) -> BatchFault
+// Where a round would pass the cap, before which so many requests were made, and which wants so many more.
+fn over_calls(goings: &[Going], made: u32, wanted: u32, cap: u32) -> BatchFault
     requires wanted { WantsNumber goings.now made }
     requires few { length goings.now < 2 ^ 32 }
-    requires counts { (made < total) × (made < 2 ^ 32) }
     ensures plan { IsFirstGoing goings.now result.plan made }
-    ensures fault { result.fault ≡ fault.OverCalls made (min (total - made) (2 ^ 32 - 1)) cap }
+    ensures fault { result.fault ≡ fault.OverCalls made wanted cap }
 {
-    let wanted = (total - made).min(u32::MAX as usize);
     BatchFault {
-        plan: first_with(goings, made) as u32,
-        fault: RunFault::OverCalls {
-            made: made as u32,
-            wanted: wanted as u32,
-            cap,
-        },
+        plan: first_with(goings, made as usize) as u32,
+        fault: RunFault::OverCalls { made, wanted, cap },
     }
 }
 

@@ -1,32 +1,23 @@
-// One round of a batch.
-ghost use Rattle.std.specs.Prelude.{◌≡◌, ◌+◌, ◌<◌, ◌≤◌, ◌^◌, ℕ, Contains, IfOk, IfErr, IsSome, drop, length};
+// One round of a batch: what it wants, how that is asked, and what becomes of the answers.
+ghost use Rattle.std.specs.Prelude.{ℕ, Contains, IfOk, IsSome, length};
 ghost use Rattle.meaning.specs.declared.types.Plan.{Plan};
-ghost use Rattle.access_schema.specs.declared.schema.Schema.{Schema};
-ghost use Rattle.lane_pool.specs.Work.{AllReady};
-ghost use Rattle.source_trait.specs.Works.{MayAsk};
 ghost use Rattle.middleware.specs.PlanSources.{line_for};
-ghost use Rattle.middleware.specs.LaneRounds.{HaveTheirKinds, NoneStopped};
-ghost use Rattle.middleware.specs.LaneBranches.{OnEach};
-ghost use Rattle.middleware.specs.LaneRunning.{IsAttachedTo};
 ghost use Rattle.shared_rounds.specs.Books.{IsBook};
-ghost use Rattle.middleware.specs.declared.fault.RunFault.TheVariants as fault;
 ghost use Rattle.plan_course.specs.Courses.{HaveOutputs};
-ghost use Rattle.plan_batches.specs.Asking.{WasNext, HasTaken, AskedAndTaken, AskingStops};
+ghost use Rattle.plan_batches.specs.Asking.{AsksNoted, HasTaken, MayAskNoted, MayTake, WasNext};
 ghost use Rattle.plan_batches.specs.Batching.{NeedsOf};
 ghost use Rattle.plan_batches.specs.Each.{Both, Each};
 ghost use Rattle.plan_batches.specs.Members.{Takes};
-ghost use Rattle.plan_batches.specs.Naming.{CanName, NumbersBelow, WantsNumber};
-ghost use Rattle.plan_batches.specs.Rounding.{AreReadyPlans, MemberAt, TurnsNoted, IsStanding, RoundGoes, RoundStops};
-ghost use Rattle.plan_batches.specs.declared.member.Going.{Going};
+ghost use Rattle.plan_batches.specs.Naming.{NumbersBelow};
+ghost use Rattle.plan_batches.specs.Rounding.{AreReadyPlans, MayNote, MemberAt, NotesRound, TurnsNoted};
 
-use crate::fault::BatchFault;
 use crate::kept::keep;
 use crate::member::{Going, Member, go_on, take_up};
-use crate::naming::{call_failed, no_memory, over_calls};
 use access_schema::Schema;
 use lists::NoMemory;
 use meaning::types::Plan;
 use middleware::{Answers, AskFault, ask_round};
+use request_rounds::Turned;
 use shared_rounds::Book;
 use source_trait::{Lane, Source};
 use std::alloc::Global;
@@ -40,24 +31,24 @@ pub struct Progress {
     pub kept: Answers,
 }
 
-/// Asks the next round of the lanes and takes its answers.
-pub fn next_round<R: Threads + Sync, S: Source + Send + Drop>(
-    rt: &R,
+/// What the plans want in a round. Its requests are those of the book behind the first `made` ones, which have their answers.
+#[derive(Drop)]
+pub struct Noted {
+    pub book: Book,
+    pub kept: Answers,
+    pub goings: Vec<Going>,
+    pub made: usize,
+}
+
+/// What the next round wants, and how many of its requests no earlier round asked.
+pub fn note_round(
     alloc: Global,
     schema: &Schema,
     plans: &[Plan],
-    lanes: &mut [Lane<S>],
     progress: Progress,
-    cap: u32,
-) -> Result<Progress, BatchFault>
-    requires lanes { (0 < length lanes.old) × (length lanes.old ≤ 8) }
-    requires going { NoneStopped lanes.old }
-    requires plans { AreReadyPlans schema.now plans.now × (length plans.now < 2 ^ 32) }
-    requires attached { (rel : ℕ) → NeedsOf schema.now plans.now rel → OnEach lanes.old (IsAttachedTo S.seen schema.now rel) }
-    requires standing { (n : ℕ) × IsStanding schema.now plans.now n progress }
-    requires cap { (length progress.book.asked.items ≤ cap) × (cap ≤ 1_000_000) }
-    ensures goes { IfOk result (λ next. RoundGoes schema.now plans.now S.seen cap progress next lanes.old lanes.new) }
-    ensures stops { IfErr result (λ why. RoundStops schema.now plans.now S.seen cap progress why lanes.old lanes.new) }
+) -> Result<Turned<Noted>, NoMemory>
+    requires { MayNote schema.now plans.now progress }
+    ensures { IfOk result (NotesRound schema.now plans.now progress) }
 {
     let Progress {
         members,
@@ -66,14 +57,17 @@ pub fn next_round<R: Threads + Sync, S: Source + Send + Drop>(
     } = progress;
     let made = book.asked.len();
     let mut noted = book;
-    let Ok(goings) = turns(alloc, schema, plans, &mut noted, members) else {
-        return Err(no_memory());
-    };
-    let total = noted.asked.len();
-    if total > cap as usize {
-        return Err(over_calls(goings.as_slice(), made, total, cap));
-    }
-    ask_and_take(rt, alloc, plans, lanes, noted, kept, goings, made)
+    let goings = turns(alloc, schema, plans, &mut noted, members)?;
+    let wanted = noted.asked.len() - made;
+    Ok(Turned {
+        what: Noted {
+            book: noted,
+            kept,
+            goings,
+            made,
+        },
+        wanted,
+    })
 }
 
 // What the plans want in a round, plan by plan, noted in the book.
@@ -99,63 +93,35 @@ fn turns(
     Ok(goings)
 }
 
-// Asks the requests behind the first `made` ones of the book, and takes their answers.
-fn ask_and_take<R: Threads + Sync, S: Source + Send + Drop>(
+/// Asks the requests of a round of the lanes.
+pub fn ask_noted<R: Threads + Sync, S: Source + Send + Drop>(
     rt: &R,
     alloc: Global,
-    plans: &[Plan],
+    noted: &Noted,
     lanes: &mut [Lane<S>],
-    book: Book,
-    kept: Answers,
-    goings: Vec<Going>,
-    made: usize,
-) -> Result<Progress, BatchFault>
-    requires lanes { (0 < length lanes.old) × (length lanes.old ≤ 8) }
-    requires made { (made ≤ length book.asked.items) × (length book.asked.items ≤ 1_000_000) }
-    requires ready { AllReady (MayAsk S.seen) (drop made book.asked.items) lanes.old }
-    requires kinds { (schema : Schema) × HaveTheirKinds schema (drop made book.asked.items) }
-    requires kept { length kept ≡ made }
-    requires goings { Both WasNext plans.now goings.items }
-    requires outputs { (plan : Plan) → Contains plans.now plan → HaveOutputs plan }
-    requires few { length plans.now < 2 ^ 32 }
-    requires wanted { (number : ℕ) → made ≤ number → number < length book.asked.items → WantsNumber goings.items number }
-    requires numbers { NumbersBelow (length book.asked.items) goings.items }
-    requires names { (going : Going) → Contains goings.items going → CanName going }
-    ensures goes { IfOk result (λ next. AskedAndTaken S.seen plans.now book kept goings.items (drop made book.asked.items) next lanes.old lanes.new) }
-    ensures stops { IfErr result (λ why. AskingStops S.seen goings.items made (drop made book.asked.items) why lanes.old lanes.new) }
+) -> Result<Answers, AskFault>
+    requires { MayAskNoted S.seen noted.now lanes.old }
+    ensures { AsksNoted S.seen noted.now result lanes.old lanes.new }
 {
-    let asks = &book.asked.as_slice()[made..];
-    match ask_round(rt, alloc, asks, lanes) {
-        Ok(answers) => take_answers(alloc, plans, book, kept, goings, &answers),
-        Err(AskFault::NoMemory) => Err(no_memory()),
-        Err(AskFault::CallFailed { request }) => {
-            let lent = goings.as_slice();
-            Err(call_failed(lent, made + request as usize))
-        }
-    }
+    let asks = &noted.book.asked.as_slice()[noted.made..];
+    ask_round(rt, alloc, asks, lanes)
 }
 
-// Keeps the answers of a round, and gives the plans those to what they wanted.
-fn take_answers(
+/// Keeps the answers of a round, and gives the plans those to what they wanted.
+pub fn take_answers(
     alloc: Global,
     plans: &[Plan],
-    book: Book,
-    kept: Answers,
-    goings: Vec<Going>,
+    noted: Noted,
     answers: &Answers,
-) -> Result<Progress, BatchFault>
-    requires goings { Both WasNext plans.now goings.items }
-    requires outputs { (plan : Plan) → Contains plans.now plan → HaveOutputs plan }
-    requires numbers { NumbersBelow (length kept + length answers.now) goings.items }
-    ensures takes { IfOk result (HasTaken plans.now book kept answers.now goings.items) }
-    ensures stops { IfErr result (λ why. why ≡ record { plan = 0; fault = fault.NoMemory }) }
+) -> Result<Progress, NoMemory>
+    requires { MayTake plans.now noted answers.now }
+    ensures { IfOk result (HasTaken plans.now noted answers.now) }
 {
-    let Ok(all) = keep(alloc, kept, answers) else {
-        return Err(no_memory());
-    };
-    let Ok(members) = take_all(alloc, plans, goings, &all) else {
-        return Err(no_memory());
-    };
+    let Noted {
+        book, kept, goings, ..
+    } = noted;
+    let all = keep(alloc, kept, answers)?;
+    let members = take_all(alloc, plans, goings, &all)?;
     Ok(Progress {
         members,
         book,

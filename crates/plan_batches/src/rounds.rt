@@ -5,22 +5,24 @@ ghost use Rattle.middleware.specs.LaneBranches.{OnEach};
 ghost use Rattle.middleware.specs.LaneRounds.{NoneStopped};
 ghost use Rattle.middleware.specs.LaneRunning.{IsAttachedTo};
 ghost use Rattle.plan_course.specs.Courses.{CanNumber, HaveOutputs};
+ghost use Rattle.plan_batches.specs.Asking.{AsksNoted, HasTaken, MayAskNoted, MayTake};
 ghost use Rattle.plan_batches.specs.Batching.{NeedsOf, RoundsHalt, most_steps};
 ghost use Rattle.plan_batches.specs.Coming.{HasCome};
 ghost use Rattle.plan_batches.specs.Each.{Both};
 ghost use Rattle.plan_batches.specs.Members.{Begins, Ends};
-ghost use Rattle.plan_batches.specs.Rounding.{AreReadyPlans};
+ghost use Rattle.plan_batches.specs.Rounding.{AreReadyPlans, MayNote, NotesRound};
 ghost use Rattle.plan_batches.specs.declared.member.Member.{Member};
 
 use crate::fault::BatchFault;
 use crate::member::{Member, begin, end};
-use crate::naming::no_memory;
-use crate::round::{Progress, next_round};
+use crate::naming::{fault_of, no_memory};
+use crate::round::{Noted, Progress, ask_noted, note_round, take_answers};
 use access_schema::Schema;
 use lists::NoMemory;
 use meaning::types::Plan;
 use middleware::{Answers, Run};
 use plan_course::count_steps;
+use request_rounds::ask_rounds;
 use shared_rounds::Book;
 use source_trait::{Lane, Source};
 use std::alloc::Global;
@@ -50,18 +52,27 @@ pub fn all_rounds<R: Threads + Sync, S: Source + Send + Drop>(
     let Ok(members) = begin_all(alloc, plans) else {
         return Err(no_memory());
     };
-    let mut progress = Progress {
+    let start = Progress {
         members,
         book: Book::new(alloc),
         kept: Answers::new(alloc),
     };
-    for _ in 0..most {
-        progress = match next_round(rt, alloc, schema, plans, lanes, progress, cap) {
-            Ok(next) => next,
-            Err(fault) => return Err(fault),
-        };
+    let note = |progress: Progress|
+        requires { MayNote schema.now plans.now progress }
+        ensures { IfOk result (NotesRound schema.entry.now plans.entry.now progress) }
+    { note_round(alloc, schema, plans, progress) };
+    let ask = |noted: &Noted, lanes: &mut [Lane<S>]|
+        requires { MayAskNoted S.seen noted.now lanes.now }
+        ensures { AsksNoted S.seen noted.entry.now result lanes.entry.now lanes.exit.now }
+    { ask_noted(rt, alloc, noted, lanes) };
+    let take = |noted: Noted, answers: Answers|
+        requires { MayTake plans.now noted answers }
+        ensures { IfOk result (HasTaken plans.entry.now noted answers) }
+    { take_answers(alloc, plans, noted, &answers) };
+    match ask_rounds(most, cap, start, lanes, &note, &ask, &take) {
+        Ok(reached) => Ok(reached.progress),
+        Err(halt) => Err(fault_of(&halt, cap)),
     }
-    Ok(progress)
 }
 
 fn begin_all(alloc: Global, plans: &[Plan]) -> Result<Vec<Member>, NoMemory>
