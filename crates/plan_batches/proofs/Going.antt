@@ -1,11 +1,10 @@
 -- One round of a batch: what asking its requests and taking their answers need, and what they come to.
-use Rattle.std.proofs.Common.{◌≡◌, ℕ, ◌+◌, ◌-◌, ◌<◌, ◌≤◌, ◌^◌, List, ◌++◌, length, length-drop, drop, take, Some, refl, sym, ◌∙◌, ap, subst, arith}
+use Rattle.std.proofs.Common.{◌≡◌, ℕ, ◌+◌, ◌-◌, ◌<◌, ◌≤◌, ◌^◌, List, ◌++◌, length, length-drop, drop, take, Some, sym, ◌∙◌, ap, subst, arith}
 use Rattle.std.specs.Prelude.{Contains, Ok, slice_get}
 use Rattle.std.proofs.lemmas.List.{map-append, take_all}
 use Rattle.std.proofs.lemmas.Option.{slice_get_within}
 use Rattle.meaning.specs.declared.types.Plan.{Plan}
 use Rattle.meaning.specs.declared.types.Request.{Request}
-use Rattle.meaning.specs.Search.{AreDistinct}
 use Rattle.access_schema.specs.declared.schema.Schema.{Schema}
 use Rattle.lane_pool.specs.Work.{AllReady}
 use Rattle.source_trait.specs.Asking.{RowList, Seen}
@@ -29,7 +28,7 @@ use Rattle.plan_batches.specs.declared.round.Noted.{Noted}
 use Rattle.plan_batches.specs.declared.round.Progress.{Progress}
 use Rattle.plan_batches.proofs.Readying.{all_ready}
 use Rattle.plan_batches.proofs.Standing.{RoundGoes, all_named, kinds_behind, new_of_plans, was_next}
-use Rattle.plan_batches.proofs.Wanting.{below, distinct_asked, dropped, long_asked, wanted_number}
+use Rattle.plan_batches.proofs.Wanting.{below, distinct_asked, dropped, wanted_number}
 
 pub outputs_there : (schema : Schema) (plans : List Plan) → AreReadyPlans schema plans → (plan : Plan)
     → Contains plans plan → HaveOutputs plan

@@ -88,13 +88,3 @@ noted_all schema line rel positions list old new numbers line_is notes = record 
       (notes.kinds ask (contains_got new.asked.items k ask at));
   onward = notes.onward;
 }
-
--- nothing was noted
-pub noted_nothing : (schema : Schema) (book : Book) → IsBook book → (numbers : List ℕ) → numbers ≡ [] → HasNoted schema [] book book numbers
-noted_nothing schema book is numbers none = record {
-  is_book = is;
-  asked = sym (append-nil (asked_in book.asked.items));
-  are = ap (map (slice_get (asked_in book.asked.items))) none;
-  kinds = λ k. k;
-  onward = ([], sym (append-nil book.asked.items));
-}

@@ -58,6 +58,3 @@ module _ (asked : List Request) where
   pub numbers_both : (a b : List Request) (m n : List ℕ) → AreNumbers asked a m → AreNumbers asked b n → AreNumbers asked (a ++ b) (m ++ n)
   numbers_both a b m n first second =
       map-append (slice_get asked) m n ∙ (λ i. first i ++ second i) ∙ sym (map-append (λ (r : Request). Some r) a b)
-
-  pub numbers_none : AreNumbers asked [] []
-  numbers_none = refl

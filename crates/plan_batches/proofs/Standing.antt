@@ -39,8 +39,8 @@ use Rattle.plan_batches.proofs.Numbering.{numbers_long}
 use Rattle.plan_batches.proofs.Wanting.{distinct_asked, wanted_by, wanted_there}
 
 -- The next round was asked whole, and its answers were taken.
-pub record RoundGoes (schema : Schema) (plans : List Plan) {S : Type 0} (seen : S → Seen) (cap : ℕ) (old new : Progress) (before after : List (Lane S))
-    : Type 0 where
+pub record RoundGoes (schema : Schema) (plans : List Plan) {S : Type 0} (seen : S → Seen) (cap : ℕ) (old new : Progress)
+    (before after : List (Lane S)) : Type 0 where
   pub goings : List Going
   pub noted : TurnsNoted schema plans old.members.items old.book new.book goings
   pub within : length new.book.asked.items ≤ cap

@@ -1,5 +1,5 @@
 -- What asking the requests of a round does, and what becomes of the answers.
-use Rattle.std.specs.Prelude.{◌≡◌, ◌+◌, ◌<◌, ◌≤◌, ◌++◌, ℕ, List, Contains, IfErr, IfOk, OnOk, Result, drop, length}
+use Rattle.std.specs.Prelude.{◌≡◌, ◌+◌, ◌<◌, ◌≤◌, ◌++◌, List, Contains, IfErr, IfOk, OnOk, Result, drop, length}
 use Rattle.meaning.specs.declared.types.Plan.{Plan}
 use Rattle.access_schema.specs.declared.schema.Schema.{Schema}
 use Rattle.lane_pool.specs.Work.{AllReady}

@@ -118,7 +118,10 @@ pub fn take_answers(
     ensures { IfOk result (HasTaken plans.now noted answers.now) }
 {
     let Noted {
-        book, kept, goings, ..
+        book,
+        kept,
+        goings,
+        ..
     } = noted;
     let all = keep(alloc, kept, answers)?;
     let members = take_all(alloc, plans, goings, &all)?;

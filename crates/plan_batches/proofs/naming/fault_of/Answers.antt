@@ -10,7 +10,7 @@ use Rattle.plan_batches.proofs.naming.fault_of.Goals as goal
 pub call_failed-requires-clause-wanted : goal.call_failed-requires-clause-wanted
 call_failed-requires-clause-wanted c =
     let can = subst (λ (h : Halt Noted AskFault). CanNameHalt h)
-        (c.in-Refused.is ∙ ap (λ (w : AskFault). halt.Refused c.in-Refused.what w) c.in-CallFailed.is) c.requires in
+    (c.in-Refused.is ∙ ap (λ (w : AskFault). halt.Refused c.in-Refused.what w) c.in-CallFailed.is) c.requires in
     subst (λ (l : List Going). WantsNumber l (c.in-Refused.what.made + c.in-CallFailed.request))
     (sym c.as_slice.ensures.value) can.0.wanted
 

@@ -1,4 +1,4 @@
-use Rattle.std.proofs.Common.{◌≡◌, List, subst, sym, arith}
+use Rattle.std.proofs.Common.{List, subst}
 use Rattle.std.specs.Prelude.{IfErr, IfOk}
 use Rattle.access_schema.specs.declared.schema.Schema.{Schema}
 use Rattle.source_trait.specs.declared.work.Ask.{Ask}
@@ -9,7 +9,7 @@ use Rattle.plan_batches.proofs.round.ask_noted.Goals as goal
 pub returns : goal.returns
 returns g c =
     let is = rest_is c.args.noted.now.made c.args.noted.now.book.asked.items c.as_slice.result.now
-        c.as_slice.ensures.value in
+    c.as_slice.ensures.value in
     record {
       asks = subst (λ (l : List Ask). IfOk c.ask_round.result (λ answers. (schema : Schema) → HaveTheirKinds schema l
           → AsksEach g.S.Source.seen schema (requests_in l) c.args.lanes.now c.ask_round.new.lanes)) is

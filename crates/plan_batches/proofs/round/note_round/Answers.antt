@@ -1,5 +1,3 @@
-use Rattle.std.proofs.Common.{◌∙◌, arith}
-use Rattle.plan_batches.proofs.Wanting.{long_asked}
 use Rattle.plan_batches.proofs.round.note_round.Goals as goal
 
 pub turns-requires-clause-is_book : goal.turns-requires-clause-is_book
