@@ -3,6 +3,7 @@ use Rattle.std.proofs.Common.{◌≡◌, ◌↔◌, inl, inr, ⊎_elim, ℕ, zer
 use Rattle.std.specs.Prelude.{Contains, Result, Ok, Err, slice_get}
 use denote.Ref.{Bor, MutBor}
 use Rattle.std.proofs.lemmas.List.{append-nil}
+use Rattle.std.proofs.lemmas.List.Elements.{Contains-append_cases}
 use Rattle.lists.proofs.Members.{contains_got, contains_none, got_below, some_injective}
 use Rattle.meaning.specs.declared.types.Fact.{Fact}
 use Rattle.meaning.specs.declared.types.Step.{Step}
@@ -10,7 +11,7 @@ use Rattle.meaning.specs.declared.types.Branch.{Branch}
 use Rattle.meaning.specs.declared.types.Plan.{Plan}
 use Rattle.meaning.specs.declared.types.Request.{Request}
 use Rattle.meaning.specs.declared.types.SchemaParts.{SchemaParts}
-use Rattle.meaning.specs.Plans.{IsMethod}
+use Rattle.meaning.specs.Plans.{IsMethod, IsWellFormed}
 use Rattle.meaning.specs.Rows.{IsRow}
 use Rattle.meaning.specs.Requests.{AreRequests}
 use Rattle.access_schema.specs.declared.schema.Schema.{Schema}
@@ -31,13 +32,12 @@ use Rattle.middleware.proofs.LaneShares.{AsksEach-refl, AsksEach-trans, AsksSome
 use Rattle.middleware.proofs.PlanHeld.{plan_held_later}
 use Rattle.middleware.proofs.LaneBranching.{askable_steps, each_asked}
 use Rattle.middleware.proofs.Laning.{wanted_length}
-use Rattle.middleware.proofs.Steps.{in_append}
 use Rattle.request_rounds.specs.Rounds.{AsksSo, Halts, Stops, Went}
 use Rattle.request_rounds.specs.Rounds.Stops.{over as past_limit, refused, untaken, unturned}
 use Rattle.request_rounds.specs.declared.rounds.Turned.{Turned}
 use Rattle.request_rounds.specs.declared.rounds.Reached.{Reached}
 use Rattle.request_rounds.specs.declared.rounds.Halt.{Halt}
-use Rattle.request_rounds.proofs.Going.{went_long}
+use Rattle.request_rounds.proofs.Going.{asked_so, went_long}
 use Rattle.shared_rounds.specs.SharedRounds.{Anew, AreRounds, Turn, turns_of}
 use Rattle.shared_rounds.proofs.Counting.{is_nth}
 use Rattle.shared_rounds.proofs.Turning.{alone}
@@ -46,7 +46,7 @@ use Rattle.plan_course.specs.Turns.{AreOfTurn}
 use Rattle.plan_course.specs.declared.course.Course.{Course}
 use Rattle.plan_course.specs.declared.turns.Pending.{Pending}
 use Rattle.plan_course.proofs.Standing.{IsAtStep, at_step}
-use Rattle.plan_execution.specs.PlanRounds.{AreOfPlan, IsRoundAt, LanesDone, PlanCause, PlanHalts}
+use Rattle.plan_execution.specs.PlanRounds.{AreOfPlan, AreRoundsBefore, IsRoundAt, LanesDone, PlanCause, PlanHalts}
 use Rattle.plan_execution.specs.Rounding.{CanName, HasCome, MayAsk, Takes, Turns, asks_in, fault_of}
 use Rattle.plan_execution.proofs.Asking.{asks_long, may_ask, numbers_fit, relation_held}
 use Rattle.plan_execution.proofs.Before.{at_round, before_end, before_start, before_turn, rest_asked, rest_unasked}
@@ -71,7 +71,8 @@ of_turns schema plan n (Some turn) e list each request c =
 of_both : (schema : SchemaParts) (plan : Plan) (first second : List Request) → AreOfPlan schema plan first
     → AreOfPlan schema plan second
     → AreOfPlan schema plan (first ++ second)
-of_both schema plan first second a b request c = ⊎_elim (a request) (b request) (in_append first second request c)
+of_both schema plan first second a b request c =
+    ⊎_elim (a request) (b request) (Contains-append_cases first second request c)
 
 of_neither : (schema : SchemaParts) (plan : Plan) → AreOfPlan schema plan []
 of_neither schema plan request c = absurd (contains_none request c)
@@ -246,28 +247,27 @@ module _ {S : Type 0} (seen : S → Seen) (schema : Schema) (plan : Plan)
       }
 
     -- in which nothing was asked
-    halts_unasked : n < length (turns_of plan) → PlanHalts seen schema plan cap fault.NoMemory old before
-    halts_unasked less =
+    halts_unasked : n ≤ length (turns_of plan) → (branch step : ℕ)
+        → ((instance : List Fact) → LanesHoldPlan seen schema plan old instance
+        → AreRoundsBefore parts plan instance branch step come.list)
+        → PlanHalts seen schema plan cap fault.NoMemory old before
+    halts_unasked within branch step are = record {
+      middle = before;
+      earlier = come.list;
+      now = [];
+      asks_earlier = come.asks;
+      asks_now = AsksSome-none seen schema [] before;
+      of_plan = of_both parts plan come.list [] come.of_plan (of_neither parts plan);
+      part = λ instance holds. rest_unasked parts instance plan (well_formed schema) ready n come.list within
+          (come.are instance holds);
+      cause = record { branch = branch; step = step; rounds = λ instance holds. inr (refl, are instance holds) };
+    }
+
+    halts_before : n < length (turns_of plan) → PlanHalts seen schema plan cap fault.NoMemory old before
+    halts_before less =
         let (turn, at) = got_below (turns_of plan) n less in
-        record {
-          middle = before;
-          earlier = come.list;
-          now = [];
-          asks_earlier = come.asks;
-          asks_now = AsksSome-none seen schema [] before;
-          of_plan = of_both parts plan come.list [] come.of_plan (of_neither parts plan);
-          part = λ instance holds. rest_unasked parts instance plan (well_formed schema) ready n come.list
-              (omega (arith, less)) (come.are instance holds);
-          cause = record {
-            branch = turn.branch;
-            step = turn.step;
-            rounds = λ instance holds. inr (
-              refl,
-              before_turn parts instance plan n turn at come.list
-                  (come.are instance holds),
-            );
-          };
-        }
+        halts_unasked (omega (arith, less)) turn.branch turn.step
+        (λ instance holds. before_turn parts instance plan n turn at come.list (come.are instance holds))
 
     -- ---- behind the last round
 
@@ -292,21 +292,8 @@ module _ {S : Type 0} (seen : S → Seen) (schema : Schema) (plan : Plan)
 
       -- no memory for the rows
       pub halts_full : PlanHalts seen schema plan cap fault.NoMemory old before
-      halts_full = record {
-        middle = before;
-        earlier = come.list;
-        now = [];
-        asks_earlier = come.asks;
-        asks_now = AsksSome-none seen schema [] before;
-        of_plan = of_both parts plan come.list [] come.of_plan (of_neither parts plan);
-        part = λ instance holds. rest_unasked parts instance plan (well_formed schema) ready n come.list
-            (omega (arith, last)) (come.are instance holds);
-        cause = record {
-          branch = length plan.branches;
-          step = 0;
-          rounds = λ instance holds. inr (refl, before_end parts instance plan come.list (requests_are instance holds));
-        };
-      }
+      halts_full = halts_unasked (omega (arith, last)) (length plan.branches) 0
+          (λ instance holds. before_end parts instance plan come.list (requests_are instance holds))
 
   -- ---- round by round
 
@@ -315,22 +302,31 @@ module _ {S : Type 0} (seen : S → Seen) (schema : Schema) (plan : Plan)
       (take : Pending → List RowList → Result Course N → Type 0)
       (turns : (course : Course) (turned : Turned Pending) → turn course (Ok turned)
       → Turns schema plan course turned)
-      (asked : (pending : Pending) (before : List (Lane S)) (result : Result (List RowList) CallFault)
-      (after : List (Lane S)) → AsksSo ask pending before result after
-      → AsksWanted seen schema pending.method pending.wanted.requests result before after)
+      (asks : (shown : Bor Pending) (lent : MutBor (List (Lane S))) (result : Result (List RowList) CallFault)
+      (left : MutBor (List (Lane S))) → ask shown lent result left
+      → AsksWanted seen schema shown.now.method shown.now.wanted.requests result lent.now left.now)
       (takes : (pending : Pending) (answers : List RowList) (next : Course) → take pending answers (Ok next)
       → Takes plan pending answers next)
-      (course : Course) (at : IsAt plan 0 course) (knows : (instance : List Fact) → Knows parts instance plan course)
+      (course : Course) (at : IsAt plan 0 course) (knows : (its : SchemaParts) (instance : List Fact)
+      → IsWellFormed its → AreReadyBranches its plan → Knows its instance plan course)
     where
       abbrev start : Reached Course
       start = record { progress = course; made = 0 }
+
+      asked : (pending : Pending) (before : List (Lane S)) (result : Result (List RowList) CallFault)
+          (after : List (Lane S)) → AsksSo ask pending before result after
+          → AsksWanted seen schema pending.method pending.wanted.requests result before after
+      asked = asked_so ask
+          (λ pending before result after.
+          AsksWanted seen schema pending.method pending.wanted.requests result before after)
+          asks
 
       pub come_all : (n : ℕ) (reached : Reached Course) (new : List (Lane S))
           → Went turn ask take cap n start old reached new → HasCome schema plan seen cap n reached old new
       come_all zero reached new (is, same) =
           subst (λ (l : List (Lane S)). HasCome schema plan seen cap 0 reached old l) (sym same)
           (subst (λ (r : Reached Course). HasCome schema plan seen cap 0 r old old) (sym is)
-          (come_none course at knows))
+          (come_none course at (λ instance. knows parts instance (well_formed schema) ready)))
       come_all (suc n) reached new (r, middle, went, goes) =
           let one : n + 1 ≡ suc n = omega arith in
           subst (λ m. HasCome schema plan seen cap m reached old new) one
@@ -400,7 +396,7 @@ module _ {S : Type 0} (seen : S → Seen) (schema : Schema) (plan : Plan)
 
             go : (w : Halt Pending CallFault) (l : List (Lane S)) → Stops turn ask take cap halts.reached before w l
                 → PlanHalts seen schema plan cap (fault_of cap w) old l
-            go w l unturned = halts_unasked halts.n halts.reached before come less
+            go w l unturned = halts_before halts.n halts.reached before come less
             go w l (past_limit turned wanted t past wanted_is) =
                 let is = turns halts.reached.progress turned t in
                 halts_for halts.n halts.reached before come turned is

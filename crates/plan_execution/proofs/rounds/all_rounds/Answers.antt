@@ -1,8 +1,4 @@
 use Rattle.std.proofs.Common.{rules, sym, subst, arith}
-use Rattle.access_schema.specs.Meaning.{meaning_of}
-use Rattle.access_schema.proofs.Keeping.{well_formed}
-use Rattle.middleware.specs.LaneAsking.{AsksWanted}
-use Rattle.request_rounds.proofs.Going.{asked_so}
 use Rattle.plan_execution.specs.PlanRounds.{PlanHalts}
 use Rattle.plan_execution.specs.Rounding.{MayAsk}
 use Rattle.plan_execution.proofs.Coming.{can_name, come_all, going_on, halts_in, halts_unbegun, may_ask_next}
@@ -23,12 +19,8 @@ ask_rounds-requires g c = record {
       (
         n,
         (come_all g.S.Source.seen c.args.schema.now c.args.plan.now c.requires.ready.0 c.args.cap c.args.lanes.now _ _ _
-            (λ course turned h. h)
-            (asked_so _ (λ p b r a. AsksWanted g.S.Source.seen c.args.schema.now p.method p.wanted.requests r b a)
-            (λ shown lent result left h. h))
-            (λ pending answers next h. h) c.in-Ok.course c.in-Ok.ensures.at
-            (λ instance. c.in-Ok.ensures.knows (meaning_of c.args.schema.now) instance
-            (well_formed c.args.schema.now) c.requires.ready.0)
+            (λ course turned h. h) (λ shown lent result left h. h) (λ pending answers next h. h)
+            c.in-Ok.course c.in-Ok.ensures.at c.in-Ok.ensures.knows
             n reached middle went).at,
         let fits = c.requires.steps in omega (arith, fits, less),
       ),
@@ -37,12 +29,8 @@ ask_rounds-requires g c = record {
       subst (λ p. MayAsk c.args.schema.now g.S.Source.seen p lent.now) (sym shown_is)
           (subst (λ l. MayAsk c.args.schema.now g.S.Source.seen turned.what l) (sym lent_is)
           (may_ask_next g.S.Source.seen c.args.schema.now c.args.plan.now c.requires.ready.0 c.args.cap c.args.lanes.now
-          _ _ _ (λ course turned h. h)
-          (asked_so _ (λ p b r a. AsksWanted g.S.Source.seen c.args.schema.now p.method p.wanted.requests r b a)
-          (λ shown lent result left h. h))
-          (λ pending answers next h. h) c.in-Ok.course c.in-Ok.ensures.at
-          (λ instance. c.in-Ok.ensures.knows (meaning_of c.args.schema.now) instance
-          (well_formed c.args.schema.now) c.requires.ready.0)
+          _ _ _ (λ course turned h. h) (λ shown lent result left h. h) (λ pending answers next h. h)
+          c.in-Ok.course c.in-Ok.ensures.at c.in-Ok.ensures.knows
           c.requires.lanes.1 (c.requires.lanes.0 (omega (arith, less))) c.requires.cap
           (c.requires.going (omega (arith, less))) c.requires.askable
           n reached middle went turned wants.0 wants.1)),
@@ -58,34 +46,22 @@ ask_rounds-requires g c = record {
 pub fault_of-requires : goal.fault_of-requires
 fault_of-requires g c =
     can_name g.S.Source.seen c.args.schema.now c.args.plan.now c.requires.ready.0 c.args.cap c.args.lanes.now _ _ _
-    (λ course turned h. h)
-    (asked_so _ (λ p b r a. AsksWanted g.S.Source.seen c.args.schema.now p.method p.wanted.requests r b a)
-    (λ shown lent result left h. h))
-    (λ pending answers next h. h) c.in-Ok.course c.in-Ok.ensures.at
-    (λ instance. c.in-Ok.ensures.knows (meaning_of c.args.schema.now) instance
-    (well_formed c.args.schema.now) c.requires.ready.0)
+    (λ course turned h. h) (λ shown lent result left h. h) (λ pending answers next h. h)
+    c.in-Ok.course c.in-Ok.ensures.at c.in-Ok.ensures.knows
     c.args.steps c.requires.steps c.in-Err.halt c.ask_rounds.new.lanes c.in-Err.ensures.halts c.requires.ready.1
 
 pub returns-in-Ok-ask_rounds-clause-come : goal.returns-in-Ok-ask_rounds-clause-come
 returns-in-Ok-ask_rounds-clause-come g c =
     come_all g.S.Source.seen c.args.schema.now c.args.plan.now c.requires.ready.0 c.args.cap c.args.lanes.now _ _ _
-    (λ course turned h. h)
-    (asked_so _ (λ p b r a. AsksWanted g.S.Source.seen c.args.schema.now p.method p.wanted.requests r b a)
-    (λ shown lent result left h. h))
-    (λ pending answers next h. h) c.in-Ok.course c.in-Ok.ensures.at
-    (λ instance. c.in-Ok.ensures.knows (meaning_of c.args.schema.now) instance
-    (well_formed c.args.schema.now) c.requires.ready.0)
+    (λ course turned h. h) (λ shown lent result left h. h) (λ pending answers next h. h)
+    c.in-Ok.course c.in-Ok.ensures.at c.in-Ok.ensures.knows
     c.args.steps c.in-Ok-ask_rounds.reached c.ask_rounds.new.lanes c.in-Ok-ask_rounds.ensures.went
 
 pub returns-in-Ok-ask_rounds-clause-going : goal.returns-in-Ok-ask_rounds-clause-going
 returns-in-Ok-ask_rounds-clause-going g c = λ some.
     going_on g.S.Source.seen c.args.schema.now c.args.plan.now c.requires.ready.0 c.args.cap c.args.lanes.now _ _ _
-    (λ course turned h. h)
-    (asked_so _ (λ p b r a. AsksWanted g.S.Source.seen c.args.schema.now p.method p.wanted.requests r b a)
-    (λ shown lent result left h. h))
-    (λ pending answers next h. h) c.in-Ok.course c.in-Ok.ensures.at
-    (λ instance. c.in-Ok.ensures.knows (meaning_of c.args.schema.now) instance
-    (well_formed c.args.schema.now) c.requires.ready.0)
+    (λ course turned h. h) (λ shown lent result left h. h) (λ pending answers next h. h)
+    c.in-Ok.course c.in-Ok.ensures.at c.in-Ok.ensures.knows
     c.args.steps c.in-Ok-ask_rounds.reached c.ask_rounds.new.lanes c.in-Ok-ask_rounds.ensures.went
     (c.requires.going some)
 
@@ -94,11 +70,7 @@ returns-in-Err-clause-stops g c =
     subst (λ why. PlanHalts g.S.Source.seen c.args.schema.now c.args.plan.now c.args.cap why
     c.args.lanes.now c.ask_rounds.new.lanes) (sym c.fault_of.ensures)
     (halts_in g.S.Source.seen c.args.schema.now c.args.plan.now c.requires.ready.0 c.args.cap c.args.lanes.now _ _ _
-    (λ course turned h. h)
-    (asked_so _ (λ p b r a. AsksWanted g.S.Source.seen c.args.schema.now p.method p.wanted.requests r b a)
-    (λ shown lent result left h. h))
-    (λ pending answers next h. h) c.in-Ok.course c.in-Ok.ensures.at
-    (λ instance. c.in-Ok.ensures.knows (meaning_of c.args.schema.now) instance
-    (well_formed c.args.schema.now) c.requires.ready.0)
+    (λ course turned h. h) (λ shown lent result left h. h) (λ pending answers next h. h)
+    c.in-Ok.course c.in-Ok.ensures.at c.in-Ok.ensures.knows
     c.args.steps c.requires.steps c.in-Err.halt c.ask_rounds.new.lanes c.in-Err.ensures.halts
     c.requires.cap c.requires.going)
