@@ -1,6 +1,7 @@
 -- Instances with the same facts of the relations that the rules name break the same rules.
 use Rattle.std.proofs.Common.{ℕ, List, map, Option, None, Some, refl}
 use Rattle.std.specs.Prelude.{Contains, IfSome}
+use Rattle.std.proofs.lemmas.List.Elements.{Contains-append_left, Contains-append_right}
 use Rattle.lists.proofs.Members.{contains_got}
 use Rattle.meaning.specs.declared.types.Atom.{Atom}
 use Rattle.meaning.specs.declared.types.Rule.{Rule}
@@ -14,7 +15,6 @@ use Rattle.data_verify.specs.declared.broken.Broken.{Broken}
 use Rattle.data_verify.specs.Breaking.{Breaks, AreLeastBreaking, IsFirstBroken}
 use Rattle.rule_rows.specs.RuleRelations.{RulesName}
 use Rattle.rule_rows.specs.Verifying.{IsVerified}
-use Rattle.middleware.proofs.Steps.{append_first, append_second}
 
 -- the same facts of each relation that some rule names
 abbrev pub Agree : Schema → List Fact → List Fact → Type 0
@@ -25,10 +25,10 @@ turned schema one other same rel named row = ((same rel named row).1, (same rel 
 
 module _ (schema : Schema) (rule : Rule) (among : Contains schema.rules rule) where
   of_body : (atom : Atom) → Contains rule.body atom → RulesName schema atom.rel
-  of_body atom c = record { rule = rule; atom = atom; of_schema = among; of_rule = append_first rule.body rule.head atom c; of_relation = refl }
+  of_body atom c = record { rule = rule; atom = atom; of_schema = among; of_rule = Contains-append_left rule.body rule.head atom c; of_relation = refl }
 
   of_head : (atom : Atom) → Contains rule.head atom → RulesName schema atom.rel
-  of_head atom c = record { rule = rule; atom = atom; of_schema = among; of_rule = append_second rule.body rule.head atom c; of_relation = refl }
+  of_head atom c = record { rule = rule; atom = atom; of_schema = among; of_rule = Contains-append_right rule.body rule.head atom c; of_relation = refl }
 
   module _ (one other : List Fact) (same : Agree schema one other) where
     body_there : (a : ℕ → Value) → AreFacts itself (FactsOf one) a rule.body → AreFacts itself (FactsOf other) a rule.body

@@ -1,6 +1,7 @@
 -- The facts that were asked for are those that the sources hold.
 use Rattle.std.proofs.Common.{◌≡◌, ◌⊎◌, inl, inr, ℕ, List, [], ◌∷◌, Option, None, Some, refl, sym, ◌∙◌, ap, subst, arith}
 use Rattle.std.specs.Prelude.{Contains, IfSome, IsSome, IsSomeAnd, Ok}
+use Rattle.std.proofs.lemmas.List.Elements.{Contains-append_cases, Contains-append_left, Contains-append_right}
 use Rattle.lists.proofs.Members.{some_injective, contains_here, contains_there, contains_cases, contains_map}
 use Rattle.meaning.specs.declared.types.Fact.{Fact}
 use Rattle.access_schema.specs.declared.schema.Schema.{Schema}
@@ -13,7 +14,6 @@ use Rattle.middleware.specs.PlanSources.{line_for}
 use Rattle.middleware.specs.Held.{SameFacts, HoldsRelation}
 use Rattle.rule_rows.specs.Asking.{IsReady, AsksOne, AsksInOrder}
 use Rattle.middleware.proofs.Lacking.{above}
-use Rattle.middleware.proofs.Steps.{in_append, append_first, append_second}
 use Rattle.rule_rows.proofs.Asking.{one_keeps}
 use Rattle.rule_rows.proofs.Picked.{fact_of, picked_held, held_picked, of_rows, not_other}
 
@@ -40,7 +40,7 @@ module _ {S : Type 0} (seen : S → Seen) (schema : Schema) where
   apart_from : (rels : List ℕ) (facts : List Fact) (old new : List (Kind S)) → AsksInOrder seen schema rels facts old new → (rel : ℕ) → (Contains rels rel → ⊥) → (row : List (List ℕ)) → Contains facts (fact_of rel row) → ⊥
   apart_from [] facts old new (none, e) rel apart row c = let h = subst (λ (l : List Fact). Contains l (fact_of rel row)) none c in omega (arith, h)
   apart_from (r ∷ rels) facts old new (rows, rest, mid, e, one, later) rel apart row c =
-      elim (in_append (facts_of r rows) rest (fact_of rel row) (subst (λ (l : List Fact). Contains l (fact_of rel row)) e c)) [
+      elim (Contains-append_cases (facts_of r rows) rest (fact_of rel row) (subst (λ (l : List Fact). Contains l (fact_of rel row)) e c)) [
         | inl first ↦ apart (subst (λ n. Contains (r ∷ rels) n) (not_other rel row r rows first) (contains_here r rels))
         | inr second ↦ apart_from rels rest mid new later rel (λ d. apart (contains_there r rels rel d)) row second
       ]
@@ -55,7 +55,7 @@ module _ {S : Type 0} (seen : S → Seen) (schema : Schema) where
   ]
     where
       to : (row : List (List ℕ)) → Contains facts (fact_of rel row) → Contains (facts_of r rows) (fact_of rel row) ⊎ Contains rest (fact_of rel row)
-      to row d = in_append (facts_of r rows) rest (fact_of rel row) (subst (λ (l : List Fact). Contains l (fact_of rel row)) e d)
+      to row d = Contains-append_cases (facts_of r rows) rest (fact_of rel row) (subst (λ (l : List Fact). Contains l (fact_of rel row)) e d)
 
       first : r ≡ rel → SameFacts rel facts held
       first here row =
@@ -68,7 +68,7 @@ module _ {S : Type 0} (seen : S → Seen) (schema : Schema) where
               | inl m ↦ picked_held rel row held (subst (λ (l : RowList). Contains l row) own (of_rows rel row rows (mine m)))
               | inr n ↦ absurd (apart_from rels rest mid new later rel not_later row n)
             ]),
-            (λ d. subst (λ (l : List Fact). Contains l (fact_of rel row)) (sym e) (append_first (facts_of r rows) rest (fact_of rel row)
+            (λ d. subst (λ (l : List Fact). Contains l (fact_of rel row)) (sym e) (Contains-append_left (facts_of r rows) rest (fact_of rel row)
                 (subst (λ n. Contains (facts_of n rows) (fact_of rel row)) (sym here) (contains_map (fact_of rel) rows row (subst (λ (l : RowList). Contains l row) (sym own) (held_picked rel row held d)))))),
           )
 
@@ -78,7 +78,7 @@ module _ {S : Type 0} (seen : S → Seen) (schema : Schema) where
           | inl m ↦ let clash = not_other rel row r rows m in let later = above r rels rel up.0 there in absurd (omega (arith, clash, later))
           | inr n ↦ (same row).0 n
         ]),
-        (λ d. subst (λ (l : List Fact). Contains l (fact_of rel row)) (sym e) (append_second (facts_of r rows) rest (fact_of rel row) ((same row).1 d))),
+        (λ d. subst (λ (l : List Fact). Contains l (fact_of rel row)) (sym e) (Contains-append_right (facts_of r rows) rest (fact_of rel row) ((same row).1 d))),
       )
 
   -- where a source holds just the facts of an instance afterwards, they are those that were asked for

@@ -2,11 +2,11 @@
 use Rattle.std.proofs.Common.{◌≡◌, ◌⊎◌, ◌↔◌, inl, inr, ◌+◌, ◌≤◌, ◌<◌, ℕ, List, [], ◌∷◌, ◌++◌, length, take, get_or, sym, ◌∙◌, ap, subst, append_assoc}
 use Rattle.std.specs.Prelude.{Contains, flat_map}
 use Rattle.std.proofs.lemmas.List.{append-nil, take_more, take_all}
+use Rattle.std.proofs.lemmas.List.Elements.{Contains-append_cases, Contains-append_left, Contains-append_right}
 use Rattle.lists.proofs.Members.{contains_map, contains_mapped, contains_joined, joined_from}
 use Rattle.meaning.specs.declared.types.Atom.{Atom}
 use Rattle.meaning.specs.declared.types.Rule.{Rule}
 use Rattle.access_schema.specs.declared.schema.Schema.{Schema}
-use Rattle.middleware.proofs.Steps.{append_first, append_second, in_append}
 use Rattle.rule_rows.specs.RuleRelations.{RulesName}
 use Rattle.rule_rows.specs.Listing.{relations_of, relations_in}
 
@@ -34,19 +34,19 @@ module _ (schema : Schema) (rel : ℕ) where
   listed_named : Contains (relations_in schema.rules) rel → RulesName schema rel
   listed_named c =
       let (rule, among, inside) = joined_from of_rule schema.rules rel c in
-      elim (in_append (relations_of rule.body) (relations_of rule.head) rel inside) [
+      elim (Contains-append_cases (relations_of rule.body) (relations_of rule.head) rel inside) [
         | inl first ↦
             let (atom, there, e) = contains_mapped (λ (a : Atom). a.rel) rule.body rel first in
-            record { rule = rule; atom = atom; of_schema = among; of_rule = append_first rule.body rule.head atom there; of_relation = e }
+            record { rule = rule; atom = atom; of_schema = among; of_rule = Contains-append_left rule.body rule.head atom there; of_relation = e }
         | inr second ↦
             let (atom, there, e) = contains_mapped (λ (a : Atom). a.rel) rule.head rel second in
-            record { rule = rule; atom = atom; of_schema = among; of_rule = append_second rule.body rule.head atom there; of_relation = e }
+            record { rule = rule; atom = atom; of_schema = among; of_rule = Contains-append_right rule.body rule.head atom there; of_relation = e }
       ]
 
   named_listed : RulesName schema rel → Contains (relations_in schema.rules) rel
-  named_listed n = subst (λ r. Contains (relations_in schema.rules) r) n.of_relation (contains_joined of_rule schema.rules n.rule n.atom.rel n.of_schema (elim (in_append n.rule.body n.rule.head n.atom n.of_rule) [
-    | inl first ↦ append_first (relations_of n.rule.body) (relations_of n.rule.head) n.atom.rel (contains_map (λ (a : Atom). a.rel) n.rule.body n.atom first)
-    | inr second ↦ append_second (relations_of n.rule.body) (relations_of n.rule.head) n.atom.rel (contains_map (λ (a : Atom). a.rel) n.rule.head n.atom second)
+  named_listed n = subst (λ r. Contains (relations_in schema.rules) r) n.of_relation (contains_joined of_rule schema.rules n.rule n.atom.rel n.of_schema (elim (Contains-append_cases n.rule.body n.rule.head n.atom n.of_rule) [
+    | inl first ↦ Contains-append_left (relations_of n.rule.body) (relations_of n.rule.head) n.atom.rel (contains_map (λ (a : Atom). a.rel) n.rule.body n.atom first)
+    | inr second ↦ Contains-append_right (relations_of n.rule.body) (relations_of n.rule.head) n.atom.rel (contains_map (λ (a : Atom). a.rel) n.rule.head n.atom second)
   ]))
 
   -- a list with the members of the whole list has the relations that some rule names
@@ -64,12 +64,12 @@ module _ (schema : Schema) (rel : ℕ) where
   pub with_others : (own added whole last : List ℕ) → (Contains own rel ↔ RulesName schema rel) → whole ≡ own ++ added
       → (Contains last rel → Contains whole rel) → (Contains whole rel → Contains last rel) → Contains last rel ↔ (Contains added rel ⊎ RulesName schema rel)
   with_others own added whole last exactly is to from = (
-    (λ c. elim (in_append own added rel (subst (λ (l : List ℕ). Contains l rel) is (to c))) [
+    (λ c. elim (Contains-append_cases own added rel (subst (λ (l : List ℕ). Contains l rel) is (to c))) [
       | inl named ↦ inr (exactly.0 named)
       | inr other ↦ inl other
     ]),
     (λ n. from (subst (λ (l : List ℕ). Contains l rel) (sym is) (elim n [
-      | inl other ↦ append_second own added rel other
-      | inr named ↦ append_first own added rel (exactly.1 named)
+      | inl other ↦ Contains-append_right own added rel other
+      | inr named ↦ Contains-append_left own added rel (exactly.1 named)
     ]))),
   )
