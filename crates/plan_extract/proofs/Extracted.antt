@@ -11,13 +11,14 @@ use Rattle.lists.proofs.Places.{got_indexed}
 use Rattle.meaning.specs.declared.types.SchemaParts.{SchemaParts}
 use Rattle.meaning.specs.declared.types.Query.{Query}
 use Rattle.meaning.specs.declared.types.Branch.{Branch}
+use Rattle.meaning.specs.declared.types.Atom.{Atom}
 use Rattle.meaning.specs.declared.types.Ground.{Ground}
 use Rattle.meaning.specs.declared.types.Trigger.{Trigger}
 use Rattle.meaning.specs.declared.types.Firing.{Firing}
 use Rattle.meaning.specs.declared.types.Val.{Val}
 use Rattle.meaning.specs.declared.types.Val.TheVariants.{Const, Label}
 use Rattle.meaning.specs.Values.{Value}
-use Rattle.meaning.specs.Matching.{value_of, IsQueryAnswer, GroundsOf}
+use Rattle.meaning.specs.Matching.{value_of, AreFacts, IsQueryAnswer, GroundsOf}
 use Rattle.meaning.specs.Triggers.{State, IsFiringRun, ground}
 use Rattle.meaning.specs.Runs.{base_state, copy_state, IsRun, opening, opening_state, frozen_head}
 use Rattle.meaning.specs.Naming.{AreNamed}
@@ -262,6 +263,19 @@ pub indexed : {X : Type 0} (xs ys : List X) (n : ℕ) (x y : X) → ys ≡ xs �
 indexed xs ys n x y same got is =
     let low = slice_get_within xs n x got in
     some_injective y x (sym (got_indexed xs n y low (subst (λ zs. y ≡ get_or zs n y) same is)) ∙ got)
+
+-- the facts of a match, as its atoms are read at its values
+pub atoms_are : (queries asked : List Query) (number : ℕ) (goal query : Query) (vals values : List Val) (atoms : List Atom) (facts : List Ground) → asked ≡ queries → slice_get queries number ≡ Some goal → query ≡ get_or asked number query →
+    values ≡ vals → atoms ≡ query.atoms → facts ≡ map (ground (at values)) atoms → facts ≡ map (ground (at vals)) goal.atoms
+atoms_are queries asked number goal query vals values atoms facts same got is values_are are made =
+    made ∙ ap (λ (list : List Val). map (ground (at list)) atoms) values_are
+    ∙ ap (map (ground (at vals))) (are ∙ ap (λ (q : Query). q.atoms) (indexed queries asked number goal query same got is))
+
+-- they are among the facts that are matched
+pub match_there : (facts made : List Ground) (goal : Query) (vals : List Val) → AreFacts Const (GroundsOf facts) (at vals) goal.atoms → made ≡ map (ground (at vals)) goal.atoms → (fact : Ground) → Contains made fact → Contains facts fact
+match_there facts made goal vals are is fact among =
+    let (atom, within, same) = contains_mapped (ground (at vals)) goal.atoms fact (subst (λ (list : List Ground). Contains list fact) is among) in
+    subst (Contains facts) same (are atom within)
 
 pub few_kept : (schema : SchemaParts) (proof : Proving) → IsProofOf schema proof → (lent : List Exposure) → AllZip (IsShown schema) proof.exposed lent → (marks : List Bool) → length (picked lent marks) ≤ length proof.entries
 few_kept schema proof is lent shown marks =

@@ -1,30 +1,24 @@
-use Rattle.std.proofs.Common.{◌≡◌, ◌∙◌, ◌≤◌, List, Some, length, map, sym, ap, subst}
-use Rattle.std.specs.Prelude.{Contains, IfOk, IsPermutation, slice_get}
+use Rattle.std.proofs.Common.{◌≡◌, ◌≤◌, List, Some, length, map, sym, subst}
+use Rattle.std.specs.Prelude.{IfOk, IsPermutation, slice_get}
 use Rattle.std.proofs.lemmas.Result.{IfOk-weaker}
-use Rattle.lists.proofs.Members.{contains_mapped}
 use Rattle.meaning.specs.declared.types.Query.{Query}
 use Rattle.meaning.specs.declared.types.Branch.{Branch}
 use Rattle.meaning.specs.declared.types.Ground.{Ground}
-use Rattle.meaning.specs.declared.types.Val.{Val}
 use Rattle.meaning.specs.Triggers.{ground}
 use Rattle.homomorphism.specs.Bindings.{at}
 use Rattle.access_schema.specs.Meaning.{meaning_of}
 use Rattle.plan_extract.specs.Branches.{IsBranchFor, IsProofFor}
 use Rattle.plan_extract.specs.Arranged.{IsArrangedBranch}
 use Rattle.plan_extract.specs.Passes.{IsReadArranged}
-use Rattle.plan_extract.proofs.Extracted.{indexed, few_steps, extracted_arranged, arranged_at}
+use Rattle.plan_extract.proofs.Extracted.{atoms_are, match_there, few_steps, extracted_arranged, arranged_at}
 use Rattle.plan_extract.proofs.extracting.extract_arranged.Goals as goal
 
 pub read_arranged-requires-clause-there : goal.read_arranged-requires-clause-there
-read_arranged-requires-clause-there c fact among =
-    let vals = c.args.found.now.assignment.vals in
+read_arranged-requires-clause-there c =
     let (goal, got, match) = c.requires.found in
-    let query_is : c.index-as_slice-found.result ≡ goal = indexed c.args.queries.now c.as_slice.result.now c.args.found.now.select goal c.index-as_slice-found.result c.as_slice.ensures got c.index-as_slice-found.is in
-    let atoms_is : c.in_ok-atoms.atoms.items ≡ map (ground (at vals)) goal.atoms =
-    c.in_ok-atoms.ensures ∙ ap (λ (list : List Val). map (ground (at list)) c.as_slice-2.result.now) c.as_slice-values.ensures
-    ∙ ap (map (ground (at vals))) (c.as_slice-2.ensures ∙ ap (λ (q : Query). q.atoms) query_is) in
-    let (atom, within, same) = contains_mapped (ground (at vals)) goal.atoms fact (subst (λ (atoms : List Ground). Contains atoms fact) atoms_is among) in
-    subst (Contains c.args.proof.now.end.copy) same (match.facts_are atom within)
+    match_there c.args.proof.now.end.copy c.in_ok-atoms.atoms.items goal c.args.found.now.assignment.vals match.facts_are
+    (atoms_are c.args.queries.now c.as_slice.result.now c.args.found.now.select goal c.index-as_slice-found.result c.args.found.now.assignment.vals c.as_slice-values.result.now c.as_slice-2.result.now c.in_ok-atoms.atoms.items
+    c.as_slice.ensures got c.index-as_slice-found.is c.as_slice-values.ensures c.as_slice-2.ensures c.in_ok-atoms.ensures)
 
 pub returns : goal.returns
 returns c =
@@ -36,10 +30,9 @@ returns c =
     let vals = c.args.found.now.assignment.vals in
     let (query, its) = c.requires.proof in
     let (goal, got, match) = c.requires.found in
-    let query_is : c.index-as_slice-found.result ≡ goal = indexed queries c.as_slice.result.now number goal c.index-as_slice-found.result c.as_slice.ensures got c.index-as_slice-found.is in
-    let atoms_is : c.in_ok-atoms.atoms.items ≡ map (ground (at vals)) goal.atoms =
-    c.in_ok-atoms.ensures ∙ ap (λ (list : List Val). map (ground (at list)) c.as_slice-2.result.now) c.as_slice-values.ensures
-    ∙ ap (map (ground (at vals))) (c.as_slice-2.ensures ∙ ap (λ (q : Query). q.atoms) query_is) in
+    let atoms_is =
+    atoms_are queries c.as_slice.result.now number goal c.index-as_slice-found.result vals c.as_slice-values.result.now c.as_slice-2.result.now c.in_ok-atoms.atoms.items
+    c.as_slice.ensures got c.index-as_slice-found.is c.as_slice-values.ensures c.as_slice-2.ensures c.in_ok-atoms.ensures in
     let read : IfOk c.read_arranged.result (IsReadArranged schema proof (map (ground (at vals)) goal.atoms) head) =
     subst (λ (atoms : List Ground). IfOk c.read_arranged.result (IsReadArranged schema proof atoms head)) atoms_is c.read_arranged.ensures in
     record {
