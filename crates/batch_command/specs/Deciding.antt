@@ -12,6 +12,7 @@ use Rattle.findings.specs.declared.decision.Chosen.{Chosen}
 use Rattle.findings.specs.declared.decision.Decision.{Decision}
 use Rattle.proof_search.specs.Decisions.{IsUndecided}
 use Rattle.explain.specs.Printing.{IsDecisionText, planned_text, undecided_text}
+use Rattle.command_io.specs.declared.line.FileNames.{FileNames}
 use Rattle.command_io.specs.declared.stop.Stop.{Stop}
 use Rattle.command_io.specs.declared.stop.Stop.TheVariants as stop
 use Rattle.command_io.specs.declared.outcome.Outcome.{Outcome}
@@ -21,6 +22,10 @@ use Rattle.command_io.specs.Writing.{TookAll}
 use Rattle.command_io.specs.FaultLines.{Names}
 use Rattle.command_io.specs.Telling.{StopsFor}
 use Rattle.run_command.specs.Deciding.{IsPlanned, IsDecided, IsRefuted, TookPartOf}
+
+-- the names in the line of a stop
+abbrev pub names_in : FileNames → Schema → Names
+names_in names schema = record { schema = names.schema.now; query = names.query.now; plan = names.plan.now; relations = schema.relations }
 
 -- the line in front of the decision on the query of this number
 abbrev pub query_line : ℕ → List ℕ

@@ -7,6 +7,7 @@ ghost use Rattle.sql_batch.specs.declared.batch.TheConstants.{MOST_STATEMENTS};
 ghost use Rattle.command_io.specs.Inputs.{SchemaIsRead, BatchIsRead};
 ghost use Rattle.command_io.specs.Moments.{Stays};
 ghost use Rattle.run_command.specs.Ends.{AreWithin};
+ghost use Rattle.batch_command.specs.Deciding.{names_in};
 ghost use Rattle.batch_command.specs.Ends.{AreParts, IsGiven, ExecutesOrStops, StatementsEnd, BatchTextsStop, BatchEnds};
 
 use crate::deciding::decide_all;
@@ -102,13 +103,7 @@ fn answer_all<R: Threads + Sync, S: Source + Send + Drop, O: Sink, E: Sink>(
     requires lanes { length lanes.old ≤ 8 }
     ensures ends { StatementsEnd schema.now statements.now limits.firings limits.search
         (ExecutesOrStops S.seen schema.now limits.calls lanes.old lanes.new) (AreParts IsGiven statements.now)
-        (record {
-          schema = names.entry.schema.now;
-          query = names.entry.query.now;
-          plan = names.entry.plan.now;
-          relations =
-              schema.now.relations;
-        })
+        (names_in names.entry schema.now)
         outputs.old outputs.new lanes.old lanes.new result }
     ensures lanes { LanesStay S.seen lanes.old lanes.new }
     ensures later_out { outputs.old.out_faults ≤ outputs.new.out_faults }

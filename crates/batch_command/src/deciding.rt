@@ -8,7 +8,7 @@ ghost use Rattle.command_io.specs.Writing.{TookAll};
 ghost use Rattle.run_command.specs.Ends.{AreWithin};
 ghost use Rattle.explain.specs.Printing.{planned_text};
 ghost use Rattle.run_command.specs.Deciding.{IsPlanned, TookPartOf, outcome_of};
-ghost use Rattle.batch_command.specs.Deciding.{Told, AreTold, EndsAt, Halts, IsNumbered, query_line, plans_of};
+ghost use Rattle.batch_command.specs.Deciding.{Told, AreTold, EndsAt, Halts, IsNumbered, names_in, query_line, plans_of};
 
 use crate::lines::numbered_text;
 use access_schema::Schema;
@@ -36,13 +36,7 @@ pub fn decide_all<E: Sink>(
         (E.taken err.old) (E.taken err.new) told
         × (plans.items ≡ plans_of told)) }
     ensures ended { IfErr result (Halts schema.now limits.firings limits.search statements.now
-        (record {
-          schema = names.entry.schema.now;
-          query = names.entry.query.now;
-          plan = names.entry.plan.now;
-          relations =
-              schema.now.relations;
-        })
+        (names_in names.entry schema.now)
         (E.taken err.old) (E.taken err.new) (E.faults err.old) (E.faults err.new)) }
     ensures later { E.faults err.old ≤ E.faults err.new }
 {
@@ -74,13 +68,7 @@ fn decide_next<E: Sink>(
         × TookAll (E.taken err.old) (E.taken err.new) (query_line (length plans.old.items + 1) ++ planned_text told.entries told.plan)
         × (plans.new.items ≡ plans.old.items ++ told.plan ∷ [])) }
     ensures ended { IfErr result (EndsAt schema.now limits.firings limits.search (length plans.old.items + 1) statement.now
-        (record {
-          schema = names.entry.schema.now;
-          query = names.entry.query.now;
-          plan = names.entry.plan.now;
-          relations =
-              schema.now.relations;
-        })
+        (names_in names.entry schema.now)
         (E.taken err.old) (E.taken err.new) (E.faults err.old) (E.faults err.new)) }
     ensures later { E.faults err.old ≤ E.faults err.new }
 {
@@ -113,13 +101,7 @@ fn decide_one<E: Sink>(
         told.entries
         × TookAll (E.taken err.old) (E.taken err.new) (query_line number ++ planned_text told.entries told.plan) × (plan ≡ told.plan)) }
     ensures ended { IfErr result (EndsAt schema.now limits.firings limits.search number statement.now
-        (record {
-          schema = names.entry.schema.now;
-          query = names.entry.query.now;
-          plan = names.entry.plan.now;
-          relations =
-              schema.now.relations;
-        })
+        (names_in names.entry schema.now)
         (E.taken err.old) (E.taken err.new) (E.faults err.old) (E.faults err.new)) }
     ensures later { E.faults err.old ≤ E.faults err.new }
 {
