@@ -9,8 +9,6 @@ use Rattle.proof_search.specs.Plans.{HasNoPlan}
 use Rattle.source_trait.specs.Asking.{Seen}
 use Rattle.source_trait.specs.declared.lanes.Lane.{Lane}
 use Rattle.middleware.specs.declared.fault.Run.{Run}
-use Rattle.command_io.specs.declared.exit_status.Status.{Status}
-use Rattle.command_io.specs.declared.exit_status.Status.TheVariants as ends_in
 use Rattle.command_io.specs.declared.stop.Stop.{Stop}
 use Rattle.command_io.specs.declared.outcome.Outcome.{Outcome}
 use Rattle.command_io.specs.Status.{status_of}
@@ -26,7 +24,7 @@ use Rattle.batch_command.specs.Ends.BatchEnds.{refused, read}
 use Rattle.pdq_core.specs.Runs.{ended}
 use Rattle.pdq_core.specs.Statuses.{HasPlan, HavePlans, ComesTo, RunsOn, ReadAll, SaysOfBatch}
 use Rattle.pdq_core.proofs.Decided.{longer, has_plan}
-use Rattle.pdq_core.proofs.Refusals.{IsRefusal, IsPlain, refusal_is, memory_plain, decision_plain, batch_texts_plain}
+use Rattle.pdq_core.proofs.Refusals.{IsPlain, plain_says, memory_plain, decision_plain, batch_texts_plain}
 use Rattle.pdq_core.proofs.Refusals.{batched_plain, plain_end}
 
 -- statements that were planned have plans
@@ -42,20 +40,9 @@ have_plans schema firings search (s ∷ statements) (its ∷ told) all = λ stat
 ]
 
 module _ (told : Option Contents) (name queries : List ℕ) (firings : ℕ) where
-  refused_says : (status : Status) → IsRefusal status → SaysOfBatch status told name queries firings
-  refused_says ends_in.Done never = absurd never
-  refused_says ends_in.No never = absurd never
-  refused_says ends_in.Undecided never = absurd never
-  refused_says ends_in.Words is = tt
-  refused_says ends_in.Text is = tt
-  refused_says ends_in.Fault is = tt
-  refused_says ends_in.Write is = tt
-  refused_says ends_in.Cap is = tt
-  refused_says ends_in.Memory is = tt
-
   -- the status of a plain stop says nothing of the statements
   stop_says : (end : Stop) → IsPlain end → SaysOfBatch (status_of end) told name queries firings
-  stop_says end plain = refused_says (status_of end) (refusal_is end plain)
+  stop_says = plain_says (λ status. SaysOfBatch status told name queries firings) tt tt tt tt tt tt
 
   module _ (schema : Schema) (statements : List Statement) (is : SchemaIsRead told name schema)
       (are : BatchIsRead told queries schema statements) (search : ℕ) (names : Names) where

@@ -18,8 +18,6 @@ use Rattle.plan_check.specs.Trials.{IsSpent}
 use Rattle.plan_check.specs.Verdicts.{IsVerdict}
 use Rattle.plan_check.specs.Verdicts.IsIllegalOver.{unlawful, other_width}
 use Rattle.plan_check.specs.Verdicts.IsVerdict.{equivalent, illegal, loses, adds, undecided}
-use Rattle.command_io.specs.declared.exit_status.Status.{Status}
-use Rattle.command_io.specs.declared.exit_status.Status.TheVariants as ends_in
 use Rattle.command_io.specs.declared.stop.Stop.{Stop}
 use Rattle.command_io.specs.declared.outcome.Outcome.{Outcome}
 use Rattle.command_io.specs.Status.{status_of}
@@ -31,7 +29,7 @@ use Rattle.check_command.specs.Ends.JudgeEnds.{no_verdict, cut, judged}
 use Rattle.check_command.specs.Ends.CheckEnds.{refused, no_plan, read}
 use Rattle.pdq_core.specs.Runs.{ended}
 use Rattle.pdq_core.specs.Statuses.{IsRight, IsWrong, IsTried, FiresOn, ReadWith, SaysOfPlan}
-use Rattle.pdq_core.proofs.Refusals.{IsRefusal, IsPlain, refusal_is, memory_plain, result_plain, texts_plain, plan_plain, plain_end}
+use Rattle.pdq_core.proofs.Refusals.{IsPlain, plain_says, memory_plain, result_plain, texts_plain, plan_plain, plain_end}
 
 -- a base run goes on by an active trigger
 run_push : (rules : List Rule) (state : State) (log : List Trigger) (end : State) (trigger : Trigger) (rule : Rule) → IsBaseRun rules state log end → IsFirstActive rules end trigger rule →
@@ -76,19 +74,8 @@ module _ (schema : Schema) (statement : Statement) (plan : Plan) (firings : ℕ)
         read_with (FiresOn firings) (longer spent.query spent.queries log (inr (spent.branch, contains_got plan.branches number spent.branch spent.at, spent.form)) spent.spent)
 
 module _ (told : Option Contents) (name query its : List ℕ) (firings : ℕ) where
-  refused_says : (status : Status) → IsRefusal status → SaysOfPlan status told name query its firings
-  refused_says ends_in.Done never = absurd never
-  refused_says ends_in.No never = absurd never
-  refused_says ends_in.Undecided never = absurd never
-  refused_says ends_in.Words is = tt
-  refused_says ends_in.Text is = tt
-  refused_says ends_in.Fault is = tt
-  refused_says ends_in.Write is = tt
-  refused_says ends_in.Cap is = tt
-  refused_says ends_in.Memory is = tt
-
   stop_says : (end : Stop) → IsPlain end → SaysOfPlan (status_of end) told name query its firings
-  stop_says end plain = refused_says (status_of end) (refusal_is end plain)
+  stop_says = plain_says (λ status. SaysOfPlan status told name query its firings) tt tt tt tt tt tt
 
   judged_says : (schema : Schema) (statement : Statement) (plan : Plan) → SchemaIsRead told name schema → QueryIsRead told query schema statement → PlanIsRead told its plan →
       (names : Names) (before after : Outputs) (result : Result Outcome Stop) → JudgeEnds schema statement plan firings names before after result → SaysOfPlan (ended result) told name query its firings

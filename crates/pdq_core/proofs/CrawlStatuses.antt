@@ -2,8 +2,6 @@
 use Rattle.std.proofs.Common.{ℕ, List, Result, sym, subst}
 use Rattle.source_trait.specs.Asking.{Seen}
 use Rattle.source_trait.specs.declared.lanes.Lane.{Lane}
-use Rattle.command_io.specs.declared.exit_status.Status.{Status}
-use Rattle.command_io.specs.declared.exit_status.Status.TheVariants as is
 use Rattle.command_io.specs.declared.stop.Stop.{Stop}
 use Rattle.command_io.specs.declared.outcome.Outcome.{Outcome}
 use Rattle.command_io.specs.Status.{status_of}
@@ -14,21 +12,10 @@ use Rattle.crawl_command.specs.Reach.{ReachEnds}
 use Rattle.crawl_command.specs.Reach.ReachEnds.{no_texts, stopped as reach_stopped, done as reached}
 use Rattle.pdq_core.specs.Runs.{ended}
 use Rattle.pdq_core.specs.Statuses.{DecidesNothing}
-use Rattle.pdq_core.proofs.Refusals.{IsRefusal, IsPlain, refusal_is, schema_plain, texts_plain, plain_end, crawled_plain}
-
-refusal_decides : (status : Status) → IsRefusal status → DecidesNothing status
-refusal_decides is.Done never = absurd never
-refusal_decides is.No never = absurd never
-refusal_decides is.Undecided never = absurd never
-refusal_decides is.Words refuses = tt
-refusal_decides is.Text refuses = tt
-refusal_decides is.Fault refuses = tt
-refusal_decides is.Write refuses = tt
-refusal_decides is.Cap refuses = tt
-refusal_decides is.Memory refuses = tt
+use Rattle.pdq_core.proofs.Refusals.{IsPlain, plain_says, schema_plain, texts_plain, plain_end, crawled_plain}
 
 stop_decides : (end : Stop) → IsPlain end → DecidesNothing (status_of end)
-stop_decides end plain = refusal_decides (status_of end) (refusal_is end plain)
+stop_decides = plain_says DecidesNothing tt tt tt tt tt tt
 
 module _ {S : Type 0} (seen : S → Seen) (name : List ℕ) (calls : ℕ) (before after : Moment) (old new : List (Lane S)) where
   pub crawl_says : (result : Result Outcome Stop) → CrawlEnds seen name calls before after old new result → DecidesNothing (ended result)

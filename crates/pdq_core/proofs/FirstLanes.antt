@@ -1,34 +1,11 @@
 -- The first lanes, and those behind them.
-use Rattle.std.proofs.Common.{◌≡◌, ◌≤◌, ◌++◌, ◌∙◌, ℕ, zero, suc, List, [], ◌∷◌, length, take, drop, refl, sym, ap, subst, arith}
+use Rattle.std.proofs.Common.{◌≡◌, ◌++◌, ◌∙◌, ℕ, zero, suc, List, [], ◌∷◌, length, take, drop, refl, sym, ap, subst, arith}
 use Rattle.source_trait.specs.Asking.{Seen}
 use Rattle.source_trait.specs.Lanes.{LanesStay}
 use Rattle.source_trait.specs.declared.lanes.Lane.{Lane}
 use Rattle.source_trait.proofs.LaneSteps.{LanesStay-refl}
 
 module _ {A : Type 0} where
-  pub few_first : (n : ℕ) (xs : List A) → length (take n xs) ≤ n
-  few_first zero xs = omega arith
-  few_first (suc n) [] = omega arith
-  few_first (suc n) (x ∷ xs) = let less = few_first n xs in omega (arith, less)
-
-  -- the first ones are those that were put there
-  pub first_changed : (n : ℕ) (xs us : List A) → length us ≡ length (take n xs) → take n (us ++ drop n xs) ≡ us
-  first_changed zero xs [] long = refl
-  first_changed zero xs (u ∷ us) long = absurd (omega (arith, long))
-  first_changed (suc n) [] [] long = refl
-  first_changed (suc n) [] (u ∷ us) long = absurd (omega (arith, long))
-  first_changed (suc n) (x ∷ xs) [] long = absurd (omega (arith, long))
-  first_changed (suc n) (x ∷ xs) (u ∷ us) long = ap (λ (l : List A). u ∷ l) (first_changed n xs us (omega (arith, long)))
-
-  -- and those behind are as they were
-  pub behind_stays : (n : ℕ) (xs us : List A) → length us ≡ length (take n xs) → drop n (us ++ drop n xs) ≡ drop n xs
-  behind_stays zero xs [] long = refl
-  behind_stays zero xs (u ∷ us) long = absurd (omega (arith, long))
-  behind_stays (suc n) [] [] long = refl
-  behind_stays (suc n) [] (u ∷ us) long = absurd (omega (arith, long))
-  behind_stays (suc n) (x ∷ xs) [] long = absurd (omega (arith, long))
-  behind_stays (suc n) (x ∷ xs) (u ∷ us) long = behind_stays n xs us (omega (arith, long))
-
   -- a list of the same length, written over the other, is there whole
   written_over : (xs ys : List A) → length ys ≡ length xs → take (length xs) (ys ++ drop (length ys) xs) ≡ ys
   written_over [] [] long = refl

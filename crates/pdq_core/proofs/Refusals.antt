@@ -36,7 +36,7 @@ use Rattle.batch_command.specs.Ends.BatchTextsStop.{no_schema as no_schema_of_ba
 use Rattle.crawl_command.specs.Ends.{CrawlsOrStops}
 
 -- The status is none of an answer.
-abbrev pub IsRefusal : Status → Type 0
+abbrev IsRefusal : Status → Type 0
 IsRefusal is.Done = ⊥
 IsRefusal is.No = ⊥
 IsRefusal is.Undecided = ⊥
@@ -73,7 +73,7 @@ attach_refuses rel (attach.NotUtf8 number) = tt
 attach_refuses rel attach.TooLarge = tt
 attach_refuses rel attach.NoMemory = tt
 
-pub refusal_is : (end : Stop) → IsPlain end → IsRefusal (status_of end)
+refusal_is : (end : Stop) → IsPlain end → IsRefusal (status_of end)
 refusal_is stop.Memory plain = tt
 refusal_is stop.Words plain = tt
 refusal_is (stop.File input file.Missing) plain = tt
@@ -96,6 +96,23 @@ refusal_is (stop.QueryCall query branch step) plain = tt
 refusal_is (stop.WholeFailed rel) plain = tt
 refusal_is (stop.NotMet line) plain = absurd plain
 refusal_is stop.ResultWrite plain = tt
+
+-- What each status of a refusal says, that of a plain stop says.
+module _ (Says : Status → Type 0) (at_words : Says is.Words) (at_text : Says is.Text) (at_fault : Says is.Fault)
+    (at_write : Says is.Write) (at_cap : Says is.Cap) (at_memory : Says is.Memory) where
+  refusal_says : (status : Status) → IsRefusal status → Says status
+  refusal_says is.Done never = absurd never
+  refusal_says is.No never = absurd never
+  refusal_says is.Undecided never = absurd never
+  refusal_says is.Words refuses = at_words
+  refusal_says is.Text refuses = at_text
+  refusal_says is.Fault refuses = at_fault
+  refusal_says is.Write refuses = at_write
+  refusal_says is.Cap refuses = at_cap
+  refusal_says is.Memory refuses = at_memory
+
+  pub plain_says : (end : Stop) → IsPlain end → Says (status_of end)
+  plain_says end plain = refusal_says (status_of end) (refusal_is end plain)
 
 -- ---- causes of plain stops
 

@@ -8,7 +8,6 @@ use Rattle.source_trait.specs.Asking.{Seen}
 use Rattle.source_trait.specs.declared.lanes.Lane.{Lane}
 use Rattle.middleware.specs.declared.fault.Run.{Run as Run_of}
 use Rattle.command_io.specs.declared.exit_status.Status.{Status}
-use Rattle.command_io.specs.declared.exit_status.Status.TheVariants as ends_in
 use Rattle.command_io.specs.declared.stop.Stop.{Stop}
 use Rattle.command_io.specs.declared.outcome.Outcome.{Outcome}
 use Rattle.command_io.specs.Status.{status_of}
@@ -27,27 +26,16 @@ use Rattle.run_command.specs.Ends.RunEnds.{refused, read}
 use Rattle.pdq_core.specs.Runs.{Runs, ended}
 use Rattle.pdq_core.specs.Runs.Runs.{no_command, help, schema as print_schema, explain, run, batch, exec, check, verify, crawl, reach, world}
 use Rattle.pdq_core.specs.Statuses.{HasPlan, RunsOn, ReadAs, Says, SaysOf}
-use Rattle.pdq_core.proofs.Refusals.{IsRefusal, IsPlain, refusal_is, memory_plain, result_plain, decision_plain, texts_plain, delivery_plain, plain_end}
+use Rattle.pdq_core.proofs.Refusals.{IsPlain, plain_says, memory_plain, result_plain, decision_plain, texts_plain, delivery_plain, plain_end}
 use Rattle.pdq_core.proofs.Decided.{longer, has_plan}
 use Rattle.pdq_core.proofs.BatchStatuses.{batch_says}
 use Rattle.pdq_core.proofs.CheckStatuses.{checked_says}
 use Rattle.pdq_core.proofs.CrawlStatuses.{crawl_says, reach_says}
 
 module _ (told : Option Contents) (name query : List ℕ) (firings : ℕ) where
-  refused_says : (status : Status) → IsRefusal status → Says status told name query firings
-  refused_says ends_in.Done never = absurd never
-  refused_says ends_in.No never = absurd never
-  refused_says ends_in.Undecided never = absurd never
-  refused_says ends_in.Words is = tt
-  refused_says ends_in.Text is = tt
-  refused_says ends_in.Fault is = tt
-  refused_says ends_in.Write is = tt
-  refused_says ends_in.Cap is = tt
-  refused_says ends_in.Memory is = tt
-
   -- the status of a plain stop says nothing of the statement
   stop_says : (end : Stop) → IsPlain end → Says (status_of end) told name query firings
-  stop_says end plain = refused_says (status_of end) (refusal_is end plain)
+  stop_says = plain_says (λ status. Says status told name query firings) tt tt tt tt tt tt
 
   module _ (schema : Schema) (statement : Statement) (is : SchemaIsRead told name schema) (are : QueryIsRead told query schema statement) where
     read_as : (P : Schema → Statement → Type 0) → P schema statement → ReadAs told name query P

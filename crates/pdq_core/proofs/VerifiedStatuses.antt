@@ -26,7 +26,6 @@ use Rattle.rule_rows.specs.declared.fault.VerifyFault.TheVariants as verify_faul
 use Rattle.rule_rows.specs.declared.fault.VerifiedFault.{VerifiedFault}
 use Rattle.rule_rows.specs.declared.fault.VerifiedFault.TheVariants as verified_fault
 use Rattle.command_io.specs.declared.exit_status.Status.{Status}
-use Rattle.command_io.specs.declared.exit_status.Status.TheVariants as ends_in
 use Rattle.command_io.specs.declared.stop.Stop.{Stop}
 use Rattle.command_io.specs.declared.outcome.Outcome.{Outcome}
 use Rattle.command_io.specs.Status.{status_of}
@@ -45,7 +44,7 @@ use Rattle.pdq_core.specs.Runs.{Runs, ended}
 use Rattle.pdq_core.specs.Runs.Runs.{no_command, help, schema as print_schema, explain, run, batch, exec, check, verify, crawl, reach, world}
 use Rattle.pdq_core.specs.Statuses.{HasPlan, RunsOn, ReadAs}
 use Rattle.pdq_core.specs.Verified.{AreMet, AreBroken, SaysVerified, SaysOfVerified}
-use Rattle.pdq_core.proofs.Refusals.{IsRefusal, IsPlain, plain_or_not, refusal_is, memory_plain, run_plain, result_plain, decision_plain, texts_plain, plain_end}
+use Rattle.pdq_core.proofs.Refusals.{IsPlain, plain_or_not, plain_says, memory_plain, run_plain, result_plain, decision_plain, texts_plain, plain_end}
 use Rattle.pdq_core.proofs.Decided.{longer, has_plan}
 
 -- ---- what was found of the rows
@@ -106,19 +105,8 @@ module _ {S : Type 0} (seen : S → Seen) (schema : Schema) (plan : Plan) (calls
 -- ---- what the status says
 
 module _ {S : Type 0} (seen : S → Seen) (told : Option Contents) (name query : List ℕ) (firings : ℕ) (lanes : List (Lane S)) where
-  refused_says : (status : Status) → IsRefusal status → SaysVerified seen lanes status told name query firings
-  refused_says ends_in.Done never = absurd never
-  refused_says ends_in.No never = absurd never
-  refused_says ends_in.Undecided never = absurd never
-  refused_says ends_in.Words is = tt
-  refused_says ends_in.Text is = tt
-  refused_says ends_in.Fault is = tt
-  refused_says ends_in.Write is = tt
-  refused_says ends_in.Cap is = tt
-  refused_says ends_in.Memory is = tt
-
-  plain_says : (end : Stop) → IsPlain end → SaysVerified seen lanes (status_of end) told name query firings
-  plain_says end plain = refused_says (status_of end) (refusal_is end plain)
+  stop_says : (end : Stop) → IsPlain end → SaysVerified seen lanes (status_of end) told name query firings
+  stop_says = plain_says (λ status. SaysVerified seen lanes status told name query firings) tt tt tt tt tt tt
 
   module _ (schema : Schema) (statement : Statement) (is : SchemaIsRead told name schema) (are : QueryIsRead told query schema statement) where
     read_as : (P : Schema → Statement → Type 0) → P schema statement → ReadAs told name query P
@@ -126,7 +114,7 @@ module _ {S : Type 0} (seen : S → Seen) (told : Option Contents) (name query :
 
     broken_says : (end : Stop) → AreBroken seen lanes schema → SaysVerified seen lanes (status_of end) told name query firings
     broken_says end broken = elim (plain_or_not end) [
-      | inl plain ↦ plain_says end plain
+      | inl plain ↦ stop_says end plain
       | inr other ↦ subst (λ (s : Stop). SaysVerified seen lanes (status_of s) told name query firings) (sym other.1)
           (read_as (λ schema statement. HasNoPlan schema statement ⊎ AreBroken seen lanes schema) (inr broken))
     ]
@@ -134,16 +122,16 @@ module _ {S : Type 0} (seen : S → Seen) (told : Option Contents) (name query :
     run_says : (search calls : ℕ) (IsText : Plan → Run_of → List ℕ → Type 0) (names : Names) (before after : Outputs) (old : List (Lane S)) (result : Result Outcome Stop) →
         StatementEnds schema statement firings search (carries_out seen schema calls true old lanes) IsText names before after old lanes result →
         SaysVerified seen lanes (ended result) told name query firings
-    run_says search calls IsText names before after old result (no_decision end why quiet same) = plain_says end (plain_end end memory_plain why)
+    run_says search calls IsText names before after old result (no_decision end why quiet same) = stop_says end (plain_end end memory_plain why)
     run_says search calls IsText names before after old result (untold decision middle count end decided took why quiet same) =
-        plain_says end (plain_end end (decision_plain _) why)
+        stop_says end (plain_end end (decision_plain _) why)
     run_says search calls IsText names before after old result (refuted text refutes took quiet same) =
         read_as (λ schema statement. HasNoPlan schema statement ⊎ AreBroken seen lanes schema) (inl refutes.refutes.none)
     run_says search calls IsText names before after old result (undecided select log spent took quiet same) =
         read_as (RunsOn firings) (longer schema statement firings select log spent)
     run_says search calls IsText names before after old result (stopped plan entries middle count why end planned took delivery line) =
         elim (delivery_stops seen schema plan calls old lanes _ _ _ _ why delivery) [
-          | inl plain ↦ plain_says end (plain_end end (λ given e. subst IsPlain (sym e) plain) line)
+          | inl plain ↦ stop_says end (plain_end end (λ given e. subst IsPlain (sym e) plain) line)
           | inr broken ↦ broken_says end broken
         ]
     run_says search calls IsText names before after old result (done plan entries planned took delivery) =
@@ -163,7 +151,7 @@ module _ {S : Type 0} (seen : S → Seen) (words : List (List ℕ)) (command : C
   says status (run name query firings search workers calls false result also ends behind) = its (Run name query firings search workers calls false) (ended result) also tt
   says status (run name query firings search workers calls true result also (refused end why quiet same) behind) =
       its (Run name query firings search workers calls true) (status_of end) also
-      (plain_says seen before.files name query firings (take workers new) end (plain_end end (texts_plain before.files name query _) why))
+      (stop_says seen before.files name query firings (take workers new) end (plain_end end (texts_plain before.files name query _) why))
   says status (run name query firings search workers calls true result also (read schema statement same_result schema_is statement_is ends) behind) =
       its (Run name query firings search workers calls true) (ended result) also
       (run_says seen before.files name query firings (take workers new) schema statement schema_is statement_is search calls _

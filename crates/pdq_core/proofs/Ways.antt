@@ -1,13 +1,22 @@
--- What the words of a command set.
-use Rattle.std.proofs.Common.{◌≤◌, ℕ, Bool, List, arith}
+-- What the words of a command set, and how a task ends a run.
+use Rattle.std.proofs.Common.{◌≡◌, ◌≤◌, ℕ, List, Result, take, drop, arith}
+use Rattle.source_trait.specs.Asking.{Seen}
+use Rattle.source_trait.specs.declared.lanes.Lane.{Lane}
+use Rattle.command_io.specs.declared.stop.Stop.{Stop}
+use Rattle.command_io.specs.declared.outcome.Outcome.{Outcome}
+use Rattle.command_io.specs.Moments.{Moment}
 use Rattle.rule_pass.specs.declared.pass.TheConstants.{MOST_FIRINGS}
 use Rattle.proof_search.specs.declared.deciding.TheConstants.{MOST_UNITS}
 use Rattle.command_words.specs.Splits.{Item, IsSet}
 use Rattle.command_words.specs.Splits.IsSet.{Once, Absent}
 use Rattle.command_words.specs.declared.table.OptionName.TheVariants.{Firings, Search, Workers, Calls}
-use Rattle.run_command.specs.Ends.{AreWithin}
-use Rattle.command_words.specs.Words.{IsCommand}
-use Rattle.command_words.specs.Words.Command.{Explain, Run, Batch, Exec, Check, Crawl, Reach, World}
+use Rattle.command_words.specs.Words.{IsCommand, task_seen_as}
+use Rattle.command_words.specs.Words.Command.{Explain, Check, World}
+use Rattle.command_words.specs.declared.command.Task.{Task}
+use Rattle.command_words.specs.declared.command.Task.TheVariants as task
+use Rattle.pdq_core.specs.Runs.{Runs, ended}
+use Rattle.pdq_core.specs.Runs.Runs.{run, batch, exec, crawl, reach}
+use Rattle.pdq_core.specs.Tasks.{IsWithin, TaskEnds}
 
 -- a number of firings is within its range, given or not
 in_range : (items : List Item) (n : ℕ) → IsSet Firings items n → n ≤ MOST_FIRINGS
@@ -35,52 +44,37 @@ few_explained words schema query n units is = in_range is.items n is.are_set.0
 pub units_explained : (words : List (List ℕ)) (schema query : List ℕ) (n units : ℕ) → IsCommand words (Explain schema query n units) → units ≤ MOST_UNITS
 units_explained words schema query n units is = units_in_range is.items units is.are_set.1.0
 
-module _ (words : List (List ℕ)) (schema query : List ℕ) (n units workers calls : ℕ) (verify : Bool) (is : IsCommand words (Run schema query n units workers calls verify)) where
-  pub settings_run : AreWithin (record { firings = n; search = units; calls = calls })
-  settings_run = record {
-    firings = in_range is.items n is.are_set.0;
-    search = units_in_range is.items units is.are_set.1.0;
-    calls = calls_in_range is.items calls is.are_set.1.1.1.0;
-  }
-
-  pub workers_run : workers ≤ 8
-  workers_run = workers_in_range is.items workers is.are_set.1.1.0
-
-module _ (words : List (List ℕ)) (schema queries : List ℕ) (n units workers calls : ℕ)
-    (is : IsCommand words (Batch schema queries n units workers calls)) where
-  pub settings_batch : AreWithin (record { firings = n; search = units; calls = calls })
-  settings_batch = record {
-    firings = in_range is.items n is.are_set.0;
-    search = units_in_range is.items units is.are_set.1.0;
-    calls = calls_in_range is.items calls is.are_set.1.1.1.0;
-  }
-
-  pub workers_batch : workers ≤ 8
-  workers_batch = workers_in_range is.items workers is.are_set.1.1.0
-
-pub workers_exec : (words : List (List ℕ)) (schema plan : List ℕ) (workers calls : ℕ) → IsCommand words (Exec schema plan workers calls) → workers ≤ 8
-workers_exec words schema plan workers calls is = workers_in_range is.items workers is.are_set.0
-
-pub calls_exec : (words : List (List ℕ)) (schema plan : List ℕ) (workers calls : ℕ) → IsCommand words (Exec schema plan workers calls) → calls ≤ 1000000
-calls_exec words schema plan workers calls is = calls_in_range is.items calls is.are_set.1.0
-
-pub workers_crawl : (words : List (List ℕ)) (schema : List ℕ) (workers calls : ℕ) → IsCommand words (Crawl schema workers calls) → workers ≤ 8
-workers_crawl words schema workers calls is = workers_in_range is.items workers is.are_set.0
-
-pub calls_crawl : (words : List (List ℕ)) (schema : List ℕ) (workers calls : ℕ) → IsCommand words (Crawl schema workers calls) → calls ≤ 1000000
-calls_crawl words schema workers calls is = calls_in_range is.items calls is.are_set.1.0
-
-pub workers_reach : (words : List (List ℕ)) (schema query : List ℕ) (workers calls : ℕ) → IsCommand words (Reach schema query workers calls) → workers ≤ 8
-workers_reach words schema query workers calls is = workers_in_range is.items workers is.are_set.0
-
-pub calls_reach : (words : List (List ℕ)) (schema query : List ℕ) (workers calls : ℕ) → IsCommand words (Reach schema query workers calls) → calls ≤ 1000000
-calls_reach words schema query workers calls is = calls_in_range is.items calls is.are_set.1.0
-
-pub workers_world : (words : List (List ℕ)) (size workers : ℕ) → IsCommand words (World size workers) → workers ≤ 8
-workers_world words size workers is = workers_in_range is.0.items workers is.0.are_set.0
-
 pub few_checked : (words : List (List ℕ)) (schema query plan : List ℕ) (n : ℕ) → IsCommand words (Check schema query plan n) → n ≤ MOST_FIRINGS
 few_checked words schema query plan n is = in_range is.items n is.are_set.0
 
-pub small_world : (words : List (List ℕ)) (size workers : ℕ) → IsCommand words (World size workers) → size ≤ 10000
-small_world words size workers is = is.2
+pub world_within : (words : List (List ℕ)) (size workers : ℕ) → IsCommand words (World size workers) → (size ≤ 10000) × (workers ≤ 8)
+world_within words size workers is = (is.2, workers_in_range is.0.items workers is.0.are_set.0)
+
+pub task_within : (words : List (List ℕ)) (which : Task) (workers calls : ℕ) → IsCommand words (task_seen_as workers calls which) →
+    IsWithin which × (workers ≤ 8) × (calls ≤ 1000000)
+task_within words (task.Run schema query n units verify) workers calls is = (
+  (in_range is.items n is.are_set.0, units_in_range is.items units is.are_set.1.0),
+  workers_in_range is.items workers is.are_set.1.1.0,
+  calls_in_range is.items calls is.are_set.1.1.1.0,
+)
+task_within words (task.Batch schema queries n units) workers calls is = (
+  (in_range is.items n is.are_set.0, units_in_range is.items units is.are_set.1.0),
+  workers_in_range is.items workers is.are_set.1.1.0,
+  calls_in_range is.items calls is.are_set.1.1.1.0,
+)
+task_within words (task.Exec schema plan) workers calls is = (tt, workers_in_range is.items workers is.are_set.0, calls_in_range is.items calls is.are_set.1.0)
+task_within words (task.Crawl schema) workers calls is = (tt, workers_in_range is.items workers is.are_set.0, calls_in_range is.items calls is.are_set.1.0)
+task_within words (task.Reach schema query) workers calls is = (tt, workers_in_range is.items workers is.are_set.0, calls_in_range is.items calls is.are_set.1.0)
+
+-- the end of a task on the first lanes is a way in which a run ends
+pub task_runs : {S : Type 0} (seen : S → Seen) (words : List (List ℕ)) (before after : Moment) (old new : List (Lane S)) (which : Task) (workers calls : ℕ)
+    (result : Result Outcome Stop) → IsCommand words (task_seen_as workers calls which) →
+    TaskEnds seen which calls before after (take workers old) (take workers new) result → drop workers new ≡ drop workers old →
+    Runs seen words before after old new (ended result)
+task_runs seen words before after old new (task.Run schema query n units verify) workers calls result is ends behind =
+    run schema.now query.now n units workers calls verify result is ends behind
+task_runs seen words before after old new (task.Batch schema queries n units) workers calls result is ends behind =
+    batch schema.now queries.now n units workers calls result is ends behind
+task_runs seen words before after old new (task.Exec schema plan) workers calls result is ends behind = exec schema.now plan.now workers calls result is ends behind
+task_runs seen words before after old new (task.Crawl schema) workers calls result is ends behind = crawl schema.now workers calls result is ends behind
+task_runs seen words before after old new (task.Reach schema query) workers calls result is ends behind = reach schema.now query.now workers calls result is ends behind

@@ -1,5 +1,6 @@
 pub mod Help
 pub mod Runs
+pub mod Tasks
 pub mod Complete
 pub mod Statuses
 pub mod Verified

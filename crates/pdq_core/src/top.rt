@@ -4,15 +4,13 @@ ghost use Rattle.source_trait.specs.Lanes.{LanesStay};
 ghost use Rattle.command_io.specs.Moments.{Stays};
 ghost use Rattle.pdq_core.specs.Runs.{Runs, ended as ended_by};
 
-use crate::first_lanes::{
-    batch_on_first, crawl_on_first, exec_on_first, reach_on_first, run_on_first, world_on_first,
-};
+use crate::first_lanes::{task_on_first, world_on_first};
 use crate::help::print_usage;
 use check_command::check_plan;
 use command_io::{Outcome, Outside, Status, Stop, say, status};
 use command_words::{Command, read_words};
 use lists::Text;
-use run_command::{Limits, Settings, explain_query};
+use run_command::explain_query;
 use schema_command::print_schema;
 use source_trait::{Files, Lane, Sink, Source};
 use std::alloc::Global;
@@ -56,50 +54,6 @@ pub fn run_words<R: Threads + Sync, F: Files, S: Source + Send + Drop, O: Sink, 
             },
         ) => ended(explain_query(alloc, schema, query, firings, search, outside)),
         Some(
-            Command::Run {
-                schema,
-                query,
-                firings,
-                search,
-                workers,
-                calls,
-                verify,
-            },
-        ) => {
-            let limits = Limits {
-                firings,
-                search,
-                calls,
-            };
-            let settings = Settings { limits, verify };
-            ended(run_on_first(rt, alloc, schema, query, settings, workers, outside, lanes))
-        }
-        Some(
-            Command::Batch {
-                schema,
-                queries,
-                firings,
-                search,
-                workers,
-                calls,
-            },
-        ) => {
-            let limits = Limits {
-                firings,
-                search,
-                calls,
-            };
-            ended(batch_on_first(rt, alloc, schema, queries, limits, workers, outside, lanes))
-        }
-        Some(
-            Command::Exec {
-                schema,
-                plan,
-                workers,
-                calls,
-            },
-        ) => ended(exec_on_first(rt, alloc, schema, plan, workers, calls, outside, lanes)),
-        Some(
             Command::Check {
                 schema,
                 query,
@@ -109,20 +63,12 @@ pub fn run_words<R: Threads + Sync, F: Files, S: Source + Send + Drop, O: Sink, 
         ) => ended(check_plan(alloc, schema, query, plan, firings, outside)),
         Some(Command::Verify { schema }) => ended(verify_rules(alloc, schema, outside, lanes)),
         Some(
-            Command::Crawl {
-                schema,
+            Command::Calling {
+                task,
                 workers,
                 calls,
             },
-        ) => ended(crawl_on_first(rt, alloc, schema, workers, calls, outside, lanes)),
-        Some(
-            Command::Reach {
-                schema,
-                query,
-                workers,
-                calls,
-            },
-        ) => ended(reach_on_first(rt, alloc, schema, query, workers, calls, outside, lanes)),
+        ) => ended(task_on_first(rt, alloc, task, workers, calls, outside, lanes)),
         Some(Command::World { size, workers }) => {
             ended(world_on_first(rt, alloc, size, workers, &mut outside.outputs, lanes))
         }

@@ -3,10 +3,10 @@ use Rattle.std.proofs.Common.{[], refl}
 use Rattle.source_trait.proofs.LaneSteps.{LanesStay-refl}
 use Rattle.command_io.specs.declared.stop.Stop.TheVariants as stop
 use Rattle.command_io.proofs.Lines.{said_tells}
-use Rattle.command_words.specs.Words.{IsCommand}
-use Rattle.command_words.specs.Words.Command.{Help, Schema, Explain, Run, Batch, Exec, Check, Verify, Crawl, Reach, World}
-use Rattle.pdq_core.specs.Runs.Runs.{no_command, help, schema, explain, run, batch, exec, check, verify, crawl, reach, world}
-use Rattle.pdq_core.proofs.Ways.{few_explained, settings_run, few_checked, units_explained, workers_run, settings_batch, workers_batch, workers_exec, calls_exec, workers_crawl, calls_crawl, workers_reach, calls_reach, workers_world, small_world}
+use Rattle.command_words.specs.Words.{IsCommand, task_seen_as}
+use Rattle.command_words.specs.Words.Command.{Help, Schema, Explain, Check, Verify, World}
+use Rattle.pdq_core.specs.Runs.Runs.{no_command, help, schema, explain, check, verify, world}
+use Rattle.pdq_core.proofs.Ways.{few_explained, units_explained, few_checked, world_within, task_within, task_runs}
 use Rattle.pdq_core.proofs.top.run_words.Goals as goal
 
 pub returns-in-None-clause-run : goal.returns-in-None-clause-run
@@ -40,9 +40,10 @@ returns-in-Some-Schema-clause-lanes g c = LanesStay-refl g.S.Source.seen c.args.
 
 pub returns-in-Some-Explain-clause-run : goal.returns-in-Some-Explain-clause-run
 returns-in-Some-Explain-clause-run g c =
-    let is : IsCommand c.args.words.now (Explain c.in-Some-Explain.schema.now c.in-Some-Explain.query.now c.in-Some-Explain.firings c.in-Some-Explain.search) =
-    rw c.in-Some-Explain.field-0-is at c.in-Some-Explain.ensures.some in
-    rw c.ended-in-Some-Explain.ensures (explain c.in-Some-Explain.schema.now c.in-Some-Explain.query.now c.in-Some-Explain.firings c.in-Some-Explain.search c.explain_query.result is c.explain_query.ensures.ends refl)
+    let its = c.in-Some-Explain in
+    let is : IsCommand c.args.words.now (Explain its.schema.now its.query.now its.firings its.search) = rw its.field-0-is at its.ensures.some in
+    rw c.ended-in-Some-Explain.ensures
+    (explain its.schema.now its.query.now its.firings its.search c.explain_query.result is c.explain_query.ensures.ends refl)
 
 pub returns-in-Some-Explain-clause-stays : goal.returns-in-Some-Explain-clause-stays
 returns-in-Some-Explain-clause-stays g c = c.explain_query.ensures.stays
@@ -52,86 +53,20 @@ returns-in-Some-Explain-clause-lanes g c = LanesStay-refl g.S.Source.seen c.args
 
 pub explain_query-requires-clause-budget : goal.explain_query-requires-clause-budget
 explain_query-requires-clause-budget g c =
-    few_explained c.args.words.now c.in-Some-Explain.schema.now c.in-Some-Explain.query.now c.in-Some-Explain.firings c.in-Some-Explain.search
-    (rw c.in-Some-Explain.field-0-is at c.in-Some-Explain.ensures.some)
+    let its = c.in-Some-Explain in
+    few_explained c.args.words.now its.schema.now its.query.now its.firings its.search (rw its.field-0-is at its.ensures.some)
 
 pub explain_query-requires-clause-units : goal.explain_query-requires-clause-units
 explain_query-requires-clause-units g c =
-    units_explained c.args.words.now c.in-Some-Explain.schema.now c.in-Some-Explain.query.now c.in-Some-Explain.firings c.in-Some-Explain.search
-    (rw c.in-Some-Explain.field-0-is at c.in-Some-Explain.ensures.some)
-
-pub returns-in-Some-Run-clause-run : goal.returns-in-Some-Run-clause-run
-returns-in-Some-Run-clause-run g c =
-    let is : IsCommand c.args.words.now (Run c.in-Some-Run.schema.now c.in-Some-Run.query.now c.in-Some-Run.firings c.in-Some-Run.search c.in-Some-Run.workers c.in-Some-Run.calls c.in-Some-Run.verify) = rw c.in-Some-Run.field-0-is at c.in-Some-Run.ensures.some in
-    rw c.ended-in-Some-Run.ensures (run c.in-Some-Run.schema.now c.in-Some-Run.query.now c.in-Some-Run.firings c.in-Some-Run.search c.in-Some-Run.workers c.in-Some-Run.calls c.in-Some-Run.verify c.run_on_first.result is
-    c.run_on_first.ensures.ends c.run_on_first.ensures.behind)
-
-pub returns-in-Some-Run-clause-stays : goal.returns-in-Some-Run-clause-stays
-returns-in-Some-Run-clause-stays g c = c.run_on_first.ensures.stays
-
-pub returns-in-Some-Run-clause-lanes : goal.returns-in-Some-Run-clause-lanes
-returns-in-Some-Run-clause-lanes g c = c.run_on_first.ensures.lanes
-
-pub run_on_first-requires-clause-within : goal.run_on_first-requires-clause-within
-run_on_first-requires-clause-within g c κs within =
-    settings_run c.args.words.now c.in-Some-Run.schema.now c.in-Some-Run.query.now c.in-Some-Run.firings c.in-Some-Run.search c.in-Some-Run.workers c.in-Some-Run.calls c.in-Some-Run.verify
-    (rw c.in-Some-Run.field-0-is at c.in-Some-Run.ensures.some)
-
-pub run_on_first-requires-clause-workers : goal.run_on_first-requires-clause-workers
-run_on_first-requires-clause-workers g c κs within =
-    workers_run c.args.words.now c.in-Some-Run.schema.now c.in-Some-Run.query.now c.in-Some-Run.firings c.in-Some-Run.search c.in-Some-Run.workers c.in-Some-Run.calls c.in-Some-Run.verify
-    (rw c.in-Some-Run.field-0-is at c.in-Some-Run.ensures.some)
-
-pub returns-in-Some-Batch-clause-run : goal.returns-in-Some-Batch-clause-run
-returns-in-Some-Batch-clause-run g c =
-    let its = c.in-Some-Batch in
-    let is : IsCommand c.args.words.now (Batch its.schema.now its.queries.now its.firings its.search its.workers its.calls) =
-    rw its.field-0-is at its.ensures.some in
-    rw c.ended-in-Some-Batch.ensures (batch its.schema.now its.queries.now its.firings its.search its.workers its.calls
-    c.batch_on_first.result is c.batch_on_first.ensures.ends c.batch_on_first.ensures.behind)
-
-pub returns-in-Some-Batch-clause-stays : goal.returns-in-Some-Batch-clause-stays
-returns-in-Some-Batch-clause-stays g c = c.batch_on_first.ensures.stays
-
-pub returns-in-Some-Batch-clause-lanes : goal.returns-in-Some-Batch-clause-lanes
-returns-in-Some-Batch-clause-lanes g c = c.batch_on_first.ensures.lanes
-
-pub batch_on_first-requires-clause-within : goal.batch_on_first-requires-clause-within
-batch_on_first-requires-clause-within g c κs within =
-    let its = c.in-Some-Batch in
-    settings_batch c.args.words.now its.schema.now its.queries.now its.firings its.search its.workers its.calls
-    (rw its.field-0-is at its.ensures.some)
-
-pub batch_on_first-requires-clause-workers : goal.batch_on_first-requires-clause-workers
-batch_on_first-requires-clause-workers g c κs within =
-    let its = c.in-Some-Batch in
-    workers_batch c.args.words.now its.schema.now its.queries.now its.firings its.search its.workers its.calls
-    (rw its.field-0-is at its.ensures.some)
-
-pub returns-in-Some-Exec-clause-run : goal.returns-in-Some-Exec-clause-run
-returns-in-Some-Exec-clause-run g c =
-    let is : IsCommand c.args.words.now (Exec c.in-Some-Exec.schema.now c.in-Some-Exec.plan.now c.in-Some-Exec.workers c.in-Some-Exec.calls) = rw c.in-Some-Exec.field-0-is at c.in-Some-Exec.ensures.some in
-    rw c.ended-in-Some-Exec.ensures (exec c.in-Some-Exec.schema.now c.in-Some-Exec.plan.now c.in-Some-Exec.workers c.in-Some-Exec.calls c.exec_on_first.result is c.exec_on_first.ensures.ends c.exec_on_first.ensures.behind)
-
-pub returns-in-Some-Exec-clause-stays : goal.returns-in-Some-Exec-clause-stays
-returns-in-Some-Exec-clause-stays g c = c.exec_on_first.ensures.stays
-
-pub returns-in-Some-Exec-clause-lanes : goal.returns-in-Some-Exec-clause-lanes
-returns-in-Some-Exec-clause-lanes g c = c.exec_on_first.ensures.lanes
-
-pub exec_on_first-requires-clause-workers : goal.exec_on_first-requires-clause-workers
-exec_on_first-requires-clause-workers g c κs within = workers_exec c.args.words.now c.in-Some-Exec.schema.now c.in-Some-Exec.plan.now c.in-Some-Exec.workers c.in-Some-Exec.calls (rw c.in-Some-Exec.field-0-is at c.in-Some-Exec.ensures.some)
-
-pub exec_on_first-requires-clause-calls : goal.exec_on_first-requires-clause-calls
-exec_on_first-requires-clause-calls g c κs within =
-    calls_exec c.args.words.now c.in-Some-Exec.schema.now c.in-Some-Exec.plan.now c.in-Some-Exec.workers c.in-Some-Exec.calls
-    (rw c.in-Some-Exec.field-0-is at c.in-Some-Exec.ensures.some)
+    let its = c.in-Some-Explain in
+    units_explained c.args.words.now its.schema.now its.query.now its.firings its.search (rw its.field-0-is at its.ensures.some)
 
 pub returns-in-Some-Check-clause-run : goal.returns-in-Some-Check-clause-run
 returns-in-Some-Check-clause-run g c =
-    let is : IsCommand c.args.words.now (Check c.in-Some-Check.schema.now c.in-Some-Check.query.now c.in-Some-Check.plan.now c.in-Some-Check.firings) =
-    rw c.in-Some-Check.field-0-is at c.in-Some-Check.ensures.some in
-    rw c.ended-in-Some-Check.ensures (check c.in-Some-Check.schema.now c.in-Some-Check.query.now c.in-Some-Check.plan.now c.in-Some-Check.firings c.check_plan.result is c.check_plan.ensures.ends refl)
+    let its = c.in-Some-Check in
+    let is : IsCommand c.args.words.now (Check its.schema.now its.query.now its.plan.now its.firings) = rw its.field-0-is at its.ensures.some in
+    rw c.ended-in-Some-Check.ensures
+    (check its.schema.now its.query.now its.plan.now its.firings c.check_plan.result is c.check_plan.ensures.ends refl)
 
 pub returns-in-Some-Check-clause-stays : goal.returns-in-Some-Check-clause-stays
 returns-in-Some-Check-clause-stays g c = c.check_plan.ensures.stays
@@ -141,8 +76,8 @@ returns-in-Some-Check-clause-lanes g c = LanesStay-refl g.S.Source.seen c.args.l
 
 pub check_plan-requires : goal.check_plan-requires
 check_plan-requires g c =
-    few_checked c.args.words.now c.in-Some-Check.schema.now c.in-Some-Check.query.now c.in-Some-Check.plan.now c.in-Some-Check.firings
-    (rw c.in-Some-Check.field-0-is at c.in-Some-Check.ensures.some)
+    let its = c.in-Some-Check in
+    few_checked c.args.words.now its.schema.now its.query.now its.plan.now its.firings (rw its.field-0-is at its.ensures.some)
 
 pub returns-in-Some-Verify-clause-run : goal.returns-in-Some-Verify-clause-run
 returns-in-Some-Verify-clause-run g c =
@@ -155,55 +90,50 @@ returns-in-Some-Verify-clause-stays g c = c.verify_rules.ensures.stays
 pub returns-in-Some-Verify-clause-lanes : goal.returns-in-Some-Verify-clause-lanes
 returns-in-Some-Verify-clause-lanes g c = c.verify_rules.ensures.lanes
 
-pub returns-in-Some-Crawl-clause-run : goal.returns-in-Some-Crawl-clause-run
-returns-in-Some-Crawl-clause-run g c =
-    let is : IsCommand c.args.words.now (Crawl c.in-Some-Crawl.schema.now c.in-Some-Crawl.workers c.in-Some-Crawl.calls) = rw c.in-Some-Crawl.field-0-is at c.in-Some-Crawl.ensures.some in
-    rw c.ended-in-Some-Crawl.ensures (crawl c.in-Some-Crawl.schema.now c.in-Some-Crawl.workers c.in-Some-Crawl.calls c.crawl_on_first.result is c.crawl_on_first.ensures.ends c.crawl_on_first.ensures.behind)
+pub returns-in-Some-Calling-clause-run : goal.returns-in-Some-Calling-clause-run
+returns-in-Some-Calling-clause-run g c =
+    let its = c.in-Some-Calling in
+    let is : IsCommand c.args.words.now (task_seen_as its.workers its.calls its.task) = rw its.field-0-is at its.ensures.some in
+    rw c.ended-in-Some-Calling.ensures (task_runs _ _ _ _ _ _ its.task its.workers its.calls
+    c.task_on_first.result is c.task_on_first.ensures.ends c.task_on_first.ensures.behind)
 
-pub returns-in-Some-Crawl-clause-stays : goal.returns-in-Some-Crawl-clause-stays
-returns-in-Some-Crawl-clause-stays g c = c.crawl_on_first.ensures.stays
+pub returns-in-Some-Calling-clause-stays : goal.returns-in-Some-Calling-clause-stays
+returns-in-Some-Calling-clause-stays g c = c.task_on_first.ensures.stays
 
-pub returns-in-Some-Crawl-clause-lanes : goal.returns-in-Some-Crawl-clause-lanes
-returns-in-Some-Crawl-clause-lanes g c = c.crawl_on_first.ensures.lanes
+pub returns-in-Some-Calling-clause-lanes : goal.returns-in-Some-Calling-clause-lanes
+returns-in-Some-Calling-clause-lanes g c = c.task_on_first.ensures.lanes
 
-pub crawl_on_first-requires-clause-workers : goal.crawl_on_first-requires-clause-workers
-crawl_on_first-requires-clause-workers g c κs within = workers_crawl c.args.words.now c.in-Some-Crawl.schema.now c.in-Some-Crawl.workers c.in-Some-Crawl.calls (rw c.in-Some-Crawl.field-0-is at c.in-Some-Crawl.ensures.some)
+pub task_on_first-requires-clause-within : goal.task_on_first-requires-clause-within
+task_on_first-requires-clause-within g c κs within =
+    let its = c.in-Some-Calling in
+    (task_within c.args.words.now its.task its.workers its.calls (rw its.field-0-is at its.ensures.some)).0
 
-pub crawl_on_first-requires-clause-calls : goal.crawl_on_first-requires-clause-calls
-crawl_on_first-requires-clause-calls g c κs within =
-    calls_crawl c.args.words.now c.in-Some-Crawl.schema.now c.in-Some-Crawl.workers c.in-Some-Crawl.calls
-    (rw c.in-Some-Crawl.field-0-is at c.in-Some-Crawl.ensures.some)
+pub task_on_first-requires-clause-workers : goal.task_on_first-requires-clause-workers
+task_on_first-requires-clause-workers g c κs within =
+    let its = c.in-Some-Calling in
+    (task_within c.args.words.now its.task its.workers its.calls (rw its.field-0-is at its.ensures.some)).1
 
-pub returns-in-Some-Reach-clause-run : goal.returns-in-Some-Reach-clause-run
-returns-in-Some-Reach-clause-run g c =
-    let is : IsCommand c.args.words.now (Reach c.in-Some-Reach.schema.now c.in-Some-Reach.query.now c.in-Some-Reach.workers c.in-Some-Reach.calls) = rw c.in-Some-Reach.field-0-is at c.in-Some-Reach.ensures.some in
-    rw c.ended-in-Some-Reach.ensures (reach c.in-Some-Reach.schema.now c.in-Some-Reach.query.now c.in-Some-Reach.workers c.in-Some-Reach.calls c.reach_on_first.result is c.reach_on_first.ensures.ends c.reach_on_first.ensures.behind)
-
-pub returns-in-Some-Reach-clause-stays : goal.returns-in-Some-Reach-clause-stays
-returns-in-Some-Reach-clause-stays g c = c.reach_on_first.ensures.stays
-
-pub returns-in-Some-Reach-clause-lanes : goal.returns-in-Some-Reach-clause-lanes
-returns-in-Some-Reach-clause-lanes g c = c.reach_on_first.ensures.lanes
-
-pub reach_on_first-requires-clause-workers : goal.reach_on_first-requires-clause-workers
-reach_on_first-requires-clause-workers g c κs within = workers_reach c.args.words.now c.in-Some-Reach.schema.now c.in-Some-Reach.query.now c.in-Some-Reach.workers c.in-Some-Reach.calls (rw c.in-Some-Reach.field-0-is at c.in-Some-Reach.ensures.some)
-
-pub reach_on_first-requires-clause-calls : goal.reach_on_first-requires-clause-calls
-reach_on_first-requires-clause-calls g c κs within =
-    calls_reach c.args.words.now c.in-Some-Reach.schema.now c.in-Some-Reach.query.now c.in-Some-Reach.workers c.in-Some-Reach.calls
-    (rw c.in-Some-Reach.field-0-is at c.in-Some-Reach.ensures.some)
+pub task_on_first-requires-clause-calls : goal.task_on_first-requires-clause-calls
+task_on_first-requires-clause-calls g c κs within =
+    let its = c.in-Some-Calling in
+    (task_within c.args.words.now its.task its.workers its.calls (rw its.field-0-is at its.ensures.some)).2
 
 pub returns-in-Some-World-clause-run : goal.returns-in-Some-World-clause-run
 returns-in-Some-World-clause-run g c =
-    let is : IsCommand c.args.words.now (World c.in-Some-World.size c.in-Some-World.workers) = rw c.in-Some-World.field-0-is at c.in-Some-World.ensures.some in
+    let its = c.in-Some-World in
+    let is : IsCommand c.args.words.now (World its.size its.workers) = rw its.field-0-is at its.ensures.some in
     rw (c.ended-in-Some-World.ensures, ← c.outside-in-Some-World.view_is)
-    (world c.in-Some-World.size c.in-Some-World.workers c.world_on_first.result is c.world_on_first.ensures.ends c.world_on_first.ensures.behind)
+    (world its.size its.workers c.world_on_first.result is c.world_on_first.ensures.ends c.world_on_first.ensures.behind)
 
 pub returns-in-Some-World-clause-lanes : goal.returns-in-Some-World-clause-lanes
 returns-in-Some-World-clause-lanes g c = c.world_on_first.ensures.lanes
 
 pub world_on_first-requires-clause-small : goal.world_on_first-requires-clause-small
-world_on_first-requires-clause-small g c κs within = small_world c.args.words.now c.in-Some-World.size c.in-Some-World.workers (rw c.in-Some-World.field-0-is at c.in-Some-World.ensures.some)
+world_on_first-requires-clause-small g c κs within =
+    let its = c.in-Some-World in
+    (world_within c.args.words.now its.size its.workers (rw its.field-0-is at its.ensures.some)).0
 
 pub world_on_first-requires-clause-workers : goal.world_on_first-requires-clause-workers
-world_on_first-requires-clause-workers g c κs within = workers_world c.args.words.now c.in-Some-World.size c.in-Some-World.workers (rw c.in-Some-World.field-0-is at c.in-Some-World.ensures.some)
+world_on_first-requires-clause-workers g c κs within =
+    let its = c.in-Some-World in
+    (world_within c.args.words.now its.size its.workers (rw its.field-0-is at its.ensures.some)).1
