@@ -1,5 +1,5 @@
 -- What `run` of a query and `batch` of it leave behind, by how they ended.
-use Rattle.std.proofs.Common.{◌≡◌, ◌+◌, ◌++◌, ℕ, List, [], ◌∷◌, length, Option, Some, Result, Ok, refl, sym, ◌∙◌, subst}
+use Rattle.std.proofs.Common.{◌≡◌, ◌+◌, ◌++◌, ℕ, List, [], ◌∷◌, length, Option, Some, Result, Ok, sym, ◌∙◌, subst}
 use Rattle.std.specs.List.{AllZip}
 use Rattle.std.proofs.lemmas.List.{length-map}
 use Rattle.lists.proofs.Members.{some_injective}
@@ -19,18 +19,16 @@ use Rattle.command_io.specs.Inputs.{Contents, IsText, SchemaIsRead, QueryIsRead,
 use Rattle.command_io.specs.Moments.{outputs_of}
 use Rattle.command_io.specs.FaultLines.{Names}
 use Rattle.command_io.specs.Writing.{TookAll}
-use Rattle.command_io.specs.Executing.{Delivers}
-use Rattle.command_io.specs.Executing.Delivers.{done as taken, no_rows, no_text, cut}
+use Rattle.command_io.specs.Executing.Delivers.{done as taken}
 use Rattle.run_command.specs.Deciding.{IsPlanned}
-use Rattle.run_command.specs.Ends.{IsResult, StatementEnds, RunEnds}
-use Rattle.run_command.specs.Ends.StatementEnds.{no_decision, untold, refuted, undecided, stopped, done}
-use Rattle.run_command.specs.Ends.RunEnds.{refused, read}
+use Rattle.run_command.specs.Ends.{IsResult, StatementEnds}
+use Rattle.run_command.specs.Ends.StatementEnds.{refuted, done}
+use Rattle.run_command.specs.Ends.RunEnds.{read}
 use Rattle.batch_command.specs.Deciding.{EndsAt, Told, plans_of}
-use Rattle.batch_command.specs.Deciding.EndsAt.{no_decision as none_for, untold as untold_at}
-use Rattle.batch_command.specs.Deciding.EndsAt.{refuted as refuted_at, undecided as undecided_at}
-use Rattle.batch_command.specs.Ends.{AreParts, BatchEnds, ExecutesOrStops, StatementsEnd}
-use Rattle.batch_command.specs.Ends.StatementsEnd.{halted, stopped as stopped_all, done as done_all}
-use Rattle.batch_command.specs.Ends.BatchEnds.{refused as refused_all, read as read_all}
+use Rattle.batch_command.specs.Deciding.EndsAt.{refuted as refuted_at}
+use Rattle.batch_command.specs.Ends.{AreParts, ExecutesOrStops, StatementsEnd}
+use Rattle.batch_command.specs.Ends.StatementsEnd.{halted, done as done_all}
+use Rattle.batch_command.specs.Ends.BatchEnds.{read as read_all}
 use Rattle.plan_batches.specs.Batching.{IsRunOf}
 use Rattle.batch_command.proofs.Texts.{zip_length}
 use Rattle.batch_laws.specs.Alone.{Went, IsBatch, IsRun}
@@ -79,79 +77,42 @@ module _ {S : Type 0} (seen : S → Seen) (schema_name query_name : List ℕ) (f
     pub is : IsResult seen schema statement went.new plan run text
     pub took : TookAll went.before.out went.after.out text
 
-  module _ (schema : Schema) (statement : Statement) (Ran : Plan → Result Run Stop → Type 0) where
-    written : (plan : Plan) (rose : Type 0) (r : Result (Unit {0}) Stop)
-        → Delivers (Ran plan) (IsResult seen schema statement went.new plan) went.before.out went.after.out rose r
-        → r ≡ Ok tt
-        → (run : Run) × (text : List ℕ) × IsResult seen schema statement went.new plan run text
-        × TookAll went.before.out went.after.out text
-    written plan rose r (taken run text ran is took) e = (run, text, is, took)
-    written plan rose r (no_rows end ran same) e = absurd cc
-    written plan rose r (no_text run ran same) e = absurd cc
-    written plan rose r (cut run text end ran is took why) e = absurd cc
-
-    gave : (firings search : ℕ) (names : Names) (result : Result Outcome Stop)
-        → StatementEnds schema statement firings search Ran (IsResult seen schema statement went.new) names
+  module _ (schema : Schema) (statement : Statement) (Ran : Plan → Result Run Stop → Type 0) (firings search : ℕ) (names : Names) where
+    abbrev Ends : Outcome → Type 0
+    Ends outcome = StatementEnds schema statement firings search Ran (IsResult seen schema statement went.new) names
         (outputs_of went.before)
-        (outputs_of went.after) went.old went.new result → result ≡ Ok Done → RunGave schema statement
-    gave firings search names result (no_decision end why quiet same) e = absurd cc
-    gave firings search names result (untold decision middle count end decided took why quiet same) e = absurd cc
-    gave firings search names result (refuted text refutes took quiet same) e = absurd cc
-    gave firings search names result (undecided select log spent took quiet same) e = absurd cc
-    gave firings search names result (stopped plan entries middle count why end planned took delivers line) e =
-        absurd cc
-    gave firings search names result (done plan entries planned took delivers) e =
-        let (run, text, is, all) = written plan _ (Ok tt) delivers refl in
-        record {
-          plan = plan;
-          planned = λ none. none plan planned.is.lawful planned.is.equivalent;
-          run = run;
-          text = text;
-          is = is;
-          took = all;
-        }
+        (outputs_of went.after) went.old went.new (Ok outcome)
 
-    refuses : (firings search : ℕ) (names : Names) (result : Result Outcome Stop)
-        → StatementEnds schema statement firings search Ran (IsResult seen schema statement went.new) names
-        (outputs_of went.before)
-        (outputs_of went.after) went.old went.new result → result ≡ Ok No → HasNoPlan schema statement
-    refuses firings search names result (no_decision end why quiet same) e = absurd cc
-    refuses firings search names result (untold decision middle count end decided took why quiet same) e = absurd cc
-    refuses firings search names result (refuted text refutes took quiet same) e = refutes.refutes.none
-    refuses firings search names result (undecided select log spent took quiet same) e = absurd cc
-    refuses firings search names result (stopped plan entries middle count why end planned took delivers line) e =
-        absurd cc
-    refuses firings search names result (done plan entries planned took delivers) e = absurd cc
+    gave : Ends Done → RunGave schema statement
+    gave (done plan entries planned took (taken run text ran is all)) = record {
+      plan = plan;
+      planned = λ none. none plan planned.is.lawful planned.is.equivalent;
+      run = run;
+      text = text;
+      is = is;
+      took = all;
+    }
+
+    refuses : Ends No → HasNoPlan schema statement
+    refuses (refuted text refutes took quiet same) = refutes.refutes.none
 
   run_read : (P : Schema → Statement → Type 0) (wanted : Outcome)
-      → ((schema : Schema) (statement : Statement) (firings search : ℕ) (Ran : Plan → Result Run Stop → Type 0)
-      (names : Names)
-      (result : Result Outcome Stop)
-      → StatementEnds schema statement firings search Ran (IsResult seen schema statement went.new) names
-      (outputs_of went.before)
-      (outputs_of went.after) went.old went.new result → result ≡ Ok wanted → P schema statement)
+      → ((schema : Schema) (statement : Statement) (Ran : Plan → Result Run Stop → Type 0) (firings search : ℕ) (names : Names)
+      → Ends schema statement Ran firings search names wanted → P schema statement)
       → IsRun seen schema_name query_name files went (Ok wanted) → ReadOne P
-  run_read P wanted by (settings, told, ends) = go (Ok wanted) ends refl
-    where
-      go : (result : Result Outcome Stop)
-          → RunEnds seen schema_name query_name settings went.before went.after went.old went.new result
-          → result ≡ Ok wanted → ReadOne P
-      go result (refused end why quiet same) e = absurd cc
-      go result (read schema statement same_result schema_is statement_is ends) e = record {
-        schema = schema;
-        statement = statement;
-        schema_is = subst (λ (t : Option Contents). SchemaIsRead t schema_name schema) told schema_is;
-        statement_is = subst (λ (t : Option Contents). QueryIsRead t query_name schema statement) told statement_is;
-        so = by schema statement _ _ _ _ result ends e;
-      }
+  run_read P wanted by (settings, told, read schema statement result schema_is statement_is ends) = record {
+    schema = schema;
+    statement = statement;
+    schema_is = subst (λ (t : Option Contents). SchemaIsRead t schema_name schema) told schema_is;
+    statement_is = subst (λ (t : Option Contents). QueryIsRead t query_name schema statement) told statement_is;
+    so = by schema statement _ _ _ _ ends;
+  }
 
   pub run_gave : IsRun seen schema_name query_name files went (Ok Done) → ReadOne RunGave
-  run_gave = run_read RunGave Done
-      (λ schema statement firings search Ran names. gave schema statement Ran firings search names)
+  run_gave = run_read RunGave Done gave
 
   pub run_none : IsRun seen schema_name query_name files went (Ok No) → ReadOne HasNoPlan
-  run_none = run_read HasNoPlan No
-      (λ schema statement firings search Ran names. refuses schema statement Ran firings search names)
+  run_none = run_read HasNoPlan No refuses
 
   -- ---- the end of a batch
 
@@ -186,21 +147,10 @@ module _ {S : Type 0} (seen : S → Seen) (schema_name query_name : List ℕ) (f
     abbrev Parts : List Plan → List Run → List ℕ → Type 0
     Parts = AreParts (λ statement plan run. IsResult seen schema statement went.new plan run) statements
 
-    abbrev Ends : Result Outcome Stop → Type 0
-    Ends result = StatementsEnd schema statements firings search
+    abbrev AllEnd : Outcome → Type 0
+    AllEnd outcome = StatementsEnd schema statements firings search
         (ExecutesOrStops seen schema calls went.old went.new) Parts names
-        (outputs_of went.before) (outputs_of went.after) went.old went.new result
-
-    written_all : (plans : List Plan) (rose : Type 0) (r : Result (Unit {0}) Stop)
-        → Delivers (ExecutesOrStops seen schema calls went.old went.new plans)
-        (Parts plans) went.before.out went.after.out rose r → r ≡ Ok tt
-        → (runs : List Run) × (text : List ℕ) × ExecutesOrStops seen schema calls went.old went.new plans (Ok runs)
-        × Parts plans runs text
-        × TookAll went.before.out went.after.out text
-    written_all plans rose r (taken runs text ran is took) e = (runs, text, ran, is, took)
-    written_all plans rose r (no_rows end ran same) e = absurd cc
-    written_all plans rose r (no_text run ran same) e = absurd cc
-    written_all plans rose r (cut run text end ran is took why) e = absurd cc
+        (outputs_of went.before) (outputs_of went.after) went.old went.new (Ok outcome)
 
     have_plans : (list : List Statement) (told : List Told)
         → AllZip (λ statement (its : Told). IsPlanned schema statement firings search its.plan its.entries) list told
@@ -211,67 +161,47 @@ module _ {S : Type 0} (seen : S → Seen) (schema_name query_name : List ℕ) (f
     have_plans (s ∷ list) (its ∷ told) all =
         (λ none. none its.plan all.0.is.lawful all.0.is.equivalent, have_plans list told all.1)
 
-    gave_all : (result : Result Outcome Stop) → Ends result → result ≡ Ok Done → BatchGave schema statements
-    gave_all result (halted same_result halts quiet same) e = absurd (go result halts.at_it e)
+    gave_all : AllEnd Done → BatchGave schema statements
+    gave_all (halted same_result halts quiet same) = go halts.at_it
       where
-        go : (r : Result Outcome Stop)
-            → EndsAt schema firings search (length halts.front + 1) halts.statement names halts.middle
-            went.after.err halts.count.faults went.after.err_faults r → r ≡ Ok Done → ⊥
-        go r (none_for end why) e = cc
-        go r (untold_at decision middle count end decided took why) e = cc
-        go r (refuted_at text refutes took) e = cc
-        go r (undecided_at select log spent took) e = cc
-    gave_all result (stopped_all told middle count why end are_told delivers line) e = absurd cc
-    gave_all result (done_all told are_told delivers) e =
-        let (runs, text, ran, parts, all) = written_all (plans_of told) _ (Ok tt) delivers refl in
-        record {
-          told = told;
-          planned = have_plans statements told are_told.planned;
-          runs = runs;
-          long = sym (zip_length (IsRunOf seen schema (plans_of told) went.new) (plans_of told) runs ran.runs)
-              ∙ length-map told (λ (its : Told). its.plan);
-          text = text;
-          parts = parts;
-          took = all;
-        }
+        go : EndsAt schema firings search (length halts.front + 1) halts.statement names halts.middle
+            went.after.err halts.count.faults went.after.err_faults (Ok Done) → BatchGave schema statements
+        go ends = elim ends [ ]
+    gave_all (done_all told are_told (taken runs text ran parts all)) = record {
+      told = told;
+      planned = have_plans statements told are_told.planned;
+      runs = runs;
+      long = sym (zip_length (IsRunOf seen schema (plans_of told) went.new) (plans_of told) runs ran.runs)
+          ∙ length-map told (λ (its : Told). its.plan);
+      text = text;
+      parts = parts;
+      took = all;
+    }
 
-    refuses_one : (result : Result Outcome Stop) → Ends result → result ≡ Ok No → BatchRefused schema statements
-    refuses_one result (halted same_result halts quiet same) e = record {
+    refuses_one : AllEnd No → BatchRefused schema statements
+    refuses_one (halted same_result halts quiet same) = record {
       front = halts.front;
       statement = halts.statement;
       rest = halts.rest;
       all = halts.all;
-      none = go result halts.at_it e;
+      none = go halts.at_it;
     }
       where
-        go : (r : Result Outcome Stop)
-            → EndsAt schema firings search (length halts.front + 1) halts.statement names halts.middle
-            went.after.err halts.count.faults went.after.err_faults r → r ≡ Ok No → HasNoPlan schema halts.statement
-        go r (none_for end why) e = absurd cc
-        go r (untold_at decision middle count end decided took why) e = absurd cc
-        go r (refuted_at text refutes took) e = refutes.refutes.none
-        go r (undecided_at select log spent took) e = absurd cc
-    refuses_one result (stopped_all told middle count why end are_told delivers line) e = absurd cc
-    refuses_one result (done_all told are_told delivers) e = absurd cc
+        go : EndsAt schema firings search (length halts.front + 1) halts.statement names halts.middle
+            went.after.err halts.count.faults went.after.err_faults (Ok No) → HasNoPlan schema halts.statement
+        go (refuted_at text refutes took) = refutes.refutes.none
 
   batch_read : (P : Schema → List Statement → Type 0) (wanted : Outcome)
       → ((schema : Schema) (statements : List Statement) (firings search calls : ℕ) (names : Names)
-      (result : Result Outcome Stop)
-      → Ends schema statements firings search calls names result → result ≡ Ok wanted → P schema statements)
+      → AllEnd schema statements firings search calls names wanted → P schema statements)
       → IsBatch seen schema_name query_name files went (Ok wanted) → ReadAll P
-  batch_read P wanted by (limits, told, ends) = go (Ok wanted) ends refl
-    where
-      go : (result : Result Outcome Stop)
-          → BatchEnds seen schema_name query_name limits went.before went.after went.old went.new result
-          → result ≡ Ok wanted → ReadAll P
-      go result (refused_all end why quiet same) e = absurd cc
-      go result (read_all schema statements same_result schema_is are ends) e = record {
-        schema = schema;
-        statements = statements;
-        schema_is = subst (λ (t : Option Contents). SchemaIsRead t schema_name schema) told schema_is;
-        statements_are = subst (λ (t : Option Contents). BatchIsRead t query_name schema statements) told are;
-        so = by schema statements _ _ _ _ result ends e;
-      }
+  batch_read P wanted by (limits, told, read_all schema statements result schema_is are ends) = record {
+    schema = schema;
+    statements = statements;
+    schema_is = subst (λ (t : Option Contents). SchemaIsRead t schema_name schema) told schema_is;
+    statements_are = subst (λ (t : Option Contents). BatchIsRead t query_name schema statements) told are;
+    so = by schema statements _ _ _ _ ends;
+  }
 
   pub batch_gave : IsBatch seen schema_name query_name files went (Ok Done) → ReadAll BatchGave
   batch_gave = batch_read BatchGave Done gave_all
