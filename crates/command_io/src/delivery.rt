@@ -90,15 +90,7 @@ pub fn stop_of_run(fault: RunFault) -> Stop
 {
     match fault {
         RunFault::NoMemory => Stop::Memory,
-        RunFault::NoSource { rel: _ } => Stop::Run(fault),
-        RunFault::UnknownKind { rel: _ } => Stop::Run(fault),
-        RunFault::Attach { rel: _, fault: _ } => Stop::Run(fault),
-        RunFault::CallFailed { branch: _, step: _ } => Stop::Run(fault),
-        RunFault::OverCalls {
-            made: _,
-            wanted: _,
-            cap: _,
-        } => Stop::Run(fault),
+        other => Stop::Run(other),
     }
 }
 
@@ -107,16 +99,8 @@ pub fn stop_of_crawl(fault: RunFault) -> Stop
     ensures { result ≡ crawl_stop_for fault }
 {
     match fault {
-        RunFault::NoMemory => stop_of_run(fault),
-        RunFault::NoSource { rel: _ } => stop_of_run(fault),
-        RunFault::UnknownKind { rel: _ } => stop_of_run(fault),
-        RunFault::Attach { rel: _, fault: _ } => stop_of_run(fault),
         RunFault::CallFailed { branch: _, step } => Stop::RoundFailed { round: step },
-        RunFault::OverCalls {
-            made: _,
-            wanted: _,
-            cap: _,
-        } => stop_of_run(fault),
+        other => stop_of_run(other),
     }
 }
 
@@ -125,19 +109,11 @@ pub fn stop_of_batch(number: u32, fault: RunFault) -> Stop
     ensures { result ≡ batch_stop_for number fault }
 {
     match fault {
-        RunFault::NoMemory => stop_of_run(fault),
-        RunFault::NoSource { rel: _ } => stop_of_run(fault),
-        RunFault::UnknownKind { rel: _ } => stop_of_run(fault),
-        RunFault::Attach { rel: _, fault: _ } => stop_of_run(fault),
         RunFault::CallFailed { branch, step } => Stop::QueryCall {
             query: number,
             branch,
             step,
         },
-        RunFault::OverCalls {
-            made: _,
-            wanted: _,
-            cap: _,
-        } => stop_of_run(fault),
+        other => stop_of_run(other),
     }
 }
