@@ -1,0 +1,11 @@
+pub mod Firings
+pub mod Forms
+pub mod Numbers
+pub mod Instances
+pub mod Rivals
+pub mod Rests
+pub mod Pairs
+pub mod Zipped
+pub mod Products
+pub mod Possible
+pub mod Examples
