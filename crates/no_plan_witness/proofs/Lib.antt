@@ -1,6 +1,10 @@
+pub mod Apart
+pub mod Arranging
 pub mod Bisecting
+pub mod Columns
 pub mod Counting
 pub mod Occurring
+pub mod Standing
 pub mod Looking
 pub mod Taking
 pub mod Refuting

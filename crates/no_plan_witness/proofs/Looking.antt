@@ -9,28 +9,28 @@ use Rattle.std.proofs.lemmas.Map.Keys.{sorted_from_strictly_increasing, below_fr
 use Rattle.no_plan_witness.specs.Texts.{text_of}
 
 -- the text at the place of a label, where the labels ascend
-text_at : (labels : List ℕ) (texts : List (List ℕ)) (i k : ℕ) (d : List ℕ) → IsStrictlySortedBy nat_cmp labels → i < length labels → get_or labels i 0 ≡ k → length texts ≡ length labels → text_of labels texts k ≡ get_or texts i d
-text_at [] texts i k d sorted l at many = absurd (omega arith)
-text_at (label ∷ labels) [] i k d sorted l at many = absurd (omega arith)
-text_at (label ∷ labels) (text ∷ texts) zero k d sorted l at many = ⊎_elim
+text_at : (labels : List ℕ) (texts : List (List ℕ)) (other : List ℕ) (i k : ℕ) (d : List ℕ) → IsStrictlySortedBy nat_cmp labels → i < length labels → get_or labels i 0 ≡ k → length texts ≡ length labels → text_of labels texts other k ≡ get_or texts i d
+text_at [] texts other i k d sorted l at many = absurd (omega arith)
+text_at (label ∷ labels) [] other i k d sorted l at many = absurd (omega arith)
+text_at (label ∷ labels) (text ∷ texts) other zero k d sorted l at many = ⊎_elim
     (λ (same : nat_eq label k ≡ true). rw same refl)
-    (λ (other : nat_eq label k ≡ false). absurd (eqb-false label k other at))
+    (λ (apart : nat_eq label k ≡ false). absurd (eqb-false label k apart at))
     (cases_Bool (nat_eq label k))
-text_at (label ∷ labels) (text ∷ texts) (suc i) k d sorted l at many = ⊎_elim
+text_at (label ∷ labels) (text ∷ texts) other (suc i) k d sorted l at many = ⊎_elim
     (λ (same : nat_eq label k ≡ true). absurd (let e : label ≡ k = eqb-true label k same in let below : label < get_or labels i 0 = below_from_sorted (label ∷ labels) 0 (suc i) 0 sorted (omega arith) l in omega arith))
-    (λ (other : nat_eq label k ≡ false). rw other (text_at labels texts i k d (sorted_tail nat_cmp label labels sorted) (omega arith) at (omega arith)))
+    (λ (apart : nat_eq label k ≡ false). rw apart (text_at labels texts other i k d (sorted_tail nat_cmp label labels sorted) (omega arith) at (omega arith)))
     (cases_Bool (nat_eq label k))
 
-pub text_found : (labels : List ℕ) (texts : List (List ℕ)) (i k : ℕ) (d : List ℕ) → IsStrictlyIncreasing labels → i < length labels → get_or labels i 0 ≡ k → length texts ≡ length labels → text_of labels texts k ≡ get_or texts i d
-text_found labels texts i k d ascend l at many = text_at labels texts i k d (sorted_from_strictly_increasing labels ascend) l at many
+pub text_found : (labels : List ℕ) (texts : List (List ℕ)) (other : List ℕ) (i k : ℕ) (d : List ℕ) → IsStrictlyIncreasing labels → i < length labels → get_or labels i 0 ≡ k → length texts ≡ length labels → text_of labels texts other k ≡ get_or texts i d
+text_found labels texts other i k d ascend l at many = text_at labels texts other i k d (sorted_from_strictly_increasing labels ascend) l at many
 
--- the empty text, where the label is not there
-pub text_absent : (labels : List ℕ) (texts : List (List ℕ)) (k : ℕ) → ((i : ℕ) → i < length labels → get_or labels i 0 ≡ k → ⊥) → text_of labels texts k ≡ []
-text_absent [] texts k none = refl
-text_absent (label ∷ labels) [] k none = refl
-text_absent (label ∷ labels) (text ∷ texts) k none = ⊎_elim
+-- the other text, where the label is not there
+pub text_absent : (labels : List ℕ) (texts : List (List ℕ)) (other : List ℕ) (k : ℕ) → ((i : ℕ) → i < length labels → get_or labels i 0 ≡ k → ⊥) → text_of labels texts other k ≡ other
+text_absent [] texts other k none = refl
+text_absent (label ∷ labels) [] other k none = refl
+text_absent (label ∷ labels) (text ∷ texts) other k none = ⊎_elim
     (λ (same : nat_eq label k ≡ true). absurd (none 0 (omega arith) (eqb-true label k same)))
-    (λ (other : nat_eq label k ≡ false). rw other (text_absent labels texts k (λ i l e. none (suc i) (omega arith) e)))
+    (λ (apart : nat_eq label k ≡ false). rw apart (text_absent labels texts other k (λ i l e. none (suc i) (omega arith) e)))
     (cases_Bool (nat_eq label k))
 
 -- later labels are not lower
@@ -53,16 +53,16 @@ one_place labels i j ascend l m e =
     (cases_lt i j)
 
 -- what a bisection finds
-pub text_hit : (items labels : List ℕ) (texts : List (List ℕ)) (i k : ℕ) (t : List ℕ) → items ≡ labels → IsBinarySearchResult (λ y. nat_cmp y k) items (Ok i) → IsStrictlyIncreasing labels → length texts ≡ length labels → t ≡ get_or texts i t → t ≡ text_of labels texts k
-text_hit items labels texts i k t same found ascend many is =
+pub text_hit : (items labels : List ℕ) (texts : List (List ℕ)) (other : List ℕ) (i k : ℕ) (t : List ℕ) → items ≡ labels → IsBinarySearchResult (λ y. nat_cmp y k) items (Ok i) → IsStrictlyIncreasing labels → length texts ≡ length labels → t ≡ get_or texts i t → t ≡ text_of labels texts other k
+text_hit items labels texts other i k t same found ascend many is =
     let (l, at) = searched labels k (Ok i) (subst (λ l. IsBinarySearchResult (λ y. nat_cmp y k) l (Ok i)) same found) (labels_rise labels ascend) in
-    is ∙ sym (text_found labels texts i k t ascend l at many)
+    is ∙ sym (text_found labels texts other i k t ascend l at many)
 
 -- and what it misses
-pub text_missed : (items labels : List ℕ) (texts : List (List ℕ)) (i k : ℕ) → items ≡ labels → IsBinarySearchResult (λ y. nat_cmp y k) items (Err i) → IsStrictlyIncreasing labels → [] ≡ text_of labels texts k
-text_missed items labels texts i k same found ascend =
+pub text_missed : (items labels : List ℕ) (texts : List (List ℕ)) (other : List ℕ) (i k : ℕ) → items ≡ labels → IsBinarySearchResult (λ y. nat_cmp y k) items (Err i) → IsStrictlyIncreasing labels → text_of labels texts other k ≡ other
+text_missed items labels texts other i k same found ascend =
     let (l, below, above) = searched labels k (Err i) (subst (λ l. IsBinarySearchResult (λ y. nat_cmp y k) l (Err i)) same found) (labels_rise labels ascend) in
-    sym (text_absent labels texts k (λ j within at. ⊎_elim
+    text_absent labels texts other k (λ j within at. ⊎_elim
     (λ (less : j < i). let low = below j less in omega arith)
     (λ (more : i ≤ j). let high = above j more within in omega arith)
-    (cases_lt j i)))
+    (cases_lt j i))

@@ -4,7 +4,6 @@ use Rattle.std.proofs.lemmas.List.{take_all, get_or_default}
 use Rattle.std.proofs.lemmas.List.Elements.{Contains-push_cases}
 use Rattle.lists.proofs.Members.{contains_none}
 use Rattle.lists.proofs.Places.{take_indexed}
-use Rattle.lists.proofs.Booleans.{test_holds, test_fails}
 
 -- P holds of each member
 abbrev pub EachOf : {X : Type 0} → (X → Type 0) → List X → Type 0

@@ -4,10 +4,11 @@ ghost use Rattle.std.specs.List.{All};
 ghost use Rattle.meaning.specs.Instances.{IsInstance};
 ghost use Rattle.meaning.specs.Matching.{Meets};
 ghost use Rattle.meaning.specs.Answers.{Answers};
-ghost use Rattle.meaning.specs.Claims.{Refutes};
 ghost use Rattle.access_schema.specs.Meaning.{meaning_of};
+ghost use Rattle.integer_laws.specs.Sorted.{AreSortedFacts};
 ghost use Rattle.sql_conjunctive.specs.Rows.{FitsWithFew};
 ghost use Rattle.no_plan_witness.specs.Judging.{known_of, IsFirstUnmet, IsIncluded, IsFirstMissing, IsFault};
+ghost use Rattle.no_plan_witness.specs.Refuted.{RefutesSorted};
 
 use crate::accessible::{accessible_part, has};
 use crate::fault::{Which, WitnessFault};
@@ -33,7 +34,9 @@ pub fn check_witness(
     requires statement { All (FitsWithFew (meaning_of schema.now)) statement.now.selects }
     requires first { IsInstance (meaning_of schema.now) pair.now.first }
     requires second { IsInstance (meaning_of schema.now) pair.now.second }
-    ensures ok { OnOk result (Refutes (meaning_of schema.now) (known_of schema.now statement.now) statement.now pair.now.first pair.now.second pair.now.answer) }
+    requires first_sorted { AreSortedFacts (meaning_of schema.now) pair.now.first }
+    requires second_sorted { AreSortedFacts (meaning_of schema.now) pair.now.second }
+    ensures ok { OnOk result (RefutesSorted (meaning_of schema.now) (known_of schema.now statement.now) statement.now pair.now.first pair.now.second pair.now.answer) }
     ensures fault { IfErr result (IsFault (meaning_of schema.now) (known_of schema.now statement.now) statement.now pair.now) }
 {
     if let Some(rule) = first_unmet(alloc, schema, &pair.first)? {

@@ -1,47 +1,94 @@
 // Texts for labels.
-ghost use Rattle.std.specs.Prelude.{◌≡◌, ◌++◌, IfOk, map};
+ghost use Rattle.std.specs.Prelude.{◌≡◌, ◌++◌, IfOk, IfSome, IfNone, ℕ, List, Contains, map, length};
 ghost use Rattle.meaning.specs.Homomorphisms.{image, fact_of, renamed};
-ghost use Rattle.no_plan_witness.specs.Texts.{text_under, AreNamesFor};
+ghost use Rattle.std.specs.List.Sorted.{IsStrictlyIncreasing};
+ghost use Rattle.access_schema.specs.Meaning.{meaning_of};
+ghost use Rattle.no_plan_witness.specs.Texts.{text_in, text_under, AreFirstFree, AreNamesFor};
 
 use crate::free_texts::free_texts;
-use crate::labels::labels_of;
+use crate::labels::{integers_of, labels_of, others_of};
+use access_schema::Schema;
 use lists::{Copies, NoMemory, Row, Seq, Text, Texts};
-use meaning::types::{Fact, Ground, Instance, Val};
+use meaning::types::{Fact, Ground, Instance, Sort, Val};
 use std::alloc::Global;
 use std::marker::Model;
 
 /// Labels in ascending order, with a text for each. Contracts see both lists.
 #[derive(Drop)]
-pub struct Naming {
+struct Column {
     labels: Vec<u32>,
     texts: Vec<Text>,
 }
 
-impl Model for Naming {
+impl Model for Column {
     ghost use Rattle.std.specs.Prelude.{◌≡◌, length};
     ghost use Rattle.std.specs.List.Sorted.{IsStrictlyIncreasing};
+    ghost use Rattle.no_plan_witness.specs.Texts.{Column as ColumnOf};
+
+    ghost Value = { ColumnOf };
+
+    ghost view = { λ c. record { labels = c.labels.items; texts = c.texts.items } };
+
+    ghost invariant = { λ c. IsStrictlyIncreasing c.labels.items × (length c.texts.items ≡ length c.labels.items) };
+}
+
+impl Column {
+    // The first free texts of the sort for labels that ascend.
+    fn new(alloc: Global, sort: Sort, known: &Texts, labels: Vec<u32>) -> Result<Column, NoMemory>
+        requires { IsStrictlyIncreasing labels.items }
+        ensures labels { IfOk result (λ column. column.labels ≡ labels.items) }
+        ensures texts { IfOk result (λ column. AreFirstFree sort known.now column.texts) }
+        ensures as_many { IfOk result (λ column. length column.texts ≡ length column.labels) }
+    {
+        let texts = free_texts(alloc, sort, known, labels.as_slice())?;
+        Ok(Column { labels, texts })
+    }
+
+    // The text of a label, if it is one of the labels.
+    fn text(&self, label: u32) -> Option<&Text>
+        ensures some { IfSome result (λ text. (other : List ℕ) → text.now ≡ text_in self.now other label) }
+        ensures none { IfNone result ((other : List ℕ) → text_in self.now other label ≡ other) }
+    {
+        match self.labels.as_slice().binary_search(&label) {
+            Ok(place) => Some(&self.texts[place]),
+            Err(_) => None,
+        }
+    }
+}
+
+/// A text for each label of facts. Contracts see the names that it is.
+#[derive(Drop)]
+pub struct Naming {
+    integers: Column,
+    others: Column,
+}
+
+impl Model for Naming {
     ghost use Rattle.no_plan_witness.specs.Texts.{Names};
 
     ghost Value = { Names };
 
-    ghost view = { λ n. record { labels = n.labels.items; texts = n.texts.items } };
-
-    ghost invariant = { λ n. IsStrictlyIncreasing n.labels.items × (length n.texts.items ≡ length n.labels.items) };
+    ghost view = { λ n. record { integers = n.integers; others = n.others } };
 }
 
 impl Naming {
     /// The texts for the labels that occur in the first or in the second facts.
     pub fn new(
         alloc: Global,
+        schema: &Schema,
         first: &[Ground],
         second: &[Ground],
         known: &Texts,
     ) -> Result<Naming, NoMemory>
-        ensures { IfOk result (λ naming. AreNamesFor known.now (first.now ++ second.now) naming) }
+        ensures { IfOk result (λ naming. AreNamesFor (meaning_of schema.now) known.now (first.now ++ second.now) naming) }
     {
         let labels = labels_of(alloc, first, second)?;
-        let texts = free_texts(alloc, known, labels.as_slice())?;
-        Ok(Naming { labels, texts })
+        let integers = integers_of(alloc, schema, first, second)?;
+        let others = others_of(alloc, labels.as_slice(), integers.as_slice())?;
+        Ok(Naming {
+            integers: Column::new(alloc, Sort::Int, known, integers)?,
+            others: Column::new(alloc, Sort::Text, known, others)?,
+        })
     }
 
     /// The instance of the facts with the texts of their labels.
@@ -87,9 +134,12 @@ impl Naming {
     fn text(&self, alloc: Global, label: u32) -> Result<Text, NoMemory>
         ensures { IfOk result (λ text. text ≡ text_under self.now label) }
     {
-        match self.labels.as_slice().binary_search(&label) {
-            Ok(place) => self.texts[place].copy(alloc),
-            Err(_) => Text::from_str(alloc, ""),
+        if let Some(text) = self.integers.text(label) {
+            return text.copy(alloc);
+        }
+        match self.others.text(label) {
+            Some(text) => text.copy(alloc),
+            None => Text::from_str(alloc, ""),
         }
     }
 }

@@ -62,21 +62,21 @@ module _ (schema : SchemaParts) (known : List Value) (rules : RulesFit schema kn
           by a are term inside is
 
   module _ (triables : AreTriable schema known others) (quiet : IsQuiet schema.rules end) (missing : SomeHas end.facts others (frozen_head query) → ⊥)
-      (instance : List Fact) (row : Row) (is : IsNamedEnd known end.facts (frozen_head query) instance row) where
+      (instance : List Fact) (row : Row) (is : IsNamedEnd schema known end.facts (frozen_head query) instance row) where
     h : ℕ → Value
-    h = named known (end.facts ++ []) is.names is.named
+    h = named schema known (end.facts ++ []) is.names is.named
 
     naming : IsNaming known end.next h
     unfolding h
-    naming = is_naming known (end.facts ++ []) is.names is.named end.next
+    naming = is_naming schema known (end.facts ++ []) is.names is.named end.next
 
     facts_are : renamed h end.facts ≡ instance
     unfolding h
-    facts_are = same_facts known (end.facts ++ []) is.names is.named end.facts (λ fact c. Contains-append_left end.facts [] fact c) ∙ sym is.instance_is
+    facts_are = same_facts schema known (end.facts ++ []) is.names is.named end.facts (λ fact c. Contains-append_left end.facts [] fact c) ∙ sym is.instance_is
 
     row_is : map (image h) (frozen_head query) ≡ row
     unfolding h
-    row_is = same_head known (end.facts ++ []) is.names is.named (frozen_head query) (λ k c. more_labels end.facts [] k (head_occurs k c)) ∙ sym is.row_is
+    row_is = same_head schema known (end.facts ++ []) is.names is.named (frozen_head query) (λ k c. more_labels end.facts [] k (head_occurs k c)) ∙ sym is.row_is
 
     both : IsModel schema (renamed h end.facts) × AnswersQuery query (renamed h end.facts) (map (image h) (frozen_head query))
     both =

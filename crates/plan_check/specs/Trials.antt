@@ -95,9 +95,9 @@ pub record IsChase (schema : SchemaParts) (start : State) (firings : ℕ) (chase
   pub stopped : StoppedAs schema firings chase.state chase.log chase.stopped
 
 -- The instance and the row are those of the facts and the head, with the texts of the labels.
-pub record IsNamedEnd (known : List Value) (facts : List Ground) (head : List Val) (instance : List Fact) (row : Row) : Type 0 where
+pub record IsNamedEnd (schema : SchemaParts) (known : List Value) (facts : List Ground) (head : List Val) (instance : List Fact) (row : Row) : Type 0 where
   pub names : Names
-  pub named : AreNamesFor known (facts ++ []) names
+  pub named : AreNamesFor schema known (facts ++ []) names
   pub instance_is : instance ≡ renamed (text_under names) facts
   pub row_is : row ≡ map (image (text_under names)) head
 

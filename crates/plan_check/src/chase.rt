@@ -59,18 +59,20 @@ pub fn chase_from(
     })
 }
 
-/// The facts of the store as an instance, and the head as a row, with texts in place of the labels: in ascending order, each label takes
-/// the next of `_1`, `_2`, `_3` and so on that is not a known constant.
+/// The facts of the store as an instance, and the head as a row, with texts in place of the labels. In ascending order, each label that
+/// stands at an integer column takes the next of `1`, `2`, `3` and so on that is not a known constant, and each other label the next of `_1`,
+/// `_2`, `_3` and so on.
 pub fn named_end(
     alloc: Global,
+    schema: &Schema,
     store: &Store,
     head: &[Val],
     known: &Texts,
 ) -> Result<(Instance, Row), NoMemory>
-    ensures { IfOk result (λ named. IsNamedEnd known.now store.now head.now named.0 named.1) }
+    ensures { IfOk result (λ named. IsNamedEnd (meaning_of schema.now) known.now store.now head.now named.0 named.1) }
 {
     let facts = copied_facts(alloc, store)?;
-    let naming = Naming::new(alloc, facts.as_slice(), &[], known)?;
+    let naming = Naming::new(alloc, schema, facts.as_slice(), &[], known)?;
     let instance = naming.instance(alloc, facts.as_slice())?;
     let row = naming.row(alloc, head)?;
     Ok((instance, row))

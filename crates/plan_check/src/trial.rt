@@ -164,7 +164,13 @@ fn shown_by(
     match stopped {
         Stopped::Ended => {
             let head = frozen_values(alloc, query.head.as_slice())?;
-            let (instance, row) = named_end(alloc, state.store(), head.as_slice(), trial.known)?;
+            let (instance, row) = named_end(
+                alloc,
+                trial.schema,
+                state.store(),
+                head.as_slice(),
+                trial.known,
+            )?;
             Ok(Outcome::Separated(instance, row))
         }
         Stopped::Spent => Ok(Outcome::Spent(log)),

@@ -81,11 +81,11 @@ module _ (question : Question) (is : IsQuestion question) where
   -- the pair of a proof in which nothing is active and that has no goal
   refuting : (end : Proof) (pair : Witness) → IsKept (meaning_of question.schema.now) question.known.now question.query.now end →
       IsStuck (meaning_of question.schema.now) question.known.now question.queries.now end (frozen_head question.query.now) →
-      IsWitnessOf question.known.now end.base end.copy question.head.now pair → IsRefutedOn question pair
+      IsWitnessOf (meaning_of question.schema.now) question.known.now end.base end.copy question.head.now pair → IsRefutedOn question pair
   refuting end pair kept stuck of_end =
       let query = question.query.now in
-      let its : IsWitnessOf question.known.now end.base end.copy (frozen_head query) pair =
-      subst (λ vals. IsWitnessOf question.known.now end.base end.copy vals pair) is.head of_end in
+      let its : IsWitnessOf (meaning_of question.schema.now) question.known.now end.base end.copy (frozen_head query) pair =
+      subst (λ vals. IsWitnessOf (meaning_of question.schema.now) question.known.now end.base end.copy vals pair) is.head of_end in
       record {
         refutes = λ statement stand.
             stuck_refutes (meaning_of question.schema.now) question.known.now statement question.queries.now query end pair rules stand is.among
@@ -98,7 +98,7 @@ module _ (question : Question) (is : IsQuestion question) where
   -- that of the query's proof
   pub stuck_pair : (proof : Proving) → IsSearchFor question proof →
       (HasGoal question.queries.now proof.end question.head.now → ⊥) → IsAllQuiet (meaning_of question.schema.now) proof →
-      (pair : Witness) → IsWitnessOf question.known.now proof.end.base proof.end.copy question.head.now pair → IsRefutedOn question pair
+      (pair : Witness) → IsWitnessOf (meaning_of question.schema.now) question.known.now proof.end.base proof.end.copy question.head.now pair → IsRefutedOn question pair
   stuck_pair proof search none quiet pair of_end =
       let schema = meaning_of question.schema.now in
       let its = is.queries question.query.now is.among in
@@ -154,7 +154,7 @@ module _ (question : Question) (is : IsQuestion question) where
       IsClosing (meaning_of question.schema.now) end.copy end.next state →
       ((query : Query) → Contains question.queries.now query →
       IsQueryAnswer Const (GroundsOf state.facts) query question.head.now → ⊥) →
-      IsWitnessOf question.known.now end.base state.facts question.head.now pair → IsRefutedOn question pair
+      IsWitnessOf (meaning_of question.schema.now) question.known.now end.base state.facts question.head.now pair → IsRefutedOn question pair
   closing_pair end state pair exhausted closing none of_pair =
       refuting (placed end state) pair (kept_placed end state exhausted closing) (stuck_placed end state exhausted closing none) of_pair
 

@@ -201,7 +201,7 @@ fn without_goal(
     ensures { IfOk result (IsOutcomeOn question.now) }
 {
     if quiet {
-        let pair = witness(alloc, proof, question.known, question.head)?;
+        let pair = witness(alloc, question.schema, proof, question.known, question.head)?;
         return Ok(QueryOutcome::Stuck(pair));
     }
     if let Some(pair) = refuted(alloc, question)? {

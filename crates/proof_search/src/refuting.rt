@@ -120,6 +120,7 @@ fn refuted_beside(
     let closed = facts_of(alloc, state.store())?;
     let pair = named_pair(
         alloc,
+        question.schema,
         base.as_slice(),
         closed.as_slice(),
         question.known,

@@ -28,7 +28,7 @@ returns-in-Ended c =
     let missing : SomeHas end.facts c.args.trial.now.others.now (frozen_head c.args.query.now) → ⊥ =
     rw c.store.ensures at (c.in_ok-found.ensures.no c.if-found.false) in
     let quiet : IsQuiet c.args.trial.now.schema.now.rules end = rw c.in-Ended.is at c.requires.chase.stopped in
-    let named : IsNamedEnd c.args.trial.now.known.now end.facts (frozen_head c.args.query.now) c.in_ok-instance-in-Ended.instance c.in_ok-instance-in-Ended.row =
+    let named : IsNamedEnd schema c.args.trial.now.known.now end.facts (frozen_head c.args.query.now) c.in_ok-instance-in-Ended.instance c.in_ok-instance-in-Ended.row =
     rw (c.store-in-Ended.ensures, c.as_slice-in-Ended.ensures.value, c.in_ok-head-in-Ended.ensures, c.as_slice.ensures) at c.in_ok-instance-in-Ended.ensures in
     is_separated schema c.args.trial.now.known.now (rules_fit c.args.trial.now.schema.now c.args.trial.now.known.now c.requires.trial.known) c.args.query.now c.requires.query c.args.trial.now.others.now c.args.chased.log end
     (run_fires c.args.trial.now.schema.now.rules c.args.chased.log (opening_state c.args.query.now) end c.requires.chase.run)
