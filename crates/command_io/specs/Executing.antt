@@ -27,6 +27,7 @@ stop_of_run (fault.UnknownKind rel) = stop.Run (fault.UnknownKind rel)
 stop_of_run (fault.Attach rel why) = stop.Run (fault.Attach rel why)
 stop_of_run (fault.CallFailed branch step) = stop.Run (fault.CallFailed branch step)
 stop_of_run (fault.OverCalls made wanted cap) = stop.Run (fault.OverCalls made wanted cap)
+stop_of_run (fault.BadNumber rel column) = stop.Run (fault.BadNumber rel column)
 
 -- How a fault of a crawl stops a command: a failed call is named by its round.
 abbrev pub stop_of_crawl : RunFault → Stop

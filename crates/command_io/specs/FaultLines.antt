@@ -45,12 +45,12 @@ memory_line = codes "out of memory\n"
 abbrev pub write_line : List ℕ
 write_line = codes "write failed\n"
 
--- What is wrong with a file.
-abbrev pub file_line : FileFault → List ℕ
-file_line file.Missing = codes ": missing\n"
-file_line file.TooLarge = codes ": too large\n"
-file_line file.Failed = codes ": failed\n"
-file_line file.NoMemory = memory_line
+-- The line of a file that is not read.
+abbrev pub file_line : List ℕ → FileFault → List ℕ
+file_line name file.Missing = codes "read " ++ name ++ codes ": missing\n"
+file_line name file.TooLarge = codes "read " ++ name ++ codes ": too large\n"
+file_line name file.Failed = codes "read " ++ name ++ codes ": failed\n"
+file_line name file.NoMemory = memory_line
 
 -- The name of a limit.
 abbrev pub limit_name : Limit → List ℕ
@@ -151,6 +151,8 @@ run_line relations (run.Attach rel fault) = codes "source " ++ relation_name rel
 run_line relations (run.CallFailed branch step) = call_text branch step
 run_line relations (run.OverCalls made wanted cap) =
     codes "call cap: " ++ decimal made ++ codes " made, " ++ decimal wanted ++ codes " wanted, cap " ++ decimal cap ++ codes "\n"
+run_line relations (run.BadNumber rel column) = codes "source " ++ relation_name relations rel ++ codes ": bad number for "
+    ++ column_in (slice_get relations rel) column ++ codes "\n"
 
 -- The line of a failed call of a round; rounds count from 1 in print.
 abbrev pub round_line : ℕ → List ℕ
@@ -164,7 +166,7 @@ query_call_line query branch step = codes "query " ++ decimal (query + 1) ++ cod
 abbrev pub fault_line : Names → Stop → List ℕ
 fault_line names stop.Memory = memory_line
 fault_line names stop.Words = codes "words: not understood\n"
-fault_line names (stop.File input fault) = codes "read " ++ file_name names input ++ file_line fault
+fault_line names (stop.File input fault) = file_line (file_name names input) fault
 fault_line names (stop.Schema fault) = schema_line fault
 fault_line names (stop.Query fault) = query_line fault
 fault_line names (stop.Plan fault) = plan_line fault

@@ -40,7 +40,7 @@ attach_status (attach.NotUtf8 number) = is.Text
 attach_status attach.TooLarge = is.Text
 attach_status attach.NoMemory = is.Memory
 
--- A failed request is a fault of the outside; a source line that is not there is one of the schema's text.
+-- A failed request is a fault of the outside, a source line that is not there one of the schema's text, and a bad number one of the data.
 abbrev pub run_status : RunFault → Status
 run_status run.NoMemory = is.Memory
 run_status (run.NoSource rel) = is.Text
@@ -48,6 +48,7 @@ run_status (run.UnknownKind rel) = is.Text
 run_status (run.Attach rel fault) = attach_status fault
 run_status (run.CallFailed branch step) = is.Fault
 run_status (run.OverCalls made wanted cap) = is.Cap
+run_status (run.BadNumber rel column) = is.Text
 
 -- The status of each stop.
 abbrev pub status_of : Stop → Status

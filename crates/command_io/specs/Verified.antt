@@ -5,9 +5,9 @@ use Rattle.access_schema.specs.declared.schema.Schema.{Schema}
 use Rattle.source_trait.specs.Asking.{Seen}
 use Rattle.source_trait.specs.declared.lanes.Lane.{Lane}
 use Rattle.middleware.specs.declared.fault.Run.{Run}
+use Rattle.middleware.specs.declared.fault.RunFault.TheVariants as run
 use Rattle.data_verify.specs.Telling.{verification_text}
 use Rattle.rule_rows.specs.Executing.{RunsVerified}
-use Rattle.rule_rows.specs.declared.fault.WholeFault.{WholeFault}
 use Rattle.rule_rows.specs.declared.fault.WholeFault.TheVariants as whole
 use Rattle.rule_rows.specs.declared.fault.VerifyFault.{VerifyFault}
 use Rattle.rule_rows.specs.declared.fault.VerifyFault.TheVariants as verify
@@ -22,6 +22,7 @@ abbrev pub stop_of_verify : VerifyFault → Stop
 stop_of_verify (verify.NotAttached why) = stop_of_run why
 stop_of_verify (verify.NotAsked whole.NoMemory) = stop.Memory
 stop_of_verify (verify.NotAsked (whole.CallFailed rel)) = stop.WholeFailed rel
+stop_of_verify (verify.NotAsked (whole.BadNumber rel column)) = stop.Run (run.BadNumber rel column)
 
 -- What stops a command of which this became: a broken rule does so with its line, or there was no memory for that.
 abbrev pub IsVerifiedStop : Schema → VerifiedFault → Stop → Type 0

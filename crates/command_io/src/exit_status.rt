@@ -12,7 +12,7 @@ pub enum Status {
     Undecided,
     /// The words are no command.
     Words,
-    /// A text or a data file is faulty, or the schema names no source that is there.
+    /// A text, a data file or a number in the rows of a source is faulty, or the schema names no source that is there.
     Text,
     /// A file or a source is missing or failed.
     Fault,

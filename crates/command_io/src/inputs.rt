@@ -51,10 +51,7 @@ pub fn schema_of<F: Files>(alloc: Global, files: &mut F, name: &Text) -> Result<
     ensures later { F.faults files.old ≤ F.faults files.new }
     ensures same { F.contents files.new ≡ F.contents files.old }
 {
-    let bytes = match read_file(alloc, files, name, SCHEMA_LIMIT, Input::Schema) {
-        Ok(bytes) => bytes,
-        Err(stop) => return Err(stop),
-    };
+    let bytes = read_file(alloc, files, name, SCHEMA_LIMIT, Input::Schema)?;
     match read_schema(alloc, without_mark(bytes.as_slice())) {
         Ok(schema) => Ok(schema),
         Err(fault) => match fault {
@@ -77,10 +74,7 @@ pub fn statement_of<F: Files>(
     ensures later { F.faults files.old ≤ F.faults files.new }
     ensures same { F.contents files.new ≡ F.contents files.old }
 {
-    let bytes = match read_file(alloc, files, name, QUERY_LIMIT, Input::Query) {
-        Ok(bytes) => bytes,
-        Err(stop) => return Err(stop),
-    };
+    let bytes = read_file(alloc, files, name, QUERY_LIMIT, Input::Query)?;
     match read_select(alloc, without_mark(bytes.as_slice()), schema) {
         Ok(statement) => Ok(statement),
         Err(fault) => match fault {
@@ -104,10 +98,7 @@ pub fn statements_of<F: Files>(
     ensures later { F.faults files.old ≤ F.faults files.new }
     ensures same { F.contents files.new ≡ F.contents files.old }
 {
-    let bytes = match read_file(alloc, files, name, QUERY_LIMIT, Input::Query) {
-        Ok(bytes) => bytes,
-        Err(stop) => return Err(stop),
-    };
+    let bytes = read_file(alloc, files, name, QUERY_LIMIT, Input::Query)?;
     match read_batch(alloc, without_mark(bytes.as_slice()), schema) {
         Ok(statements) => Ok(statements),
         Err(fault) => match fault {
@@ -131,14 +122,9 @@ pub fn read_texts<F: Files>(
     ensures later { F.faults files.old ≤ F.faults files.new }
     ensures same { F.contents files.new ≡ F.contents files.old }
 {
-    let schema = match schema_of(alloc, files, schema_name) {
-        Ok(schema) => schema,
-        Err(stop) => return Err(stop),
-    };
-    match statement_of(alloc, files, query_name, &schema) {
-        Ok(statement) => Ok((schema, statement)),
-        Err(stop) => Err(stop),
-    }
+    let schema = schema_of(alloc, files, schema_name)?;
+    let statement = statement_of(alloc, files, query_name, &schema)?;
+    Ok((schema, statement))
 }
 
 /// The plan that the file's text is.
@@ -149,10 +135,7 @@ pub fn plan_of_file<F: Files>(alloc: Global, files: &mut F, name: &Text) -> Resu
     ensures later { F.faults files.old ≤ F.faults files.new }
     ensures same { F.contents files.new ≡ F.contents files.old }
 {
-    let bytes = match read_file(alloc, files, name, PLAN_LIMIT, Input::Plan) {
-        Ok(bytes) => bytes,
-        Err(stop) => return Err(stop),
-    };
+    let bytes = read_file(alloc, files, name, PLAN_LIMIT, Input::Plan)?;
     match read_plan(alloc, without_mark(bytes.as_slice())) {
         Ok(plan) => Ok(plan),
         Err(fault) => match fault {
@@ -178,18 +161,9 @@ fn read_file<F: Files>(
 {
     match files.read(alloc, name, limit) {
         Ok(bytes) => Ok(bytes),
-        Err(FileFault::NoMemory) => Err(Stop::Memory),
-        Err(FileFault::Missing) => Err(Stop::File {
-            input,
-            fault: FileFault::Missing,
-        }),
-        Err(FileFault::TooLarge) => Err(Stop::File {
-            input,
-            fault: FileFault::TooLarge,
-        }),
-        Err(FileFault::Failed) => Err(Stop::File {
-            input,
-            fault: FileFault::Failed,
-        }),
+        Err(fault) => match fault {
+            FileFault::NoMemory => Err(Stop::Memory),
+            fault => Err(Stop::File { input, fault }),
+        },
     }
 }

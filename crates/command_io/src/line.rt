@@ -76,17 +76,22 @@ fn named<'a>(input: Input, files: FileNames<'a>) -> &'a str
 }
 
 fn file_line(alloc: Global, name: &str, fault: FileFault) -> Result<Vec<u8>, AllocError>
-    ensures { IfOk result (λ line. line.items ≡ codes "read " ++ name.now ++ line_of_file fault) }
+    ensures { IfOk result (λ line. line.items ≡ line_of_file name.now fault) }
 {
-    let rest: &[u8] = match fault {
-        FileFault::Missing => b": missing\n",
-        FileFault::TooLarge => b": too large\n",
-        FileFault::Failed => b": failed\n",
-        FileFault::NoMemory => b"out of memory\n",
-    };
-    let mut line = Vec::new(alloc);
-    line.extend_from_slice(b"read ")?;
+    match fault {
+        FileFault::Missing => read_line(alloc, name, b": missing\n"),
+        FileFault::TooLarge => read_line(alloc, name, b": too large\n"),
+        FileFault::Failed => read_line(alloc, name, b": failed\n"),
+        FileFault::NoMemory => plain(alloc, b"out of memory\n"),
+    }
+}
+
+// What became of reading the file of this name.
+fn read_line(alloc: Global, name: &str, what: &[u8]) -> Result<Vec<u8>, AllocError>
+    ensures { IfOk result (λ line. line.items ≡ codes "read " ++ name.now ++ what.now) }
+{
+    let mut line = plain(alloc, b"read ")?;
     line.extend_from_slice(name.as_bytes())?;
-    line.extend_from_slice(rest)?;
+    line.extend_from_slice(what)?;
     Ok(line)
 }

@@ -4,7 +4,7 @@ ghost use Rattle.std.specs.Fmt.{decimal};
 ghost use Rattle.command_io.specs.FaultLines.{query_line as line_of_query, lex_line as line_of_lex, limit_name};
 
 use crate::line::plain;
-use crate::schema_lines::{number_line, push_over};
+use crate::schema_lines::{byte_line, push_over};
 use access_schema::Limit;
 use lists::Text;
 use pq_text::{LexFault, print_number};
@@ -17,45 +17,27 @@ pub fn query_line(alloc: Global, fault: &SqlFault) -> Result<Vec<u8>, AllocError
 {
     match fault {
         SqlFault::NoMemory => plain(alloc, b"out of memory\n"),
-        SqlFault::NotUtf8 { offset } => number_line(
-            alloc,
-            b"query: not UTF-8 at byte ",
-            *offset,
-            b"\n",
-        ),
-        SqlFault::Syntax { offset } => number_line(
-            alloc,
-            b"query: syntax at byte ",
-            *offset,
-            b"\n",
-        ),
+        SqlFault::NotUtf8 { offset } => byte_line(alloc, b"query: not UTF-8 at byte ", *offset),
+        SqlFault::Syntax { offset } => byte_line(alloc, b"query: syntax at byte ", *offset),
         SqlFault::Unsupported { word, offset } => unsupported_line(alloc, word, *offset),
-        SqlFault::UnknownName { offset } => number_line(
+        SqlFault::UnknownName { offset } => byte_line(
             alloc,
             b"query: unknown name at byte ",
             *offset,
-            b"\n",
         ),
-        SqlFault::Ambiguous { offset } => number_line(
+        SqlFault::Ambiguous { offset } => byte_line(
             alloc,
             b"query: ambiguous name at byte ",
             *offset,
-            b"\n",
         ),
-        SqlFault::WrongWidth { offset } => number_line(
+        SqlFault::WrongWidth { offset } => byte_line(
             alloc,
             b"query: wrong width at byte ",
             *offset,
-            b"\n",
         ),
         SqlFault::OverLimit(limit) => limit_line(alloc, *limit),
         SqlFault::Lex(fault) => lex_line(alloc, *fault),
-        SqlFault::WrongSort { offset } => number_line(
-            alloc,
-            b"query: wrong sort at byte ",
-            *offset,
-            b"\n",
-        ),
+        SqlFault::WrongSort { offset } => byte_line(alloc, b"query: wrong sort at byte ", *offset),
     }
 }
 
@@ -84,17 +66,7 @@ fn lex_line(alloc: Global, fault: LexFault) -> Result<Vec<u8>, AllocError>
 {
     match fault {
         LexFault::NoMemory => plain(alloc, b"out of memory\n"),
-        LexFault::BadByte { offset } => number_line(
-            alloc,
-            b"query: bad byte at byte ",
-            offset,
-            b"\n",
-        ),
-        LexFault::OpenQuote { offset } => number_line(
-            alloc,
-            b"query: open quote at byte ",
-            offset,
-            b"\n",
-        ),
+        LexFault::BadByte { offset } => byte_line(alloc, b"query: bad byte at byte ", offset),
+        LexFault::OpenQuote { offset } => byte_line(alloc, b"query: open quote at byte ", offset),
     }
 }

@@ -16,12 +16,7 @@ pub fn schema_line(alloc: Global, fault: ReadFault) -> Result<Vec<u8>, AllocErro
 {
     match fault {
         ReadFault::NoMemory => plain(alloc, b"out of memory\n"),
-        ReadFault::NotUtf8 { offset } => number_line(
-            alloc,
-            b"schema: not UTF-8 at byte ",
-            offset,
-            b"\n",
-        ),
+        ReadFault::NotUtf8 { offset } => byte_line(alloc, b"schema: not UTF-8 at byte ", offset),
         ReadFault::Line { line } => number_line(
             alloc,
             b"schema: line ",
@@ -38,12 +33,7 @@ pub fn plan_line(alloc: Global, fault: PlanReadFault) -> Result<Vec<u8>, AllocEr
 {
     match fault {
         PlanReadFault::NoMemory => plain(alloc, b"out of memory\n"),
-        PlanReadFault::NotUtf8 { offset } => number_line(
-            alloc,
-            b"plan: not UTF-8 at byte ",
-            offset,
-            b"\n",
-        ),
+        PlanReadFault::NotUtf8 { offset } => byte_line(alloc, b"plan: not UTF-8 at byte ", offset),
         PlanReadFault::Line { line } => number_line(
             alloc,
             b"plan: line ",
@@ -51,6 +41,13 @@ pub fn plan_line(alloc: Global, fault: PlanReadFault) -> Result<Vec<u8>, AllocEr
             b" does not fit\n",
         ),
     }
+}
+
+/// A line that ends with the number of a byte.
+pub fn byte_line(alloc: Global, first: &[u8], offset: u32) -> Result<Vec<u8>, AllocError>
+    ensures { IfOk result (λ text. text.items ≡ first.now ++ decimal offset ++ codes "\n") }
+{
+    number_line(alloc, first, offset, b"\n")
 }
 
 /// A line with a number between two texts.

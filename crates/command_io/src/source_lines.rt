@@ -38,6 +38,7 @@ pub fn run_line(
         RunFault::Attach { rel, fault } => data_line(alloc, relations, rel, fault),
         RunFault::CallFailed { branch, step } => call_line(alloc, branch, step),
         RunFault::OverCalls { made, wanted, cap } => cap_line(alloc, made, wanted, cap),
+        RunFault::BadNumber { rel, column } => bad_number_line(alloc, relations, rel, column),
     }
 }
 
@@ -96,7 +97,12 @@ fn push_attach(
     match fault {
         AttachFault::Missing => line.extend_from_slice(b": missing\n"),
         AttachFault::Failed => line.extend_from_slice(b": failed\n"),
-        AttachFault::BadHeader { column } => push_header(line, relation, column),
+        AttachFault::BadHeader { column } => push_for_column(
+            line,
+            b": bad header for ",
+            relation,
+            column,
+        ),
         AttachFault::BadRow { number } => push_row(line, b": bad row ", number),
         AttachFault::NotUtf8 { number } => push_row(line, b": not UTF-8 in row ", number),
         AttachFault::TooLarge => line.extend_from_slice(b": too large\n"),
@@ -112,14 +118,16 @@ fn push_row(line: &mut Vec<u8>, what: &[u8], number: u32) -> Result<(), AllocErr
     line.extend_from_slice(b"\n")
 }
 
-fn push_header(
+// A text with the name of a column behind it, and the line feed.
+fn push_for_column(
     line: &mut Vec<u8>,
+    what: &[u8],
     relation: Option<&Relation>,
     column: u32,
 ) -> Result<(), AllocError>
-    ensures { OnOk result (line.new.items ≡ line.old.items ++ (codes ": bad header for " ++ column_in (option_copied relation.entry) column ++ codes "\n")) }
+    ensures { OnOk result (line.new.items ≡ line.old.items ++ (what.now ++ column_in (option_copied relation.entry) column ++ codes "\n")) }
 {
-    line.extend_from_slice(b": bad header for ")?;
+    line.extend_from_slice(what)?;
     push_column(line, relation, column)?;
     line.extend_from_slice(b"\n")
 }
@@ -144,6 +152,25 @@ fn column_name(columns: &Texts, column: u32) -> Option<&Text>
     ensures { option_copied result ≡ slice_get columns.now column }
 {
     columns.get(column as usize)
+}
+
+fn bad_number_line(
+    alloc: Global,
+    relations: &[Relation],
+    rel: u32,
+    column: u32,
+) -> Result<Vec<u8>, AllocError>
+    ensures { IfOk result (λ line. line.items ≡ codes "source " ++ relation_name relations.now rel ++ codes ": bad number for "
+        ++ column_in (slice_get relations.now rel) column ++ codes "\n") }
+{
+    let mut line = relation_line(alloc, b"source ", relations, rel, b"")?;
+    push_for_column(
+        &mut line,
+        b": bad number for ",
+        relation(relations, rel),
+        column,
+    )?;
+    Ok(line)
 }
 
 // A failed call, and the line feed.

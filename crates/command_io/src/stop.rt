@@ -116,5 +116,6 @@ fn run_status(fault: RunFault) -> Status
             wanted: _,
             cap: _,
         } => Status::Cap,
+        RunFault::BadNumber { rel: _, column: _ } => Status::Text,
     }
 }

@@ -15,6 +15,7 @@ use crate::stop::Stop;
 use access_schema::Schema;
 use data_verify::{Broken, verification_text};
 use meaning::types::Plan;
+use middleware::RunFault;
 use rule_rows::{VerifiedFault, VerifyFault, WholeFault, execute_verified};
 use source_trait::{Lane, Sink, Source};
 use std::alloc::Global;
@@ -54,6 +55,9 @@ pub fn stop_of_verify(fault: VerifyFault) -> Stop
         VerifyFault::NotAttached(fault) => stop_of_run(fault),
         VerifyFault::NotAsked(WholeFault::NoMemory) => Stop::Memory,
         VerifyFault::NotAsked(WholeFault::CallFailed { rel }) => Stop::WholeFailed { rel },
+        VerifyFault::NotAsked(WholeFault::BadNumber { rel, column }) => {
+            Stop::Run(RunFault::BadNumber { rel, column })
+        }
     }
 }
 

@@ -14,10 +14,8 @@ pub fn write_all<K: Sink>(sink: &mut K, text: &[u8]) -> Result<(), SinkFault>
 {
     let mut done = 0;
     while done < text.len() {
-        match sink.write(&text[done..]) {
-            Ok(count) => done += count,
-            Err(fault) => return Err(fault),
-        }
+        let count = sink.write(&text[done..])?;
+        done += count;
     }
     Ok(())
 }

@@ -23,7 +23,7 @@ use Rattle.middleware.specs.LaneRunning.{IsAttachedTo}
 use Rattle.middleware.proofs.LaneValues.{picked_through}
 use Rattle.crawl_rounds.specs.Log.{Answered, requests_of}
 use Rattle.crawl.specs.Progress.{answered_by}
-use Rattle.crawl.proofs.Picking.{pick_is}
+use Rattle.bad_numbers.proofs.Picking.{pick_is}
 
 -- an answered request, by its place
 pub answered_at : (asks : List Ask) (answers : List RowList) (a : Answered) → Contains (answered_by asks answers) a

@@ -9,7 +9,9 @@ use Rattle.meaning.specs.declared.types.Request.{Request}
 use Rattle.meaning.specs.declared.types.SchemaParts.{SchemaParts}
 use Rattle.meaning.specs.Access.{IsAccessible}
 use Rattle.meaning.specs.Instances.{IsInstance}
+use Rattle.meaning.specs.Matching.{itself}
 use Rattle.meaning.specs.Search.{AreDistinct}
+use Rattle.meaning.specs.Sorts.{AreSorted}
 use Rattle.meaning_laws.proofs.Crawling.{crawls_reach}
 use Rattle.access_schema.specs.declared.schema.Schema.{Schema}
 use Rattle.access_schema.specs.Meaning.{meaning_of}
@@ -173,19 +175,22 @@ module _ (schema : Schema) where
 
     pub went_on : (cap : ℕ) (old middle new : List (Lane S)) (result : Result (List Fact) RunFault) → AttachesNeeded seen schema (needed_to_crawl schema) old middle (Ok tt) → LanesStay seen old middle
         → IfOk result (λ part. HasCrawled seen schema cap part middle new) → IfOk result (λ part. AreDistinct part) → IfOk result (λ part. IsInstance parts part)
+        → IfOk result (λ part. (fact : Fact) → Contains part fact → AreSorted itself parts fact.rel fact.row)
         → IfErr result (λ why. CrawlHalts seen schema cap why middle new) → (schema.methods ≡ [] → new ≡ middle) → Crawls seen schema cap old new result
-    went_on cap old middle new (Ok part) attaches stay did once fits stops idle = record {
+    went_on cap old middle new (Ok part) attaches stay did once fits integers stops idle = record {
       facts = are_reached cap part middle new did;
       once = once;
       fits = fits;
+      integers = integers;
       does = attached middle (Ok part) attaches did;
       stay = LanesStay-trans seen old middle new stay (crawl_stays cap middle new (Ok part) did);
       idle = λ none. idle none ∙ attaches_idle old middle (Ok tt) attaches none;
     }
-    went_on cap old middle new (Err why) attaches stay did once fits stops idle = record {
+    went_on cap old middle new (Err why) attaches stay did once fits integers stops idle = record {
       facts = tt;
       once = tt;
       fits = tt;
+      integers = tt;
       does = attached middle (Err why) attaches stops;
       stay = LanesStay-trans seen old middle new stay (crawl_stays cap middle new (Err why) stops);
       idle = λ none. idle none ∙ attaches_idle old middle (Ok tt) attaches none;
@@ -196,6 +201,7 @@ module _ (schema : Schema) where
       facts = tt;
       once = tt;
       fits = tt;
+      integers = tt;
       does = not_attached why attaches;
       stay = stay;
       idle = attaches_idle old new (Err why) attaches;

@@ -94,6 +94,13 @@ answered_push (a ∷ asks) (r ∷ answers) ask rows e = ap (λ (l : List Answere
 pub answers_none : (progress : Progress) → Gains (StandsInAnswers []) (IsAmong []) progress progress
 answers_none progress = gains_none (StandsInAnswers []) (IsAmong []) (λ v (a, c, d). contains_none a c) (λ f (a, c, e, d). contains_none a c) progress
 
+-- what is among the answers and one more
+pub among_push : (answers : List Answered) (one : Answered) (f : Fact) → IsAmong (answers ++ one ∷ []) f ↔ (IsAmong answers f ⊎ IsRowOf one.request.rel one.rows f)
+among_push answers one f = (
+  (λ (a, c, e, d). ⊎_elim (λ h. inl (a, h, e, d)) (λ h. inr (subst (λ (b : Answered). IsRowOf b.request.rel b.rows f) (sym (contains_one one a h)) (e, d))) (Contains-append_cases answers (one ∷ []) a c)),
+  (λ s. ⊎_elim (λ (a, c, e, d). (a, Contains-append_left answers (one ∷ []) a c, e, d)) (λ (e, d). (one, Contains-append_right answers (one ∷ []) one (contains_here one []), e, d)) s),
+)
+
 answers_push : (answers : List Answered) (one : Answered) (old mid new : Progress) → Gains (StandsInAnswers answers) (IsAmong answers) old mid → Gains (StandsIn one.rows) (IsRowOf one.request.rel one.rows) mid new
     → Gains (StandsInAnswers (answers ++ one ∷ [])) (IsAmong (answers ++ one ∷ [])) old new
 answers_push answers one = gains_both (StandsInAnswers answers) (StandsIn one.rows) (StandsInAnswers (answers ++ one ∷ [])) (IsAmong answers) (IsRowOf one.request.rel one.rows) (IsAmong (answers ++ one ∷ []))
@@ -101,29 +108,28 @@ answers_push answers one = gains_both (StandsInAnswers answers) (StandsIn one.ro
       (λ (a, c, d). ⊎_elim (λ h. inl (a, h, d)) (λ h. inr (subst (λ (b : Answered). StandsIn b.rows v) (sym (contains_one one a h)) d)) (Contains-append_cases answers (one ∷ []) a c)),
       (λ s. ⊎_elim (λ (a, c, d). (a, Contains-append_left answers (one ∷ []) a c, d)) (λ d. (one, Contains-append_right answers (one ∷ []) one (contains_here one []), d)) s),
     ))
-    (λ f. (
-      (λ (a, c, e, d). ⊎_elim (λ h. inl (a, h, e, d)) (λ h. inr (subst (λ (b : Answered). IsRowOf b.request.rel b.rows f) (sym (contains_one one a h)) (e, d))) (Contains-append_cases answers (one ∷ []) a c)),
-      (λ s. ⊎_elim (λ (a, c, e, d). (a, Contains-append_left answers (one ∷ []) a c, e, d)) (λ (e, d). (one, Contains-append_right answers (one ∷ []) one (contains_here one []), e, d)) s),
-    ))
+    (among_push answers one)
 
-pub answers_more : (asks : List Ask) (answers : List RowList) (k : ℕ) (ask : Ask) (rows : RowList) → length answers ≡ length asks → slice_get asks k ≡ Some ask → slice_get answers k ≡ Some rows → (old mid new : Progress)
-    → Gains (StandsInAnswers (answered_by (take k asks) (take k answers))) (IsAmong (answered_by (take k asks) (take k answers))) old mid
-    → Gains (StandsIn rows) (IsRowOf ask.request.rel rows) mid new
-    → Gains (StandsInAnswers (answered_by (take (k + 1) asks) (take (k + 1) answers))) (IsAmong (answered_by (take (k + 1) asks) (take (k + 1) answers))) old new
-answers_more asks answers k ask rows long at its old mid new h g =
-    let first = take_got asks k ask at in
-    let second = take_got answers k rows its in
-    let as_long : length (take k answers) ≡ length (take k asks) = long_alike in
-    let same : answered_by (take (k + 1) asks) (take (k + 1) answers) ≡ answered_by (take k asks) (take k answers) ++ record { request = ask.request; rows = rows } ∷ [] =
-    ap (λ l. answered_by l (take (k + 1) answers)) first ∙ ap (answered_by (take k asks ++ ask ∷ [])) second ∙ answered_push (take k asks) (take k answers) ask rows as_long in
-    subst (λ (l : List Answered). Gains (StandsInAnswers l) (IsAmong l) old new) (sym same)
-    (answers_push (answered_by (take k asks) (take k answers)) (record { request = ask.request; rows = rows }) old mid new h g)
+-- the answers to one request more
+pub answered_more : (asks : List Ask) (answers : List RowList) (k : ℕ) (ask : Ask) (rows : RowList) → length answers ≡ length asks → slice_get asks k ≡ Some ask → slice_get answers k ≡ Some rows
+    → answered_by (take (k + 1) asks) (take (k + 1) answers) ≡ answered_by (take k asks) (take k answers) ++ record { request = ask.request; rows = rows } ∷ []
+answered_more asks answers k ask rows long at its =
+    ap (λ l. answered_by l (take (k + 1) answers)) (take_got asks k ask at) ∙ ap (answered_by (take k asks ++ ask ∷ [])) (take_got answers k rows its)
+    ∙ answered_push (take k asks) (take k answers) ask rows long_alike
   where
     long_alike : length (take k answers) ≡ length (take k asks)
     long_alike =
         let a = slice_get_within asks k ask at in
         let b = slice_get_within answers k rows its in
         length-take-le k answers (omega (arith, b)) ∙ sym (length-take-le k asks (omega (arith, a)))
+
+pub answers_more : (asks : List Ask) (answers : List RowList) (k : ℕ) (ask : Ask) (rows : RowList) → length answers ≡ length asks → slice_get asks k ≡ Some ask → slice_get answers k ≡ Some rows → (old mid new : Progress)
+    → Gains (StandsInAnswers (answered_by (take k asks) (take k answers))) (IsAmong (answered_by (take k asks) (take k answers))) old mid
+    → Gains (StandsIn rows) (IsRowOf ask.request.rel rows) mid new
+    → Gains (StandsInAnswers (answered_by (take (k + 1) asks) (take (k + 1) answers))) (IsAmong (answered_by (take (k + 1) asks) (take (k + 1) answers))) old new
+answers_more asks answers k ask rows long at its old mid new h g =
+    subst (λ (l : List Answered). Gains (StandsInAnswers l) (IsAmong l) old new) (sym (answered_more asks answers k ask rows long at its))
+    (answers_push (answered_by (take k asks) (take k answers)) (record { request = ask.request; rows = rows }) old mid new h g)
 
 -- ---- a round
 

@@ -1,11 +1,11 @@
 pub mod Knowing
 pub mod Marking
 pub mod Gaining
-pub mod Picking
 pub mod Answering
 pub mod Wanting
 pub mod Readying
 pub mod Rounding
+pub mod Bringing
 pub mod Reaching
 pub mod CrawledLanes
 pub mod Once

@@ -22,6 +22,8 @@ use Rattle.middleware.specs.LaneRunning.{IsAttachedTo}
 use Rattle.middleware.specs.Held.{HoldsRelation}
 use Rattle.middleware.specs.declared.fault.RunFault.{RunFault}
 use Rattle.middleware.specs.declared.fault.RunFault.TheVariants as fault
+use Rattle.bad_numbers.specs.Numbers.{ReceiveFirstBad, ReceiveIntegers}
+use Rattle.bad_numbers.proofs.Received.{integers_none}
 use Rattle.middleware.proofs.LaneShares.{AsksEach-refl, AsksEach-trans, AsksSome-none, each_later}
 use Rattle.middleware.proofs.LaneBranching.{each_asked}
 use Rattle.middleware.proofs.Branching.{relation_later}
@@ -33,12 +35,14 @@ use Rattle.crawl_rounds.proofs.Logging.{requests_append, flat_rounds, among_rece
 use Rattle.crawl.specs.declared.progress.Progress.{Progress}
 use Rattle.crawl.specs.Knowing.{marked_of}
 use Rattle.crawl.specs.Crawling.{IsReachable, asked_in, LanesHoldReachable, AreOfMethods, HasCrawled, CrawlCause, CrawlHalts}
-use Rattle.crawl.specs.Progress.{fact_of, facts_of, StandsInAnswers, answered_by, BeginsWith}
-use Rattle.crawl.specs.Rounding.{AreOrdered, next_requests, IsLast, RoundGoes, RoundCause, RoundStops}
+use Rattle.crawl.specs.Numbers.{BringIntegers, BringFirstBad}
+use Rattle.crawl.specs.Progress.{fact_of, facts_of, StandsInAnswers, answered_by, BeginsWith, TakesRound}
+use Rattle.crawl.specs.Rounding.{AreOrdered, next_requests, IsLast, RoundAsked, RoundCause, RoundStops}
 use Rattle.crawl.specs.Reaching.{HasReached}
 use Rattle.crawl.proofs.Knowing.{held_or_not}
 use Rattle.crawl.proofs.Marking.{are_known}
 use Rattle.crawl.proofs.Gaining.{answered_long}
+use Rattle.crawl.proofs.Bringing.{receive_integers, receive_first}
 use Rattle.crawl.proofs.Answering.{answered_at, answered_requests, answer_fits, answer_picks}
 
 -- ---- what answers add to a log
@@ -109,6 +113,7 @@ module _ {S : Type 0} (seen : S → Seen) (schema : Schema) where
       (λ (a, c, e, d). absurd (contains_none a c)),
     );
     fits = λ f (a, c, e, d). absurd (contains_none a c);
+    integers = λ f (a, c, e, d). absurd (contains_none a c);
     means = λ instance holds a c. absurd (contains_none a c);
   }
     where
@@ -133,7 +138,7 @@ module _ {S : Type 0} (seen : S → Seen) (schema : Schema) where
     abbrev asked_so_far : List Request
     asked_so_far = requests_of (answers_of h.log)
 
-    module _ (next : Progress) (new : List (Lane S)) (g : RoundGoes seen schema classes cap progress next mid new) (attached : (rel : ℕ) → IsReachable schema rel → OnEach mid (IsAttachedTo seen schema rel)) where
+    module _ (new : List (Lane S)) (g : RoundAsked seen schema classes cap progress mid new) where
       abbrev round : List Answered
       round = answered_by g.asks g.answers
 
@@ -152,50 +157,59 @@ module _ {S : Type 0} (seen : S → Seen) (schema : Schema) where
       of_method : (ask : Ask) (k : ℕ) → slice_get g.asks k ≡ Some ask → IsOfMethod parts ask.request
       of_method ask k at = next_of_methods ask.request (subst (λ l. Contains l ask.request) g.are (contains_map (λ (a : Ask). a.request) g.asks ask (contains_got g.asks k ask at)))
 
-      pub reached_more : HasReached seen schema cap next old new
-      reached_more = record {
-        log = round ∷ h.log;
-        is = (
-          subst (IsNextRound parts schema.constants h.log) (sym (round_requests_are ∙ g.are)) (next_is g.ordered),
-          (let some = g.some in let l = long in omega (arith, some, l)),
-          h.is,
-        );
-        asks = subst (λ r. AsksEach seen schema r old new) (sym all_requests) (AsksEach-trans seen schema asked_so_far (requests_in g.asks) old mid new h.asks g.asked);
-        of_methods = λ request c. ⊎_elim (λ d. h.of_methods request d) (λ d. next_of_methods request (subst (λ l. Contains l request) g.are d)) (Contains-append_cases asked_so_far (requests_in g.asks) request (subst (λ l. Contains l request) all_requests c));
-        going = λ some. g.going;
-        made = let m = h.made in let t = g.takes.made in let l = long in let c = count in omega (arith, m, t, l, c);
-        rounds = let r = h.rounds in let t = g.takes.rounds in omega (arith, r, t);
-        few = let f = h.few in let t = g.takes.rounds in let m = g.takes.made in let s = g.some in let l = long in omega (arith, f, t, m, s, l);
-        within_cap = let f = g.fits in let m = g.takes.made in let l = long in omega (arith, f, m, l);
-        all = λ v. (
-          (λ c. (given_more schema.constants (answers_of h.log) round v).1 (⊎_elim (λ d. inl ((h.all v).0 d)) (λ s. inr s) ((g.takes.all v).0 c))),
-          (λ given. (g.takes.all v).1 (⊎_elim (λ d. inl ((h.all v).1 d)) (λ s. inr s) ((given_more schema.constants (answers_of h.log) round v).0 given))),
-        );
-        fresh = λ v c was. ((g.takes.fresh v).0 c).1 ((h.all v).1 was);
-        old_ones = λ v given. ⊎_elim (λ d. inr d) (λ s. ⊎_elim (λ there. inr ((h.all v).0 there)) (λ none. inl ((g.takes.fresh v).1 (s, none))) (held_or_not progress.known v)) ((given_more schema.constants (answers_of h.log) round v).0 given);
-        within = record { within = λ v c. (g.takes.all v).1 (inr ((g.takes.fresh v).0 c).0); ascend = g.takes.ascend };
-        facts = λ f. (
-          (λ c. (among_more (answers_of h.log) round f).1 (⊎_elim (λ d. inl ((h.facts f).0 d)) (λ s. inr s) ((g.takes.facts f).0 c))),
-          (λ a. (g.takes.facts f).1 (⊎_elim (λ d. inl ((h.facts f).1 d)) (λ s. inr s) ((among_more (answers_of h.log) round f).0 a))),
-        );
-        fits = λ f a. ⊎_elim (λ d. h.fits f d) (λ d. round_fits f d) ((among_more (answers_of h.log) round f).0 a);
-        means = λ instance holds a c. ⊎_elim (λ d. h.means instance holds a d) (λ d. round_means instance (held_later asked_so_far old mid h.asks instance holds) a d) (Contains-append_cases (answers_of h.log) round a c);
-      }
-        where
-          round_fits : (f : Fact) → IsAmong round f → FitsRelation parts f.rel f.row
-          round_fits f (a, c, rel, has) =
-              let (k, ask, rows, at, its, e) = answered_at g.asks g.answers a c in
-              let same_rel : ask.request.rel ≡ f.rel = ap (λ (b : Answered). b.request.rel) e ∙ rel in
-              subst (λ r. FitsRelation parts r f.row) same_rel
-              (answer_fits seen schema mid ask (g.kinds k ask at) rows (g.answered.each k ask rows at its) (attached ask.request.rel (reachable ask.request (of_method ask k at))) f.row
-              (subst (λ (l : RowList). Contains l f.row) (sym (ap (λ (b : Answered). b.rows) e)) has))
+      round_means : (instance : List Fact) → LanesHoldReachable seen schema mid instance → AreOf instance round
+      round_means instance holds a c =
+          let (k, ask, rows, at, its, e) = answered_at g.asks g.answers a c in
+          let of = of_method ask k at in
+          subst (λ (b : Answered). (row : Row) → Contains b.rows row ↔ IsPicked instance b.request (record { rel = b.request.rel; row = row })) e
+          (answer_picks seen schema mid ask (g.kinds k ask at) rows (g.answered.each k ask rows at its) instance (holds ask.request.rel (reachable ask.request of)) of.width)
 
-          round_means : (instance : List Fact) → LanesHoldReachable seen schema mid instance → AreOf instance round
-          round_means instance holds a c =
-              let (k, ask, rows, at, its, e) = answered_at g.asks g.answers a c in
-              let of = of_method ask k at in
-              subst (λ (b : Answered). (row : Row) → Contains b.rows row ↔ IsPicked instance b.request (record { rel = b.request.rel; row = row })) e
-              (answer_picks seen schema mid ask (g.kinds k ask at) rows (g.answered.each k ask rows at its) instance (holds ask.request.rel (reachable ask.request of)) of.width)
+      -- what is bad among its answers is bad of what its requests receive
+      round_receives : (rel column : ℕ) → BringFirstBad parts round rel column → (instance : List Fact) → LanesHoldReachable seen schema old instance
+          → ReceiveFirstBad parts instance (next_requests classes progress) rel column
+      round_receives rel column bad instance holds =
+          subst (λ r. ReceiveFirstBad parts instance r rel column) (round_requests_are ∙ g.are)
+          (receive_first parts instance round (round_means instance (held_later asked_so_far old mid h.asks instance holds)) rel column bad)
+
+      module _ (next : Progress) (integers : BringIntegers parts round) (takes : TakesRound round progress next) (attached : (rel : ℕ) → IsReachable schema rel → OnEach mid (IsAttachedTo seen schema rel)) where
+        pub reached_more : HasReached seen schema cap next old new
+        reached_more = record {
+          log = round ∷ h.log;
+          is = (
+            subst (IsNextRound parts schema.constants h.log) (sym (round_requests_are ∙ g.are)) (next_is g.ordered),
+            (let some = g.some in let l = long in omega (arith, some, l)),
+            h.is,
+          );
+          asks = subst (λ r. AsksEach seen schema r old new) (sym all_requests) (AsksEach-trans seen schema asked_so_far (requests_in g.asks) old mid new h.asks g.asked);
+          of_methods = λ request c. ⊎_elim (λ d. h.of_methods request d) (λ d. next_of_methods request (subst (λ l. Contains l request) g.are d)) (Contains-append_cases asked_so_far (requests_in g.asks) request (subst (λ l. Contains l request) all_requests c));
+          going = λ some. g.going;
+          made = let m = h.made in let t = takes.made in let l = long in let c = count in omega (arith, m, t, l, c);
+          rounds = let r = h.rounds in let t = takes.rounds in omega (arith, r, t);
+          few = let f = h.few in let t = takes.rounds in let m = takes.made in let s = g.some in let l = long in omega (arith, f, t, m, s, l);
+          within_cap = let f = g.fits in let m = takes.made in let l = long in omega (arith, f, m, l);
+          all = λ v. (
+            (λ c. (given_more schema.constants (answers_of h.log) round v).1 (⊎_elim (λ d. inl ((h.all v).0 d)) (λ s. inr s) ((takes.all v).0 c))),
+            (λ given. (takes.all v).1 (⊎_elim (λ d. inl ((h.all v).1 d)) (λ s. inr s) ((given_more schema.constants (answers_of h.log) round v).0 given))),
+          );
+          fresh = λ v c was. ((takes.fresh v).0 c).1 ((h.all v).1 was);
+          old_ones = λ v given. ⊎_elim (λ d. inr d) (λ s. ⊎_elim (λ there. inr ((h.all v).0 there)) (λ none. inl ((takes.fresh v).1 (s, none))) (held_or_not progress.known v)) ((given_more schema.constants (answers_of h.log) round v).0 given);
+          within = record { within = λ v c. (takes.all v).1 (inr ((takes.fresh v).0 c).0); ascend = takes.ascend };
+          facts = λ f. (
+            (λ c. (among_more (answers_of h.log) round f).1 (⊎_elim (λ d. inl ((h.facts f).0 d)) (λ s. inr s) ((takes.facts f).0 c))),
+            (λ a. (takes.facts f).1 (⊎_elim (λ d. inl ((h.facts f).1 d)) (λ s. inr s) ((among_more (answers_of h.log) round f).0 a))),
+          );
+          fits = λ f a. ⊎_elim (λ d. h.fits f d) (λ d. round_fits f d) ((among_more (answers_of h.log) round f).0 a);
+          integers = λ f a. ⊎_elim (λ d. h.integers f d) (λ d. integers f d) ((among_more (answers_of h.log) round f).0 a);
+          means = λ instance holds a c. ⊎_elim (λ d. h.means instance holds a d) (λ d. round_means instance (held_later asked_so_far old mid h.asks instance holds) a d) (Contains-append_cases (answers_of h.log) round a c);
+        }
+          where
+            round_fits : (f : Fact) → IsAmong round f → FitsRelation parts f.rel f.row
+            round_fits f (a, c, rel, has) =
+                let (k, ask, rows, at, its, e) = answered_at g.asks g.answers a c in
+                let same_rel : ask.request.rel ≡ f.rel = ap (λ (b : Answered). b.request.rel) e ∙ rel in
+                subst (λ r. FitsRelation parts r f.row) same_rel
+                (answer_fits seen schema mid ask (g.kinds k ask at) rows (g.answered.each k ask rows at its) (attached ask.request.rel (reachable ask.request (of_method ask k at))) f.row
+                (subst (λ (l : RowList). Contains l f.row) (sym (ap (λ (b : Answered). b.rows) e)) has))
 
     -- ---- the end
 
@@ -220,6 +234,11 @@ module _ {S : Type 0} (seen : S → Seen) (schema : Schema) where
     of_rounds : AreOfMethods seen schema (asked_in (rounds_of h.log))
     of_rounds request c = h.of_methods request (subst (λ l. Contains l request) (flat_rounds h.log) c)
 
+    -- so far only integers were received at integer columns
+    earlier_integers : (instance : List Fact) → LanesHoldReachable seen schema old instance → ReceiveIntegers parts instance (asked_in (rounds_of h.log))
+    earlier_integers instance holds = subst (ReceiveIntegers parts instance) (sym (flat_rounds h.log))
+        (receive_integers parts instance (answers_of h.log) (h.means instance holds) h.integers)
+
     pub reached_stop : (why : RunFault) (new : List (Lane S)) → RoundStops seen schema classes cap why progress mid new → CrawlHalts seen schema cap why old new
     reached_stop why new stops = record {
       middle = mid;
@@ -234,13 +253,17 @@ module _ {S : Type 0} (seen : S → Seen) (schema : Schema) where
             (λ some. subst (λ r. IsCrawlRound parts schema.constants instance r (next_requests classes progress)) (sym (flat_rounds h.log))
                 (next_is_round parts schema.constants instance h.log (next_requests classes progress) h.is of (next_is stops.ordered))),
           );
+      numbers = earlier_integers;
       cause = cause_of why stops.cause;
     }
       where
         count : length (asked_in (rounds_of h.log)) ≡ progress.made
         count = ap length (flat_rounds h.log) ∙ sym h.made
 
-        cause_of : (why : RunFault) → RoundCause seen schema classes cap progress (next_requests classes progress) mid new why → CrawlCause seen schema cap (rounds_of h.log) (next_requests classes progress) mid new why
+        next_long : (g : RoundAsked seen schema classes cap progress mid new) → length (next_requests classes progress) ≡ length g.asks
+        next_long g = ap length (sym g.are) ∙ length-map g.asks (λ (a : Ask). a.request)
+
+        cause_of : (why : RunFault) → RoundCause seen schema classes cap progress (next_requests classes progress) mid new why → CrawlCause seen schema cap (rounds_of h.log) (next_requests classes progress) old mid new why
         cause_of fault.NoMemory c = tt
         cause_of (fault.NoSource rel) c = absurd c
         cause_of (fault.UnknownKind rel) c = absurd c
@@ -261,6 +284,12 @@ module _ {S : Type 0} (seen : S → Seen) (schema : Schema) where
           over = over;
           unasked = same;
         }
+        cause_of (fault.BadNumber rel column) c = record {
+          fits = let n = count in let long = next_long c.round in let fits = c.round.fits in omega (arith, n, long, fits);
+          asked = subst (λ r. AsksEach seen schema r mid new) c.round.are c.round.asked;
+          going = c.round.going;
+          bad = round_receives new c.round rel column c.bad;
+        }
 
     -- there was no memory behind a round
     pub reached_full : CrawlHalts seen schema cap fault.NoMemory old mid
@@ -272,6 +301,7 @@ module _ {S : Type 0} (seen : S → Seen) (schema : Schema) where
       asks_now = AsksSome-none seen schema [] mid;
       of_methods = λ request c. of_rounds request (subst (λ l. Contains l request) (append-nil (asked_in (rounds_of h.log))) c);
       means = λ instance holds. (log_rounds parts schema.constants instance h.log h.is (h.means instance holds), (λ some. absurd (omega (arith, some))));
+      numbers = earlier_integers;
       cause = tt;
     }
 
@@ -285,6 +315,7 @@ module _ {S : Type 0} (seen : S → Seen) (schema : Schema) where
     asks_now = AsksSome-none seen schema [] lanes;
     of_methods = λ request c. absurd (contains_none request c);
     means = λ instance holds. (tt, (λ some. absurd (omega (arith, some))));
+    numbers = λ instance holds. integers_none parts instance;
     cause = tt;
   }
 

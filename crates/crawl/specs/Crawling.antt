@@ -6,7 +6,9 @@ use Rattle.meaning.specs.declared.types.Request.{Request}
 use Rattle.meaning.specs.Access.{IsAccessible}
 use Rattle.meaning.specs.Crawls.{IsOfMethod, IsReceived, IsCrawlRound, AreCrawlRounds, IsCrawl}
 use Rattle.meaning.specs.Instances.{IsInstance}
+use Rattle.meaning.specs.Matching.{itself}
 use Rattle.meaning.specs.Search.{AreDistinct}
+use Rattle.meaning.specs.Sorts.{AreSorted}
 use Rattle.access_schema.specs.declared.schema.Schema.{Schema}
 use Rattle.access_schema.specs.Meaning.{meaning_of}
 use Rattle.source_trait.specs.Asking.{Seen}
@@ -16,6 +18,7 @@ use Rattle.middleware.specs.LaneAsking.{LanesHoldRelation}
 use Rattle.middleware.specs.LaneBranches.{FailsOnLane}
 use Rattle.middleware.specs.LaneRounds.{AsksEach, AsksSome, NoneStopped}
 use Rattle.middleware.specs.Needs.{AttachesNeeded}
+use Rattle.bad_numbers.specs.Numbers.{ReceiveFirstBad, ReceiveIntegers}
 use Rattle.middleware.specs.declared.fault.RunFault.{RunFault}
 use Rattle.middleware.specs.declared.fault.RunFault.TheVariants as fault
 
@@ -61,6 +64,13 @@ module _ {S : Type 0} (seen : S → Seen) (schema : Schema) where
     pub of_round : Contains now request
     pub fails : FailsOnLane seen schema request.rel (request ∷ []) middle new
 
+  -- A round was asked whole, which there was room for, and this is the least bad number of what it received.
+  pub record NumberFails (cap rel column : ℕ) (rounds : List (List Request)) (now : List Request) (old middle new : List (Lane S)) : Type 0 where
+    pub fits : length (asked_in rounds) + length now ≤ cap
+    pub asked : AsksEach seen schema now middle new
+    pub going : NoneStopped new
+    pub bad : (instance : List Fact) → LanesHoldReachable old instance → ReceiveFirstBad (meaning_of schema) instance now rel column
+
   -- A round would pass the cap, and was not asked.
   pub record CapFills (cap made wanted its : ℕ) (rounds : List (List Request)) (now : List Request) (middle new : List (Lane S)) : Type 0 where
     pub cap_is : its ≡ cap
@@ -71,11 +81,12 @@ module _ {S : Type 0} (seen : S → Seen) (schema : Schema) where
     pub unasked : new ≡ middle
 
   -- Why the rounds of a crawl stopped. Where there was no memory, nothing more is said.
-  abbrev pub CrawlCause : ℕ → List (List Request) → List Request → List (Lane S) → List (Lane S) → RunFault → Type 0
-  CrawlCause cap rounds now middle new fault.NoMemory = Unit {0}
-  CrawlCause cap rounds now middle new (fault.CallFailed branch step) = RoundFails cap branch step rounds now middle new
-  CrawlCause cap rounds now middle new (fault.OverCalls made wanted its) = CapFills cap made wanted its rounds now middle new
-  CrawlCause cap rounds now middle new why = ⊥
+  abbrev pub CrawlCause : ℕ → List (List Request) → List Request → List (Lane S) → List (Lane S) → List (Lane S) → RunFault → Type 0
+  CrawlCause cap rounds now old middle new fault.NoMemory = Unit {0}
+  CrawlCause cap rounds now old middle new (fault.CallFailed branch step) = RoundFails cap branch step rounds now middle new
+  CrawlCause cap rounds now old middle new (fault.OverCalls made wanted its) = CapFills cap made wanted its rounds now middle new
+  CrawlCause cap rounds now old middle new (fault.BadNumber rel column) = NumberFails cap rel column rounds now old middle new
+  CrawlCause cap rounds now old middle new why = ⊥
 
   -- The rounds of a crawl stopped: those before the last one were asked whole, and each request of the last one at most
   -- once. Where there was no memory, no further round may have been begun.
@@ -89,7 +100,8 @@ module _ {S : Type 0} (seen : S → Seen) (schema : Schema) where
     pub means : (instance : List Fact) → LanesHoldReachable old instance
         → AreCrawlRounds (meaning_of schema) schema.constants instance [] rounds
         × (0 < length now → IsCrawlRound (meaning_of schema) schema.constants instance (asked_in rounds) now)
-    pub cause : CrawlCause cap rounds now middle new why
+    pub numbers : (instance : List Fact) → LanesHoldReachable old instance → ReceiveIntegers (meaning_of schema) instance (asked_in rounds)
+    pub cause : CrawlCause cap rounds now old middle new why
 
   -- What a crawl of lanes that have attached the reachable relations does.
   abbrev pub AsksCrawl : ℕ → List (Lane S) → List (Lane S) → Result (List Fact) RunFault → Type 0
@@ -112,6 +124,8 @@ module _ {S : Type 0} (seen : S → Seen) (schema : Schema) where
     pub once : IfOk result (λ part. AreDistinct part)
     -- they fit their relations, also where the sources tell nothing of what they hold
     pub fits : IfOk result (λ part. IsInstance (meaning_of schema) part)
+    -- and so they have integers at integer columns
+    pub integers : IfOk result (λ part. (fact : Fact) → Contains part fact → AreSorted itself (meaning_of schema) fact.rel fact.row)
     -- what was attached and asked, and why it stopped
     pub does : AttachesAndCrawls cap old new result
     -- lanes and kinds keep their order; without a method the lanes are as they were

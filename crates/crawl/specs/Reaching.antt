@@ -11,6 +11,7 @@ use Rattle.middleware.specs.LaneRounds.{AsksEach, NoneStopped}
 use Rattle.crawl_rounds.specs.Log.{requests_of, Log, answers_of, IsGiven, WasGiven, IsCrawlLog, AreOf, IsAmong}
 use Rattle.crawl.specs.declared.progress.Progress.{Progress}
 use Rattle.crawl.specs.Crawling.{LanesHoldReachable, AreOfMethods}
+use Rattle.crawl.specs.Numbers.{BringIntegers}
 use Rattle.crawl.specs.Progress.{facts_of}
 use Rattle.crawl.specs.Rounding.{FreshWithin}
 
@@ -31,4 +32,5 @@ pub record HasReached {S : Type 0} (seen : S → Seen) (schema : Schema) (cap : 
   pub within : FreshWithin progress.known
   pub facts : (fact : Fact) → Contains (facts_of progress) fact ↔ IsAmong (answers_of log) fact
   pub fits : (fact : Fact) → IsAmong (answers_of log) fact → FitsRelation (meaning_of schema) fact.rel fact.row
+  pub integers : BringIntegers (meaning_of schema) (answers_of log)
   pub means : (instance : List Fact) → LanesHoldReachable seen schema old instance → AreOf instance (answers_of log)

@@ -4,7 +4,9 @@ ghost use Rattle.std.specs.List.Sorted.{IsStrictlyIncreasing};
 ghost use Rattle.meaning.specs.declared.types.Fact.{Fact};
 ghost use Rattle.meaning.specs.declared.types.Method.{Method};
 ghost use Rattle.meaning.specs.Instances.{IsInstance};
+ghost use Rattle.meaning.specs.Matching.{itself};
 ghost use Rattle.meaning.specs.Search.{AreDistinct};
+ghost use Rattle.meaning.specs.Sorts.{AreSorted};
 ghost use Rattle.access_schema.specs.Meaning.{meaning_of};
 ghost use Rattle.source_trait.specs.Lanes.{LanesStay};
 ghost use Rattle.middleware.specs.LaneBranches.{OnEach};
@@ -35,6 +37,11 @@ use std::thread::Threads;
 /// First the relations that have a method are attached in ascending order, lane by lane. Then each round asks what the values so far
 /// allow and no round asked, each request once by one of the lanes at once, until nothing is left to ask. Without a method no lane is
 /// needed, and the lanes are as they were.
+///
+/// Stops at the first relation without a source line, or else without a source of its kind on some lane, and then touches no source; at a
+/// refused attach; before a round that would pass the cap; behind a round with a failed call; and behind a round whose rows have a bad
+/// number, which is any other value than an integer at an integer column. Of a round's bad numbers it tells the least relation and its
+/// least such column, and a failed call of the round goes first.
 pub fn crawl<R: Threads + Sync, S: Source + Send + Drop>(
     rt: &R,
     alloc: Global,
@@ -93,6 +100,7 @@ fn crawl_attached<R: Threads + Sync, S: Source + Send + Drop>(
     ensures crawled { IfOk result (λ part. HasCrawled S.seen schema.now cap part lanes.old lanes.new) }
     ensures once { IfOk result (λ part. AreDistinct part) }
     ensures fits { IfOk result (λ part. IsInstance (meaning_of schema.now) part) }
+    ensures integers { IfOk result (λ part. (fact : Fact) → Contains part fact → AreSorted itself (meaning_of schema.now) fact.rel fact.row) }
     ensures stops { IfErr result (λ why. CrawlHalts S.seen schema.now cap why lanes.old lanes.new) }
     ensures idle { schema.now.methods ≡ [] → lanes.new ≡ lanes.old }
 {

@@ -7,6 +7,7 @@ mod asks;
 mod found;
 mod known;
 mod lanes;
+mod numbers;
 mod progress;
 mod round;
 mod rows;

@@ -6,16 +6,18 @@ ghost use Rattle.lane_pool.specs.Work.{AllReady};
 ghost use Rattle.middleware.specs.LaneRounds.{requests_in, HaveTheirKinds};
 ghost use Rattle.middleware.specs.LaneBranches.{OnEach};
 ghost use Rattle.middleware.specs.LaneRunning.{IsAttachedTo};
+ghost use Rattle.access_schema.specs.Meaning.{meaning_of};
 ghost use Rattle.crawl_rounds.specs.Lent.{lent_class};
 ghost use Rattle.crawl_rounds.specs.Rounds.{AreClasses};
 ghost use Rattle.crawl_rounds.specs.Rows.{fresh_of};
 ghost use Rattle.crawl.specs.Knowing.{marked_of};
-ghost use Rattle.middleware.specs.declared.fault.RunFault.TheVariants as fault;
 ghost use Rattle.crawl.specs.Crawling.{IsReachable};
+ghost use Rattle.crawl.specs.Numbers.{BringIntegers};
 ghost use Rattle.crawl.specs.Progress.{AreKnownTo, answered_by, TakesRound};
-ghost use Rattle.crawl.specs.Rounding.{FreshWithin, AreOrdered, next_requests, IsLast, RoundGoes, RoundStops};
+ghost use Rattle.crawl.specs.Rounding.{FreshWithin, AreOrdered, next_requests, IsLast, RoundGoes, RoundStops, TakeCause};
 
 use crate::asks::find_asks;
+use crate::numbers::first_bad;
 use crate::progress::Progress;
 use crate::spare_asks::Asks;
 use crate::taking::take_round;
@@ -31,6 +33,8 @@ use std::thread::Threads;
 const MOST_VALUES: usize = 4_294_967_295;
 
 /// Asks the next round of the lanes and takes its answers. Says whether there was one. Its requests take the place of those of the last one.
+///
+/// Refuses a round that would pass the cap, which asks nothing; a failed call; and a bad number in what the round received.
 pub fn next_round<R: Threads + Sync, S: Source + Send + Drop>(
     rt: &R,
     alloc: Global,
@@ -104,7 +108,7 @@ fn ask_next<R: Threads + Sync, S: Source + Send + Drop>(
     }
 }
 
-// Asks the requests of the next round and takes their answers.
+// Asks the requests of the next round, and takes their answers where none has a bad number.
 fn ask_and_take<R: Threads + Sync, S: Source + Send + Drop>(
     rt: &R,
     alloc: Global,
@@ -127,7 +131,7 @@ fn ask_and_take<R: Threads + Sync, S: Source + Send + Drop>(
     ensures stops { IfErr result (λ fault. RoundStops S.seen schema.now (map lent_class classes.now) cap fault progress.old lanes.old lanes.new) }
 {
     match ask_round(rt, alloc, asks, lanes) {
-        Ok(answers) => take_all(alloc, asks, &answers, progress),
+        Ok(answers) => take_all(alloc, schema, asks, &answers, progress),
         Err(AskFault::NoMemory) => Err(RunFault::NoMemory),
         Err(AskFault::CallFailed { .. }) => Err(RunFault::CallFailed {
             branch: 0,
@@ -136,9 +140,10 @@ fn ask_and_take<R: Threads + Sync, S: Source + Send + Drop>(
     }
 }
 
-// Takes the answers of a round, and says that there was one.
+// Takes the answers of a round, and says that there was one. A bad number in them is told before one of them is taken.
 fn take_all(
     alloc: Global,
+    schema: &Schema,
     asks: &[Ask],
     answers: &Answers,
     progress: &mut Progress,
@@ -147,9 +152,16 @@ fn take_all(
     requires answered { length answers.now ≡ length asks.now }
     requires made { progress.old.made + length asks.now < 2 ^ 32 }
     requires rounds { progress.old.rounds + 1 < 2 ^ 32 }
-    ensures goes { IfOk result (λ more. (more ≡ true) × TakesRound (answered_by asks.now answers.now) progress.old progress.new) }
-    ensures stops { IfErr result (λ why. why ≡ fault.NoMemory) }
+    ensures goes { IfOk result (λ more. (more ≡ true) × BringIntegers (meaning_of schema.now) (answered_by asks.now answers.now)
+        × TakesRound (answered_by asks.now answers.now) progress.old progress.new) }
+    ensures stops { IfErr result (TakeCause (meaning_of schema.now) (answered_by asks.now answers.now)) }
 {
+    if let Some(bad) = first_bad(schema, asks, answers) {
+        return Err(RunFault::BadNumber {
+            rel: bad.rel,
+            column: bad.column,
+        });
+    }
     match take_round(alloc, asks, answers, progress) {
         Ok(()) => Ok(true),
         Err(_) => Err(RunFault::NoMemory),

@@ -54,8 +54,8 @@ fn take_answers(
     Ok(())
 }
 
-// The rows of the answer of a number that there is.
-fn rows_at(answers: &Answers, number: usize) -> LentRows<'_>
+/// The rows of the answer of a number that there is.
+pub fn rows_at(answers: &Answers, number: usize) -> LentRows<'_>
     requires { number < length answers.now }
     ensures { slice_get answers.now number ≡ Some result }
 {

@@ -1,6 +1,8 @@
 // Crawls of an office. The first round lists the directory. The second one asks for a profile by each of the values 1, 2, 3, jones and
 // smith, and the third one by 101 and 103, which the profiles of 1 and 3 bring. No profile has such a number, so there is no fourth.
-use crate::office::{Faults, PEOPLE, PROFILES, STAFF, WITHOUT_METHODS, asked, is_row, lanes};
+use crate::office::{
+    Faults, NAMES_AS_NUMBERS, PEOPLE, PROFILES, STAFF, WITHOUT_METHODS, asked, is_row, lanes,
+};
 use crawl::crawl;
 use meaning::types::{Fact, Instance};
 use middleware::RunFault;
@@ -72,12 +74,13 @@ fn given<R: Threads + Sync>(
 fn stopped<R: Threads + Sync>(
     rt: &R,
     alloc: Global,
+    text: &str,
     count: usize,
     faults: Faults,
     cap: u32,
 ) -> Result<(RunFault, usize), Fail> {
     let mut lanes = lanes(alloc, count, faults)?;
-    match crawled(rt, alloc, STAFF, &mut lanes, cap)? {
+    match crawled(rt, alloc, text, &mut lanes, cap)? {
         Ok(_) => Err(Fail::from("the crawl did not stop")),
         Err(fault) => Ok((fault, asked(&lanes))),
     }
@@ -95,7 +98,7 @@ fn a_crawl_gives_each_fact_once(rt: HostRuntime) -> Result<(), Fail> {
 #[test]
 fn a_round_that_would_pass_the_cap_is_not_asked(rt: HostRuntime) -> Result<(), Fail> {
     for (cap, made, wanted) in [(7, 6, 2), (5, 1, 5)] {
-        let (fault, asked) = stopped(&rt, rt.alloc(), 2, NO_FAULTS, cap)?;
+        let (fault, asked) = stopped(&rt, rt.alloc(), STAFF, 2, NO_FAULTS, cap)?;
         assert_eq!(rt; fault, RunFault::OverCalls { made, wanted, cap });
         assert_eq!(rt; asked, made as usize);
     }
@@ -106,9 +109,34 @@ fn a_round_that_would_pass_the_cap_is_not_asked(rt: HostRuntime) -> Result<(), F
 #[test]
 fn a_failed_call_is_told_by_its_round(rt: HostRuntime) -> Result<(), Fail> {
     let faults = Faults { attach: 0, call: 2 };
-    let (fault, asked) = stopped(&rt, rt.alloc(), 1, faults, 8)?;
+    let (fault, asked) = stopped(&rt, rt.alloc(), STAFF, 1, faults, 8)?;
     assert_eq!(rt; fault, RunFault::CallFailed { branch: 0, step: 1 });
     assert_eq!(rt; asked, 2);
+    Ok(())
+}
+
+// The second round receives the profiles, whose third column has a name.
+#[test]
+fn a_bad_number_is_told_behind_its_round(rt: HostRuntime) -> Result<(), Fail> {
+    for count in [1, 2] {
+        let (fault, asked) = stopped(&rt, rt.alloc(), NAMES_AS_NUMBERS, count, NO_FAULTS, 8)?;
+        assert_eq!(rt;
+            fault,
+            RunFault::BadNumber { rel: 0, column: 2 },
+            "{count} lanes"
+        );
+        assert_eq!(rt; asked, 6, "{count} lanes");
+    }
+    Ok(())
+}
+
+// The sixth call is the last one of the second round. The profiles came before it.
+#[test]
+fn a_failed_call_goes_before_a_bad_number(rt: HostRuntime) -> Result<(), Fail> {
+    let faults = Faults { attach: 0, call: 6 };
+    let (fault, asked) = stopped(&rt, rt.alloc(), NAMES_AS_NUMBERS, 1, faults, 8)?;
+    assert_eq!(rt; fault, RunFault::CallFailed { branch: 0, step: 1 });
+    assert_eq!(rt; asked, 6);
     Ok(())
 }
 

@@ -4,12 +4,22 @@ use source_trait::{Kind, Lane, MemorySource, Source, Table, Tables, locators_dif
 use std::alloc::Global;
 use std::test::Fail;
 
-/// The schema of the office, and one of its relations without methods and without source lines.
+/// The schema of the office, one by which the names of profiles would be numbers, and one of its relations without methods and without
+/// source lines.
 pub(crate) const STAFF: &str = "relation profinfo(eid, onum, lname)
 relation udirect(eid, lname)
 method prof_by_eid on profinfo(eid) cost 2
 method all_direct on udirect() cost 5
 rule profinfo(e, o, l) -> udirect(e, l)
+source profinfo csv 'profinfo.csv'
+source udirect csv 'udirect.csv'
+";
+
+pub(crate) const NAMES_AS_NUMBERS: &str = "schema 2
+relation profinfo(eid int, onum int, lname int)
+relation udirect(eid int, lname)
+method prof_by_eid on profinfo(eid) cost 2
+method all_direct on udirect() cost 5
 source profinfo csv 'profinfo.csv'
 source udirect csv 'udirect.csv'
 ";

@@ -23,4 +23,6 @@ pub enum RunFault {
     CallFailed { branch: u32, step: u32 },
     /// So many requests were made, and the next round wants so many more, which together pass the cap.
     OverCalls { made: u32, wanted: u32, cap: u32 },
+    /// A row that a round received has another value than an integer at this integer column of the relation.
+    BadNumber { rel: u32, column: u32 },
 }

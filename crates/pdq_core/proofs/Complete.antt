@@ -49,7 +49,7 @@ module _ {S : Type 0} (seen : S → Seen) (words : List (List ℕ)) (command : C
       check_answered name query plan firings before after result calm given.texts.schema given.texts.statement given.plan given.texts.schema_given given.texts.query_given given.plan_given ends
   answered status calm (verify_rules name result also ends) =
       let given = its (Verify name) also in
-      verify_answered seen name before after old new result calm given.schema given.schema_given given.serve ends
+      verify_answered seen name before after old new result calm given.schema given.schema_given given.tests ends
   answered status calm (crawl name workers calls result also ends behind) =
       let given = its (Crawl name workers calls) also in
       crawl_answered seen name calls before after (take workers old) (take workers new) calm given.schema given.schema_given given.crawl result ends

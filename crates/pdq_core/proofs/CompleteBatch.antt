@@ -3,10 +3,12 @@ use Rattle.std.proofs.Common.{◌≡◌, ◌∙◌, ◌++◌, ℕ, suc, List, []
 use Rattle.std.proofs.Common.{refl, sym, subst, inl, inr, arith}
 use Rattle.std.specs.Prelude.{Contains, slice_get}
 use Rattle.std.proofs.lemmas.List.Elements.{Contains-append_right}
-use Rattle.lists.proofs.Members.{contains_got, contains_map, none_some}
+use Rattle.lists.proofs.Members.{contains_got, contains_map, contains_joined, none_some}
+use Rattle.meaning.specs.declared.types.Fact.{Fact}
 use Rattle.meaning.specs.declared.types.Plan.{Plan}
 use Rattle.meaning.specs.declared.types.Request.{Request}
 use Rattle.meaning.specs.declared.types.Statement.{Statement}
+use Rattle.meaning.specs.Crawls.{IsReceived}
 use Rattle.access_schema.specs.declared.schema.Schema.{Schema}
 use Rattle.access_schema.specs.Meaning.{meaning_of}
 use Rattle.source_trait.specs.Asking.{Seen}
@@ -26,7 +28,7 @@ use Rattle.middleware.proofs.LaneBranching.{each_asked}
 use Rattle.middleware.proofs.LaneStays.{started_each, started_stay, asked_stay, attach_stay}
 use Rattle.shared_rounds.specs.SharedRounds.{Once, to_ask, wanted_in, AreRounds}
 use Rattle.shared_rounds.proofs.Adding.{asked_members}
-use Rattle.plan_batches.specs.Batching.{NeedsOf, needed_by_all, LanesHoldAll, CallFails, CapFills, HaltsFor, RoundsHalt}
+use Rattle.plan_batches.specs.Batching.{NeedsOf, needed_by_all, LanesHoldAll, CallFails, NumberFails, CapFills, HaltsFor, RoundsHalt}
 use Rattle.plan_batches.specs.Batching.{AttachesAndAsksAll}
 use Rattle.plan_batches.specs.Batching.AttachesAndAsksAll.{not_attached, attached}
 use Rattle.plan_batches.specs.declared.fault.BatchFault.{BatchFault}
@@ -48,10 +50,11 @@ use Rattle.batch_command.specs.Ends.StatementsEnd.{halted, stopped, done as exec
 use Rattle.batch_command.specs.Ends.BatchTextsStop.{no_schema, no_batch}
 use Rattle.batch_command.specs.Ends.BatchEnds.{refused, read}
 use Rattle.pdq_core.specs.Runs.{ended}
-use Rattle.pdq_core.specs.Complete.{IsAnswered, NoneRose, SchemaIsGiven, BatchIsGiven, Serve, CanExecuteAll, CanBatch}
+use Rattle.pdq_core.specs.Complete.{IsAnswered, NoneRose, SchemaIsGiven, BatchIsGiven, Serve, HoldAllWithin, CanExecuteAll, CanBatch}
 use Rattle.pdq_core.specs.Complete.IsAnswered.{done, no, undecided, no_memory}
 use Rattle.pdq_core.proofs.CompleteTexts.{same_schema, same_batch, schema_stop, batch_stop, delivered_stop, decision_stop, stop_answered}
 use Rattle.pdq_core.proofs.CompleteSources.{none_rose}
+use Rattle.pdq_core.proofs.CompleteIntegers.{none_bad}
 use Rattle.pdq_core.proofs.CompleteAttaches.{at_place, from_place, attaches_stop}
 use Rattle.pdq_core.proofs.CompleteRun.{printed}
 
@@ -63,8 +66,9 @@ as_batch number (fault.UnknownKind rel) e = e
 as_batch number (fault.Attach rel why) e = e
 as_batch number (fault.CallFailed branch step) e = absurd (cc)
 as_batch number (fault.OverCalls made wanted its) e = e
+as_batch number (fault.BadNumber rel column) e = e
 
--- Lanes whose sources serve the relations of all plans, and on which no round passes the cap.
+-- Lanes whose sources serve the relations of all plans and hold integers at their integer columns, and on which no round passes the cap.
 module _ {S : Type 0} (seen : S → Seen) (schema : Schema) (plans : List Plan) (calls : ℕ) (old new : List (Lane S))
     (can : CanExecuteAll seen schema plans calls old new) where
   -- The rounds of lanes that attached these relations.
@@ -83,11 +87,16 @@ module _ {S : Type 0} (seen : S → Seen) (schema : Schema) (plans : List Plan) 
         (asked_stay seen schema (map started middle) halts.middle
         (each_asked seen schema halts.earlier (map started middle) halts.middle halts.whole.asks)))
 
+    -- of a request that is wanted in the round some plan accesses the relation
+    wanted_needs : (request : Request) → Contains (wanted_in halts.turns) request → NeedsOf schema plans request.rel
+    wanted_needs request among =
+        let (plan, turn, of, its, is) = halts.of_plans request among in (plan, of, step_accesses schema plan turn its request is)
+
     -- a request that was asked is one of a relation that some plan accesses
     needs : (request : Request) → Contains (halts.earlier ++ now) request → NeedsOf schema plans request.rel
     needs request among = elim ((asked_members (wanted_in halts.turns) halts.earlier request).0 among) [
       | inl c ↦ let (plan, turn, of, its, is) = halts.whole.of_plans request c in (plan, of, step_accesses schema plan turn its request is)
-      | inr c ↦ let (plan, turn, of, its, is) = halts.of_plans request c in (plan, of, step_accesses schema plan turn its request is)
+      | inr c ↦ wanted_needs request c
     ]
 
     call_stop : (number branch step : ℕ) →
@@ -104,15 +113,30 @@ module _ {S : Type 0} (seen : S → Seen) (schema : Schema) (plans : List Plan) 
         (at_place (Serve seen schema (NeedsOf schema plans)) old new can.serve f.place first f.after was f.now)
         f.before.kinds.items request.rel f.rose.line moved.before moved.after need f.rose.line_is stay moved.was moved.now moved.steps
 
+    -- what the lanes hold when the rounds begin
+    holds : HoldAllWithin seen schema plans calls middle
+    holds = can.within middle attaches
+
+    held : LanesHoldAll seen schema plans (map started middle) holds.instance
+    held = started_each middle (λ kinds. HoldNeeded seen schema (NeedsOf schema plans) kinds holds.instance) holds.held
+
+    number_stop : (number rel column : ℕ) →
+        NumberFails seen schema plans calls number rel column halts.earlier halts.turns (map started middle) halts.middle new → ⊥
+    number_stop number rel column fails =
+        none_bad schema (NeedsOf schema plans) holds.instance holds.integers fails.turn rel column needed (fails.bad holds.instance held)
+      where
+        needed : (fact : Fact) → IsReceived holds.instance fails.turn fact → fact.rel ≡ rel → NeedsOf schema plans fact.rel
+        needed fact (request, among, picked) same =
+            let turn : Contains halts.turns fails.turn = contains_got halts.turns number fails.turn fails.at in
+            subst (λ (r : ℕ). NeedsOf schema plans r) (sym picked.of_relation)
+            (wanted_needs request (contains_joined (λ (l : List Request). l) halts.turns fails.turn request turn among))
+
     cap_stop : (number made wanted its : ℕ) →
         CapFills seen schema plans calls number made wanted its halts.earlier halts.turns halts.middle new → ⊥
     cap_stop number made wanted its fills = elim halts.are [
       | inl none ↦ none_some fills.request (subst (λ (turns : List (List Request)).
           slice_get (to_ask Once halts.earlier (wanted_in turns)) 0 ≡ Some fills.request) none fills.at)
       | inr are ↦
-          let holds = can.within middle attaches in
-          let held : LanesHoldAll seen schema plans (map started middle) holds.instance =
-          started_each middle (λ kinds. HoldNeeded seen schema (NeedsOf schema plans) kinds holds.instance) holds.held in
           let rounds : AreRounds (meaning_of schema) holds.instance plans Once (suc halts.n) (halts.earlier ++ now) =
           (halts.earlier, halts.turns, halts.whole.are holds.instance held, are holds.instance held, refl) in
           let fits = holds.within (suc halts.n) (halts.earlier ++ now) rounds in
@@ -124,7 +148,7 @@ module _ {S : Type 0} (seen : S → Seen) (schema : Schema) (plans : List Plan) 
     ]
 
     stop_by : (number : ℕ) (why : RunFault) →
-        HaltsFor seen schema plans calls halts.n halts.earlier halts.turns halts.middle new number why →
+        HaltsFor seen schema plans calls halts.n halts.earlier halts.turns (map started middle) halts.middle new number why →
         stop_of_batch number why ≡ stop.Memory
     stop_by number fault.NoMemory cause = refl
     stop_by number (fault.NoSource rel) cause = absurd cause
@@ -132,6 +156,7 @@ module _ {S : Type 0} (seen : S → Seen) (schema : Schema) (plans : List Plan) 
     stop_by number (fault.Attach rel why) cause = absurd cause
     stop_by number (fault.CallFailed branch step) cause = absurd (call_stop number branch step cause)
     stop_by number (fault.OverCalls made wanted its) cause = absurd (cap_stop number made wanted its cause)
+    stop_by number (fault.BadNumber rel column) cause = absurd (number_stop number rel column cause)
 
   -- Nothing but a lack of memory stops the execution.
   stop_for : (why : BatchFault) → AttachesAndAsksAll seen schema plans calls old new (Err why) →

@@ -1,5 +1,6 @@
--- An execution, or a delivery, is stopped by nothing but a lack of memory, where the sources of each lane serve and the cap is kept.
-use Rattle.std.proofs.Common.{◌≡◌, ℕ, zero, suc, List, [], ◌∷◌, map, Option, Err, refl, sym, ◌∙◌, subst, arith}
+-- An execution, or a delivery, is stopped by nothing but a lack of memory, where the sources of each lane serve and hold integers at their
+-- integer columns, and the cap is kept.
+use Rattle.std.proofs.Common.{◌≡◌, ℕ, zero, suc, List, [], ◌∷◌, ◌++◌, map, Option, Err, refl, sym, ◌∙◌, subst, arith}
 use Rattle.std.specs.Prelude.{◌↔◌, Contains}
 use Rattle.std.specs.List.Sorted.{IsStrictlyIncreasing}
 use Rattle.lists.proofs.Members.{contains_got}
@@ -18,13 +19,13 @@ use Rattle.middleware.specs.Attaching.{AllAttached}
 use Rattle.middleware.specs.Needs.{LanesAttach, EachAttached}
 use Rattle.middleware.specs.Needs.AttachesNeeded.{done}
 use Rattle.middleware.specs.LaneRounds.{started}
-use Rattle.plan_execution.specs.PlanRounds.{CallFails, CapFills, PlanHalts}
+use Rattle.plan_execution.specs.PlanRounds.{CallFails, NumberFails, CapFills, PlanHalts}
 use Rattle.plan_execution.specs.Running.{needed_by, AsksRounds, AttachesAndAsks}
 use Rattle.plan_execution.specs.Running.AttachesAndAsks.{not_attached, attached}
 use Rattle.plan_execution.specs.Executing.{Executes}
 use Rattle.middleware.proofs.Attached.{order_attached, attached_after}
 use Rattle.middleware.proofs.Lacking.{rises_strictly}
-use Rattle.middleware.proofs.LaneShares.{OnlyAsked}
+use Rattle.middleware.proofs.LaneShares.{OnlyAsked, AsksEach-trans}
 use Rattle.middleware.proofs.LaneBranching.{each_asked}
 use Rattle.middleware.proofs.PlanHeld.{plan_held_earlier}
 use Rattle.middleware.proofs.LaneStays.{started_stay, asked_stay, attach_stay}
@@ -34,6 +35,7 @@ use Rattle.command_io.specs.Executing.{stop_of_run, ExecutesOrStops, Delivers}
 use Rattle.pdq_core.specs.Complete.{OnLanes, AtPlaces, Serve, HoldWithin, CanExecute}
 use Rattle.pdq_core.proofs.CompleteTexts.{delivered_stop}
 use Rattle.pdq_core.proofs.CompleteSources.{none_rose}
+use Rattle.pdq_core.proofs.CompleteIntegers.{none_bad}
 use Rattle.pdq_core.proofs.CompleteAttaches.{at_place, from_place, attaches_stop}
 
 module _ {S : Type 0} (seen : S → Seen) (schema : Schema) (plan : Plan) where
@@ -65,7 +67,8 @@ module _ {S : Type 0} (seen : S → Seen) (schema : Schema) (plan : Plan) where
         go (λ place. rels (suc place)) (λ place. are (suc place)) ws vs us order.1 asked.1,
       )
 
-  -- The rounds of the plan, where the lanes kept their order up to them, each of them serves the plan's relations, and no round passes the cap.
+  -- The rounds of the plan, where the lanes kept their order up to them, each of them serves the plan's relations and holds integers at
+  -- their integer columns, and no round passes the cap.
   module _ (calls : ℕ) (old middle new : List (Lane S)) (stays : LanesStay seen old middle) (serve : AtPlaces (λ place. Serves) old new)
       (within : OnlyAsked seen schema (map started middle) new → HoldWithin seen schema plan calls (map started middle)) where
     -- until a failed call no count fell
@@ -93,6 +96,25 @@ module _ {S : Type 0} (seen : S → Seen) (schema : Schema) (plan : Plan) where
           none_rose seen schema (IsAccessed schema plan) first.kinds.items f.after.kinds.items (serve f.place first f.after was f.now)
           f.before.kinds.items fails.method.rel f.rose.line moved.before moved.after accessed f.rose.line_is stay moved.was moved.now moved.steps
 
+      number_stop : (rel column : ℕ) →
+          NumberFails seen schema plan calls rel column halts.earlier halts.now (map started middle) halts.middle new → ⊥
+      number_stop rel column fails =
+          let asked : OnlyAsked seen schema (map started middle) new =
+          each_asked seen schema (halts.earlier ++ halts.now) (map started middle) new
+          (AsksEach-trans seen schema halts.earlier halts.now (map started middle) halts.middle new halts.asks_earlier fails.asked) in
+          let holds = within asked in
+          let accessed : IsAccessed schema plan rel = record {
+            branch = fails.its_branch;
+            step = fails.its_step;
+            method = fails.method;
+            of_plan = contains_got plan.branches fails.branch fails.its_branch fails.there.of_plan;
+            of_branch = contains_got fails.its_branch.steps fails.step fails.its_step fails.there.of_branch;
+            named = fails.named;
+            of_relation = fails.of_relation;
+          } in
+          none_bad schema (IsAccessed schema plan) holds.instance holds.integers halts.now rel column
+          (λ fact received same. subst (λ (r : ℕ). IsAccessed schema plan r) (sym same) accessed) (fails.bad holds.instance holds.held)
+
       cap_stop : (made wanted : ℕ) → CapFills seen schema plan calls made wanted halts.earlier halts.now (map started middle) halts.middle new → ⊥
       cap_stop made wanted fills =
           let asked : OnlyAsked seen schema (map started middle) new =
@@ -113,6 +135,7 @@ module _ {S : Type 0} (seen : S → Seen) (schema : Schema) (plan : Plan) where
     rounds_stop (fault.Attach rel why) rounds = absurd rounds.cause
     rounds_stop (fault.CallFailed branch step) rounds = absurd (call_stop (fault.CallFailed branch step) rounds branch step rounds.cause)
     rounds_stop (fault.OverCalls made wanted its) rounds = absurd (cap_stop (fault.OverCalls made wanted its) rounds made wanted rounds.cause.1)
+    rounds_stop (fault.BadNumber rel column) rounds = absurd (number_stop (fault.BadNumber rel column) rounds rel column rounds.cause)
 
   module _ (calls : ℕ) (old new : List (Lane S)) (can : CanExecute seen schema plan calls old new) where
     -- Nothing but a lack of memory stops the execution.
@@ -123,6 +146,7 @@ module _ {S : Type 0} (seen : S → Seen) (schema : Schema) (plan : Plan) where
         (λ asked. let holds = can.within (all_attached old middle new each asked) in record {
           instance = holds.instance;
           held = plan_held_earlier seen schema plan (map started middle) new asked holds.instance holds.held;
+          integers = holds.integers;
           within = holds.within;
         }) why rounds
 

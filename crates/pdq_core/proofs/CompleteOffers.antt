@@ -9,8 +9,10 @@ use Rattle.lists.proofs.Members.{some_injective, contains_here, contains_there, 
 use Rattle.meaning.specs.declared.types.Fact.{Fact}
 use Rattle.meaning.specs.declared.types.Plan.{Plan}
 use Rattle.meaning.specs.declared.types.Relation.{Relation}
+use Rattle.meaning.specs.Sorts.{HoldsIntegers}
 use Rattle.access_schema.specs.declared.schema.Schema.{Schema}
 use Rattle.access_schema.specs.declared.schema.SourceLine.{SourceLine}
+use Rattle.access_schema.specs.Meaning.{meaning_of}
 use Rattle.source_trait.specs.Asking.{RowList, Rises, Seen, AttachGives, facts_of, pick}
 use Rattle.source_trait.specs.Lanes.{source_of, AtKind}
 use Rattle.source_trait.specs.declared.source.AttachFault.{AttachFault}
@@ -31,8 +33,14 @@ use Rattle.middleware.proofs.Planning.{relation_there}
 use Rattle.middleware.proofs.Starting.{relation_of}
 use Rattle.plan_batches.specs.Batching.{NeedsOf, needed_by_all, LanesHoldAll}
 use Rattle.crawl.specs.Crawling.{IsReachable, needed_to_crawl, LanesHoldReachable}
+use Rattle.bad_numbers.specs.Numbers.{HaveIntegers}
+use Rattle.rule_rows.specs.RuleRelations.{RulesName, needed_first}
+use Rattle.rule_rows.specs.Verifying.{used}
 use Rattle.rule_rows.proofs.Picked.{fact_of, picked_held, held_picked, of_rows}
-use Rattle.pdq_core.specs.Complete.{OnLanes, NoSourceRose, Serve, KeepsCap, CanExecute, RoundsKeepCap, CanExecuteAll, CrawlKeepsCap, CanCrawl, OffersFacts, OfferInstance, OfferUntold, placed, located}
+use Rattle.pdq_core.specs.Complete.{OnLanes, NoSourceRose, Serve, HasIntegers, HaveTextsAlone, KeepsCap, CanExecute}
+use Rattle.pdq_core.specs.Complete.{RoundsKeepCap, CanExecuteAll, CrawlKeepsCap, CanCrawl, CanTest}
+use Rattle.pdq_core.specs.Complete.{OffersFacts, OfferInstance, OfferUntold, placed, located}
+use Rattle.pdq_core.proofs.CompleteIntegers.{held_integers}
 
 -- what is picked of a relation are just its facts
 same_picked : (rel : ℕ) (held instance : List Fact) → SameFacts rel (facts_of rel (pick held rel [] [])) instance → SameFacts rel held instance
@@ -256,12 +264,17 @@ module _ {S : Type 0} (seen : S → Seen) (schema : Schema) where
   -- so the plan can be executed
   pub offers_execute : (plan : Plan) (calls : ℕ) (old new : List (Lane S)) (instance : List Fact) → ((rel : ℕ) → IsAccessed schema plan rel → 0 < length old) →
       OnEach old (λ kinds. OfferInstance seen schema (IsAccessed schema plan) kinds instance) → OnLanes (NoSourceRose seen schema (IsAccessed schema plan)) old new →
-      KeepsCap schema plan instance calls → CanExecute seen schema plan calls old new
-  offers_execute plan calls old new instance some offer calm within = record {
+      HasIntegers schema (IsAccessed schema plan) instance → KeepsCap schema plan instance calls → CanExecute seen schema plan calls old new
+  offers_execute plan calls old new instance some offer calm integers within = record {
     some = some;
     serve = lanes_serve (IsAccessed schema plan) (λ kinds. OfferInstance seen schema (IsAccessed schema plan) kinds instance)
         (λ a b its quiet. offers_serve (IsAccessed schema plan) a b instance its quiet) old new offer calm;
-    within = λ attached. record { instance = instance; held = lanes_hold plan instance old new offer attached; within = within };
+    within = λ attached. record {
+      instance = instance;
+      held = lanes_hold plan instance old new offer attached;
+      integers = integers;
+      within = within;
+    };
   }
 
   -- where nothing is told they serve too
@@ -307,12 +320,17 @@ module _ {S : Type 0} (seen : S → Seen) (schema : Schema) where
   -- so they can be crawled
   pub offers_crawl : (calls : ℕ) (old new : List (Lane S)) (instance : List Fact) → ((rel : ℕ) → IsReachable schema rel → 0 < length old) →
       OnEach old (λ kinds. OfferInstance seen schema (IsReachable schema) kinds instance) → OnLanes (NoSourceRose seen schema (IsReachable schema)) old new →
-      CrawlKeepsCap schema instance calls → CanCrawl seen schema calls old new
-  offers_crawl calls old new instance some offer calm within = record {
+      HasIntegers schema (IsReachable schema) instance → CrawlKeepsCap schema instance calls → CanCrawl seen schema calls old new
+  offers_crawl calls old new instance some offer calm integers within = record {
     some = some;
     serve = lanes_serve (IsReachable schema) (λ kinds. OfferInstance seen schema (IsReachable schema) kinds instance)
         (λ a b its quiet. offers_serve (IsReachable schema) a b instance its quiet) old new offer calm;
-    within = λ middle attaches. record { instance = instance; held = lanes_reachable instance old middle offer attaches; within = within };
+    within = λ middle attaches. record {
+      instance = instance;
+      held = lanes_reachable instance old middle offer attaches;
+      integers = integers;
+      within = within;
+    };
   }
 
   -- and where nothing is told they serve too
@@ -335,15 +353,72 @@ module _ {S : Type 0} (seen : S → Seen) (schema : Schema) where
       ((rel : ℕ) → NeedsOf schema plans rel → 0 < length old) →
       OnEach old (λ kinds. OfferInstance seen schema (NeedsOf schema plans) kinds instance) →
       OnLanes (NoSourceRose seen schema (NeedsOf schema plans)) old new →
-      RoundsKeepCap schema plans instance calls → CanExecuteAll seen schema plans calls old new
-  offers_batch plans calls old new instance some offer calm within = record {
+      HasIntegers schema (NeedsOf schema plans) instance → RoundsKeepCap schema plans instance calls →
+      CanExecuteAll seen schema plans calls old new
+  offers_batch plans calls old new instance some offer calm integers within = record {
     some = some;
     serve = lanes_serve (NeedsOf schema plans) (λ kinds. OfferInstance seen schema (NeedsOf schema plans) kinds instance)
         (λ a b its quiet. offers_serve (NeedsOf schema plans) a b instance its quiet) old new offer calm;
-    within = λ middle attaches. record { instance = instance; held = lanes_hold_all plans instance old middle offer attaches; within = within };
+    within = λ middle attaches. record {
+      instance = instance;
+      held = lanes_hold_all plans instance old middle offer attaches;
+      integers = integers;
+      within = within;
+    };
   }
 
   -- and where nothing is told they serve too
   pub batch_untold : (plans : List Plan) (old new : List (Lane S)) → OnEach old (OfferUntold seen schema (NeedsOf schema plans)) →
       OnLanes (NoSourceRose seen schema (NeedsOf schema plans)) old new → OnLanes (Serve seen schema (NeedsOf schema plans)) old new
   batch_untold plans = lanes_serve (NeedsOf schema plans) (OfferUntold seen schema (NeedsOf schema plans)) (untold_serve (NeedsOf schema plans))
+
+  -- ---- the relations that the rules name
+
+  -- where the first lane attached them, it holds each
+  first_held : (rel : ℕ) (relation : Relation) (line : SourceLine) → RulesName schema rel → slice_get schema.relations rel ≡ Some relation →
+      line_for rel schema.sources ≡ Some line → (instance : List Fact) (old new : List (Lane S)) →
+      OfferInstance seen schema (RulesName schema) (used old) instance → AttachesNeeded seen schema (needed_first schema) old new (Ok tt) →
+      HoldsRelation seen (used new) line.kind rel instance
+  first_held rel relation line named relation_is line_is instance old new offer (done each have) =
+      go each.rels (rises_strictly (each.rels zero) (each.are zero).ascends) (((each.are zero).exactly rel).1 (refl, named))
+      old new offer each.order
+    where
+      go : (rels : ℕ → List ℕ) → Rises (rels zero) → Contains (rels zero) rel → (old new : List (Lane S)) →
+          OfferInstance seen schema (RulesName schema) (used old) instance → LanesAttach seen schema rels old new →
+          HoldsRelation seen (used new) line.kind rel instance
+      go rels up among [] [] offer order = let some = offer.kinds_are rel line named line_is in absurd (cc)
+      go rels up among [] (u ∷ us) offer order = absurd order
+      go rels up among (w ∷ ws) [] offer order = absurd order
+      go rels up among (w ∷ ws) (u ∷ us) offer order =
+          attached_held (RulesName schema) w.kinds.items u.kinds.items instance offer rel relation line named relation_is line_is
+          (rels zero) up among order.0.order
+
+  its_integers : (rel : ℕ) (instance : List Fact) → RulesName schema rel → HasIntegers schema (RulesName schema) instance →
+      (held : Option (List Fact)) → IsSomeAnd held (λ facts. SameFacts rel facts instance) →
+      IsSomeAnd held (λ facts. HaveIntegers (meaning_of schema) rel (pick facts rel [] []))
+  its_integers rel instance named integers None same = absurd same
+  its_integers rel instance named integers (Some facts) same =
+      held_integers schema (RulesName schema) instance integers rel facts named same
+
+  -- so the rules can be tested
+  pub offers_test : (old new : List (Lane S)) (instance : List Fact) → OfferInstance seen schema (RulesName schema) (used old) instance →
+      NoSourceRose seen schema (RulesName schema) (used old) (used new) → HasIntegers schema (RulesName schema) instance →
+      CanTest seen schema old new
+  offers_test old new instance offer calm integers = record {
+    serve = offers_serve (RulesName schema) (used old) (used new) instance offer calm;
+    integers = λ middle attaches rel column line named holds line_is.
+        let (relation, relation_is, sort_is) = holds in
+        AtKind-map line.kind (used middle) _
+        (λ s. IsSomeAnd (seen s).held (λ facts. HaveIntegers (meaning_of schema) rel (pick facts rel [] [])))
+        (λ s same. its_integers rel instance named integers (seen s).held same)
+        (first_held rel relation line named relation_is line_is instance old middle offer attaches);
+  }
+
+  -- and where nothing is told they can be, if none of the relations has an integer column
+  pub untold_test : (old new : List (Lane S)) → HaveTextsAlone schema (RulesName schema) →
+      OfferUntold seen schema (RulesName schema) (used old) → NoSourceRose seen schema (RulesName schema) (used old) (used new) →
+      CanTest seen schema old new
+  untold_test old new texts offer calm = record {
+    serve = untold_serve (RulesName schema) (used old) (used new) offer calm;
+    integers = λ middle attaches rel column line named holds line_is. absurd (texts rel column named holds);
+  }

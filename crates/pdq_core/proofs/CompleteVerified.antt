@@ -1,5 +1,5 @@
 -- An execution behind tests of the rules, or its delivery, is stopped by nothing but a broken rule or a lack of memory, where the sources of
--- each lane serve and the cap is kept.
+-- each lane serve, what they hold has integers at integer columns and the cap is kept.
 use Rattle.std.proofs.Common.{◌≡◌, ◌≢◌, ◌<◌, inl, inr, ℕ, List, [], ◌∷◌, length, take, Option, None, Ok, Err, refl, sym, ◌∙◌, ap, subst, arith}
 use Rattle.std.specs.Prelude.{IsSome}
 use Rattle.lists.proofs.Members.{contains_got}
@@ -107,7 +107,8 @@ module _ {S : Type 0} (seen : S → Seen) (schema : Schema) (plan : Plan) (calls
       tests_stop seen schema (needed_verified schema plan 0) old middle new
       (λ rel needed. used_serves seen schema (λ place. Serve seen schema (needed_verified schema plan place)) old new
       (LanesStay-trans seen old middle new first tests.stay) can.serve (can.some rel needed))
-      (used_stay seen schema old middle first) tests.rels (λ rel among. (tests.are.exactly rel).0 among) its tests.tests
+      (used_stay seen schema old middle first) (can.integers middle (all_attached each have)) tests.rels
+      (λ rel among. (tests.are.exactly rel).0 among) its tests.tests
 
   -- the lanes kept their order until all rules were found to be met
   stays_until : (middle : List (Lane S)) → Verifies seen schema (needed_verified schema plan) old middle (Ok None) → LanesStay seen old middle
@@ -131,6 +132,7 @@ module _ {S : Type 0} (seen : S → Seen) (schema : Schema) (plan : Plan) (calls
       (λ asked. let holds = can.within middle verifies in record {
         instance = holds.instance;
         held = started_each middle (λ kinds. HoldPlan seen schema plan kinds holds.instance) holds.held;
+        integers = holds.integers;
         within = holds.within;
       }) why executes.does
 

@@ -2,6 +2,7 @@ pub mod Ways
 pub mod FirstLanes
 pub mod CompleteTexts
 pub mod CompleteSources
+pub mod CompleteIntegers
 pub mod CompleteAttaches
 pub mod CompleteExecution
 pub mod CompleteSchema

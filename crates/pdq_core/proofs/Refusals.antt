@@ -91,6 +91,7 @@ refusal_is (stop.Run (fault.UnknownKind rel)) plain = tt
 refusal_is (stop.Run (fault.Attach rel why)) plain = attach_refuses rel why
 refusal_is (stop.Run (fault.CallFailed branch step)) plain = tt
 refusal_is (stop.Run (fault.OverCalls made wanted cap)) plain = tt
+refusal_is (stop.Run (fault.BadNumber rel column)) plain = tt
 refusal_is (stop.RoundFailed round) plain = tt
 refusal_is (stop.QueryCall query branch step) plain = tt
 refusal_is (stop.WholeFailed rel) plain = tt
@@ -126,6 +127,7 @@ run_plain (fault.UnknownKind rel) = tt
 run_plain (fault.Attach rel why) = tt
 run_plain (fault.CallFailed branch step) = tt
 run_plain (fault.OverCalls made wanted cap) = tt
+run_plain (fault.BadNumber rel column) = tt
 
 pub crawl_plain : (why : RunFault) → IsPlain (stop_of_crawl why)
 crawl_plain fault.NoMemory = tt
@@ -134,6 +136,7 @@ crawl_plain (fault.UnknownKind rel) = tt
 crawl_plain (fault.Attach rel why) = tt
 crawl_plain (fault.CallFailed branch step) = tt
 crawl_plain (fault.OverCalls made wanted cap) = tt
+crawl_plain (fault.BadNumber rel column) = tt
 
 pub batch_plain : (number : ℕ) (why : RunFault) → IsPlain (stop_of_batch number why)
 batch_plain number fault.NoMemory = tt
@@ -142,6 +145,7 @@ batch_plain number (fault.UnknownKind rel) = tt
 batch_plain number (fault.Attach rel why) = tt
 batch_plain number (fault.CallFailed branch step) = tt
 batch_plain number (fault.OverCalls made wanted cap) = tt
+batch_plain number (fault.BadNumber rel column) = tt
 
 pub result_plain : (rose : Type 0) (given : Stop) → ResultStop rose given → IsPlain given
 result_plain rose given result_memory = tt

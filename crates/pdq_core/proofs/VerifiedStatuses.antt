@@ -53,6 +53,7 @@ verify_plain : (why : VerifyFault) → IsPlain (stop_of_verify why)
 verify_plain (verify_fault.NotAttached why) = run_plain why
 verify_plain (verify_fault.NotAsked whole_fault.NoMemory) = tt
 verify_plain (verify_fault.NotAsked (whole_fault.CallFailed rel)) = tt
+verify_plain (verify_fault.NotAsked (whole_fault.BadNumber rel column)) = tt
 
 module _ {S : Type 0} (seen : S → Seen) (schema : Schema) (plan : Plan) (calls : ℕ) (old new : List (Lane S)) where
   broken_held : (broken : Broken) → Verifies seen schema (needed_verified schema plan) old new (Ok (Some broken)) → AreBroken seen new schema

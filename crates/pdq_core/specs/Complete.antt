@@ -1,5 +1,6 @@
 -- What a run without faults is given, command by command, and the statuses with which it ends.
-use Rattle.std.specs.Prelude.{◌≡◌, ◌≤◌, ◌<◌, ◌+◌, ◌++◌, ℕ, Bool, List, [], ◌∷◌, take, Contains, true, false, Option, None, Some, IfSome, IsSome, IsOk, Ok, length, nat_eq, slice_get, if◌then◌else◌}
+use Rattle.std.specs.Prelude.{◌≡◌, ◌≤◌, ◌<◌, ◌+◌, ◌++◌, ℕ, Bool, List, [], ◌∷◌, take, Contains, true, false, length, nat_eq, slice_get}
+use Rattle.std.specs.Prelude.{Option, None, Some, IfSome, IsSome, IsSomeAnd, IsOk, Ok, if◌then◌else◌}
 use Rattle.std.specs.Cmp.Lexicographic.{pointwise}
 use Rattle.std.specs.List.{AllZip}
 use Rattle.meaning.specs.declared.types.Fact.{Fact}
@@ -8,6 +9,8 @@ use Rattle.meaning.specs.declared.types.Relation.{Relation}
 use Rattle.meaning.specs.declared.types.Request.{Request}
 use Rattle.meaning.specs.declared.types.Statement.{Statement}
 use Rattle.meaning.specs.Crawls.{IsCrawlRound, AreCrawlRounds}
+use Rattle.meaning.specs.Matching.{itself}
+use Rattle.meaning.specs.Sorts.{HoldsIntegers, AreSorted}
 use Rattle.access_schema.specs.declared.schema.Schema.{Schema}
 use Rattle.access_schema.specs.declared.schema.SourceLine.{SourceLine}
 use Rattle.access_schema.specs.Meaning.{meaning_of}
@@ -17,7 +20,7 @@ use Rattle.sql_batch.specs.Batches.{IsBatchText}
 use Rattle.plan_form.specs.Grammar.{IsPlanText}
 use Rattle.findings.specs.declared.decision.Chosen.{Chosen}
 use Rattle.explain.specs.Printing.{planned_text}
-use Rattle.source_trait.specs.Asking.{RowList, Rises, Seen, offered_now, facts_of}
+use Rattle.source_trait.specs.Asking.{RowList, Rises, Seen, offered_now, facts_of, pick}
 use Rattle.source_trait.specs.Causes.{Rose}
 use Rattle.source_trait.specs.Lanes.{source_of, AtKind}
 use Rattle.source_trait.specs.Outside.{bytes_of}
@@ -29,6 +32,7 @@ use Rattle.plan_execution.specs.PlanRounds.{IsRoundAt}
 use Rattle.middleware.specs.Held.{SameFacts}
 use Rattle.middleware.specs.LaneBranches.{LanesHoldPlan}
 use Rattle.middleware.specs.Needs.{AttachesNeeded}
+use Rattle.bad_numbers.specs.Numbers.{HaveIntegers}
 use Rattle.shared_rounds.specs.SharedRounds.{Once, AreRounds}
 use Rattle.plan_batches.specs.Batching.{NeedsOf, needed_by_all, LanesHoldAll}
 use Rattle.crawl.specs.Crawling.{IsReachable, needed_to_crawl, asked_in, LanesHoldReachable}
@@ -46,7 +50,7 @@ use Rattle.run_command.specs.Deciding.{IsPlanned}
 use Rattle.run_command.specs.declared.world.TheConstants.{FIRINGS, UNITS}
 use Rattle.batch_command.specs.Deciding.{Told, plans_of, told_text}
 use Rattle.exec_command.specs.Ends.{MayRun}
-use Rattle.rule_rows.specs.RuleRelations.{RulesName, needed_verified}
+use Rattle.rule_rows.specs.RuleRelations.{RulesName, needed_first, needed_verified}
 use Rattle.rule_rows.specs.Verifying.{Verifies, used}
 
 -- The command was answered, or memory was wanted.
@@ -116,19 +120,35 @@ pub record Serve {S : Type 0} (seen : S → Seen) (schema : Schema) (IsNeeded : 
       AttachesInOrder seen schema rels old middle → OffersRows seen schema middle rel
   pub faults : NoSourceRose seen schema IsNeeded old new
 
+-- The facts of these relations have integers at integer columns.
+abbrev pub HasIntegers : Schema → (ℕ → Type 0) → List Fact → Type 0
+HasIntegers schema IsNeeded instance = (fact : Fact) → Contains instance fact → IsNeeded fact.rel →
+    AreSorted itself (meaning_of schema) fact.rel fact.row
+
+-- The sources of a lane tell what they hold of those of these relations that have an integer column, with integers there.
+abbrev pub TellIntegers : {S : Type 0} → (S → Seen) → Schema → (ℕ → Type 0) → List (Kind S) → Type 0
+TellIntegers seen schema IsNeeded kinds = (rel column : ℕ) (line : SourceLine) → IsNeeded rel →
+    HoldsIntegers (meaning_of schema) rel column → line_for rel schema.sources ≡ Some line →
+    AtKind kinds line.kind (λ source. IsSomeAnd (seen source).held (λ facts. HaveIntegers (meaning_of schema) rel (pick facts rel [] [])))
+
+-- None of these relations has an integer column.
+abbrev pub HaveTextsAlone : Schema → (ℕ → Type 0) → Type 0
+HaveTextsAlone schema IsNeeded = (rel column : ℕ) → IsNeeded rel → HoldsIntegers (meaning_of schema) rel column → ⊥
+
 -- No round of the plan on the instance passes the cap on requests.
 abbrev pub KeepsCap : Schema → Plan → List Fact → ℕ → Type 0
 KeepsCap schema plan instance cap = (branch step : ℕ) (earlier now : List Request) → IsRoundAt (meaning_of schema) plan instance branch step earlier now →
     length earlier + length now ≤ cap
 
--- The sources of each lane hold one instance, on which no round of the plan passes the cap.
+-- The sources of each lane hold one instance, which has integers at integer columns, and on which no round of the plan passes the cap.
 pub record HoldWithin {S : Type 0} (seen : S → Seen) (schema : Schema) (plan : Plan) (cap : ℕ) (lanes : List (Lane S)) : Type 0 where
   pub instance : List Fact
   pub held : LanesHoldPlan seen schema plan lanes instance
+  pub integers : HasIntegers schema (IsAccessed schema plan) instance
   pub within : KeepsCap schema plan instance cap
 
 -- Of the used lanes: there is one where the plan accesses a relation, the sources of each serve the plan's relations, and where all of
--- these came to be attached on each, no round passes the cap of so many calls.
+-- these came to be attached on each, they hold integers at integer columns and no round passes the cap of so many calls.
 pub record CanExecute {S : Type 0} (seen : S → Seen) (schema : Schema) (plan : Plan) (calls : ℕ) (old new : List (Lane S)) : Type 0 where
   pub some : (rel : ℕ) → IsAccessed schema plan rel → 0 < length old
   pub serve : OnLanes (Serve seen schema (IsAccessed schema plan)) old new
@@ -140,10 +160,13 @@ AtPlaces {S} P old new = (place : ℕ) (before after : Lane S) → slice_get old
     P place before.kinds.items after.kinds.items
 
 -- Of the used lanes, where the rules are tested first: there is one where a relation is needed, the sources of each serve the relations that
--- the lane at its place needs, and where the rules were tested and are all met, no round passes the cap of so many calls.
+-- the lane at its place needs, the first lane tells integers at integer columns once all are attached, and where the rules were tested and
+-- are all met, no round passes the cap of so many calls.
 pub record CanVerify {S : Type 0} (seen : S → Seen) (schema : Schema) (plan : Plan) (calls : ℕ) (old new : List (Lane S)) : Type 0 where
   pub some : (rel : ℕ) → needed_verified schema plan 0 rel → 0 < length old
   pub serve : AtPlaces (λ place. Serve seen schema (needed_verified schema plan place)) old new
+  pub integers : (middle : List (Lane S)) → AttachesNeeded seen schema (needed_verified schema plan) old middle (Ok tt) →
+      TellIntegers seen schema (needed_verified schema plan 0) (used middle)
   pub within : (middle : List (Lane S)) → Verifies seen schema (needed_verified schema plan) old middle (Ok None) →
       HoldWithin seen schema plan calls middle
 
@@ -157,15 +180,18 @@ abbrev pub RoundsKeepCap : Schema → List Plan → List Fact → ℕ → Type 0
 RoundsKeepCap schema plans instance cap = (n : ℕ) (asked : List Request) → AreRounds (meaning_of schema) instance plans Once n asked →
     length asked ≤ cap
 
--- The sources of each lane hold the relations of all plans of one instance, on which the rounds that the plans share do not pass the cap.
+-- The sources of each lane hold the relations of all plans of one instance, which has integers at integer columns, and on which the rounds
+-- that the plans share do not pass the cap.
 pub record HoldAllWithin {S : Type 0} (seen : S → Seen) (schema : Schema) (plans : List Plan) (cap : ℕ)
     (lanes : List (Lane S)) : Type 0 where
   pub instance : List Fact
   pub held : LanesHoldAll seen schema plans lanes instance
+  pub integers : HasIntegers schema (NeedsOf schema plans) instance
   pub within : RoundsKeepCap schema plans instance cap
 
 -- Of the used lanes: there is one where some plan accesses a relation, the sources of each serve the relations of all plans, and where all
--- of these came to be attached on each, the rounds that the plans share do not pass the cap of so many calls.
+-- of these came to be attached on each, they hold integers at integer columns and the rounds that the plans share do not pass the cap of so
+-- many calls.
 pub record CanExecuteAll {S : Type 0} (seen : S → Seen) (schema : Schema) (plans : List Plan) (calls : ℕ)
     (old new : List (Lane S)) : Type 0 where
   pub some : (rel : ℕ) → NeedsOf schema plans rel → 0 < length old
@@ -179,19 +205,27 @@ CrawlKeepsCap schema instance cap = (rounds : List (List Request)) (now : List R
     AreCrawlRounds (meaning_of schema) schema.constants instance [] rounds →
     IsCrawlRound (meaning_of schema) schema.constants instance (asked_in rounds) now → length (asked_in rounds) + length now ≤ cap
 
--- The sources of each lane hold the reachable relations of one instance, on which no round of a crawl passes the cap.
+-- The sources of each lane hold the reachable relations of one instance, which has integers at integer columns, and on which no round of a
+-- crawl passes the cap.
 pub record HoldReachable {S : Type 0} (seen : S → Seen) (schema : Schema) (cap : ℕ) (lanes : List (Lane S)) : Type 0 where
   pub instance : List Fact
   pub held : LanesHoldReachable seen schema lanes instance
+  pub integers : HasIntegers schema (IsReachable schema) instance
   pub within : CrawlKeepsCap schema instance cap
 
 -- Of the used lanes: there is one where a relation is reachable, the sources of each serve the reachable relations, and where all of these
--- came to be attached on each, no round passes the cap of so many calls.
+-- came to be attached on each, they hold integers at integer columns and no round passes the cap of so many calls.
 pub record CanCrawl {S : Type 0} (seen : S → Seen) (schema : Schema) (calls : ℕ) (old new : List (Lane S)) : Type 0 where
   pub some : (rel : ℕ) → IsReachable schema rel → 0 < length old
   pub serve : OnLanes (Serve seen schema (IsReachable schema)) old new
   pub within : (middle : List (Lane S)) → AttachesNeeded seen schema (needed_to_crawl schema) old middle (Ok tt) →
       HoldReachable seen schema calls middle
+
+-- Of the first lane: its sources serve the relations that the rules name, and tell integers at integer columns once these are attached.
+pub record CanTest {S : Type 0} (seen : S → Seen) (schema : Schema) (old new : List (Lane S)) : Type 0 where
+  pub serve : Serve seen schema (RulesName schema) (used old) (used new)
+  pub integers : (middle : List (Lane S)) → AttachesNeeded seen schema (needed_first schema) old middle (Ok tt) →
+      TellIntegers seen schema (RulesName schema) (used middle)
 
 -- ---- sources that tell
 
@@ -288,11 +322,11 @@ pub record CheckIsSupplied (told : Option Contents) (name query its : List ℕ) 
   pub plan : Plan
   pub plan_given : PlanIsGiven told its plan
 
--- For `verify`: the text is given, and the sources serve the relations that the rules name.
+-- For `verify`: the text is given, and the rules can be tested.
 pub record VerifyIsSupplied {S : Type 0} (seen : S → Seen) (name : List ℕ) (told : Option Contents) (old new : List (Lane S)) : Type 0 where
   pub schema : Schema
   pub schema_given : SchemaIsGiven told name schema
-  pub serve : Serve seen schema (RulesName schema) (used old) (used new)
+  pub tests : CanTest seen schema old new
 
 -- For `crawl`: the text is given, and the reachable relations can be crawled.
 pub record CrawlIsSupplied {S : Type 0} (seen : S → Seen) (name : List ℕ) (calls : ℕ)

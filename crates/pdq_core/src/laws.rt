@@ -20,7 +20,9 @@ ghost use Rattle.command_words.specs.Words.{Command, IsCommand};
 ghost use Rattle.rule_rows.specs.RuleRelations.{RulesName};
 ghost use Rattle.rule_rows.specs.Verifying.{used};
 ghost use Rattle.pdq_core.specs.Runs.{Runs};
-ghost use Rattle.pdq_core.specs.Complete.{NoneRose, OnLanes, NoSourceRose, OfferInstance, OfferUntold, KeepsCap, RoundsKeepCap, CrawlKeepsCap, Serve, CanExecute, CanExecuteAll, CanCrawl, IsSupplied, IsAnswered};
+ghost use Rattle.pdq_core.specs.Complete.{NoneRose, OnLanes, NoSourceRose, OfferInstance, OfferUntold, HasIntegers, HaveTextsAlone};
+ghost use Rattle.pdq_core.specs.Complete.{KeepsCap, RoundsKeepCap, CrawlKeepsCap};
+ghost use Rattle.pdq_core.specs.Complete.{Serve, CanExecute, CanExecuteAll, CanCrawl, CanTest, IsSupplied, IsAnswered};
 ghost use Rattle.pdq_core.specs.Statuses.{SaysOf};
 ghost use Rattle.pdq_core.specs.Exact.{HasNoLongRun, DecidesAlone, HasNone};
 ghost use Rattle.pdq_core.specs.Verified.{SaysOfVerified};
@@ -39,30 +41,34 @@ pub fn runs_without_faults_are_answered<S: Source>()
 }
 
 /// What the law above needs of sources can be given. Where those of each used lane tell what they hold, offer one instance within
-/// their limits and do not fail, they serve; and a plan can be executed, several together, or the methods crawled, if no round of that on the
-/// instance passes the cap.
+/// their limits and do not fail, they serve. If the instance has integers at integer columns, the rules can be tested; and a plan can be
+/// executed, several together, or the methods crawled, if no round of that on the instance passes the cap.
 pub fn sources_that_tell_serve<S: Source>()
     ensures plan { (schema : Schema) (plan : Plan) (calls : ℕ) (old new : List (Lane S)) (instance : List Fact) →
         ((rel : ℕ) → IsAccessed schema plan rel → 0 < length old) →
         OnEach old (λ kinds. OfferInstance S.seen schema (IsAccessed schema plan) kinds instance) → OnLanes (NoSourceRose S.seen schema (IsAccessed schema plan)) old new →
-        KeepsCap schema plan instance calls → CanExecute S.seen schema plan calls old new }
+        HasIntegers schema (IsAccessed schema plan) instance → KeepsCap schema plan instance calls →
+        CanExecute S.seen schema plan calls old new }
     ensures rules { (schema : Schema) (old new : List (Lane S)) (instance : List Fact) →
         OfferInstance S.seen schema (RulesName schema) (used old) instance → NoSourceRose S.seen schema (RulesName schema) (used old) (used new) →
         Serve S.seen schema (RulesName schema) (used old) (used new) }
+    ensures tests { (schema : Schema) (old new : List (Lane S)) (instance : List Fact) →
+        OfferInstance S.seen schema (RulesName schema) (used old) instance → NoSourceRose S.seen schema (RulesName schema) (used old) (used new) →
+        HasIntegers schema (RulesName schema) instance → CanTest S.seen schema old new }
     ensures batch { (schema : Schema) (plans : List Plan) (calls : ℕ) (old new : List (Lane S)) (instance : List Fact) →
         ((rel : ℕ) → NeedsOf schema plans rel → 0 < length old) →
         OnEach old (λ kinds. OfferInstance S.seen schema (NeedsOf schema plans) kinds instance) →
-        OnLanes (NoSourceRose S.seen schema (NeedsOf schema plans)) old new → RoundsKeepCap schema plans instance calls →
-        CanExecuteAll S.seen schema plans calls old new }
+        OnLanes (NoSourceRose S.seen schema (NeedsOf schema plans)) old new → HasIntegers schema (NeedsOf schema plans) instance →
+        RoundsKeepCap schema plans instance calls → CanExecuteAll S.seen schema plans calls old new }
     ensures crawl { (schema : Schema) (calls : ℕ) (old new : List (Lane S)) (instance : List Fact) →
         ((rel : ℕ) → IsReachable schema rel → 0 < length old) →
         OnEach old (λ kinds. OfferInstance S.seen schema (IsReachable schema) kinds instance) →
-        OnLanes (NoSourceRose S.seen schema (IsReachable schema)) old new → CrawlKeepsCap schema instance calls →
-        CanCrawl S.seen schema calls old new }
+        OnLanes (NoSourceRose S.seen schema (IsReachable schema)) old new → HasIntegers schema (IsReachable schema) instance →
+        CrawlKeepsCap schema instance calls → CanCrawl S.seen schema calls old new }
 {}
 
 /// Sources that tell nothing of what they offer can supply it too, as those over files of the system: they serve where each line has a
-/// source of its kind on each used lane and none failed.
+/// source of its kind on each used lane and none failed. The rules can be tested if no relation that they name has an integer column.
 pub fn sources_that_do_not_tell_serve<S: Source>()
     ensures plan { (schema : Schema) (plan : Plan) (old new : List (Lane S)) →
         OnEach old (OfferUntold S.seen schema (IsAccessed schema plan)) → OnLanes (NoSourceRose S.seen schema (IsAccessed schema plan)) old new →
@@ -70,6 +76,9 @@ pub fn sources_that_do_not_tell_serve<S: Source>()
     ensures rules { (schema : Schema) (old new : List (Lane S)) →
         OfferUntold S.seen schema (RulesName schema) (used old) → NoSourceRose S.seen schema (RulesName schema) (used old) (used new) →
         Serve S.seen schema (RulesName schema) (used old) (used new) }
+    ensures tests { (schema : Schema) (old new : List (Lane S)) → HaveTextsAlone schema (RulesName schema) →
+        OfferUntold S.seen schema (RulesName schema) (used old) → NoSourceRose S.seen schema (RulesName schema) (used old) (used new) →
+        CanTest S.seen schema old new }
     ensures batch { (schema : Schema) (plans : List Plan) (old new : List (Lane S)) →
         OnEach old (OfferUntold S.seen schema (NeedsOf schema plans)) → OnLanes (NoSourceRose S.seen schema (NeedsOf schema plans)) old new →
         OnLanes (Serve S.seen schema (NeedsOf schema plans)) old new }

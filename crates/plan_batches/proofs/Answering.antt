@@ -1,13 +1,13 @@
 -- Answers that are kept, and those of a plan's numbers among them.
-use Rattle.std.proofs.Common.{◌≡◌, ◌↔◌, ◌∙◌, ℕ, ◌<◌, List, [], ◌∷◌, length, get_or, map, Some, refl, sym, ap, subst, arith}
-use Rattle.std.specs.Prelude.{Contains, slice_get}
+use Rattle.std.proofs.Common.{◌≡◌, ◌∙◌, ℕ, List, [], length, get_or, Some, sym, ap, arith}
+use Rattle.std.specs.Prelude.{slice_get}
 use Rattle.std.proofs.lemmas.List.{length-map}
 use Rattle.std.proofs.lemmas.Option.{slice_get-get_or, slice_get_within}
 use Rattle.lists.proofs.Members.{contains_got, got_mapped, map_got, some_injective}
 use Rattle.meaning.specs.declared.types.Fact.{Fact}
 use Rattle.meaning.specs.declared.types.Method.{Method}
 use Rattle.meaning.specs.declared.types.Request.{Request}
-use Rattle.source_trait.specs.Asking.{RowList, pick}
+use Rattle.source_trait.specs.Asking.{RowList}
 use Rattle.middleware.specs.LaneAsking.{AnswersFrom}
 use Rattle.middleware.specs.Rounds.{requests_of}
 use Rattle.shared_rounds.specs.Books.{AreNumbers}

@@ -1,5 +1,5 @@
 -- The attaches of a batch, and what follows once they are done.
-use Rattle.std.proofs.Common.{◌≡◌, ◌↔◌, ◌⊎◌, inl, inr, ⊎_elim, ℕ, zero, suc, ◌+◌, ◌<◌, ◌≤◌, List, [], ◌∷◌, ◌++◌, length, map, Some, refl, sym, ◌∙◌, ap, subst, arith}
+use Rattle.std.proofs.Common.{◌≡◌, ◌↔◌, inl, inr, ⊎_elim, ℕ, zero, suc, ◌<◌, List, [], ◌∷◌, length, map, refl, sym, ◌∙◌, subst, arith}
 use Rattle.std.specs.Prelude.{Contains, IsSome, slice_get, Result, Ok, Err, IfOk, OnOk}
 use Rattle.std.specs.List.{AllZip}
 use Rattle.std.proofs.lemmas.Option.{slice_get_within}
@@ -17,7 +17,7 @@ use Rattle.source_trait.specs.declared.source.AttachFault.{AttachFault}
 use Rattle.source_trait.specs.declared.source.AttachFault.TheVariants as attach
 use Rattle.source_trait.specs.declared.lanes.Lane.{Lane}
 use Rattle.source_trait.proofs.LaneSteps.{LanesStay-refl, LanesStay-trans}
-use Rattle.middleware.specs.PlanSources.{line_for, IsAccessed}
+use Rattle.middleware.specs.PlanSources.{line_for}
 use Rattle.middleware.specs.Held.{HoldNeeded}
 use Rattle.middleware.specs.Needs.{needed, AttachBreaksAt, AttachesNeeded}
 use Rattle.middleware.specs.Needs.AttachesNeeded.{done, no_source, unknown_kind, refused, no_memory}
@@ -36,7 +36,7 @@ use Rattle.middleware.proofs.LaneStays.{asked_stay, attached_each, attach_long, 
 use Rattle.middleware.proofs.Needing.{needed_alike}
 use Rattle.middleware.proofs.Starting.{all_ready, relation_of, accessed_there}
 use Rattle.plan_course.specs.Courses.{CanNumber}
-use Rattle.plan_batches.specs.Batching.{NeedsOf, needed_by_all, Concerns, IsFirstOn, LanesHoldAll, RoundsAsked, RoundsHalt, RoundsDone, IsRunOf, ExecutesAll}
+use Rattle.plan_batches.specs.Batching.{NeedsOf, needed_by_all, Concerns, HaltsFor, IsFirstOn, LanesHoldAll, NumberFails, RoundsAsked, RoundsHalt, RoundsDone, IsRunOf, ExecutesAll}
 use Rattle.plan_batches.specs.Batching.AttachesAndAsksAll.{not_attached, attached}
 use Rattle.plan_batches.specs.Each.{Both}
 use Rattle.plan_batches.specs.Needing.{Accesses, StandsIn, IsFirstIn, HasRelation, IsNamedIn}
@@ -83,6 +83,7 @@ module _ (schema : Schema) (plans : List Plan) where
     concerned number (fault.Attach rel e) is = first_needed number rel is
     concerned number (fault.CallFailed branch step) is = absurd is
     concerned number (fault.OverCalls made wanted its) is = absurd is
+    concerned number (fault.BadNumber rel column) is = absurd is
 
     -- the list of all of them, for each lane
     listed_so : (rels : List ℕ) → ((rel : ℕ) → Contains rels rel ↔ StandsIn each rel) → (place rel : ℕ)
@@ -202,7 +203,33 @@ module _ (schema : Schema) (plans : List Plan) where
         asks = from_started old begun rounds some none seen schema list new r.asks;
         of_plans = r.of_plans;
         are = λ instance holds. r.are instance (held_begun instance holds);
+        numbers = λ instance holds. r.numbers instance (held_begun instance holds);
       }
+
+      number_started : (cap number rel column : ℕ) (earlier : List Request) (turns : List (List Request)) (middle new : List (Lane S))
+          → NumberFails seen schema plans cap number rel column earlier turns begun middle new
+          → NumberFails seen schema plans cap number rel column earlier turns (map started old) middle new
+      number_started cap number rel column earlier turns middle new fails = record {
+        turn = fails.turn;
+        at = fails.at;
+        fits = fails.fits;
+        asked = fails.asked;
+        going = fails.going;
+        bad = λ instance holds. fails.bad instance (held_begun instance holds);
+        before = λ instance holds. fails.before instance (held_begun instance holds);
+      }
+
+      cause_started : (cap n : ℕ) (earlier : List Request) (turns : List (List Request)) (middle new : List (Lane S)) (number : ℕ) (why : RunFault)
+          → HaltsFor seen schema plans cap n earlier turns begun middle new number why
+          → HaltsFor seen schema plans cap n earlier turns (map started old) middle new number why
+      cause_started cap n earlier turns middle new number fault.NoMemory is = is
+      cause_started cap n earlier turns middle new number (fault.CallFailed branch step) is = is
+      cause_started cap n earlier turns middle new number (fault.OverCalls made wanted its) is = is
+      cause_started cap n earlier turns middle new number (fault.BadNumber rel column) is =
+          number_started cap number rel column earlier turns middle new is
+      cause_started cap n earlier turns middle new number (fault.NoSource rel) is = absurd is
+      cause_started cap n earlier turns middle new number (fault.UnknownKind rel) is = absurd is
+      cause_started cap n earlier turns middle new number (fault.Attach rel e) is = absurd is
 
       pub halts_started : (cap : ℕ) (why : BatchFault) (new : List (Lane S)) → RoundsHalt seen schema plans cap why begun new
           → RoundsHalt seen schema plans cap why (map started old) new
@@ -215,5 +242,5 @@ module _ (schema : Schema) (plans : List Plan) where
         part = h.part;
         of_plans = h.of_plans;
         are = ⊎_elim inl (λ a. inr (λ instance holds. a instance (held_begun instance holds))) h.are;
-        cause = h.cause;
+        cause = cause_started cap h.n h.earlier h.turns h.middle new why.plan why.fault h.cause;
       }

@@ -1,5 +1,5 @@
 -- The runs of plans at the end of a batch.
-use Rattle.std.proofs.Common.{◌≡◌, ◌↔◌, inl, inr, ⊎_elim, ℕ, zero, suc, ◌+◌, ◌<◌, ◌≤◌, List, [], ◌∷◌, ◌++◌, length, map, max, Option, None, Some, refl, sym, ◌∙◌, ap, subst, arith}
+use Rattle.std.proofs.Common.{◌≡◌, ◌↔◌, ⊎_elim, ℕ, zero, suc, ◌<◌, ◌≤◌, List, [], ◌∷◌, ◌++◌, length, Option, None, Some, refl, sym, ◌∙◌, ap, subst, arith}
 use Rattle.std.specs.Prelude.{Contains, slice_get}
 use Rattle.std.specs.List.{AllZip}
 use Rattle.std.proofs.lemmas.Bool.{cases_lt}
@@ -18,16 +18,14 @@ use Rattle.access_schema.specs.Meaning.{meaning_of}
 use Rattle.source_trait.specs.Asking.{Seen}
 use Rattle.source_trait.specs.declared.lanes.Lane.{Lane}
 use Rattle.source_trait.specs.declared.work.Ask.{Ask}
-use Rattle.middleware.specs.LaneBranches.{LanesHoldPlan}
 use Rattle.middleware.specs.LaneRounds.{at_numbers, with_request}
 use Rattle.middleware.specs.declared.fault.Run.{Run}
 use Rattle.middleware.proofs.LaneBranching.{each_asked}
 use Rattle.middleware.proofs.PlanHeld.{plan_held_earlier}
 use Rattle.shared_rounds.specs.SharedRounds.{Anew, AreAskedAt, AreRounds, IsTurn, turns_of, wanted_in}
 use Rattle.shared_rounds.specs.Books.{AreNumbers, asked_in}
-use Rattle.shared_rounds.proofs.Counting.{all_long}
 use Rattle.shared_rounds.proofs.Turning.{alone}
-use Rattle.plan_batches.specs.Batching.{IsMade, IsRunOf, most_steps}
+use Rattle.plan_batches.specs.Batching.{IsRunOf, most_steps}
 use Rattle.plan_batches.specs.Coming.{HasCome, HasWanted}
 use Rattle.plan_batches.specs.Each.{Both}
 use Rattle.plan_batches.specs.Members.{Ends}

@@ -1,7 +1,8 @@
 -- One round of a batch: what asking its requests and taking their answers need, and what they come to.
-use Rattle.std.proofs.Common.{◌≡◌, ℕ, ◌+◌, ◌-◌, ◌<◌, ◌≤◌, ◌^◌, List, ◌++◌, length, length-drop, drop, take, Some, sym, ◌∙◌, ap, subst, arith}
-use Rattle.std.specs.Prelude.{Contains, Ok, slice_get}
+use Rattle.std.proofs.Common.{◌≡◌, ℕ, ◌+◌, ◌-◌, ◌<◌, ◌≤◌, ◌^◌, List, ◌++◌, length, length-drop, drop, take, Some, refl, sym, ◌∙◌, ap, subst, arith}
+use Rattle.std.specs.Prelude.{Contains, slice_get}
 use Rattle.std.proofs.lemmas.List.{map-append, take_all}
+use Rattle.std.proofs.lemmas.List.Elements.{Contains-append_right}
 use Rattle.std.proofs.lemmas.Option.{slice_get_within}
 use Rattle.meaning.specs.declared.types.Plan.{Plan}
 use Rattle.meaning.specs.declared.types.Request.{Request}
@@ -12,22 +13,23 @@ use Rattle.source_trait.specs.Works.{MayAsk}
 use Rattle.source_trait.specs.declared.lanes.Lane.{Lane}
 use Rattle.source_trait.specs.declared.work.Ask.{Ask}
 use Rattle.middleware.specs.LaneBranches.{OnEach}
-use Rattle.middleware.specs.LaneRounds.{HaveTheirKinds}
+use Rattle.middleware.specs.LaneRounds.{AreAnswers, AskCause, AsksEach, AsksSome, HaveTheirKinds, NoneStopped, requests_in}
 use Rattle.middleware.specs.LaneRunning.{IsAttachedTo}
+use Rattle.middleware.specs.declared.lane_round.AskFault.{AskFault}
 use Rattle.request_rounds.specs.declared.rounds.Turned.{Turned}
 use Rattle.shared_rounds.specs.Books.{asked_in}
 use Rattle.shared_rounds.specs.declared.book.Book.{Book}
-use Rattle.shared_rounds.proofs.Turning.{append_second}
 use Rattle.plan_course.specs.Courses.{HaveOutputs}
-use Rattle.plan_batches.specs.Asking.{AsksNoted, HasTaken, MayAskNoted, MayTake, asks_in}
+use Rattle.plan_batches.specs.Asking.{AsksPart, AsksWhole, HasTaken, MayAskNoted, MayTake, asks_in}
 use Rattle.plan_batches.specs.Batching.{NeedsOf}
-use Rattle.plan_batches.specs.Naming.{CanName, HasFirst}
+use Rattle.plan_batches.specs.Naming.{CanName, HasFirst, NumbersBelow}
+use Rattle.plan_batches.specs.Receiving.{HaveNoBad}
 use Rattle.plan_batches.specs.Rounding.{AreReadyPlans, IsStanding, NotesRound, TurnsNoted}
 use Rattle.plan_batches.specs.declared.member.Going.{Going}
 use Rattle.plan_batches.specs.declared.round.Noted.{Noted}
 use Rattle.plan_batches.specs.declared.round.Progress.{Progress}
 use Rattle.plan_batches.proofs.Readying.{all_ready}
-use Rattle.plan_batches.proofs.Standing.{RoundGoes, all_named, kinds_behind, new_of_plans, was_next}
+use Rattle.plan_batches.proofs.Standing.{RoundAsked, RoundGoes, all_named, kinds_behind, new_of_plans, was_next}
 use Rattle.plan_batches.proofs.Wanting.{below, distinct_asked, dropped, wanted_number}
 
 pub outputs_there : (schema : Schema) (plans : List Plan) → AreReadyPlans schema plans → (plan : Plan)
@@ -40,6 +42,25 @@ pub rest_is : {X : Type 0} (made : ℕ) (xs lent : List X) → lent ≡ xs
 rest_is made xs lent is =
     let long = length-drop made lent in
     take_all (length lent - made) (drop made lent) (omega (arith, long)) ∙ ap (drop made) is
+
+-- what asking the requests that are lent does, which are those of the round
+module _ {S : Type 0} (seen : S → Seen) (schema : Schema) (noted : Noted) (lent : List Ask) (is : lent ≡ asks_in noted)
+    (old new : List (Lane S)) where
+  pub asks_whole : (answers : List RowList)
+      → ((s : Schema) → HaveTheirKinds s lent → AsksEach seen s (requests_in lent) old new) → AreAnswers seen old lent answers
+      → NoneStopped new → AsksWhole seen schema noted answers old new
+  asks_whole answers asks are going = record {
+    asks = subst (λ (l : List Ask). HaveTheirKinds schema l → AsksEach seen schema (requests_in l) old new) is (asks schema);
+    are = subst (λ (l : List Ask). AreAnswers seen old l answers) is are;
+    going = going;
+  }
+
+  pub asks_part : (why : AskFault) → ((s : Schema) → HaveTheirKinds s lent → AsksSome seen s (requests_in lent) old new)
+      → ((s : Schema) → HaveTheirKinds s lent → AskCause seen s lent why old new) → AsksPart seen schema noted why old new
+  asks_part why asks cause = record {
+    asks = subst (λ (l : List Ask). HaveTheirKinds schema l → AsksSome seen schema (requests_in l) old new) is (asks schema);
+    cause = subst (λ (l : List Ask). HaveTheirKinds schema l → AskCause seen schema l why old new) is (cause schema);
+  }
 
 -- a request behind the first ones has a number behind theirs
 rest_number : {X : Type 0} (made k : ℕ) (xs : List X) (x : X) → made ≤ length xs → slice_get (drop made xs) k ≡ Some x
@@ -80,22 +101,35 @@ module _ (schema : Schema) (plans : List Plan) (n : ℕ) (progress : Progress) (
       (is.noted.kinds st.kinds))
       (λ request c. new_of_plans schema plans n progress st new goings is.noted request
       (subst (λ (l : List Request). Contains l request) (sym all)
-      (append_second (asked_in progress.book.asked.items) (asked_in is.noted.onward.0) request c))))
+      (Contains-append_right (asked_in progress.book.asked.items) (asked_in is.noted.onward.0) request c))))
     where
       all : asked_in new.asked.items ≡ asked_in progress.book.asked.items ++ asked_in is.noted.onward.0
       all = ap asked_in is.noted.onward.1
           ∙ map-append (λ (a : Ask). a.request) progress.book.asked.items is.noted.onward.0
 
+  -- what the plans want has numbers below those of all answers
+  numbers_there : (count : ℕ) → count ≡ length (asks_in turned.what) → NumbersBelow (length turned.what.kept + count) goings
+  numbers_there count long going number among c =
+      let less = below schema plans progress.members.items progress.book new goings is.noted going number among c in
+      let kept = ap length is.kept in
+      let before = st.kept in
+      let made = is.made in
+      let rest = length-drop turned.what.made new.asked.items in
+      let fits = made_fits in
+      omega (arith, less, kept, before, made, long, rest, fits)
+
   -- the requests of the round may be asked
   pub may_ask : {S : Type 0} (seen : S → Seen) (lanes : List (Lane S)) → (0 < length lanes) × (length lanes ≤ 8)
       → ((rel : ℕ) → NeedsOf schema plans rel → OnEach lanes (IsAttachedTo seen schema rel))
-      → length new.asked.items ≤ 1000000
+      → length new.asked.items ≤ 1000000 → length plans < 2 ^ 32
       → MayAskNoted seen turned.what lanes
-  may_ask seen lanes some attached few = record {
+  may_ask seen lanes some attached few short = record {
     some = some;
     fits = made_fits;
     few = few;
     ready = asks_ready seen lanes attached;
+    plans = let third = is.noted.wants.third in omega (arith, short, third);
+    numbers = numbers_there (length (asks_in turned.what)) refl;
   }
 
   -- an answer to each of them may be taken
@@ -104,14 +138,7 @@ module _ (schema : Schema) (plans : List Plan) (n : ℕ) (progress : Progress) (
   may_take ready answers long = record {
     goings = was_next schema plans n progress st goings is.noted.wants;
     outputs = outputs_there schema plans ready;
-    numbers = λ going number among c.
-        let less = below schema plans progress.members.items progress.book new goings is.noted going number among c in
-        let kept = ap length is.kept in
-        let before = st.kept in
-        let made = is.made in
-        let rest = length-drop turned.what.made new.asked.items in
-        let fits = made_fits in
-        omega (arith, less, kept, before, made, long, rest, fits);
+    numbers = numbers_there (length answers) long;
   }
 
   -- ---- who is named where it stops
@@ -144,23 +171,27 @@ module _ (schema : Schema) (plans : List Plan) (n : ℕ) (progress : Progress) (
 
   -- ---- the round was asked whole
 
-  pub round_goes : {S : Type 0} (seen : S → Seen) (cap : ℕ) (before after : List (Lane S))
-      → length new.asked.items ≤ cap → (answers : List RowList)
-      → AsksNoted seen turned.what (Ok answers) before after → (next : Progress)
-      → HasTaken plans turned.what answers next
-      → RoundGoes schema plans seen cap progress next before after
-  round_goes seen cap before after within answers asked next taken = record {
-    goings = goings;
-    noted = subst (λ (b : Book). TurnsNoted schema plans progress.members.items progress.book b goings)
-        (sym taken.book_is) is.noted;
-    within = subst (λ (b : Book). length b.asked.items ≤ cap) (sym taken.book_is) within;
-    asks = asks_in turned.what;
-    more = ap (λ (b : Book). b.asked.items) taken.book_is ∙ is.noted.onward.1
-        ∙ ap (λ (l : List Ask). progress.book.asked.items ++ l) (sym asks_are);
-    asked = asked.asks schema asks_kinds;
-    going = asked.going;
-    answers = answers;
-    answered = asked.answers;
-    kept = taken.kept_is ∙ ap (λ (l : List RowList). l ++ answers) is.kept;
-    takes = taken.takes;
-  }
+  module _ {S : Type 0} (seen : S → Seen) (cap : ℕ) (before after : List (Lane S)) (within : length new.asked.items ≤ cap)
+      (answers : List RowList) (asked : AsksWhole seen schema turned.what answers before after) where
+    abbrev pub round_asked : (book : Book) → book ≡ new → RoundAsked schema plans seen cap progress book before after
+    round_asked book same = record {
+      goings = goings;
+      noted = subst (λ (b : Book). TurnsNoted schema plans progress.members.items progress.book b goings) (sym same) is.noted;
+      within = subst (λ (b : Book). length b.asked.items ≤ cap) (sym same) within;
+      asks = asks_in turned.what;
+      more = ap (λ (b : Book). b.asked.items) same ∙ is.noted.onward.1
+          ∙ ap (λ (l : List Ask). progress.book.asked.items ++ l) (sym asks_are);
+      asked = asked.asks asks_kinds;
+      going = asked.going;
+      answers = answers;
+      answered = asked.are;
+    }
+
+    pub round_goes : HaveNoBad schema (turned.what.kept ++ answers) goings → (next : Progress) → HasTaken plans turned.what answers next
+        → RoundGoes schema plans seen cap progress next before after
+    round_goes no_bad next taken = record {
+      whole = round_asked next.book taken.book_is;
+      no_bad = subst (λ (l : List RowList). HaveNoBad schema (l ++ answers) goings) is.kept no_bad;
+      kept = taken.kept_is ∙ ap (λ (l : List RowList). l ++ answers) is.kept;
+      takes = taken.takes;
+    }

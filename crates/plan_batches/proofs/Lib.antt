@@ -10,6 +10,7 @@ pub mod Wanting
 pub mod Noting
 pub mod Readying
 pub mod Standing
+pub mod Receiving
 pub mod Stopping
 pub mod Coming
 pub mod Chaining

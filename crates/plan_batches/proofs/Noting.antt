@@ -1,8 +1,9 @@
 -- What the plans of a batch want in a round: one plan more.
-use Rattle.std.proofs.Common.{◌≡◌, ⊎_elim, ℕ, List, [], ◌∷◌, ◌++◌, map, Some, refl, sym, ◌∙◌, ap, subst, append_assoc, arith}
-use Rattle.std.specs.Prelude.{Contains, slice_get}
+use Rattle.std.proofs.Common.{◌≡◌, ⊎_elim, ℕ, List, [], ◌∷◌, ◌++◌, Some, sym, ◌∙◌, ap, subst, append_assoc, arith}
+use Rattle.std.specs.Prelude.{Contains}
 use Rattle.std.proofs.lemmas.List.{append-nil, map-append}
 use Rattle.std.proofs.lemmas.List.Concat.{flat_map-append}
+use Rattle.std.proofs.lemmas.List.Elements.{Contains-append_cases}
 use Rattle.lists.proofs.Members.{contains_got, contains_one}
 use Rattle.lists.proofs.Places.{got_member}
 use Rattle.meaning.specs.declared.types.Plan.{Plan}
@@ -17,7 +18,6 @@ use Rattle.shared_rounds.specs.SharedRounds.{wanted_in}
 use Rattle.shared_rounds.specs.Books.{AreNumbers, IsBook, NotesAll, asked_in, with_asked}
 use Rattle.shared_rounds.specs.declared.book.Book.{Book}
 use Rattle.shared_rounds.proofs.Booking.{asked_push}
-use Rattle.shared_rounds.proofs.Turning.{in_append}
 use Rattle.plan_course.specs.Turns.{asks_of}
 use Rattle.plan_batches.specs.Members.{HasNoted, Wants}
 use Rattle.plan_batches.specs.Rounding.{AreItsNumbers, TurnsNoted, turns_by}
@@ -60,7 +60,7 @@ noted_more schema plans members old mid new goings plan member going t w h = rec
   are = λ other c. ⊎_elim
       (λ l. numbers_onward mid new h.onward.0 h.onward.1 (asks_of other.next) other.numbers.items (t.are other l))
       (λ l. subst (λ (g : Going). AreItsNumbers (asked_in new.asked.items) g) (contains_one going other l) h.are)
-      (in_append goings (going ∷ []) other c);
+      (Contains-append_cases goings (going ∷ []) other c);
   kinds = λ k. h.kinds (t.kinds k);
   onward = (t.onward.0 ++ h.onward.0, h.onward.1 ∙ ap (λ (l : List Ask). l ++ h.onward.0) t.onward.1 ∙ append_assoc old.asked.items t.onward.0 h.onward.0);
 }

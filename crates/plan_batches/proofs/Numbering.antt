@@ -1,9 +1,9 @@
 -- Requests by their numbers.
-use Rattle.std.proofs.Common.{◌≡◌, ◌↔◌, ⊎_elim, ℕ, zero, suc, ◌+◌, ◌-◌, ◌<◌, ◌≤◌, List, [], ◌∷◌, ◌++◌, length, map, Option, None, Some, refl, sym, ◌∙◌, ap, subst, arith}
+use Rattle.std.proofs.Common.{◌≡◌, ℕ, zero, suc, ◌<◌, List, [], ◌∷◌, ◌++◌, length, Option, Some, refl, sym, ◌∙◌, ap, subst}
 use Rattle.std.specs.Prelude.{Contains, slice_get}
 use Rattle.std.proofs.lemmas.List.{length-map, map-append}
 use Rattle.std.proofs.lemmas.Option.{slice_get_within}
-use Rattle.lists.proofs.Members.{contains_here, contains_there, contains_cases, contains_got, contains_map, contains_mapped, contains_none, got_before, got_mapped, map_got, map_same, some_injective}
+use Rattle.lists.proofs.Members.{contains_got, contains_map, contains_mapped, got_before, got_mapped, map_got, map_same, some_injective}
 use Rattle.meaning.specs.declared.types.Request.{Request}
 use Rattle.meaning.specs.Search.{AreDistinct}
 use Rattle.shared_rounds.specs.Books.{AreNumbers}

@@ -1,5 +1,5 @@
 -- Lanes that have attached the relations of the plans may be asked each request of them.
-use Rattle.std.proofs.Common.{◌≡◌, ◌∙◌, ◌<◌, ℕ, suc, List, [], ◌∷◌, length, drop, get_or, Some, refl, sym, ap, subst, arith}
+use Rattle.std.proofs.Common.{◌≡◌, ◌∙◌, ◌<◌, ℕ, suc, List, [], ◌∷◌, length, get_or, Some, refl, sym, ap, subst, arith}
 use Rattle.std.specs.Prelude.{Contains, IsSome, slice_get}
 use Rattle.std.specs.List.{AllZip}
 use Rattle.std.proofs.lemmas.Option.{slice_get-get_or}
@@ -8,7 +8,6 @@ use Rattle.lists.proofs.Places.{got_member}
 use Rattle.meaning.specs.declared.types.Plan.{Plan}
 use Rattle.meaning.specs.declared.types.Request.{Request}
 use Rattle.access_schema.specs.declared.schema.Schema.{Schema}
-use Rattle.access_schema.specs.declared.schema.SourceLine.{SourceLine}
 use Rattle.access_schema.specs.Meaning.{meaning_of}
 use Rattle.lane_pool.specs.Work.{AllReady}
 use Rattle.source_trait.specs.Asking.{Seen, CanAsk}
@@ -38,6 +37,12 @@ zip_long R (x ∷ xs) [] z = absurd z
 zip_long R (x ∷ xs) (y ∷ ys) z = ap suc (zip_long R xs ys z.1)
 
 module _ (schema : Schema) where
+  -- a request of a step has a value for each position
+  pub step_wide : (turn : Turn) (request : Request) → IsStepRequest (meaning_of schema) turn.its request
+      → length request.values ≡ length request.positions
+  step_wide turn request is =
+      zip_long (λ p value. HasConstant (slice_get turn.its.places p) value) request.positions request.values is.constants
+
   -- a step of a plan accesses the relation of its requests
   pub step_accesses : (plan : Plan) (turn : Turn) → Contains (turns_of plan) turn → (request : Request)
       → IsStepRequest (meaning_of schema) turn.its request → IsAccessed schema plan request.rel
@@ -70,7 +75,7 @@ module _ (schema : Schema) where
         let ready : AtKind lane.kinds.items line.kind (λ s. CanAskAll ((seen s).attached method.rel) method) =
         ready_line seen schema lane.kinds.items method line line_is askable in
         let long : length ask.request.values ≡ length method.inputs =
-        zip_long (λ p value. HasConstant (slice_get turn.its.places p) value) ask.request.positions ask.request.values is.constants ∙ ap length is.positions in
+        step_wide turn ask.request is ∙ ap length is.positions in
         let asks : AtKind lane.kinds.items line.kind (λ s. CanAsk ((seen s).attached method.rel) method.inputs ask.request.values) =
         AtKind-map line.kind lane.kinds.items (λ s. CanAskAll ((seen s).attached method.rel) method)
         (λ s. CanAsk ((seen s).attached method.rel) method.inputs ask.request.values) (λ s h. h ask.request.values long) ready in

@@ -1,7 +1,8 @@
 -- What stands between two rounds of a batch, and in the middle of one.
-use Rattle.std.proofs.Common.{◌≡◌, ⊎_elim, ℕ, ◌+◌, ◌<◌, ◌≤◌, ◌^◌, List, [], ◌∷◌, ◌++◌, length, length-append, map, Option, None, Some, refl, sym, ◌∙◌, ap, subst, arith}
+use Rattle.std.proofs.Common.{◌≡◌, ⊎_elim, ℕ, ◌+◌, ◌≤◌, List, [], ◌++◌, length, length-append, Option, None, Some, refl, sym, ◌∙◌, ap, subst, arith}
 use Rattle.std.specs.Prelude.{Contains, slice_get}
-use Rattle.std.proofs.lemmas.List.{length-map, nil_from_length}
+use Rattle.std.proofs.lemmas.List.{append_cancel_left, nil_from_length}
+use Rattle.std.proofs.lemmas.List.Elements.{Contains-append_cases}
 use Rattle.std.proofs.lemmas.Option.{slice_get_within}
 use Rattle.lists.proofs.Members.{contains_got, contains_none, got_below}
 use Rattle.lists.proofs.Places.{got_after, got_member}
@@ -18,7 +19,6 @@ use Rattle.middleware.specs.LaneRounds.{requests_in, HaveTheirKinds, AsksEach, A
 use Rattle.shared_rounds.specs.SharedRounds.{Turn, turns_of, Once, to_ask, wanted_in}
 use Rattle.shared_rounds.specs.Books.{AreNumbers, asked_in}
 use Rattle.shared_rounds.specs.declared.book.Book.{Book}
-use Rattle.shared_rounds.proofs.Turning.{in_append}
 use Rattle.plan_course.specs.Courses.{IsAt, IsBefore}
 use Rattle.plan_course.specs.Turns.{AreOfTurn, IsNext, IsPending, asks_of}
 use Rattle.plan_course.specs.declared.course.Course.{Course}
@@ -31,27 +31,42 @@ use Rattle.plan_batches.specs.Batching.{AreOfPlans, IsNumbered}
 use Rattle.plan_batches.specs.Each.{Both, Each}
 use Rattle.plan_batches.specs.Members.{Takes, Wants}
 use Rattle.plan_batches.specs.Naming.{CanName, CanNameBy}
-use Rattle.plan_batches.specs.Rounding.{AreReadyPlans, MemberAt, IsStanding, TurnsNoted, turns_by}
+use Rattle.plan_batches.specs.Receiving.{HaveNoBad}
+use Rattle.plan_batches.specs.Rounding.{AreReadyPlans, IsStanding, TurnsNoted, turns_by}
 use Rattle.plan_batches.specs.declared.member.Member.{Member}
 use Rattle.plan_batches.specs.declared.member.Going.{Going}
 use Rattle.plan_batches.specs.declared.round.Progress.{Progress}
 use Rattle.plan_batches.proofs.Numbering.{numbers_long}
-use Rattle.plan_batches.proofs.Wanting.{distinct_asked, wanted_by, wanted_there}
+use Rattle.plan_batches.proofs.Wanting.{distinct_asked, more_are, wanted_by, wanted_there}
 
--- The next round was asked whole, and its answers were taken.
-pub record RoundGoes (schema : Schema) (plans : List Plan) {S : Type 0} (seen : S → Seen) (cap : ℕ) (old new : Progress)
+-- The next round was asked whole, and these are its answers.
+pub record RoundAsked (schema : Schema) (plans : List Plan) {S : Type 0} (seen : S → Seen) (cap : ℕ) (old : Progress) (new : Book)
     (before after : List (Lane S)) : Type 0 where
   pub goings : List Going
-  pub noted : TurnsNoted schema plans old.members.items old.book new.book goings
-  pub within : length new.book.asked.items ≤ cap
+  pub noted : TurnsNoted schema plans old.members.items old.book new goings
+  pub within : length new.asked.items ≤ cap
   pub asks : List Ask
-  pub more : new.book.asked.items ≡ old.book.asked.items ++ asks
+  pub more : new.asked.items ≡ old.book.asked.items ++ asks
   pub asked : AsksEach seen schema (requests_in asks) before after
   pub going : NoneStopped after
   pub answers : List RowList
   pub answered : AreAnswers seen before asks answers
-  pub kept : new.kept ≡ old.kept ++ answers
-  pub takes : Each (Takes new.kept) plans goings new.members.items
+
+-- Its requests are those that no earlier round asked.
+pub round_requests : (schema : Schema) (plans : List Plan) {S : Type 0} (seen : S → Seen) (cap : ℕ) (old : Progress) (new : Book)
+    (before after : List (Lane S)) (round : RoundAsked schema plans seen cap old new before after)
+    → requests_in round.asks ≡ to_ask Once (asked_in old.book.asked.items) (wanted_in (turns_by round.goings))
+round_requests schema plans seen cap old new before after round =
+    ap requests_in (append_cancel_left old.book.asked.items round.asks round.noted.onward.0 (sym round.more ∙ round.noted.onward.1))
+    ∙ more_are schema plans old.members.items old.book new round.goings round.noted
+
+-- It was asked whole, no step received a bad number, and the answers were taken.
+pub record RoundGoes (schema : Schema) (plans : List Plan) {S : Type 0} (seen : S → Seen) (cap : ℕ) (old new : Progress)
+    (before after : List (Lane S)) : Type 0 where
+  pub whole : RoundAsked schema plans seen cap old new.book before after
+  pub no_bad : HaveNoBad schema (old.kept ++ whole.answers) whole.goings
+  pub kept : new.kept ≡ old.kept ++ whole.answers
+  pub takes : Each (Takes new.kept) plans whole.goings new.members.items
 
 -- the kinds of the last ones
 pub kinds_behind : (schema : Schema) (all before more : List Ask) → all ≡ before ++ more → HaveTheirKinds schema all → HaveTheirKinds schema more
@@ -153,30 +168,33 @@ module _ (schema : Schema) (plans : List Plan) (n : ℕ) (old : Progress) (st : 
     new_of_plans request c = ⊎_elim
         (λ l. st.of_plans request l)
         (λ l. wanted_of_plans goings noted.wants request (wanted_there (asked_in old.book.asked.items) (wanted_in (turns_by goings)) request l))
-        (in_append (asked_in old.book.asked.items) (to_ask Once (asked_in old.book.asked.items) (wanted_in (turns_by goings))) request
+        (Contains-append_cases (asked_in old.book.asked.items) (to_ask Once (asked_in old.book.asked.items) (wanted_in (turns_by goings))) request
         (subst (λ (l : List Request). Contains l request) noted.asked c))
 
   module _ {S : Type 0} (seen : S → Seen) (cap : ℕ) (new : Progress) (before after : List (Lane S))
       (goes : RoundGoes schema plans seen cap old new before after) where
+    abbrev whole : RoundAsked schema plans seen cap old new.book before after
+    whole = goes.whole
+
     pub stands_next : IsStanding schema plans (n + 1) new
     stands_next = record {
-      is_book = goes.noted.is_book;
-      distinct = distinct_asked schema plans old.members.items old.book new.book goes.goings goes.noted st.distinct;
-      kinds = goes.noted.kinds st.kinds;
-      of_plans = new_of_plans new.book goes.goings goes.noted;
+      is_book = whole.noted.is_book;
+      distinct = distinct_asked schema plans old.members.items old.book new.book whole.goings whole.noted st.distinct;
+      kinds = whole.noted.kinds st.kinds;
+      of_plans = new_of_plans new.book whole.goings whole.noted;
       kept =
           let first = st.kept in
-          let second = goes.answered.len in
+          let second = whole.answered.len in
           let both = ap length goes.kept in
-          let all = ap length goes.more in
-          omega (arith, first, second, both, all, length-append old.kept goes.answers, length-append old.book.asked.items goes.asks);
+          let all = ap length whole.more in
+          omega (arith, first, second, both, all, length-append old.kept whole.answers, length-append old.book.asked.items whole.asks);
       members = record {
         long = goes.takes.third;
         at = λ k plan member plan_at member_at.
             let within = slice_get_within plans k plan plan_at in
             let second = goes.takes.second in
-            let (going, got) = got_below goes.goings k (omega (arith, within, second)) in
-            let p = place goes.goings goes.noted.wants k going got in
+            let (going, got) = got_below whole.goings k (omega (arith, within, second)) in
+            let p = place whole.goings whole.noted.wants k going got in
             let same : p.plan ≡ plan = only p.plan plan k p.plan_at plan_at in
             (goes.takes.at k plan going member plan_at got member_at).course.at schema p.member.course n
             (subst (λ (x : Plan). IsNext schema x p.member.course going.next) same p.its.goes)

@@ -1,31 +1,38 @@
 -- Why a round of a batch stops.
-use Rattle.std.proofs.Common.{◌≡◌, ℕ, ◌+◌, ◌-◌, ◌<◌, ◌≤◌, ◌^◌, min, List, length, Some, refl, sym, ◌∙◌, ap, subst, arith}
+use Rattle.std.proofs.Common.{◌≡◌, ℕ, ◌+◌, ◌-◌, ◌<◌, ◌≤◌, ◌^◌, min, List, ◌++◌, length, Some, refl, sym, ◌∙◌, ap, subst, arith}
 use Rattle.std.specs.Prelude.{slice_get}
 use Rattle.std.proofs.lemmas.List.{length-map}
-use Rattle.lists.proofs.Members.{got_below, map_got}
+use Rattle.lists.proofs.Members.{got_below, got_mapped, map_got}
 use Rattle.meaning.specs.declared.types.Plan.{Plan}
 use Rattle.meaning.specs.declared.types.Request.{Request}
 use Rattle.access_schema.specs.declared.schema.Schema.{Schema}
+use Rattle.access_schema.specs.Meaning.{meaning_of}
 use Rattle.source_trait.specs.Asking.{Seen}
 use Rattle.source_trait.specs.declared.lanes.Lane.{Lane}
 use Rattle.source_trait.specs.declared.work.Ask.{Ask}
-use Rattle.middleware.specs.LaneRounds.{requests_in, HaveTheirKinds, AskCause, AsksSome, NoneStopped}
+use Rattle.bad_numbers.specs.Numbers.{ReceiveIntegers}
+use Rattle.middleware.specs.LaneRounds.{requests_in, HaveTheirKinds, AskCause, AsksEach, AsksSome, NoneStopped}
 use Rattle.middleware.specs.declared.fault.RunFault.{RunFault}
 use Rattle.middleware.specs.declared.fault.RunFault.TheVariants as fault
 use Rattle.middleware.specs.declared.lane_round.AskFault.TheVariants as ask
-use Rattle.middleware.proofs.LaneShares.{AsksSome-none}
+use Rattle.middleware.proofs.LaneShares.{AsksSome-none, each_some}
 use Rattle.shared_rounds.specs.SharedRounds.{Once, to_ask, wanted_in}
 use Rattle.shared_rounds.specs.Books.{asked_in}
 use Rattle.shared_rounds.specs.declared.book.Book.{Book}
-use Rattle.plan_batches.specs.Batching.{CallFails, CapFills, HaltsFor}
+use Rattle.plan_course.specs.Turns.{asks_of}
+use Rattle.plan_batches.specs.Batching.{CallFails, CapFills, HaltsFor, NumberFails}
+use Rattle.plan_batches.specs.Coming.{HasCome}
 use Rattle.plan_batches.specs.Each.{Each}
 use Rattle.plan_batches.specs.Members.{Wants}
 use Rattle.plan_batches.specs.Naming.{FailsFirst, IsFirstGoing}
+use Rattle.plan_batches.specs.Receiving.{IsFirstBad}
 use Rattle.plan_batches.specs.Rounding.{IsStanding, TurnsNoted, turns_by}
 use Rattle.plan_batches.specs.declared.fault.BatchFault.{BatchFault}
 use Rattle.plan_batches.specs.declared.member.Going.{Going}
+use Rattle.plan_batches.specs.declared.received.FirstBad.{FirstBad}
 use Rattle.plan_batches.specs.declared.round.Progress.{Progress}
-use Rattle.plan_batches.proofs.Standing.{kinds_behind, numbered}
+use Rattle.plan_batches.proofs.Receiving.{bad_at, integers_at}
+use Rattle.plan_batches.proofs.Standing.{RoundAsked, kinds_behind, numbered, round_requests}
 use Rattle.plan_batches.proofs.Wanting.{distinct_asked, first_with, fresh_same, long_asked, more_are}
 
 module _ {S : Type 0} (seen : S → Seen) (schema : Schema) (plans : List Plan) (cap : ℕ) (old : Progress) where
@@ -35,8 +42,8 @@ module _ {S : Type 0} (seen : S → Seen) (schema : Schema) (plans : List Plan) 
     pub wants : Each (Wants schema) plans old.members.items goings
     pub asked : AsksSome seen schema (to_ask Once (asked_in old.book.asked.items) (wanted_in (turns_by goings)))
         before after
-    pub cause : (n : ℕ) → IsStanding schema plans n old
-        → HaltsFor seen schema plans cap n (asked_in old.book.asked.items) (turns_by goings) before after
+    pub cause : (n : ℕ) (first : List (Lane S)) → HasCome seen schema plans first cap n old before
+        → HaltsFor seen schema plans cap n (asked_in old.book.asked.items) (turns_by goings) first before after
         why.plan why.fault
 
   module _ (new : Book) (goings : List Going)
@@ -62,9 +69,9 @@ module _ {S : Type 0} (seen : S → Seen) (schema : Schema) (plans : List Plan) 
       goings = goings;
       wants = noted.wants;
       asked = AsksSome-none seen schema fresh lanes;
-      cause = λ n st. subst (λ (f : RunFault). HaltsFor seen schema plans cap n (asked_in old.book.asked.items)
-          (turns_by goings) lanes lanes why.plan f) (sym is)
-          (fills n st);
+      cause = λ n begun come. subst (λ (f : RunFault). HaltsFor seen schema plans cap n (asked_in old.book.asked.items)
+          (turns_by goings) begun lanes lanes why.plan f) (sym is)
+          (fills n come.standing);
     }
       where
         more : length new.asked.items - length old.book.asked.items ≡ length fresh
@@ -114,7 +121,7 @@ module _ {S : Type 0} (seen : S → Seen) (schema : Schema) (plans : List Plan) 
         goings = goings;
         wants = noted.wants;
         asked = subst (λ (l : List Request). AsksSome seen schema l before after) requests_are some;
-        cause = λ n st. refl;
+        cause = λ n begun come. refl;
       }
 
       -- a call failed
@@ -155,8 +162,45 @@ module _ {S : Type 0} (seen : S → Seen) (schema : Schema) (plans : List Plan) 
           goings = goings;
           wants = noted.wants;
           asked = subst (λ (l : List Request). AsksSome seen schema l before after) requests_are some;
-          cause = λ n st.
+          cause = λ n begun come.
               subst (λ (f : RunFault). HaltsFor seen schema plans cap n (asked_in old.book.asked.items)
-              (turns_by goings) before after why.plan f)
-              (sym names.fault_is) (call_fails n st);
+              (turns_by goings) begun before after why.plan f)
+              (sym names.fault_is) (call_fails n come.standing);
         }
+
+  -- a step received a bad number
+  module _ (new : Book) (before after : List (Lane S)) (round : RoundAsked schema plans seen cap old new before after)
+      (bad : FirstBad) (is : IsFirstBad schema (old.kept ++ round.answers) round.goings bad) where
+    number_fails : (n : ℕ) (first : List (Lane S)) → HasCome seen schema plans first cap n old before
+        → NumberFails seen schema plans cap bad.plan bad.rel bad.column (asked_in old.book.asked.items) (turns_by round.goings)
+        first before after
+    number_fails n first come =
+        let long = length-map old.book.asked.items (λ (a : Ask). a.request) in
+        let all = fresh_long new round.goings round.noted in
+        let within = round.within in
+        record {
+          turn = asks_of is.going.next;
+          at = map_got (λ (g : Going). asks_of g.next) round.goings bad.plan is.going is.at;
+          fits = omega (arith, long, all, within);
+          asked = subst (λ (l : List Request). AsksEach seen schema l before after)
+              (round_requests schema plans seen cap old new before after round) round.asked;
+          going = round.going;
+          bad = λ instance holds.
+              bad_at seen schema plans first cap n old before come new after round instance holds bad.plan is.going is.at
+              bad.rel bad.column is.got;
+          before = λ instance holds k other less at.
+              let (going, got, same) = got_mapped (λ (g : Going). asks_of g.next) round.goings k other at in
+              subst (λ (l : List Request). ReceiveIntegers (meaning_of schema) instance l) same
+              (integers_at seen schema plans first cap n old before come new after round instance holds k going got
+              (is.before k going less got));
+        }
+
+    pub stops_bad : (why : BatchFault) → why ≡ record { plan = bad.plan; fault = fault.BadNumber bad.rel bad.column }
+        → RoundStops why before after
+    stops_bad why names = subst (λ (w : BatchFault). RoundStops w before after) (sym names) (record {
+      goings = round.goings;
+      wants = round.noted.wants;
+      asked = subst (λ (l : List Request). AsksSome seen schema l before after) (round_requests schema plans seen cap old new before after round)
+          (each_some seen schema (requests_in round.asks) before after round.asked);
+      cause = number_fails;
+    })

@@ -1,11 +1,10 @@
 -- One plan of a batch in a round: the source line of what it asks, its answers, and its name where a call fails.
-use Rattle.std.proofs.Common.{◌≡◌, ◌↔◌, ℕ, ◌+◌, ◌<◌, ◌^◌, List, [], length, get_or, Some, refl, sym, ◌∙◌, ap, subst, arith}
-use Rattle.std.specs.Prelude.{Contains, IfOk, IsSome, Result, Ok, Err, slice_get}
+use Rattle.std.proofs.Common.{◌≡◌, ℕ, ◌+◌, ◌<◌, ◌^◌, List, get_or, refl, sym, ◌∙◌, ap, subst}
+use Rattle.std.specs.Prelude.{Contains, IfOk, IsSome, Result, Ok, Err}
 use Rattle.std.proofs.lemmas.Option.{get_or_from_slice_get}
 use Rattle.lists.proofs.Members.{contains_got, contains_none}
 use Rattle.meaning.specs.declared.types.Fact.{Fact}
 use Rattle.meaning.specs.declared.types.Plan.{Plan}
-use Rattle.meaning.specs.declared.types.Request.{Request}
 use Rattle.access_schema.specs.declared.schema.Schema.{Schema}
 use Rattle.access_schema.specs.Meaning.{meaning_of}
 use Rattle.source_trait.specs.Asking.{RowList}
@@ -24,7 +23,6 @@ use Rattle.plan_course.proofs.Standing.{stays_done}
 use Rattle.plan_batches.specs.Kept.{answers_at, AreAnswered}
 use Rattle.plan_batches.specs.Members.{HasLine, TakesCourse}
 use Rattle.plan_batches.specs.Naming.{CanName, CanNameBy, IsFirstGoing, FailsFirst}
-use Rattle.plan_batches.specs.declared.fault.BatchFault.{BatchFault}
 use Rattle.plan_batches.specs.declared.member.Going.{Going}
 use Rattle.plan_batches.proofs.Answering.{answers_from}
 

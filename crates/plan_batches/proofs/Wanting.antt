@@ -1,8 +1,7 @@
 -- The requests that the plans of a batch want in a round, those of them that are new, and their numbers.
-use Rattle.std.proofs.Common.{◌≡◌, ⊎_elim, ℕ, ◌+◌, ◌-◌, ◌<◌, ◌≤◌, List, [], ◌∷◌, ◌++◌, Bool, true, false, cond, length, length-append, map, drop, Some, refl, sym, ◌∙◌, ap, subst, arith}
+use Rattle.std.proofs.Common.{◌≡◌, ⊎_elim, ℕ, ◌+◌, ◌-◌, ◌<◌, ◌≤◌, List, [], ◌∷◌, ◌++◌, Bool, true, false, cond, length, length-append, drop, Some, sym, ◌∙◌, ap, subst, arith}
 use Rattle.std.specs.Prelude.{Contains, slice_get}
 use Rattle.std.proofs.lemmas.List.{append_cancel_left, length-map, map-append}
-use Rattle.std.proofs.lemmas.Option.{slice_get_within}
 use Rattle.std.proofs.Math.Seq.{drop-append_seam}
 use Rattle.lists.proofs.Members.{contains_here, contains_there, contains_cases, contains_got, contains_mapped, got_below, got_mapped, joined_from, map_got, some_injective}
 use Rattle.lists.proofs.Places.{got_after}
@@ -19,7 +18,7 @@ use Rattle.shared_rounds.proofs.Adding.{asked_distinct}
 use Rattle.plan_course.specs.Turns.{asks_of}
 use Rattle.plan_batches.specs.Batching.{IsFirstWith}
 use Rattle.plan_batches.specs.Naming.{IsFirstGoing, NumbersBelow, WantsNumber}
-use Rattle.plan_batches.specs.Rounding.{AreItsNumbers, TurnsNoted, turns_by}
+use Rattle.plan_batches.specs.Rounding.{TurnsNoted, turns_by}
 use Rattle.plan_batches.specs.declared.member.Member.{Member}
 use Rattle.plan_batches.specs.declared.member.Going.{Going}
 use Rattle.plan_batches.proofs.Numbering.{its_number, its_request, number_below, one_place}

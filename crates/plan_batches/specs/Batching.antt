@@ -21,6 +21,7 @@ use Rattle.middleware.specs.Asked.{IsStepRequest}
 use Rattle.middleware.specs.Needs.{AttachesNeeded}
 use Rattle.middleware.specs.LaneRounds.{started, requests_in, HaveTheirKinds, AsksEach, AsksSome, AskCause, NoneStopped}
 use Rattle.middleware.specs.LaneBranches.{OnEach, LanesHoldPlan}
+use Rattle.bad_numbers.specs.Numbers.{ReceiveFirstBad, ReceiveIntegers}
 use Rattle.middleware.specs.declared.lane_round.AskFault.TheVariants as ask
 use Rattle.middleware.specs.declared.fault.Run.{Run}
 use Rattle.middleware.specs.declared.fault.RunFault.{RunFault}
@@ -91,6 +92,7 @@ module _ {S : Type 0} (seen : S → Seen) (schema : Schema) (plans : List Plan) 
     pub asks : AsksEach seen schema list old new
     pub of_plans : AreOfPlans schema plans list
     pub are : (instance : List Fact) → LanesHoldAll old instance → AreRounds (meaning_of schema) instance plans Once n list
+    pub numbers : (instance : List Fact) → LanesHoldAll old instance → ReceiveIntegers (meaning_of schema) instance list
 
   -- A call of the round failed, which there was room for: the first request of the round that was refused, and the first plan that has it.
   pub record CallFails (cap n number branch step : ℕ) (earlier : List Request) (turns : List (List Request)) (middle new : List (Lane S)) : Type 0
@@ -105,6 +107,19 @@ module _ {S : Type 0} (seen : S → Seen) (schema : Schema) (plans : List Plan) 
       pub cause : AskCause seen schema asks (ask.CallFailed k) middle new
       pub first : IsFirstWith turns number request
       pub numbered : IsNumbered plans number n branch step
+
+  -- The round was asked whole, which there was room for. The plan is the first whose step received a bad number in it, and this is the least
+  -- one of what that step received.
+  pub record NumberFails (cap number rel column : ℕ) (earlier : List Request) (turns : List (List Request)) (old middle new : List (Lane S)) : Type 0
+    where
+      pub turn : List Request
+      pub at : slice_get turns number ≡ Some turn
+      pub fits : length earlier + length (to_ask Once earlier (wanted_in turns)) ≤ cap
+      pub asked : AsksEach seen schema (to_ask Once earlier (wanted_in turns)) middle new
+      pub going : NoneStopped new
+      pub bad : (instance : List Fact) → LanesHoldAll old instance → ReceiveFirstBad (meaning_of schema) instance turn rel column
+      pub before : (instance : List Fact) → LanesHoldAll old instance → (k : ℕ) (other : List Request) → k < number
+          → slice_get turns k ≡ Some other → ReceiveIntegers (meaning_of schema) instance other
 
   -- The round would pass the cap, and was not asked. The plan is the first that has the first request of the round.
   pub record CapFills (cap number made wanted its : ℕ) (earlier : List Request) (turns : List (List Request)) (middle new : List (Lane S)) : Type 0
@@ -121,12 +136,15 @@ module _ {S : Type 0} (seen : S → Seen) (schema : Schema) (plans : List Plan) 
       pub going : NoneStopped new
 
   -- why the rounds stopped in the nth
-  abbrev pub HaltsFor : ℕ → ℕ → List Request → List (List Request) → List (Lane S) → List (Lane S) → ℕ → RunFault → Type 0
-  HaltsFor cap n earlier turns middle new number fault.NoMemory = number ≡ 0
-  HaltsFor cap n earlier turns middle new number (fault.CallFailed branch step) = CallFails cap n number branch step earlier turns middle new
-  HaltsFor cap n earlier turns middle new number (fault.OverCalls made wanted its) =
+  abbrev pub HaltsFor : ℕ → ℕ → List Request → List (List Request) → List (Lane S) → List (Lane S) → List (Lane S) → ℕ → RunFault → Type 0
+  HaltsFor cap n earlier turns old middle new number fault.NoMemory = number ≡ 0
+  HaltsFor cap n earlier turns old middle new number (fault.CallFailed branch step) =
+      CallFails cap n number branch step earlier turns middle new
+  HaltsFor cap n earlier turns old middle new number (fault.OverCalls made wanted its) =
       CapFills cap number made wanted its earlier turns middle new
-  HaltsFor cap n earlier turns middle new number why = ⊥
+  HaltsFor cap n earlier turns old middle new number (fault.BadNumber rel column) =
+      NumberFails cap number rel column earlier turns old middle new
+  HaltsFor cap n earlier turns old middle new number why = ⊥
 
   -- The rounds stopped: n of them were asked whole, and each request of the next one at most once. Where there was no memory, no further
   -- round may have been begun.
@@ -139,7 +157,7 @@ module _ {S : Type 0} (seen : S → Seen) (schema : Schema) (plans : List Plan) 
     pub part : AsksSome seen schema (to_ask Once earlier (wanted_in turns)) middle new
     pub of_plans : AreOfPlans schema plans (wanted_in turns)
     pub are : (turns ≡ []) ⊎ ((instance : List Fact) → LanesHoldAll old instance → AreTurns (meaning_of schema) instance plans n turns)
-    pub cause : HaltsFor cap n earlier turns middle new why.plan why.fault
+    pub cause : HaltsFor cap n earlier turns old middle new why.plan why.fault
 
   -- what the rounds of the plans did
   abbrev pub RoundsDone : ℕ → List (Lane S) → List (Lane S) → Result (List Run) BatchFault → Type 0

@@ -5,5 +5,6 @@ pub mod Kept
 pub mod Members
 pub mod Naming
 pub mod Rounding
+pub mod Receiving
 pub mod Asking
 pub mod Coming

@@ -1,7 +1,6 @@
 -- Which plan a fault of a round concerns.
 use Rattle.std.specs.Prelude.{◌≡◌, ◌+◌, ◌<◌, ◌^◌, ℕ, List, [], Contains, Some, length, slice_get}
 use Rattle.middleware.specs.declared.fault.RunFault.TheVariants as fault
-use Rattle.middleware.specs.declared.lane_round.AskFault.{AskFault}
 use Rattle.middleware.specs.declared.lane_round.AskFault.TheVariants as ask
 use Rattle.request_rounds.specs.declared.rounds.Halt.{Halt}
 use Rattle.request_rounds.specs.declared.rounds.Halt.TheVariants as halt
@@ -11,6 +10,8 @@ use Rattle.plan_course.specs.declared.turns.Pending.{Pending}
 use Rattle.plan_batches.specs.declared.fault.BatchFault.{BatchFault}
 use Rattle.plan_batches.specs.declared.member.Going.{Going}
 use Rattle.plan_batches.specs.declared.round.Noted.{Noted}
+use Rattle.plan_batches.specs.declared.round.NotedFault.{NotedFault}
+use Rattle.plan_batches.specs.declared.round.NotedFault.TheVariants as noted_fault
 
 -- one of the plans wants the request of this number
 abbrev pub WantsNumber : List Going → ℕ → Type 0
@@ -51,18 +52,22 @@ pub record HasFirst (goings : List Going) (number : ℕ) : Type 0 where
   pub few : length goings < 2 ^ 32
 
 -- a plan can be named where the rounds stop
-abbrev pub CanNameHalt : Halt Noted AskFault → Type 0
+abbrev pub CanNameHalt : Halt Noted NotedFault → Type 0
 CanNameHalt halt.NoMemory = Unit {0}
-CanNameHalt (halt.Refused noted ask.NoMemory) = Unit {0}
-CanNameHalt (halt.Refused noted (ask.CallFailed request)) = HasFirst noted.goings.items (noted.made + request)
+CanNameHalt (halt.Refused noted (noted_fault.NotAsked ask.NoMemory)) = Unit {0}
+CanNameHalt (halt.Refused noted (noted_fault.NotAsked (ask.CallFailed request))) = HasFirst noted.goings.items (noted.made + request)
     × ((going : Going) → Contains noted.goings.items going → CanName going)
+CanNameHalt (halt.Refused noted (noted_fault.BadNumber bad)) = Unit {0}
 CanNameHalt (halt.Over noted made wanted) = HasFirst noted.goings.items made
 
--- Why the plans stop, where their rounds stop for this: the plan is the first that wants the refused request, or the first one that would
--- pass the cap.
-abbrev pub NamesHalt : ℕ → Halt Noted AskFault → BatchFault → Type 0
+-- Why the plans stop, where their rounds stop for this: the plan is the first that wants the refused request, the one whose step received
+-- the bad number, or the first one that would pass the cap.
+abbrev pub NamesHalt : ℕ → Halt Noted NotedFault → BatchFault → Type 0
 NamesHalt cap halt.NoMemory why = why ≡ record { plan = 0; fault = fault.NoMemory }
-NamesHalt cap (halt.Refused noted ask.NoMemory) why = why ≡ record { plan = 0; fault = fault.NoMemory }
-NamesHalt cap (halt.Refused noted (ask.CallFailed request)) why = FailsFirst noted.goings.items (noted.made + request) why
+NamesHalt cap (halt.Refused noted (noted_fault.NotAsked ask.NoMemory)) why = why ≡ record { plan = 0; fault = fault.NoMemory }
+NamesHalt cap (halt.Refused noted (noted_fault.NotAsked (ask.CallFailed request))) why =
+    FailsFirst noted.goings.items (noted.made + request) why
+NamesHalt cap (halt.Refused noted (noted_fault.BadNumber bad)) why =
+    why ≡ record { plan = bad.plan; fault = fault.BadNumber bad.rel bad.column }
 NamesHalt cap (halt.Over noted made wanted) why = IsFirstGoing noted.goings.items why.plan made
     × (why.fault ≡ fault.OverCalls made wanted cap)

@@ -29,6 +29,10 @@ use std::thread::Threads;
 /// First the relations of all plans are attached in ascending order, lane by lane. Then round n takes the nth step of every plan that
 /// has one: the requests that these steps want and that no earlier round asked are asked together, each once by one of the lanes. An
 /// answer serves every step that wants it. Plans without access steps need no lane, and leave the lanes as they are.
+///
+/// Behind the calls of a round, and before its answers are joined, what each step received is tested for bad numbers: values at integer
+/// columns that are no integers. One of these ends the batch, and the fault is that of the first plan whose step received one: the
+/// relation of the step, and the least column of what it received.
 pub fn batch<R: Threads + Sync, S: Source + Send + Drop>(
     rt: &R,
     alloc: Global,
@@ -75,6 +79,7 @@ fn attach_fault(each: &[Accessed], fault: RunFault) -> BatchFault
         RunFault::Attach { rel, .. } => first_on(each, rel),
         RunFault::CallFailed { .. } => 0,
         RunFault::OverCalls { .. } => 0,
+        RunFault::BadNumber { .. } => 0,
     };
     BatchFault { plan, fault }
 }

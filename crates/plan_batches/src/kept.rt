@@ -30,8 +30,8 @@ pub fn picked(alloc: Global, kept: &Answers, numbers: &[usize]) -> Result<Answer
     Ok(answers)
 }
 
-// The rows of the answer of a number that there is.
-fn rows_at(answers: &Answers, number: usize) -> LentRows<'_>
+/// The rows of the answer of a number that there is.
+pub fn rows_at(answers: &Answers, number: usize) -> LentRows<'_>
     requires { number < length answers.now }
     ensures { result ≡ slice_index_or answers.now number [] }
 {

@@ -9,6 +9,7 @@ mod kept;
 mod member;
 mod naming;
 mod needs;
+mod received;
 mod round;
 mod rounds;
 

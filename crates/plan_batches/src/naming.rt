@@ -6,23 +6,27 @@ ghost use Rattle.plan_batches.specs.declared.member.Going.{Going};
 
 use crate::fault::BatchFault;
 use crate::member::Going;
-use crate::round::Noted;
+use crate::received::FirstBad;
+use crate::round::{Noted, NotedFault};
 use middleware::{AskFault, RunFault};
 use plan_course::Next;
 use request_rounds::Halt;
 
 /// Why the plans stop where their rounds do.
-pub fn fault_of(halt: &Halt<Noted, AskFault>, cap: u32) -> BatchFault
+pub fn fault_of(halt: &Halt<Noted, NotedFault>, cap: u32) -> BatchFault
     requires { CanNameHalt halt.now }
     ensures { NamesHalt cap halt.now result }
 {
     match halt {
         Halt::NoMemory => no_memory(),
         Halt::Refused { what, why } => match why {
-            AskFault::NoMemory => no_memory(),
-            AskFault::CallFailed { request } => {
-                call_failed(what.goings.as_slice(), what.made + *request as usize)
-            }
+            NotedFault::NotAsked(why) => match why {
+                AskFault::NoMemory => no_memory(),
+                AskFault::CallFailed { request } => {
+                    call_failed(what.goings.as_slice(), what.made + *request as usize)
+                }
+            },
+            NotedFault::BadNumber(bad) => bad_number(bad),
         },
         Halt::Over { what, made, wanted } => {
             over_calls(what.goings.as_slice(), *made, *wanted, cap)
@@ -57,6 +61,19 @@ fn call_failed(goings: &[Going], number: usize) -> BatchFault
             },
         },
         Next::Done(_) => unreachable!(),
+    }
+}
+
+// Where a step received a bad number.
+fn bad_number(bad: &FirstBad) -> BatchFault
+    ensures { result ≡ record { plan = bad.now.plan; fault = fault.BadNumber bad.now.rel bad.now.column } }
+{
+    BatchFault {
+        plan: bad.plan,
+        fault: RunFault::BadNumber {
+            rel: bad.rel,
+            column: bad.column,
+        },
     }
 }
 

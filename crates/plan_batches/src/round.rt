@@ -13,6 +13,7 @@ ghost use Rattle.plan_batches.specs.Rounding.{AreReadyPlans, MayNote, MemberAt, 
 
 use crate::kept::keep;
 use crate::member::{Going, Member, go_on, take_up};
+use crate::received::{FirstBad, first_bad};
 use access_schema::Schema;
 use lists::NoMemory;
 use meaning::types::Plan;
@@ -38,6 +39,15 @@ pub struct Noted {
     pub kept: Answers,
     pub goings: Vec<Going>,
     pub made: usize,
+}
+
+/// Why a round of a batch does not go on.
+#[derive(Clone, Copy, Debug, PartialEq, Eq)]
+pub enum NotedFault {
+    /// Its requests have no answers.
+    NotAsked(AskFault),
+    /// It was asked, and a step received a bad number.
+    BadNumber(FirstBad),
 }
 
 /// What the next round wants, and how many of its requests no earlier round asked.
@@ -93,18 +103,26 @@ fn turns(
     Ok(goings)
 }
 
-/// Asks the requests of a round of the lanes.
+/// Asks the requests of a round of the lanes, and tests what each step receives for bad numbers.
 pub fn ask_noted<R: Threads + Sync, S: Source + Send + Drop>(
     rt: &R,
     alloc: Global,
+    schema: &Schema,
     noted: &Noted,
     lanes: &mut [Lane<S>],
-) -> Result<Answers, AskFault>
+) -> Result<Answers, NotedFault>
     requires { MayAskNoted S.seen noted.now lanes.old }
-    ensures { AsksNoted S.seen noted.now result lanes.old lanes.new }
+    ensures { AsksNoted S.seen schema.now noted.now result lanes.old lanes.new }
 {
     let asks = &noted.book.asked.as_slice()[noted.made..];
-    ask_round(rt, alloc, asks, lanes)
+    let answers = match ask_round(rt, alloc, asks, lanes) {
+        Ok(answers) => answers,
+        Err(why) => return Err(NotedFault::NotAsked(why)),
+    };
+    match first_bad(schema, noted.goings.as_slice(), &noted.kept, &answers) {
+        None => Ok(answers),
+        Some(bad) => Err(NotedFault::BadNumber(bad)),
+    }
 }
 
 /// Keeps the answers of a round, and gives the plans those to what they wanted.

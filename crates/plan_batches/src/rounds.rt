@@ -63,8 +63,8 @@ pub fn all_rounds<R: Threads + Sync, S: Source + Send + Drop>(
     { note_round(alloc, schema, plans, progress) };
     let ask = |noted: &Noted, lanes: &mut [Lane<S>]|
         requires { MayAskNoted S.seen noted.now lanes.now }
-        ensures { AsksNoted S.seen noted.entry.now result lanes.entry.now lanes.exit.now }
-    { ask_noted(rt, alloc, noted, lanes) };
+        ensures { AsksNoted S.seen schema.entry.now noted.entry.now result lanes.entry.now lanes.exit.now }
+    { ask_noted(rt, alloc, schema, noted, lanes) };
     let take = |noted: Noted, answers: Answers|
         requires { MayTake plans.now noted answers }
         ensures { IfOk result (HasTaken plans.entry.now noted answers) }

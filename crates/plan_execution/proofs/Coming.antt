@@ -1,6 +1,6 @@
 -- How far a plan has come: before its rounds, one round more, one that stopped, and all of them.
 use Rattle.std.proofs.Common.{◌≡◌, ◌↔◌, inl, inr, ⊎_elim, ℕ, zero, suc, ◌+◌, ◌-◌, ◌^◌, ◌<◌, ◌≤◌, min, List, [], ◌∷◌, ◌++◌, length, length-append, Option, None, Some, refl, sym, ◌∙◌, ap, subst, arith}
-use Rattle.std.specs.Prelude.{Contains, Result, Ok, Err, slice_get}
+use Rattle.std.specs.Prelude.{Contains, MatchOption, Result, Ok, Err, slice_get}
 use denote.Ref.{Bor, MutBor}
 use Rattle.std.proofs.lemmas.List.{append-nil}
 use Rattle.std.proofs.lemmas.List.Elements.{Contains-append_cases}
@@ -19,19 +19,19 @@ use Rattle.access_schema.specs.Meaning.{meaning_of}
 use Rattle.access_schema.proofs.Keeping.{well_formed}
 use Rattle.source_trait.specs.Asking.{RowList, Seen}
 use Rattle.source_trait.specs.declared.lanes.Lane.{Lane}
-use Rattle.source_trait.specs.declared.source.CallFault.{CallFault}
 use Rattle.source_trait.specs.declared.source.CallFault.TheVariants as call
 use Rattle.middleware.specs.Asked.{IsStepRequest}
 use Rattle.middleware.specs.Branches.{AreAskable}
 use Rattle.middleware.specs.LaneBranches.{OnEach, LanesHoldPlan}
-use Rattle.middleware.specs.LaneAsking.{AsksWanted}
+use Rattle.middleware.specs.LaneAsking.{AnswersFrom, AsksWanted}
 use Rattle.middleware.specs.LaneRounds.{AsksSome, NoneStopped}
 use Rattle.middleware.specs.declared.fault.RunFault.{RunFault}
 use Rattle.middleware.specs.declared.fault.RunFault.TheVariants as fault
 use Rattle.middleware.proofs.LaneShares.{AsksEach-refl, AsksEach-trans, AsksSome-none, each_some}
 use Rattle.middleware.proofs.PlanHeld.{plan_held_later}
 use Rattle.middleware.proofs.LaneBranching.{askable_steps, each_asked}
-use Rattle.middleware.proofs.Laning.{wanted_length}
+use Rattle.bad_numbers.specs.Numbers.{FindsBad, IsBadColumn, ReceiveFirstBad, ReceiveIntegers}
+use Rattle.bad_numbers.proofs.Received.{found_of_method, integers_both, integers_none}
 use Rattle.request_rounds.specs.Rounds.{AsksSo, Halts, Stops, Went}
 use Rattle.request_rounds.specs.Rounds.Stops.{over as past_limit, refused, untaken, unturned}
 use Rattle.request_rounds.specs.declared.rounds.Turned.{Turned}
@@ -46,9 +46,11 @@ use Rattle.plan_course.specs.Turns.{AreOfTurn}
 use Rattle.plan_course.specs.declared.course.Course.{Course}
 use Rattle.plan_course.specs.declared.turns.Pending.{Pending}
 use Rattle.plan_course.proofs.Standing.{IsAtStep, at_step}
-use Rattle.plan_execution.specs.PlanRounds.{AreOfPlan, AreRoundsBefore, IsRoundAt, LanesDone, PlanCause, PlanHalts}
-use Rattle.plan_execution.specs.Rounding.{CanName, HasCome, MayAsk, Takes, Turns, asks_in, fault_of}
-use Rattle.plan_execution.proofs.Asking.{asks_long, may_ask, numbers_fit, relation_held}
+use Rattle.plan_execution.specs.PlanRounds.{AreOfPlan, AreRoundsBefore, CallFails, IsRoundAt, IsStepAt, LanesDone, PlanCause, PlanHalts}
+use Rattle.plan_execution.specs.Rounding.{AsksTested, CanName, HasCome, MayAsk, Takes, Turns, asks_in, fault_of, rows_in}
+use Rattle.plan_execution.specs.declared.asking.StepFault.{StepFault}
+use Rattle.plan_execution.specs.declared.asking.StepFault.TheVariants as stop
+use Rattle.plan_execution.proofs.Stepping.{asks_long, may_ask, numbers_fit, relation_held, wide}
 use Rattle.plan_execution.proofs.Before.{at_round, before_end, before_start, before_turn, rest_asked, rest_unasked}
 
 -- requests of a step of the plan are requests of the plan
@@ -95,6 +97,7 @@ module _ {S : Type 0} (seen : S → Seen) (schema : Schema) (plan : Plan)
     of_plan = of_neither parts plan;
     knows = λ instance holds. knows instance;
     are = λ instance holds. refl;
+    numbers = λ instance holds. integers_none parts instance;
   }
 
   -- no memory before the rounds
@@ -107,6 +110,7 @@ module _ {S : Type 0} (seen : S → Seen) (schema : Schema) (plan : Plan)
     asks_now = AsksSome-none seen schema [] old;
     of_plan = of_neither parts plan;
     part = λ instance holds. rest_unasked parts instance plan (well_formed schema) ready 0 [] (omega arith) refl;
+    numbers = λ instance holds. integers_none parts instance;
     cause = record { branch = 0; step = 0; rounds = λ instance holds. inr (refl, before_start parts instance plan) };
   }
 
@@ -130,12 +134,31 @@ module _ {S : Type 0} (seen : S → Seen) (schema : Schema) (plan : Plan)
       count : turned.wanted ≡ length now
       count = turns.count ∙ sym (asks_long turned.what)
 
+      -- the answers are those of whatever instance the lanes hold
+      answered : (answers : List RowList) (after : List (Lane S))
+          → AsksWanted seen schema turned.what.method turned.what.wanted.requests (Ok answers) before after
+          → (instance : List Fact) → LanesHoldPlan seen schema plan old instance
+          → AnswersFrom instance turned.what.method turned.what.wanted.requests answers
+      answered answers after asked instance holds = asked.answers instance
+          (relation_held schema plan reached.progress turned.what turns.is seen before instance (held instance holds))
+
+      -- so what is found of them is what the requests receive
+      received : (answers : List RowList) (after : List (Lane S))
+          → AsksWanted seen schema turned.what.method turned.what.wanted.requests (Ok answers) before after
+          → (found : Option ℕ) → FindsBad parts turned.what.method.rel (rows_in answers) found
+          → (instance : List Fact) → LanesHoldPlan seen schema plan old instance
+          → MatchOption found (ReceiveIntegers parts instance now) (ReceiveFirstBad parts instance now turned.what.method.rel)
+      received answers after asked found finds instance holds =
+          let from = answered answers after asked instance holds in
+          found_of_method parts instance turned.what.method.rel turned.what.method.inputs turned.what.wanted.requests answers
+          found from.len from.each (wide schema plan reached.progress turned.what turns.is) finds
+
       -- one round more
       pub come_more : reached.made + turned.wanted ≤ cap → (answers : List RowList) (after : List (Lane S))
-          → AsksWanted seen schema turned.what.method turned.what.wanted.requests (Ok answers) before after
+          → AsksTested seen schema turned.what.method turned.what.wanted.requests (Ok answers) before after
           → (next : Reached Course) → Takes plan turned.what answers next.progress
           → next.made ≡ reached.made + turned.wanted → HasCome schema plan seen cap (n + 1) next old after
-      come_more room answers after asked next takes made = record {
+      come_more room answers after (asked, integers) next takes made = record {
         at = takes.at schema reached.progress n turns.is come.at;
         list = come.list ++ now;
         asks = AsksEach-trans seen schema come.list now old before after come.asks asked.asks;
@@ -143,8 +166,7 @@ module _ {S : Type 0} (seen : S → Seen) (schema : Schema) (plan : Plan)
         within = omega (arith, made, room);
         of_plan = with_these;
         knows = λ instance holds. takes.knows schema reached.progress instance turns.is ready (come.knows instance holds)
-            (asked.answers instance
-            (relation_held schema plan reached.progress turned.what turns.is seen before instance (held instance holds)));
+            (answered answers after asked instance holds);
         are = λ instance holds.
             let one : suc n ≡ n + 1 = omega arith in
             subst (λ m. AreRounds parts instance (plan ∷ []) Anew m (come.list ++ now)) one (
@@ -154,6 +176,8 @@ module _ {S : Type 0} (seen : S → Seen) (schema : Schema) (plan : Plan)
               (turns.turn n instance come.at (come.knows instance holds), tt),
               ap (λ (l : List Request). come.list ++ l) (sym (append-nil now)),
             );
+        numbers = λ instance holds. (integers_both parts instance come.list now).1
+            (come.numbers instance holds, received answers after asked None integers instance holds);
       }
 
       -- ---- a round that stopped
@@ -172,6 +196,19 @@ module _ {S : Type 0} (seen : S → Seen) (schema : Schema) (plan : Plan)
       round_is instance holds = at_round parts instance plan n its.turn its.got come.list (come.are instance holds) now
           (turns.turn n instance come.at (come.knows instance holds))
 
+      there : IsStepAt plan its.turn.branch its.turn.step turns.is.its its.turn.its
+      there = record {
+        of_plan = ap (slice_get plan.branches) (sym is_before.0) ∙ turns.is.of_plan;
+        of_branch = ap (slice_get turns.is.its.steps) (sym is_before.1) ∙ its.of_branch;
+      }
+
+      named : IsMethod parts its.turn.its.method turned.what.method
+      named = subst (λ (x : Step). IsMethod parts x.method turned.what.method)
+          (some_injective turns.is.asks.step its.turn.its (sym turns.is.asks.of_branch ∙ its.of_branch)) turns.is.asks.named
+
+      within_cap : reached.made + turned.wanted ≤ cap → length come.list + length now ≤ cap
+      within_cap room = let made = come.count in let these = count in omega (arith, room, made, these)
+
       -- there was no memory
       memory : (after : List (Lane S)) → PlanCause seen schema plan cap come.list now old before after fault.NoMemory
       memory after = record {
@@ -186,30 +223,43 @@ module _ {S : Type 0} (seen : S → Seen) (schema : Schema) (plan : Plan)
           → PlanCause seen schema plan cap come.list now old before after
           (fault.CallFailed turned.what.branch turned.what.step)
       failed room after asked =
-          let b = turns.is.asks.branch_is in
-          let s = turns.is.asks.step_is in
-          let some = asked.some refl in
-          let long = asks_long turned.what in
-          record {
+          let branch : its.turn.branch ≡ turned.what.branch = sym (turns.is.asks.branch_is ∙ is_before.0) in
+          let step : its.turn.step ≡ turned.what.step = sym (turns.is.asks.step_is ∙ is_before.1) in
+          subst (λ k. CallFails seen schema plan cap k turned.what.step come.list now old before after) branch
+          (subst (λ k. CallFails seen schema plan cap its.turn.branch k come.list now old before after) step
+          (record {
             its_branch = turns.is.its;
             its_step = its.turn.its;
             method = turned.what.method;
-            there = record {
-              of_plan = ap (slice_get plan.branches) b ∙ turns.is.of_plan;
-              of_branch = ap (slice_get turns.is.its.steps) s ∙ its.of_branch;
-            };
-            named = subst (λ (x : Step). IsMethod parts x.method turned.what.method)
-                (some_injective turns.is.asks.step its.turn.its (sym turns.is.asks.of_branch ∙ its.of_branch))
-                turns.is.asks.named;
-            some = omega (arith, some, long);
+            there = there;
+            named = named;
+            some = let some = asked.some refl in let long = asks_long turned.what in omega (arith, some, long);
             of_step = of_its;
-            fits = let made = come.count in let these = count in omega (arith, room, made, these);
+            fits = within_cap room;
             fails = asked.failed refl;
-            rounds = λ instance holds.
-                subst (λ k. IsRoundAt parts plan instance k turned.what.step come.list now) (sym (b ∙ is_before.0))
-                (subst (λ k. IsRoundAt parts plan instance its.turn.branch k come.list now) (sym (s ∙ is_before.1))
-                (round_is instance holds));
-          }
+            rounds = round_is;
+          }))
+
+      -- a number is bad
+      bad_number : reached.made + turned.wanted ≤ cap → (answers : List RowList) (after : List (Lane S))
+          → AsksWanted seen schema turned.what.method turned.what.wanted.requests (Ok answers) before after
+          → (column : ℕ) → IsBadColumn parts turned.what.method.rel (rows_in answers) column
+          → PlanCause seen schema plan cap come.list now old before after (fault.BadNumber turned.what.method.rel column)
+      bad_number room answers after asked column bad = record {
+        branch = its.turn.branch;
+        step = its.turn.step;
+        its_branch = turns.is.its;
+        its_step = its.turn.its;
+        method = turned.what.method;
+        there = there;
+        named = named;
+        of_relation = refl;
+        fits = within_cap room;
+        asked = asked.asks;
+        going = asked.going;
+        rounds = round_is;
+        bad = received answers after asked (Some column) bad;
+      }
 
       -- the round would pass the limit
       over : (wanted : ℕ) → wanted ≡ min turned.wanted (2 ^ 32 - 1) → cap ≤ 1000000 → NoneStopped before
@@ -243,6 +293,7 @@ module _ {S : Type 0} (seen : S → Seen) (schema : Schema) (plan : Plan)
         part = λ instance holds. rest_asked parts instance plan
             (well_formed schema) ready n its.turn its.got come.list (come.are instance holds) now
             (turns.turn n instance come.at (come.knows instance holds));
+        numbers = come.numbers;
         cause = cause;
       }
 
@@ -260,6 +311,7 @@ module _ {S : Type 0} (seen : S → Seen) (schema : Schema) (plan : Plan)
       of_plan = of_both parts plan come.list [] come.of_plan (of_neither parts plan);
       part = λ instance holds. rest_unasked parts instance plan (well_formed schema) ready n come.list within
           (come.are instance holds);
+      numbers = come.numbers;
       cause = record { branch = branch; step = step; rounds = λ instance holds. inr (refl, are instance holds) };
     }
 
@@ -288,6 +340,7 @@ module _ {S : Type 0} (seen : S → Seen) (schema : Schema) (plan : Plan)
         of_plan = come.of_plan;
         rows_are = λ instance holds. exactly instance (come.knows instance holds);
         are = requests_are;
+        numbers = come.numbers;
       }
 
       -- no memory for the rows
@@ -298,13 +351,13 @@ module _ {S : Type 0} (seen : S → Seen) (schema : Schema) (plan : Plan)
   -- ---- round by round
 
   module _ {M N : Type 0} (turn : Course → Result (Turned Pending) M → Type 0)
-      (ask : Bor Pending → MutBor (List (Lane S)) → Result (List RowList) CallFault → MutBor (List (Lane S)) → Type 0)
+      (ask : Bor Pending → MutBor (List (Lane S)) → Result (List RowList) StepFault → MutBor (List (Lane S)) → Type 0)
       (take : Pending → List RowList → Result Course N → Type 0)
       (turns : (course : Course) (turned : Turned Pending) → turn course (Ok turned)
       → Turns schema plan course turned)
-      (asks : (shown : Bor Pending) (lent : MutBor (List (Lane S))) (result : Result (List RowList) CallFault)
+      (asks : (shown : Bor Pending) (lent : MutBor (List (Lane S))) (result : Result (List RowList) StepFault)
       (left : MutBor (List (Lane S))) → ask shown lent result left
-      → AsksWanted seen schema shown.now.method shown.now.wanted.requests result lent.now left.now)
+      → AsksTested seen schema shown.now.method shown.now.wanted.requests result lent.now left.now)
       (takes : (pending : Pending) (answers : List RowList) (next : Course) → take pending answers (Ok next)
       → Takes plan pending answers next)
       (course : Course) (at : IsAt plan 0 course) (knows : (its : SchemaParts) (instance : List Fact)
@@ -313,12 +366,12 @@ module _ {S : Type 0} (seen : S → Seen) (schema : Schema) (plan : Plan)
       abbrev start : Reached Course
       start = record { progress = course; made = 0 }
 
-      asked : (pending : Pending) (before : List (Lane S)) (result : Result (List RowList) CallFault)
+      asked : (pending : Pending) (before : List (Lane S)) (result : Result (List RowList) StepFault)
           (after : List (Lane S)) → AsksSo ask pending before result after
-          → AsksWanted seen schema pending.method pending.wanted.requests result before after
+          → AsksTested seen schema pending.method pending.wanted.requests result before after
       asked = asked_so ask
           (λ pending before result after.
-          AsksWanted seen schema pending.method pending.wanted.requests result before after)
+          AsksTested seen schema pending.method pending.wanted.requests result before after)
           asks
 
       pub come_all : (n : ℕ) (reached : Reached Course) (new : List (Lane S))
@@ -339,7 +392,7 @@ module _ {S : Type 0} (seen : S → Seen) (schema : Schema) (plan : Plan)
           → Went turn ask take cap n start old reached new → NoneStopped old → NoneStopped new
       going_on zero reached new (is, same) going = subst (λ (l : List (Lane S)). NoneStopped l) (sym same) going
       going_on (suc n) reached new (r, middle, went, goes) going =
-          (asked goes.turned.what middle (Ok goes.answers) new goes.asked).going
+          (asked goes.turned.what middle (Ok goes.answers) new goes.asked).0.going
 
       -- the next step may be asked
       pub may_ask_next : (length old ≤ 8) → 0 < length old → cap ≤ 1000000 → NoneStopped old
@@ -358,11 +411,10 @@ module _ {S : Type 0} (seen : S → Seen) (schema : Schema) (plan : Plan)
                 (λ its among. askable_steps seen schema its.steps old middle
                 (each_asked seen schema come.list old middle come.asks) (askable its among));
             few = let count = is.count in omega (arith, count, room, small);
-            values = λ values among. wanted_length turned.what.places turned.what.method.inputs turned.what.wanted.rows
-                turned.what.wanted.requests values is.is.asks.wanted among;
+            values = wide schema plan reached.progress turned.what is.is;
           }
 
-      module _ (rounds : ℕ) (fits : rounds ≤ length (turns_of plan)) (why : Halt Pending CallFault)
+      module _ (rounds : ℕ) (fits : rounds ≤ length (turns_of plan)) (why : Halt Pending StepFault)
           (new : List (Lane S)) (halts : Halts turn ask take cap rounds start old why new) where
         abbrev before : List (Lane S)
         before = halts.middle
@@ -370,11 +422,11 @@ module _ {S : Type 0} (seen : S → Seen) (schema : Schema) (plan : Plan)
         come : HasCome schema plan seen cap halts.n halts.reached old before
         come = come_all halts.n halts.reached before halts.went
 
-        -- the step whose call failed can be numbered
+        -- the step that was refused can be numbered
         pub can_name : CanNumber plan → CanName why
         can_name can = go why new halts.stops
           where
-            go : (w : Halt Pending CallFault) (l : List (Lane S)) → Stops turn ask take cap halts.reached before w l
+            go : (w : Halt Pending StepFault) (l : List (Lane S)) → Stops turn ask take cap halts.reached before w l
                 → CanName w
             go w l unturned = tt
             go w l (past_limit turned wanted t past is) = tt
@@ -394,7 +446,7 @@ module _ {S : Type 0} (seen : S → Seen) (schema : Schema) (plan : Plan)
             some : 0 < rounds
             some = let l = halts.less in omega (arith, l)
 
-            go : (w : Halt Pending CallFault) (l : List (Lane S)) → Stops turn ask take cap halts.reached before w l
+            go : (w : Halt Pending StepFault) (l : List (Lane S)) → Stops turn ask take cap halts.reached before w l
                 → PlanHalts seen schema plan cap (fault_of cap w) old l
             go w l unturned = halts_before halts.n halts.reached before come less
             go w l (past_limit turned wanted t past wanted_is) =
@@ -404,20 +456,27 @@ module _ {S : Type 0} (seen : S → Seen) (schema : Schema) (plan : Plan)
                 (AsksSome-none seen schema (asks_in turned.what) before)
                 (over halts.n halts.reached before come turned is wanted wanted_is small
                 (going_on halts.n halts.reached before halts.went (going some)) past)
-            go w l (refused turned call.NoMemory after wants a) =
+            go w l (refused turned stop.NoMemory after wants a) =
                 let is = turns halts.reached.progress turned wants.0 in
                 halts_for halts.n halts.reached before come turned is fault.NoMemory after
-                (asked turned.what before (Err call.NoMemory) after a).refused
+                (asked turned.what before (Err stop.NoMemory) after a).refused
                 (memory halts.n halts.reached before come turned is after)
-            go w l (refused turned call.Failed after wants a) =
+            go w l (refused turned stop.CallFailed after wants a) =
                 let is = turns halts.reached.progress turned wants.0 in
-                let its = asked turned.what before (Err call.Failed) after a in
+                let its = asked turned.what before (Err stop.CallFailed) after a in
                 halts_for halts.n halts.reached before come turned is
                 (fault.CallFailed turned.what.branch turned.what.step) after its.refused
                 (failed halts.n halts.reached before come turned is wants.1 after its)
+            go w l (refused turned (stop.BadNumber column) after wants a) =
+                let is = turns halts.reached.progress turned wants.0 in
+                let (answers, its, bad) = asked turned.what before (Err (stop.BadNumber column)) after a in
+                halts_for halts.n halts.reached before come turned is
+                (fault.BadNumber turned.what.method.rel column) after
+                (each_some seen schema (asks_in turned.what) before after its.asks)
+                (bad_number halts.n halts.reached before come turned is wants.1 answers after its column bad)
             go w l (untaken turned answers after wants a) =
                 let is = turns halts.reached.progress turned wants.0 in
                 halts_for halts.n halts.reached before come turned is fault.NoMemory after
                 (each_some seen schema (asks_in turned.what) before after
-                (asked turned.what before (Ok answers) after a).asks)
+                (asked turned.what before (Ok answers) after a).0.asks)
                 (memory halts.n halts.reached before come turned is after)

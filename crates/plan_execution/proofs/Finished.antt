@@ -55,6 +55,7 @@ module _ {S : Type 0} (seen : S → Seen) (schema : Schema) (plan : Plan) where
       of_plan = d.of_plan;
       rows_are = λ instance holds. d.rows_are instance (held_begun instance holds);
       are = λ instance holds. d.are instance (held_begun instance holds);
+      numbers = λ instance holds. d.numbers instance (held_begun instance holds);
     }
 
     cause_started : (earlier now : List Request) (middle : List (Lane S)) (why : RunFault)
@@ -94,6 +95,21 @@ module _ {S : Type 0} (seen : S → Seen) (schema : Schema) (plan : Plan) where
         rounds = λ instance holds. c.rounds instance (held_begun instance holds);
       },
     )
+    cause_started earlier now middle (fault.BadNumber rel column) c = record {
+      branch = c.branch;
+      step = c.step;
+      its_branch = c.its_branch;
+      its_step = c.its_step;
+      method = c.method;
+      there = c.there;
+      named = c.named;
+      of_relation = c.of_relation;
+      fits = c.fits;
+      asked = c.asked;
+      going = c.going;
+      rounds = λ instance holds. c.rounds instance (held_begun instance holds);
+      bad = λ instance holds. c.bad instance (held_begun instance holds);
+    }
 
     halts_started : (why : RunFault) → PlanHalts seen schema plan cap why begun new
         → PlanHalts seen schema plan cap why (map started old) new
@@ -105,6 +121,7 @@ module _ {S : Type 0} (seen : S → Seen) (schema : Schema) (plan : Plan) where
       asks_now = h.asks_now;
       of_plan = h.of_plan;
       part = λ instance holds. h.part instance (held_begun instance holds);
+      numbers = λ instance holds. h.numbers instance (held_begun instance holds);
       cause = cause_started h.earlier h.now h.middle why h.cause;
     }
 
@@ -118,6 +135,7 @@ module _ {S : Type 0} (seen : S → Seen) (schema : Schema) (plan : Plan) where
     ran (Err (fault.Attach rel why)) did halts = halts_started (fault.Attach rel why) halts
     ran (Err (fault.CallFailed branch step)) did halts = halts_started (fault.CallFailed branch step) halts
     ran (Err (fault.OverCalls total wanted its)) did halts = halts_started (fault.OverCalls total wanted its) halts
+    ran (Err (fault.BadNumber rel column)) did halts = halts_started (fault.BadNumber rel column) halts
 
     stays_behind : (list : List Request) (middle : List (Lane S)) → AsksEach seen schema list (map started old) middle
         → LanesStay seen old middle

@@ -1,5 +1,5 @@
 pub mod Before
-pub mod Asking
+pub mod Stepping
 pub mod Coming
 pub mod Starting
 pub mod Finished

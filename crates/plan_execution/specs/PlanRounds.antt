@@ -17,6 +17,7 @@ use Rattle.source_trait.specs.declared.lanes.Lane.{Lane}
 use Rattle.middleware.specs.Asked.{IsStepRequest}
 use Rattle.middleware.specs.LaneRounds.{AsksEach, AsksSome, NoneStopped}
 use Rattle.middleware.specs.LaneBranches.{LanesHoldPlan, FailsOnLane}
+use Rattle.bad_numbers.specs.Numbers.{ReceiveFirstBad, ReceiveIntegers}
 use Rattle.middleware.specs.declared.fault.RunFault.{RunFault}
 use Rattle.middleware.specs.declared.fault.RunFault.TheVariants as fault
 
@@ -76,6 +77,8 @@ module _ {S : Type 0} (seen : S → Seen) (schema : Schema) (plan : Plan) where
         → (row : List (List ℕ)) → Contains rows row ↔ IsRow (meaning_of schema) plan instance row
     pub are : (instance : List Fact) → LanesHoldPlan seen schema plan old instance
         → AreRequests (meaning_of schema) plan instance list
+    pub numbers : (instance : List Fact) → LanesHoldPlan seen schema plan old instance
+        → ReceiveIntegers (meaning_of schema) instance list
 
   -- A call of the step's round failed, whose requests there was room for; so each round before it was asked whole.
   pub record CallFails (cap branch step : ℕ) (earlier now : List Request)
@@ -91,6 +94,24 @@ module _ {S : Type 0} (seen : S → Seen) (schema : Schema) (plan : Plan) where
     pub fails : FailsOnLane seen schema method.rel now middle new
     pub rounds : (instance : List Fact) → LanesHoldPlan seen schema plan old instance
         → IsRoundAt (meaning_of schema) plan instance branch step earlier now
+
+  -- The step's round was asked whole, for whose requests there was room, and this is the least bad number of what it received.
+  pub record NumberFails (cap rel column : ℕ) (earlier now : List Request) (old middle new : List (Lane S)) : Type 0 where
+    pub branch : ℕ
+    pub step : ℕ
+    pub its_branch : Branch
+    pub its_step : Step
+    pub method : Method
+    pub there : IsStepAt plan branch step its_branch its_step
+    pub named : IsMethod (meaning_of schema) its_step.method method
+    pub of_relation : method.rel ≡ rel
+    pub fits : length earlier + length now ≤ cap
+    pub asked : AsksEach seen schema now middle new
+    pub going : NoneStopped new
+    pub rounds : (instance : List Fact) → LanesHoldPlan seen schema plan old instance
+        → IsRoundAt (meaning_of schema) plan instance branch step earlier now
+    pub bad : (instance : List Fact) → LanesHoldPlan seen schema plan old instance
+        → ReceiveFirstBad (meaning_of schema) instance now rel column
 
   -- A round would pass the cap, and was not asked; each round before it was asked whole.
   pub record CapFills (cap total wanted : ℕ) (earlier now : List Request)
@@ -122,6 +143,8 @@ module _ {S : Type 0} (seen : S → Seen) (schema : Schema) (plan : Plan) where
       middle new
   PlanCause cap earlier now old middle new (fault.OverCalls total wanted its) =
       (its ≡ cap) × CapFills cap total wanted earlier now old middle new
+  PlanCause cap earlier now old middle new (fault.BadNumber rel column) = NumberFails cap rel column earlier now old
+      middle new
   PlanCause cap earlier now old middle new end = ⊥
 
   -- The rounds of a plan stopped: those before the last one were asked whole, and each request of the last one at
@@ -135,4 +158,6 @@ module _ {S : Type 0} (seen : S → Seen) (schema : Schema) (plan : Plan) where
     pub of_plan : AreOfPlan (meaning_of schema) plan (earlier ++ now)
     pub part : (instance : List Fact) → LanesHoldPlan seen schema plan old instance
         → (rest : List Request) × AreRequests (meaning_of schema) plan instance ((earlier ++ now) ++ rest)
+    pub numbers : (instance : List Fact) → LanesHoldPlan seen schema plan old instance
+        → ReceiveIntegers (meaning_of schema) instance earlier
     pub cause : PlanCause cap earlier now old middle new why

@@ -1,21 +1,22 @@
 -- One round of a plan, and how far the plan has come after some rounds.
-use Rattle.std.specs.Prelude.{◌≡◌, ◌+◌, ◌^◌, ◌<◌, ◌≤◌, ℕ, List, ◌∷◌, [], Contains, length, slice_get}
+use Rattle.std.specs.Prelude.{◌≡◌, ◌+◌, ◌^◌, ◌<◌, ◌≤◌, ℕ, List, ◌∷◌, [], Contains, Result, Ok, Err, flat_map, length, slice_get}
 use Rattle.meaning.specs.declared.types.Fact.{Fact}
+use Rattle.meaning.specs.declared.types.Method.{Method}
 use Rattle.meaning.specs.declared.types.Plan.{Plan}
 use Rattle.meaning.specs.declared.types.Request.{Request}
 use Rattle.access_schema.specs.declared.schema.Schema.{Schema}
 use Rattle.access_schema.specs.Meaning.{meaning_of}
 use Rattle.source_trait.specs.Asking.{RowList, Seen}
 use Rattle.source_trait.specs.declared.lanes.Lane.{Lane}
-use Rattle.source_trait.specs.declared.source.CallFault.{CallFault}
 use Rattle.source_trait.specs.declared.source.CallFault.TheVariants as call
-use Rattle.middleware.specs.LaneAsking.{AnswersFrom}
+use Rattle.middleware.specs.LaneAsking.{AnswersFrom, AsksWanted}
 use Rattle.middleware.specs.Branches.{IsAskable}
 use Rattle.middleware.specs.LaneRounds.{AsksEach, NoneStopped}
 use Rattle.middleware.specs.LaneBranches.{OnEach, LanesHoldPlan}
 use Rattle.middleware.specs.Rounds.{requests_of}
 use Rattle.middleware.specs.declared.fault.RunFault.{RunFault}
 use Rattle.middleware.specs.declared.fault.RunFault.TheVariants as fault
+use Rattle.bad_numbers.specs.Numbers.{HaveIntegers, IsBadColumn, ReceiveIntegers}
 use Rattle.request_rounds.specs.declared.rounds.Turned.{Turned}
 use Rattle.request_rounds.specs.declared.rounds.Reached.{Reached}
 use Rattle.request_rounds.specs.declared.rounds.Halt.{Halt}
@@ -26,21 +27,40 @@ use Rattle.plan_course.specs.Turns.{AreOfTurn, IsPending}
 use Rattle.plan_course.specs.declared.course.Course.{Course}
 use Rattle.plan_course.specs.declared.turns.Pending.{Pending}
 use Rattle.plan_execution.specs.PlanRounds.{AreOfPlan}
+use Rattle.plan_execution.specs.declared.asking.StepFault.{StepFault}
+use Rattle.plan_execution.specs.declared.asking.StepFault.TheVariants as stop
 
 -- the requests of a step
 abbrev pub asks_in : Pending → List Request
 asks_in pending = requests_of pending.method.rel pending.method.inputs pending.wanted.requests
 
--- branch and step of the one whose call failed can be numbered
-abbrev pub CanName : Halt Pending CallFault → Type 0
+-- the rows of all answers
+abbrev pub rows_in : List RowList → RowList
+rows_in answers = flat_map (λ rows. rows) answers
+
+-- The requests of a method were asked of the lanes, and on success all rows that came were tested: each has integers at the integer columns
+-- of the relation, or the column is the least at which one of them has another value.
+abbrev pub AsksTested : {S : Type 0} → (S → Seen) → Schema → Method → RowList → Result (List RowList) StepFault → List (Lane S)
+    → List (Lane S) → Type 0
+AsksTested seen schema method requests (Ok answers) old new =
+    AsksWanted seen schema method requests (Ok answers) old new × HaveIntegers (meaning_of schema) method.rel (rows_in answers)
+AsksTested seen schema method requests (Err (stop.BadNumber column)) old new =
+    (answers : List RowList) × AsksWanted seen schema method requests (Ok answers) old new
+    × IsBadColumn (meaning_of schema) method.rel (rows_in answers) column
+AsksTested seen schema method requests (Err stop.CallFailed) old new = AsksWanted seen schema method requests (Err call.Failed) old new
+AsksTested seen schema method requests (Err stop.NoMemory) old new = AsksWanted seen schema method requests (Err call.NoMemory) old new
+
+-- branch and step of the one that was refused can be numbered
+abbrev pub CanName : Halt Pending StepFault → Type 0
 CanName (halt.Refused pending why) = (pending.branch < 2 ^ 32) × (pending.step < 2 ^ 32)
 CanName other = Unit {0}
 
 -- why a plan stops, where its rounds stop for this
-abbrev pub fault_of : ℕ → Halt Pending CallFault → RunFault
+abbrev pub fault_of : ℕ → Halt Pending StepFault → RunFault
 fault_of cap halt.NoMemory = fault.NoMemory
-fault_of cap (halt.Refused pending call.NoMemory) = fault.NoMemory
-fault_of cap (halt.Refused pending call.Failed) = fault.CallFailed pending.branch pending.step
+fault_of cap (halt.Refused pending stop.NoMemory) = fault.NoMemory
+fault_of cap (halt.Refused pending stop.CallFailed) = fault.CallFailed pending.branch pending.step
+fault_of cap (halt.Refused pending (stop.BadNumber column)) = fault.BadNumber pending.method.rel column
 fault_of cap (halt.Over pending made wanted) = fault.OverCalls made wanted cap
 
 -- the course is before a step
@@ -90,3 +110,5 @@ module _ (schema : Schema) (plan : Plan) where
           → Knows (meaning_of schema) instance plan reached.progress
       pub are : (instance : List Fact) → LanesHoldPlan seen schema plan old instance
           → AreRounds (meaning_of schema) instance (plan ∷ []) Anew n list
+      pub numbers : (instance : List Fact) → LanesHoldPlan seen schema plan old instance
+          → ReceiveIntegers (meaning_of schema) instance list

@@ -22,6 +22,9 @@ use std::thread::Threads;
 /// First the relations of the plan's methods are attached in ascending order, lane by lane. Then each step of each
 /// branch asks its distinct requests, each once by one of the lanes at once, and joins the answers with the rows so
 /// far. A plan without access steps needs no lane, and leaves the lanes as they are.
+///
+/// Errors: `NoSource`, `UnknownKind` and `Attach` come from the attaches, as in `attach_needed`, before any request. Behind
+/// them come those of `execute_attached`. `NoMemory` may come at any time.
 pub fn execute<R: Threads + Sync, S: Source + Send + Drop>(
     rt: &R,
     alloc: Global,
@@ -50,6 +53,11 @@ pub fn execute<R: Threads + Sync, S: Source + Send + Drop>(
 
 /// Executes a lawful plan whose relations are attached on each of the lanes, with at most `cap` requests: `execute`
 /// from its first round on. A lane that was stopped before asks again.
+///
+/// Errors, of the first round that stops: `OverCalls` where its requests would pass the cap, and none of them is asked; `CallFailed`
+/// where one of its calls failed; `BadNumber` where all of them were answered and a row that came has another value than an
+/// integer at an integer column, also a row that joins nothing. The column is the least of all rows that came in the round.
+/// `NoMemory` may come at any time.
 pub fn execute_attached<R: Threads + Sync, S: Source + Send + Drop>(
     rt: &R,
     alloc: Global,

@@ -5,6 +5,7 @@
 //! course of `plan_course`.
 #![tactic(auto)]
 
+mod asking;
 mod execution;
 mod rounds;
 

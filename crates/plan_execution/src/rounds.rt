@@ -5,21 +5,21 @@ ghost use Rattle.meaning.specs.declared.types.Branch.{Branch};
 ghost use Rattle.access_schema.specs.Meaning.{meaning_of};
 ghost use Rattle.row_text.specs.RowText.{row_cmp};
 ghost use Rattle.middleware.specs.Branches.{AreAskable};
-ghost use Rattle.middleware.specs.LaneAsking.{AsksWanted};
 ghost use Rattle.middleware.specs.LaneBranches.{OnEach};
 ghost use Rattle.middleware.specs.LaneRounds.{NoneStopped};
 ghost use Rattle.shared_rounds.specs.SharedRounds.{turns_of};
 ghost use Rattle.plan_course.specs.Courses.{AreReadyBranches, CanNumber, HaveOutputs};
 ghost use Rattle.plan_execution.specs.PlanRounds.{LanesDone, PlanHalts};
-ghost use Rattle.plan_execution.specs.Rounding.{CanName, HasCome, HasStep, MayAsk, Takes, Turns, WasAsked, fault_of};
+ghost use Rattle.plan_execution.specs.Rounding.{AsksTested, CanName, HasCome, HasStep, MayAsk, Takes, Turns, WasAsked, fault_of};
 
+use crate::asking::{StepFault, ask_tested};
 use access_schema::Schema;
 use lists::NoMemory;
 use meaning::types::Plan;
-use middleware::{Answers, Run, RunFault, ask_wanted};
+use middleware::{Answers, Run, RunFault};
 use plan_course::{Course, Next, Pending, rows, take, turn};
 use request_rounds::{Halt, Reached, Turned, ask_rounds};
-use source_trait::{CallFault, Lane, Source};
+use source_trait::{Lane, Source};
 use std::alloc::Global;
 use std::thread::Threads;
 
@@ -91,10 +91,10 @@ fn all_rounds<R: Threads + Sync, S: Source + Send + Drop>(
     { next_step(alloc, schema, plan, course) };
     let ask = |pending: &Pending, lanes: &mut [Lane<S>]|
         requires { MayAsk schema.now S.seen pending.now lanes.now }
-        ensures { AsksWanted S.seen schema.entry.now pending.entry.now.method pending.entry.now.wanted.requests result
+        ensures { AsksTested S.seen schema.entry.now pending.entry.now.method pending.entry.now.wanted.requests result
             lanes.entry.now lanes.exit.now }
     {
-        ask_wanted(
+        ask_tested(
             rt,
             alloc,
             schema,
@@ -138,17 +138,21 @@ fn next_step(
 }
 
 // Why the plan stops where its rounds do.
-fn fault_of(halt: &Halt<Pending, CallFault>, cap: u32) -> RunFault
+fn fault_of(halt: &Halt<Pending, StepFault>, cap: u32) -> RunFault
     requires { CanName halt.now }
     ensures { result ≡ fault_of cap halt.now }
 {
     match halt {
         Halt::NoMemory => RunFault::NoMemory,
         Halt::Refused { what, why } => match why {
-            CallFault::NoMemory => RunFault::NoMemory,
-            CallFault::Failed => RunFault::CallFailed {
+            StepFault::NoMemory => RunFault::NoMemory,
+            StepFault::CallFailed => RunFault::CallFailed {
                 branch: what.branch as u32,
                 step: what.step as u32,
+            },
+            StepFault::BadNumber { column } => RunFault::BadNumber {
+                rel: what.method.rel,
+                column: *column,
             },
         },
         Halt::Over { made, wanted, .. } => RunFault::OverCalls {

@@ -27,7 +27,7 @@ module _ {S : Type 0} (seen : S → Seen) (schema : Schema) where
   -- what a source holds stays
   order_told : (rels : List ℕ) (facts : List Fact) (old new : List (Kind S)) → AsksInOrder seen schema rels facts old new → (kind : List ℕ) (told : Option (List Fact)) → AtKind old kind (Told told) → AtKind new kind (Told told)
   order_told [] facts old new (none, e) kind told h = subst (λ (l : List (Kind S)). AtKind l kind (Told told)) (sym e) h
-  order_told (rel ∷ rels) facts old new (rows, rest, mid, e, one, later) kind told h = order_told rels rest mid new later kind told (one_told rel rows old mid one kind told h)
+  order_told (rel ∷ rels) facts old new (rows, rest, mid, e, one, integers, later) kind told h = order_told rels rest mid new later kind told (one_told rel rows old mid one kind told h)
 
   -- the rows that came are those that the source holds
   one_rows : (rel : ℕ) (rows : RowList) (old new : List (Kind S)) (one : AsksOne seen schema rel (Ok rows) old new) (held : List Fact) → AtKind old one.line.kind (Told (Some held)) → rows ≡ pick held rel [] []
@@ -39,7 +39,7 @@ module _ {S : Type 0} (seen : S → Seen) (schema : Schema) where
   -- no fact is one of a relation that was not asked for
   apart_from : (rels : List ℕ) (facts : List Fact) (old new : List (Kind S)) → AsksInOrder seen schema rels facts old new → (rel : ℕ) → (Contains rels rel → ⊥) → (row : List (List ℕ)) → Contains facts (fact_of rel row) → ⊥
   apart_from [] facts old new (none, e) rel apart row c = let h = subst (λ (l : List Fact). Contains l (fact_of rel row)) none c in omega (arith, h)
-  apart_from (r ∷ rels) facts old new (rows, rest, mid, e, one, later) rel apart row c =
+  apart_from (r ∷ rels) facts old new (rows, rest, mid, e, one, integers, later) rel apart row c =
       elim (Contains-append_cases (facts_of r rows) rest (fact_of rel row) (subst (λ (l : List Fact). Contains l (fact_of rel row)) e c)) [
         | inl first ↦ apart (subst (λ n. Contains (r ∷ rels) n) (not_other rel row r rows first) (contains_here r rels))
         | inr second ↦ apart_from rels rest mid new later rel (λ d. apart (contains_there r rels rel d)) row second
@@ -49,7 +49,7 @@ module _ {S : Type 0} (seen : S → Seen) (schema : Schema) where
   facts_held : (rels : List ℕ) → Rises rels → (facts : List Fact) (old new : List (Kind S)) → AsksInOrder seen schema rels facts old new → (rel : ℕ) → Contains rels rel → (line : SourceLine) → line_for rel schema.sources ≡ Some line
       → (held : List Fact) → AtKind old line.kind (Told (Some held)) → SameFacts rel facts held
   facts_held [] up facts old new order rel c line line_is held h = absurd (omega arith)
-  facts_held (r ∷ rels) up facts old new (rows, rest, mid, e, one, later) rel c line line_is held h = elim (contains_cases r rels rel c) [
+  facts_held (r ∷ rels) up facts old new (rows, rest, mid, e, one, integers, later) rel c line line_is held h = elim (contains_cases r rels rel c) [
     | inl here ↦ first here
     | inr there ↦ second there (facts_held rels up.1 rest mid new later rel there line line_is held (one_told r rows old mid one line.kind (Some held) h))
   ]

@@ -18,9 +18,9 @@ use Rattle.middleware.proofs.Lacking.{rises_strictly}
 use Rattle.data_verify.specs.declared.broken.Broken.{Broken}
 use Rattle.rule_rows.specs.RuleRelations.{RulesName, needed_verified}
 use Rattle.rule_rows.specs.Asking.{IsReady, AsksInOrder, AskStop}
-use Rattle.rule_rows.specs.Asking.AskStop.{no_memory as ask_memory, failed}
+use Rattle.rule_rows.specs.Asking.AskStop.{no_memory as ask_memory, failed, bad_number as ask_bad}
 use Rattle.rule_rows.specs.Verifying.{IsVerified, Tests, Verifies, used, others}
-use Rattle.rule_rows.specs.Verifying.Tests.{no_memory, not_asked, done}
+use Rattle.rule_rows.specs.Verifying.Tests.{no_memory, not_asked, bad_number, done}
 use Rattle.rule_rows.specs.Verifying.Verifies.{tested}
 use Rattle.rule_rows.specs.declared.fault.WholeFault.{WholeFault}
 use Rattle.rule_rows.proofs.Asking.{asked_attached}
@@ -32,6 +32,7 @@ module _ {S : Type 0} (seen : S → Seen) (schema : Schema) (rels : List ℕ) (o
   pub unasked : (why : WholeFault) → AskStop seen schema rels old new why → Tests seen schema rels old new (Err why)
   unasked why (ask_memory part) = no_memory part
   unasked why (failed rel b) = not_asked rel b
+  unasked why (ask_bad rel column b) = bad_number rel column b
 
   pub all_found : IsStrictlyIncreasing rels → ((rel : ℕ) → RulesName schema rel → Contains rels rel)
       → ((rel : ℕ) → Contains rels rel → IsReady seen schema old rel) → (facts : List Fact) (found : Option Broken)

@@ -14,7 +14,7 @@ use Rattle.middleware.specs.declared.fault.RunFault.{RunFault}
 use Rattle.data_verify.specs.declared.broken.Broken.{Broken}
 use Rattle.data_verify.specs.Breaking.{IsFirstBroken}
 use Rattle.rule_rows.specs.RuleRelations.{RulesName}
-use Rattle.rule_rows.specs.Asking.{AsksInOrder, AsksPart, AskBreaks}
+use Rattle.rule_rows.specs.Asking.{AsksInOrder, AsksPart, AskBreaks, NumberBreaks}
 use Rattle.rule_rows.specs.declared.fault.WholeFault.{WholeFault}
 use Rattle.rule_rows.specs.declared.fault.WholeFault.TheVariants as whole
 use Rattle.rule_rows.specs.declared.fault.VerifyFault.{VerifyFault}
@@ -45,10 +45,11 @@ module _ {S : Type 0} (seen : S → Seen) (schema : Schema) where
     pub of_held : (instance : List Fact) → HoldNeeded seen schema (RulesName schema) new instance → IsVerified schema instance found
 
   -- What testing the rules on the rows of these relations gave: some first ones were asked for whole, and memory was wanted; or the request
-  -- for one failed; or all were.
+  -- for one failed; or one has a bad number; or all were asked.
   pub data Tests (rels : List ℕ) (old new : List (Kind S)) : Result (Option Broken) WholeFault → Type 0 where
     no_memory : AsksPart seen schema rels old new → Tests rels old new (Err whole.NoMemory)
     not_asked : (rel : ℕ) → AskBreaks seen schema rels rel old new → Tests rels old new (Err (whole.CallFailed rel))
+    bad_number : (rel column : ℕ) → NumberBreaks seen schema rels rel column old new → Tests rels old new (Err (whole.BadNumber rel column))
     done : (found : Option Broken) → Finds rels old new found → Tests rels old new (Ok found)
 
   -- The rules were tested on the rows of the relations that the first lane needs, in ascending order; the lanes behind it stay.

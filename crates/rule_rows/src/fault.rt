@@ -8,6 +8,8 @@ pub enum WholeFault {
     NoMemory,
     /// The request for the whole relation failed.
     CallFailed { rel: u32 },
+    /// A row of the relation has another value than an integer at this integer column.
+    BadNumber { rel: u32, column: u32 },
 }
 
 /// Why the rules were not tested.

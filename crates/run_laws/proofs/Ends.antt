@@ -59,7 +59,7 @@ use Rattle.pdq_core.proofs.CompleteOffers.{lanes_hold, offers_execute}
 use Rattle.world_laws.specs.World.{IsWorldSchema, world_statement}
 use Rattle.world_laws.specs.Instance.{world_facts}
 use Rattle.world_laws.proofs.Read.{world_meaning, world_alone, world_no_fault}
-use Rattle.world_laws.proofs.Query.{statement_alone, query_no_fault}
+use Rattle.world_laws.proofs.Query.{no_integers, statement_alone, query_no_fault}
 use Rattle.world_laws.proofs.Counts.{model, rows_counted}
 use Rattle.run_laws.specs.Deciding.{HasOneBranch}
 use Rattle.pdq_core.specs.Generators.{HasGenerator}
@@ -119,6 +119,7 @@ module _ {S : Type 0} (seen : S → Seen) (size : ℕ) (some : 1 ≤ size) (few 
     can : CanExecute seen schema its CALLS old new
     can = offers_execute seen schema its CALLS old new (world_facts size) (λ rel needed. lane) offers
         (on_lanes (NoRiseOf seen (codes "world")) (NoSourceRose seen schema (IsAccessed schema its)) (world_calm size some few schema is seen its) old new (lanes_calm seen old new stay lanes))
+        (λ fact among needed column value holds at. absurd (no_integers size schema is fact.rel column holds))
         (keeps_cap size some few schema is its one)
 
     stops : (IsText : Run → List ℕ → Type 0) (why : Stop) → Delivers (ExecutesOrStops seen schema its CALLS old new) IsText before.out after.out (Rose before.out_faults after.out_faults) (Err why) → IsOver why

@@ -99,7 +99,7 @@ abbrev Stands : List Relation → Type 0
 Stands relations = IsMeaning relations (named_select query_text raw) world_select
 
 -- no column of a world holds integers
-no_integers : (n : ℕ) (schema : Schema) → IsWorldSchema n schema → (rel place : ℕ) → HoldsIntegers (meaning_of schema) rel place → ⊥
+pub no_integers : (n : ℕ) (schema : Schema) → IsWorldSchema n schema → (rel place : ℕ) → HoldsIntegers (meaning_of schema) rel place → ⊥
 no_integers n schema is rel place (relation, got, at) =
     let there : slice_get world_relations rel ≡ Some relation = subst (λ rs. slice_get rs rel ≡ Some relation) is.relations got in
     let (k, _, same) = got_mapped relation_with (range_with_len 1 8) rel relation there in

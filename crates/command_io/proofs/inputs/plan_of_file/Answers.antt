@@ -1,13 +1,16 @@
 -- A file that is not read stops the command by its fault, and a text by its own.
 use Rattle.std.proofs.Common.{ℕ, List}
+use Rattle.std.proofs.lemmas.Result.{err_from_is_err_and}
 use Rattle.plan_form.specs.Grammar.{IsPlanReadFault}
 use Rattle.command_io.specs.Inputs.PlanStop.{no_memory, no_file, no_plan}
 use Rattle.command_io.specs.declared.inputs.TheConstants.{PLAN_LIMIT}
 use Rattle.command_io.proofs.FileTexts.{is_text}
 use Rattle.command_io.proofs.inputs.plan_of_file.Goals as goal
 
-pub returns-in-Err-clause-cause : goal.returns-in-Err-clause-cause
-returns-in-Err-clause-cause g c = no_file c.in-Err.stop c.in-Err.ensures.cause
+pub returns-in_err-bytes-clause-cause : goal.returns-in_err-bytes-clause-cause
+returns-in_err-bytes-clause-cause g c =
+    let told = err_from_is_err_and c.from_residual.result c.from_residual.ensures.1 in
+    rw (told.1, told.2) (no_file c.in_err-bytes.field-0.0 c.in_err-bytes.ensures.cause)
 
 pub returns-in-NoMemory-clause-cause : goal.returns-in-NoMemory-clause-cause
 returns-in-NoMemory-clause-cause g c = no_memory
@@ -16,8 +19,8 @@ pub returns : goal.returns
 returns g c = record {
   read = tt;
   fits = tt;
-  cause = no_plan c.in-Err-read_plan.fault c.in_default.not-NoMemory (is_text (g.F.Files.contents c.args.files.now) c.args.name.now c.in-Ok.bytes c.without_mark.result.now PLAN_LIMIT
-      (λ (text : List ℕ). IsPlanReadFault text c.in-Err-read_plan.fault) c.in-Ok.ensures.size c.in-Ok.ensures.bytes (rw c.as_slice.ensures at c.without_mark.ensures) c.in-Err-read_plan.ensures.fault);
+  cause = no_plan c.in-Err.fault c.in_default.not-NoMemory (is_text (g.F.Files.contents c.args.files.now) c.args.name.now c.in_ok-bytes.bytes c.without_mark.result.now PLAN_LIMIT
+      (λ (text : List ℕ). IsPlanReadFault text c.in-Err.fault) c.in_ok-bytes.ensures.size c.in_ok-bytes.ensures.bytes (rw c.as_slice.ensures at c.without_mark.ensures) c.in-Err.ensures.fault);
   later = c.read_file.ensures.later;
   same = c.read_file.ensures.same;
 }

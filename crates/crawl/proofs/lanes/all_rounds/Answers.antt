@@ -34,6 +34,6 @@ loop-preserved g c =
     record {
       round = omega (arith, rounds, so_far);
       reached = reached_more g.S.Source.seen c.args.schema.now (map lent_class c.args.classes.now) c.requires.classes c.args.cap c.loop.progress c.args.lanes.now c.loop.lanes h
-          c.next_round.new.progress c.next_round.new.lanes goes
+          c.next_round.new.lanes goes.round c.next_round.new.progress goes.integers goes.takes
           (attached_later c.args.schema.now g.S.Source.seen (requests_of (answers_of h.log)) c.args.lanes.now c.loop.lanes h.asks c.requires.attached);
     }

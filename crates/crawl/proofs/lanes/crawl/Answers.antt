@@ -28,7 +28,7 @@ returns-in-Ok-attach_needed g c = record {
       c.crawl_attached.result
       (attaches_reachable c.args.schema.now g.S.Source.seen c.in-Ok.rels.items c.as_slice-needed.result.now c.as_slice-needed.ensures.value
       (of_schema c.args.schema.now c.as_slice.result.now c.as_slice.ensures c.in-Ok.rels.items c.in-Ok.ensures.exactly) c.args.lanes.now c.attach_needed.new.lanes (Ok tt) c.in-Ok-attach_needed.ensures.attaches)
-      c.in-Ok-attach_needed.ensures.lanes c.crawl_attached.ensures.crawled c.crawl_attached.ensures.once c.crawl_attached.ensures.fits c.crawl_attached.ensures.stops c.crawl_attached.ensures.idle;
+      c.in-Ok-attach_needed.ensures.lanes c.crawl_attached.ensures.crawled c.crawl_attached.ensures.once c.crawl_attached.ensures.fits c.crawl_attached.ensures.integers c.crawl_attached.ensures.stops c.crawl_attached.ensures.idle;
 }
 
 pub returns : goal.returns

@@ -18,6 +18,7 @@ returns-in-Err g c = record {
   crawled = tt;
   once = tt;
   fits = tt;
+  integers = tt;
   stops = halts_unbegun g.S.Source.seen c.args.schema.now c.args.cap c.args.lanes.now;
   idle = λ none. refl;
 }
@@ -47,6 +48,11 @@ returns-in-Ok-each_once-clause-fits g c = λ fact among.
     let h = c.in-Ok-all_rounds.ensures.reached in
     h.fits fact ((h.facts fact).0 ((c.in-Ok-each_once.ensures.facts fact).0 among))
 
+pub returns-in-Ok-each_once-clause-integers : goal.returns-in-Ok-each_once-clause-integers
+returns-in-Ok-each_once-clause-integers g c = λ fact among.
+    let h = c.in-Ok-all_rounds.ensures.reached in
+    h.integers fact ((h.facts fact).0 ((c.in-Ok-each_once.ensures.facts fact).0 among))
+
 pub returns-in-Ok-each_once-clause-idle : goal.returns-in-Ok-each_once-clause-idle
 returns-in-Ok-each_once-clause-idle g c = λ none.
     let (rel, reachable) = (let nonempty = first_there c.as_slice-lent.result.now (λ e. clash (sym c.if-is_empty.false ∙ c.is_empty.ensures ∙ eq-eqb (length c.as_slice-lent.result.now) 0 e)) in
@@ -71,6 +77,7 @@ returns g c = record {
   crawled = tt;
   once = tt;
   fits = tt;
+  integers = tt;
   stops = c.in-Err-all_rounds.ensures.stops;
   idle = λ none.
       let (rel, reachable) = (let nonempty = first_there c.as_slice-lent.result.now (λ e. clash (sym c.if-is_empty.false ∙ c.is_empty.ensures ∙ eq-eqb (length c.as_slice-lent.result.now) 0 e)) in

@@ -1,4 +1,4 @@
-use Rattle.std.proofs.Common.{◌≡◌, ◌↔◌, ℕ, List, sym, subst, ap, length, arith}
+use Rattle.std.proofs.Common.{◌↔◌, ℕ, List, sym, subst, ap, length, arith}
 use Rattle.std.specs.Prelude.{Contains, Ok, Err}
 use Rattle.middleware.specs.Needs.{AttachesNeeded}
 use Rattle.middleware.specs.declared.fault.RunFault.{RunFault}

@@ -1,5 +1,4 @@
-use Rattle.std.proofs.Common.{◌≡◌, sym, subst, refl, arith}
-use Rattle.std.proofs.lemmas.Result.{IfOk-weaker}
+use Rattle.std.proofs.Common.{subst, arith}
 use Rattle.middleware.specs.LaneRunning.{IsAttachedTo}
 use Rattle.plan_batches.specs.Coming.{HasCome}
 use Rattle.middleware.proofs.Begun.{begun_each, begun_going, begun_long}

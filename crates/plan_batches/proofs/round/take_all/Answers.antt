@@ -1,5 +1,5 @@
-use Rattle.std.proofs.Common.{◌≡◌, length-append, ◌∙◌, ◌<◌, sym, subst, ap, length, take, List, ◌++◌, ◌∷◌, [], ◌≤◌, Some, arith}
-use Rattle.std.specs.Prelude.{Contains, slice_get}
+use Rattle.std.proofs.Common.{◌≡◌, length-append, ◌∙◌, sym, subst, ap, length, take, List, ◌++◌, ◌∷◌, [], arith}
+use Rattle.std.specs.Prelude.{slice_get}
 use Rattle.std.specs.Vec.Iter.{into_iter_items}
 use Rattle.std.proofs.lemmas.Grind.{common_steps}
 use Rattle.std.proofs.lemmas.List.{take_all}
@@ -10,7 +10,7 @@ use Rattle.plan_batches.specs.Each.{Each}
 use Rattle.plan_batches.specs.Members.{Takes}
 use Rattle.plan_batches.specs.declared.member.Member.{Member}
 use Rattle.plan_batches.specs.declared.member.Going.{Going}
-use Rattle.plan_batches.proofs.Pairing.{at_seam, each_push, parts_end, parts_on, under_seam}
+use Rattle.plan_batches.proofs.Pairing.{at_seam, each_push, parts_on, under_seam}
 use Rattle.plan_batches.proofs.round.take_all.Goals as goal
 
 pub bounds-plans-number : goal.bounds-plans-number

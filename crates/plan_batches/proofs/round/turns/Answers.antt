@@ -1,5 +1,5 @@
-use Rattle.std.proofs.Common.{◌≡◌, length-append, ◌∙◌, ◌<◌, sym, subst, ap, length, take, List, ◌++◌, ◌∷◌, [], ◌≤◌, Some, arith}
-use Rattle.std.specs.Prelude.{Contains, slice_get}
+use Rattle.std.proofs.Common.{◌≡◌, length-append, ◌∙◌, sym, subst, ap, length, take, List, ◌++◌, ◌∷◌, [], arith}
+use Rattle.std.specs.Prelude.{slice_get}
 use Rattle.std.specs.Vec.Iter.{into_iter_items}
 use Rattle.std.proofs.lemmas.List.{nil_from_length, take_all}
 use Rattle.lists.proofs.Members.{contains_got}

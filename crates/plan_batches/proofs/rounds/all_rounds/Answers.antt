@@ -24,7 +24,7 @@ ask_rounds-requires g c = record {
         may_note g.S.Source.seen c.args.schema.now c.args.plans.now c.requires.plans.0
         c.args.lanes.now c.args.cap c.requires.cap _ _ _
         (λ progress turned h. h)
-        (asked_so _ (λ noted b r a. AsksNoted g.S.Source.seen noted r b a) (λ shown lent result left h. h))
+        (asked_so _ (λ noted b r a. AsksNoted g.S.Source.seen c.args.schema.now noted r b a) (λ shown lent result left h. h))
         (λ noted answers next h. h)
         (record { members = c.in-Ok.members; book = c.new.result; kept = c.new-2.result })
         c.new.ensures.is_book c.new.ensures.empty c.new-2.ensures c.in-Ok.ensures
@@ -35,19 +35,19 @@ ask_rounds-requires g c = record {
           (may_ask_next g.S.Source.seen c.args.schema.now c.args.plans.now c.requires.plans.0
           c.args.lanes.now c.args.cap c.requires.cap _ _ _
           (λ progress turned h. h)
-          (asked_so _ (λ noted b r a. AsksNoted g.S.Source.seen noted r b a) (λ shown lent result left h. h))
+          (asked_so _ (λ noted b r a. AsksNoted g.S.Source.seen c.args.schema.now noted r b a) (λ shown lent result left h. h))
           (λ noted answers next h. h)
           (record { members = c.in-Ok.members; book = c.new.result; kept = c.new-2.result })
           c.new.ensures.is_book c.new.ensures.empty c.new-2.ensures c.in-Ok.ensures
           (c.requires.some (omega (arith, less))) c.requires.attached n reached middle went turned wants.0 wants.1
-          c.requires.few)),
+          c.requires.few c.requires.plans.1)),
       search rules,
     );
     takes = λ turned answers after wants asked.
         may_take_next g.S.Source.seen c.args.schema.now c.args.plans.now c.requires.plans.0
         c.args.lanes.now c.args.cap c.requires.cap _ _ _
         (λ progress turned h. h)
-        (asked_so _ (λ noted b r a. AsksNoted g.S.Source.seen noted r b a) (λ shown lent result left h. h))
+        (asked_so _ (λ noted b r a. AsksNoted g.S.Source.seen c.args.schema.now noted r b a) (λ shown lent result left h. h))
         (λ noted answers next h. h)
         (record { members = c.in-Ok.members; book = c.new.result; kept = c.new-2.result })
         c.new.ensures.is_book c.new.ensures.empty c.new-2.ensures c.in-Ok.ensures
@@ -61,7 +61,7 @@ fault_of-requires g c =
     can_name g.S.Source.seen c.args.schema.now c.args.plans.now c.requires.plans.0
     c.args.lanes.now c.args.cap c.requires.cap _ _ _
     (λ progress turned h. h)
-    (asked_so _ (λ noted b r a. AsksNoted g.S.Source.seen noted r b a) (λ shown lent result left h. h))
+    (asked_so _ (λ noted b r a. AsksNoted g.S.Source.seen c.args.schema.now noted r b a) (λ shown lent result left h. h))
     (λ noted answers next h. h)
     (record { members = c.in-Ok.members; book = c.new.result; kept = c.new-2.result })
     c.new.ensures.is_book c.new.ensures.empty c.new-2.ensures c.in-Ok.ensures
@@ -72,7 +72,7 @@ returns-in-Ok-ask_rounds-clause-come g c =
     come_all g.S.Source.seen c.args.schema.now c.args.plans.now c.requires.plans.0
     c.args.lanes.now c.args.cap c.requires.cap _ _ _
     (λ progress turned h. h)
-    (asked_so _ (λ noted b r a. AsksNoted g.S.Source.seen noted r b a) (λ shown lent result left h. h))
+    (asked_so _ (λ noted b r a. AsksNoted g.S.Source.seen c.args.schema.now noted r b a) (λ shown lent result left h. h))
     (λ noted answers next h. h)
     (record { members = c.in-Ok.members; book = c.new.result; kept = c.new-2.result })
     c.new.ensures.is_book c.new.ensures.empty c.new-2.ensures c.in-Ok.ensures
@@ -83,7 +83,7 @@ returns-in-Ok-ask_rounds-clause-going g c = λ some.
     going_on g.S.Source.seen c.args.schema.now c.args.plans.now c.requires.plans.0
     c.args.lanes.now c.args.cap c.requires.cap _ _ _
     (λ progress turned h. h)
-    (asked_so _ (λ noted b r a. AsksNoted g.S.Source.seen noted r b a) (λ shown lent result left h. h))
+    (asked_so _ (λ noted b r a. AsksNoted g.S.Source.seen c.args.schema.now noted r b a) (λ shown lent result left h. h))
     (λ noted answers next h. h)
     (record { members = c.in-Ok.members; book = c.new.result; kept = c.new-2.result })
     c.new.ensures.is_book c.new.ensures.empty c.new-2.ensures c.in-Ok.ensures
@@ -95,7 +95,7 @@ returns-in-Err-clause-stops g c =
     halts_for g.S.Source.seen c.args.schema.now c.args.plans.now c.requires.plans.0
     c.args.lanes.now c.args.cap c.requires.cap _ _ _
     (λ progress turned h. h)
-    (asked_so _ (λ noted b r a. AsksNoted g.S.Source.seen noted r b a) (λ shown lent result left h. h))
+    (asked_so _ (λ noted b r a. AsksNoted g.S.Source.seen c.args.schema.now noted r b a) (λ shown lent result left h. h))
     (λ noted answers next h. h)
     (record { members = c.in-Ok.members; book = c.new.result; kept = c.new-2.result })
     c.new.ensures.is_book c.new.ensures.empty c.new-2.ensures c.in-Ok.ensures

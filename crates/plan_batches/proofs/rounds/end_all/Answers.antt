@@ -6,7 +6,7 @@ use Rattle.middleware.specs.declared.fault.Run.{Run}
 use Rattle.plan_batches.specs.Each.{Both}
 use Rattle.plan_batches.specs.Members.{Ends}
 use Rattle.plan_batches.specs.declared.member.Member.{Member}
-use Rattle.plan_batches.proofs.Pairing.{at_seam, both_push, parts_end, parts_on}
+use Rattle.plan_batches.proofs.Pairing.{at_seam, both_push, parts_on}
 use Rattle.plan_batches.proofs.rounds.end_all.Goals as goal
 
 pub end-requires : goal.end-requires

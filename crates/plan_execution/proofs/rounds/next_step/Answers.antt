@@ -1,4 +1,4 @@
-use Rattle.plan_execution.proofs.Asking.{not_done}
+use Rattle.plan_execution.proofs.Stepping.{not_done}
 use Rattle.plan_execution.proofs.rounds.next_step.Goals as goal
 
 pub unreachable-requires : goal.unreachable-requires

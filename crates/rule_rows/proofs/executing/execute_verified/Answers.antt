@@ -1,5 +1,4 @@
 -- The rules are not tested, or one is not met, or the plan is executed.
-use Rattle.std.proofs.Common.{refl}
 use Rattle.source_trait.proofs.LaneSteps.{LanesStay-trans}
 use Rattle.rule_rows.specs.Executing.RunsVerified.{not_verified, not_met, halted, ran}
 use Rattle.rule_rows.proofs.Results.{verified_lane, verified_attached}

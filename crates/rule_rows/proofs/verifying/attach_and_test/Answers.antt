@@ -1,6 +1,4 @@
 -- What became of the rules, by where the function returns.
-use Rattle.std.proofs.Common.{ℕ}
-use Rattle.std.specs.Prelude.{Contains}
 use Rattle.source_trait.proofs.LaneSteps.{LanesStay-trans}
 use Rattle.middleware.specs.Needs.{needed}
 use Rattle.rule_rows.specs.Verifying.Verifies.{not_attached, not_asked, tested}

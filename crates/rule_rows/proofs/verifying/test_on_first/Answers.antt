@@ -1,6 +1,5 @@
 -- The rules are tested on the first lane, or on none.
-use Rattle.std.proofs.Common.{◌≡◌, ◌<◌, ℕ, List, [], length, get_or, sym, ◌∙◌, ap, subst, rules, arith}
-use Rattle.std.specs.Prelude.{Contains}
+use Rattle.std.proofs.Common.{◌≡◌, ◌<◌, List, length, sym, ◌∙◌, ap, subst, rules}
 use Rattle.std.proofs.lemmas.List.{nil_from_length}
 use Rattle.source_trait.specs.Lanes.{KindsStay}
 use Rattle.source_trait.specs.declared.lanes.Kind.{Kind}

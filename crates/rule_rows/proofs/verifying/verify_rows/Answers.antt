@@ -7,7 +7,7 @@ use Rattle.middleware.specs.Needs.AttachesNeeded.{no_memory}
 use Rattle.middleware.specs.declared.fault.RunFault.TheVariants as fault
 use Rattle.rule_rows.specs.RuleRelations.{AreRuleRelations, needed_first}
 use Rattle.rule_rows.specs.Verifying.Verifies.{not_attached}
-use Rattle.rule_rows.proofs.Missing.{none_ascend, none_among, named_there, listed_first, verifies_alike, verifies_behind}
+use Rattle.rule_rows.proofs.Missing.{named_there, listed_first, verifies_alike, verifies_behind}
 use Rattle.rule_rows.proofs.verifying.verify_rows.Goals as goal
 
 pub attach_and_test-requires-clause-there : goal.attach_and_test-requires-clause-there

@@ -13,3 +13,8 @@ pub returns-clause-rules : goal.returns-clause-rules
 returns-clause-rules g c = λ schema old new kind folder lines calm.
     c.sources_that_do_not_tell_serve.ensures.rules schema old new
     (untold_offer g.S.Source.seen schema (RulesName schema) (used old) kind folder lines) calm
+
+pub returns-clause-tests : goal.returns-clause-tests
+returns-clause-tests g c = λ schema old new kind texts folder lines calm.
+    c.sources_that_do_not_tell_serve.ensures.tests schema old new texts
+    (untold_offer g.S.Source.seen schema (RulesName schema) (used old) kind folder lines) calm

@@ -1,4 +1,4 @@
-use Rattle.plan_execution.proofs.Asking.{both_ok}
+use Rattle.plan_execution.proofs.Stepping.{both_ok}
 use Rattle.plan_execution.proofs.rounds.fn.all_rounds.go_on.Goals as goal
 
 pub returns : goal.returns

@@ -13,6 +13,7 @@ use Rattle.middleware.specs.PlanSources.{IsAccessed}
 use Rattle.middleware.specs.Branches.{AreAskable, IsAskable}
 use Rattle.middleware.specs.LaneAsking.{LanesHoldRelation}
 use Rattle.middleware.specs.LaneBranches.{OnEach, LanesHoldPlan}
+use Rattle.middleware.proofs.Laning.{wanted_length}
 use Rattle.middleware.proofs.Planning.{accessed_by}
 use Rattle.middleware.proofs.Steps.{len_requests}
 use Rattle.shared_rounds.specs.SharedRounds.{Turn, turns_of}
@@ -45,6 +46,11 @@ module _ (schema : Schema) (plan : Plan) (course : Course) (pending : Pending)
       → LanesHoldRelation seen schema pending.method.rel lanes instance
   relation_held seen lanes instance holds line line_is lane among = holds lane among pending.method.rel line
       step_accessed line_is
+
+  -- each of its requests has a value for each input
+  pub wide : (values : List (List ℕ)) → Contains pending.wanted.requests values → length values ≡ length pending.method.inputs
+  wide values among = wanted_length pending.places pending.method.inputs pending.wanted.rows pending.wanted.requests values
+      is.asks.wanted among
 
   -- and its numbers fit
   pub numbers_fit : CanNumber plan → (pending.branch < 2 ^ 32) × (pending.step < 2 ^ 32)
