@@ -152,6 +152,20 @@ def test_what_is_no_answer_is_not_kept(room):
     same(journal_of(room), [("all_items", []), ("price_of", ["1"])])
 
 
+def test_a_bad_number_is_not_kept_and_not_used(room):
+    amounts = {"1": "10", "2": "20", "3": "030"}
+    server = room.serve(lambda call: Reply([{"id": call.query["id"], "amount": amounts[call.query["id"]]}]) if call.query else shop(call))
+    # a text as the amount, which the journal keeps
+    same(room.carry("--journal", room.path("j")), (0, ANSWER.replace("3,30", "3,030"), ""))
+    # and then an integer: only the answer that has none is asked for once more
+    room.write("s.pdq", b"schema 2\n" + room.read("s.pdq").replace(b"amount", b"amount int"))
+    for amount, wanted in [("030", (10, "", "branch 1 step 2: price_of(id '3'): '030' for amount is no integer\n")), ("30", (0, ANSWER))]:
+        amounts["3"] = amount
+        server.calls.clear()
+        same(room.carry("--journal", room.path("j"))[:len(wanted)], wanted)
+        same(server.targets, FOUR[3:])
+
+
 def test_another_definition_has_no_answer_in_the_journal(room):
     server = room.serve()
     text = room.read("services.toml").decode()

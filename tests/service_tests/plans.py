@@ -118,16 +118,22 @@ def test_random_plans(room):
         for name, content in case.files().items():
             room.write(name, content)
         table_file(room.path("data.db"), case)
-        wanted = case.wanted()
+        wanted = b"" if case.bad() else case.wanted()
         if program:
             same(subprocess.run([program, "exec", "s.pdq", "p.plan"], cwd=room.folder, stdin=subprocess.DEVNULL, capture_output=True,
                                 timeout=SECONDS).stdout, wanted)
         for kind in KINDS:
             room.write("services.toml", texts[kind](case, server.url))
             answers.first_pages.clear()
+            if case.bad():
+                status, out, err = room.carry("--workers", str(number % 3 + 1))
+                same((number, kind, status, out, err.endswith(" is no integer\n")), (number, kind, 10, "", True))
+                continue
             same((number, kind, *room.carry("--workers", str(number % 3 + 1))), (number, kind, 0, wanted.decode(), ""))
             if kind == "http":
                 same(sorted(answers.first_pages), requests_of(case, read_plan(room.read("p.plan"))))
+        if case.bad():
+            continue
         room.write("services.toml", web_services(case, server.url))
         same(room.carry("--output", room.path("answer.csv"), "--journal", room.path(f"{number}.journal"))[:2], (0, ""))
         same(room.read("answer.csv"), wanted)
@@ -204,6 +210,28 @@ def test_requests_are_distinct_over_all_partial_rows(room):
     # six pairs of a and of what follows it ask for three values
     planned(room, "plan 3\nbranch\naccess all_r(new, new)\naccess r_of($1, new)\naccess r_of('a', new)\noutput $0, $1, $2\nend\n",
             "column1,column2,column3\na,b,b\na,b,c\nb,b,b\nb,b,c\nb,c,a\nc,a,b\n", ["", "x=a", "x=b", "x=c"])
+
+
+def test_a_number_that_is_no_integer(room):
+    # each kind of service: a row that joins, one that does not, and one that no request receives
+    room.write("s.pdq", "schema 2\nrelation r(x int, y)\nmethod all_r on r() cost 1\nmethod r_of on r(y) cost 1\n")
+    rows = [("7", "a"), ("07", "b")]
+    server = room.serve(lambda call: Reply([{"x": x, "y": y} for x, y in rows if call.query.get("y", y) == y]))
+    room.write("r.csv", "x,y\n7,a\n07,b\n")
+    web = f'[service.s]\nkind = "http"\nurl = "{server.url}"\n[method.all_r]\nservice = "s"\nurl = "/r"\n'
+    web += '[method.r_of]\nservice = "s"\nurl = "/r"\nquery = { y = "{y}" }\n'
+    files = '[service.s]\nkind = "csv"\n'
+    files += "".join(f'[method.{name}]\nservice = "s"\nfile = "r.csv"\n' for name in ("all_r", "r_of"))
+    plan = "plan 1\nbranch\naccess {}\noutput {}\nend\n"
+    for services in web, files:
+        room.write("services.toml", services)
+        for access, output, wanted in [
+                ("all_r(new, new)", "$1", (10, "", "branch 1 step 1: all_r(): '07' for x is no integer\n")),
+                ("all_r(new, 'a')", "$0", (10, "", "branch 1 step 1: all_r(): '07' for x is no integer\n")),
+                ("r_of(new, 'b')", "$0", (10, "", "branch 1 step 1: r_of(y 'b'): '07' for x is no integer\n")),
+                ("r_of(new, 'a')", "$0", (0, "column1\n7\n", ""))]:
+            room.write("p.plan", plan.format(access, output))
+            same(room.carry(), wanted)
 
 
 def test_names_of_the_answer(room):

@@ -7,10 +7,12 @@ from concurrent.futures import Future, ThreadPoolExecutor
 from dataclasses import dataclass, field
 from typing import Dict, List, Mapping, Optional, Protocol, Sequence
 
+from pdq_texts import is_integer
+
 from .calls import Caller
 from .databases import Connections, DatabaseSource, module_connections, sqlite_connections
 from .ending import Ending
-from .faults import CapFault, Fault, MemoryFault, Stopped, at
+from .faults import AnswerFault, CapFault, Fault, MemoryFault, Stopped, at
 from .files import FileSource
 from .journal import Journal
 from .pace import Pace
@@ -113,21 +115,42 @@ class Asker:
     def is_file(self, method: str) -> bool:
         return isinstance(self.methods[method].service, Folder)
 
+    def fitting(self, method: str, rows: List[Row]) -> List[Row]:
+        """The rows, which are refused where one has another text than an integer at a column of integers."""
+        settings = self.methods[method]
+        for place in settings.integers:
+            for row in rows:
+                if not is_integer(row[place]):
+                    raise AnswerFault(f"{shown(row[place])} for {settings.form.columns[place].name} is no integer")
+        return rows
+
+    def fits(self, method: str, rows: List[Row]) -> bool:
+        try:
+            return self.fitting(method, rows) is rows
+        except AnswerFault:
+            return False
+
     def kept(self, method: str, requests: Sequence[Row]) -> Dict[Row, List[Row]]:
-        """The answers that the journal has."""
+        """The answers that the journal has. Where a column was declared to hold integers since, one that does not fit is not taken."""
         found: Dict[Row, List[Row]] = {}
         for asked in requests if self.journal is not None else ():
             rows = self.journal.find(method, self.sums[method], asked)
-            if rows is not None:
+            if rows is not None and self.fits(method, rows):
                 found[asked] = rows
         return found
 
     def from_file(self, place: str, method: str, requests: Sequence[Row]) -> Dict[Row, List[Row]]:
         """The answers of a file, which need no workers; they can be read again, and so the journal does not have them."""
         try:
-            return {asked: self.sources.of[method].rows(asked) for asked in requests}
+            answers = {asked: self.sources.of[method].rows(asked) for asked in requests}
         except Fault as fault:
             raise self.in_place(place, method, requests[0], fault) from None
+        for asked, rows in answers.items():
+            try:
+                self.fitting(method, rows)
+            except AnswerFault as fault:
+                raise self.in_place(place, method, asked, fault) from None
+        return answers
 
     def without_calls(self, place: str, method: str, requests: Sequence[Row]) -> Dict[Row, List[Row]]:
         """The answers for which no service is called: those of the journal, and of files."""
@@ -187,7 +210,7 @@ class Asker:
             raise Stopped("not begun")
         began = time.time()
         try:
-            rows = self.sources.of[method].rows(asked)
+            rows = self.fitting(method, self.sources.of[method].rows(asked))
             if self.journal is not None:
                 self.journal.keep(method, self.sums[method], asked, began, rows)
             return rows

@@ -11,7 +11,7 @@ import sys
 from typing import Dict, Iterable, List, Mapping, Tuple, Union
 from urllib.parse import urlsplit
 
-from pdq_texts import Method, Schema, shown_name
+from pdq_texts import Method, Relation, Schema, shown_name
 
 from .faults import MachineFault, TextFault
 from .keys import REQUIRED, Keys
@@ -53,7 +53,7 @@ def read_settings(data: bytes, schema: Schema, base: str) -> Dict[str, MethodSet
     top.finish()
     services = {name: read_service(name, keys, base) for name, keys in service_tables.items()}
     methods = {method.name: method for method in schema.methods}
-    relations = {relation.name: relation.columns for relation in schema.relations}
+    relations = {relation.name: relation for relation in schema.relations}
     settings = {}
     for name, keys in method_tables.items():
         if name not in methods:
@@ -167,8 +167,8 @@ def check_url(keys: Keys, url: str) -> None:
 # ---- methods
 
 
-def read_method(keys: Keys, method: Method, columns: List[str], services: Mapping[str, Service]) -> MethodSettings:
-    name = keys.text("service")
+def read_method(keys: Keys, method: Method, relation: Relation, services: Mapping[str, Service]) -> MethodSettings:
+    columns, name = relation.columns, keys.text("service")
     if name not in services:
         raise keys.fault(f"there is no service {name!r}")
     service = services[name]
@@ -183,7 +183,7 @@ def read_method(keys: Keys, method: Method, columns: List[str], services: Mappin
     if isinstance(call, DataFile) and any(column.asked for column in form.columns):
         raise keys.fault("columns: a file has the values at its inputs, and none is the one that was asked for")
     keys.finish()
-    return MethodSettings(method, service, call, form)
+    return MethodSettings(method, service, call, form, tuple(at for at, sort in enumerate(relation.sorts) if sort == "int"))
 
 
 def read_columns(keys: Keys, columns: List[str], inputs: Tuple[str, ...], by_pointer: bool) -> Tuple[Column, ...]:

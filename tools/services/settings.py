@@ -108,8 +108,9 @@ class MethodSettings:
     service: Service
     call: Union[WebCall, Select, DataFile]
     form: RowForm
+    integers: Tuple[int, ...] = ()  # the places of the columns that hold integers
 
     def sum(self) -> str:
-        """A sum over all that decides which rows a request has; the times, limits and rates of a service do not."""
+        """A sum over all that decides which rows a request has; the times, limits and rates of a service, and sorts, do not."""
         text = json.dumps([self.service.meaning(), asdict(self.call), asdict(self.form)], sort_keys=True, default=repr)
         return hashlib.sha256(text.encode("utf-8", "surrogatepass")).hexdigest()

@@ -1,0 +1,2 @@
+SELECT DISTINCT a, b FROM r WHERE c = 'x';
+SELECT DISTINCT a, b FROM r WHERE c = 'y'

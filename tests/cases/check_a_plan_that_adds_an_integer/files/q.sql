@@ -1,0 +1,1 @@
+SELECT DISTINCT r.a, b FROM r, s WHERE s.a = r.a

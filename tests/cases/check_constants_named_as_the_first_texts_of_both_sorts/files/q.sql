@@ -1,0 +1,1 @@
+SELECT DISTINCT a, c FROM r WHERE b = '_1'

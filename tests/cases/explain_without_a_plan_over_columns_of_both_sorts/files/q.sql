@@ -1,0 +1,1 @@
+SELECT DISTINCT d, c, b, a FROM r

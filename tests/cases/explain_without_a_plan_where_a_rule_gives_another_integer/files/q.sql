@@ -1,0 +1,1 @@
+SELECT DISTINCT s.b FROM r, s WHERE s.a = r.a

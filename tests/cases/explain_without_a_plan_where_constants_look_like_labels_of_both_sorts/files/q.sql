@@ -1,0 +1,1 @@
+SELECT DISTINCT a, b, c, d FROM r

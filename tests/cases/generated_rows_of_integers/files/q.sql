@@ -1,0 +1,1 @@
+SELECT DISTINCT a, b FROM r WHERE b = 1

@@ -1,0 +1,1 @@
+SELECT DISTINCT lname FROM udirect

@@ -1,0 +1,1 @@
+SELECT DISTINCT eid, onum FROM profinfo WHERE lname = 'smith'
