@@ -3,7 +3,6 @@ pub mod Forms
 pub mod Numbers
 pub mod Instances
 pub mod Rivals
-pub mod Rests
 pub mod Pairs
 pub mod Zipped
 pub mod Products

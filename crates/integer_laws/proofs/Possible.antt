@@ -15,11 +15,12 @@ use Rattle.meaning.specs.Costs.{IsCost}
 use Rattle.meaning.specs.Triggers.{State}
 use Rattle.meaning.specs.Fitting.{RulesFit, QueryHasConstants}
 use Rattle.meaning.specs.Extract.{Exposure, exposed_facts, IsExposing, exposures_cost, IsBase}
+use Rattle.meaning_laws.specs.Rests.{HasGoalOver}
 use Rattle.meaning_laws.specs.Trims.{AreIn}
 use Rattle.integer_laws.proofs.Products.{possible_goals}
 use Rattle.integer_laws.proofs.Rivals.{rival_exposes_sorted}
 use Rattle.integer_laws.specs.Sorted.{AreSortedGrounds}
-use Rattle.integer_laws.specs.Claimed.{IsSortedRival, IsSortedRest, HasSortedGoalOver}
+use Rattle.integer_laws.specs.Claimed.{IsSortedRival, IsSortedRest}
 
 -- what is exposed are base facts
 exposed_within : (schema : SchemaParts) (constants : List Value) (base exposed : List Ground) (exposures : List Exposure) →
@@ -39,7 +40,7 @@ pub rival_exposes_possible : (schema : SchemaParts) (constants : List Value) (qu
     (exposures : List Exposure) × IsExposing schema constants base.facts [] exposures × (exposures_cost exposures ≤ cost)
     × ((most : ℕ) →
     base.next + (most + length constants) * (base.next + length constants) + length constants ≤ 2 ^ 63 →
-    HasSortedGoalOver schema constants goals head base.next most (exposed_facts exposures))
+    HasGoalOver schema constants goals head base.next most (exposed_facts exposures))
 rival_exposes_possible schema constants queries goals query base head rival cost well rules have is_base sorted answered
     is_rival is_cost =
     let (exposures, exposing, cheap, has) = rival_exposes_sorted schema constants queries query base head rival cost well

@@ -1,5 +1,5 @@
--- Two sorted states at rest over facts have a product that is at rest over them too, in which a head answers a query only
--- where it does in both. So the goals of facts are goals among those that some state at rest over them has.
+-- A state at rest over facts and a sorted one have a product that is sorted and at rest over them too, in which a head
+-- answers a query only where it does in both. So the goals of facts are goals among those that some state at rest over them has.
 use Rattle.std.proofs.Common.{◌≡◌, ℕ, ◌+◌, ◌*◌, List, [], ◌∷◌, length, Some, Bool, true, false, refl, sym, ap, ◌∙◌, subst, arith}
 use Rattle.std.proofs.lemmas.Bool.{eqb-true, eq-eqb}
 use Rattle.std.specs.Prelude.{Contains, slice_get, map, nat_eq, if◌then◌else◌}
@@ -23,6 +23,7 @@ use Rattle.meaning.specs.Matching.{value_of, AreFacts, OccursIn, MeetsAll, Groun
 use Rattle.meaning.specs.Triggers.{State, ground}
 use Rattle.meaning.specs.Naming.{IsNamed, AreNamed}
 use Rattle.meaning.specs.Fitting.{Fit, RulesFit}
+use Rattle.meaning_laws.specs.Rests.{IsRest, HasGoalOver}
 use Rattle.integer_laws.proofs.Pairs.{top, IsShared, pair, first_of, second_of, first_const, second_const, first_shared, second_shared, pair_shared, first_pair, second_pair, pair_named}
 use Rattle.integer_laws.proofs.Zipped.{zipped, got_zipped, in_zipped, zipped_long, zipped_first, zipped_second, zipped_same, zipped_terms, mapped_terms}
 use Rattle.integer_laws.specs.Sorted.{AreSortedGrounds}
@@ -96,7 +97,7 @@ from_products p ones others fact c =
 
 module _ (schema : SchemaParts) (constants : List Value) (next most less : ℕ) (facts : List Ground) (one other : State)
     (rules : RulesFit schema constants) (facts_named : AreNamed constants next facts)
-    (first : IsSortedRest schema constants next most facts one) (second : IsSortedRest schema constants next less facts other) where
+    (first : IsRest schema constants next most facts one) (second : IsSortedRest schema constants next less facts other) where
   abbrev p : Val → Val → Val
   p = pair constants next most less
 
@@ -110,7 +111,7 @@ module _ (schema : SchemaParts) (constants : List Value) (next most less : ℕ) 
   both = record { facts = products p one.facts other.facts; next = top constants next most less }
 
   one_named : AreNamed constants most one.facts
-  one_named fact v c inside = named_more constants one.next most v first.rest.few (first.rest.named fact v c inside)
+  one_named fact v c inside = named_more constants one.next most v first.few (first.named fact v c inside)
 
   other_named : AreNamed constants less other.facts
   other_named fact v c inside = named_more constants other.next less v second.rest.few (second.rest.named fact v c inside)
@@ -121,7 +122,7 @@ module _ (schema : SchemaParts) (constants : List Value) (next most less : ℕ) 
 
   as_long : (f g : Ground) → Contains one.facts f → Contains other.facts g → f.rel ≡ g.rel → length f.vals ≡ length g.vals
   as_long f g of_one of_other same =
-      let fits = first.rest.fits f of_one in
+      let fits = first.fits f of_one in
       let others = second.rest.fits g of_other in
       let relation : fits.relation ≡ others.relation = some_injective fits.relation others.relation
       (sym fits.there ∙ ap (slice_get schema.relations) same ∙ others.there) in
@@ -184,7 +185,7 @@ module _ (schema : SchemaParts) (constants : List Value) (next most less : ℕ) 
   -- two extensions are one
   both_meet : MeetsAll Const (GroundsOf both.facts) schema.rules
   both_meet rule among a body =
-      let (b, ext) = quiet_meets schema.rules one rules.numbered first.rest.quiet rule among (λ x. q (a x))
+      let (b, ext) = quiet_meets schema.rules one rules.numbered first.quiet rule among (λ x. q (a x))
       (facts_projected q both.facts one.facts first_projects a rule.body body) in
       let (b', ext') = quiet_meets schema.rules other rules.numbered second.rest.quiet rule among (λ x. r (a x))
       (facts_projected r both.facts other.facts second_projects a rule.body body) in (
@@ -206,7 +207,7 @@ module _ (schema : SchemaParts) (constants : List Value) (next most less : ℕ) 
       let (f, g, of_one, of_other, same, e) = from_products p one.facts other.facts fact c in
       fits_alike schema f.rel fact.rel f.vals fact.vals (ap (λ (x : Ground). x.rel) e)
       (ap (λ (x : Ground). length x.vals) (sym e) ∙ zipped_long p f.vals g.vals (as_long f g of_one of_other same))
-      (first.rest.fits f of_one)
+      (first.fits f of_one)
 
   both_sorted : AreSortedGrounds schema both.facts
   unfolding product
@@ -214,18 +215,18 @@ module _ (schema : SchemaParts) (constants : List Value) (next most less : ℕ) 
       let (f, g, of_one, of_other, same, e) = from_products p one.facts other.facts fact c in
       let (v, w, at_f, at_g, is) = got_zipped p f.vals g.vals place (Const value)
       (subst (λ (x : Ground). slice_get x.vals place ≡ Some (Const value)) (sym e) at) in
-      let back : v ≡ Const value = sym (first_pair constants next most less v w
+      let back : w ≡ Const value = sym (second_pair constants next most less v w
       (one_named f v of_one (contains_got f.vals place v at_f)) (other_named g w of_other (contains_got g.vals place w at_g)))
-      ∙ ap q is ∙ first_const constants next most less value in
-      first.sorted f of_one place value (subst (λ n. HoldsIntegers schema n place) (sym (ap (λ (x : Ground). x.rel) e)) holds)
-      (at_f ∙ ap Some back)
+      ∙ ap r is ∙ second_const constants next most less value in
+      second.sorted g of_other place value
+      (subst (λ n. HoldsIntegers schema n place) (sym (sym same ∙ ap (λ (x : Ground). x.rel) e)) holds) (at_g ∙ ap Some back)
 
   both_grow : (fact : Ground) → Contains facts fact → Contains both.facts fact
   unfolding product
   both_grow fact c =
       subst (λ vals. Contains both.facts (record { rel = fact.rel; vals = vals }))
       (zipped_same p fact.vals (λ v inside. pair_shared constants next most less v (shared v (facts_named fact v c inside))))
-      (into_products p one.facts other.facts fact fact (first.rest.grows fact c) (second.rest.grows fact c) refl)
+      (into_products p one.facts other.facts fact fact (first.grows fact c) (second.rest.grows fact c) refl)
 
   pub rests_meet : (end : State)
       × IsSortedRest schema constants next (next + (most + length constants) * (less + length constants)) facts end
@@ -260,7 +261,7 @@ pub possible_goals : (schema : SchemaParts) (constants : List Value) (queries go
     ((v : Val) → Contains head v → IsNamed constants next v) → IsSortedRest schema constants next less facts base →
     ((query : Query) → Contains queries query → IsQueryAnswer Const (GroundsOf base.facts) query head → Contains goals query) →
     HasSortedGoalOver schema constants queries head next (next + (most + length constants) * (less + length constants)) facts →
-    HasSortedGoalOver schema constants goals head next most facts
+    HasGoalOver schema constants goals head next most facts
 possible_goals schema constants queries goals head next most less facts base rules named head_named base_is answered has end is =
     let (both, rests, back) = rests_meet schema constants next most less facts end base rules named is base_is in
     let (goal, among, answer) = has both rests in

@@ -179,19 +179,3 @@ module _ (schema : SchemaParts) (constants : List (List ℕ)) (queries : List Qu
       ))
       (λ few. let (own, its) = branch_has_query schema constants rival is_rival.lawful in of_few own its few)
       (cases_lt (2 ^ 63) (base.next + length constants))
-
--- where no exposures with a goal on sorted states cost less, no rival on sorted models costs less
-pub least_by_exposures_sorted : (schema : SchemaParts) (constants : List (List ℕ)) (queries : List Query) (query : Query)
-    (base : State) (head : List Val) (best most : ℕ) → IsWellFormed schema → RulesFit schema constants →
-    ((q : Query) → Contains queries q → QueryHasConstants constants q) → IsBase schema constants query base head →
-    AreSortedGrounds schema base.facts → most + length constants ≤ 2 ^ 63 →
-    ((exposures : List Exposure) → IsExposing schema constants base.facts [] exposures →
-    HasSortedGoalOver schema constants queries head base.next most (exposed_facts exposures) →
-    best ≤ exposures_cost exposures) →
-    (rival : Branch) (cost : ℕ) → IsSortedRival schema constants queries query rival → IsCost schema rival cost → best ≤ cost
-least_by_exposures_sorted schema constants queries query base head best most well rules have is_base sorted few least rival
-    cost is_rival is_cost =
-    let (exposures, exposing, cheap, goals) = rival_exposes_sorted schema constants queries query base head rival cost well
-    rules have is_base sorted is_rival is_cost in
-    let low : best ≤ exposures_cost exposures = least exposures exposing (goals most few) in
-    omega arith

@@ -8,6 +8,7 @@ ghost use Rattle.meaning.specs.declared.types.Query.{Query};
 ghost use Rattle.meaning.specs.declared.types.Select.{Select};
 ghost use Rattle.meaning.specs.declared.types.Statement.{Statement};
 ghost use Rattle.meaning.specs.declared.types.Branch.{Branch};
+ghost use Rattle.meaning.specs.declared.types.Plan.{Plan};
 ghost use Rattle.meaning.specs.declared.types.Val.{Val};
 ghost use Rattle.meaning.specs.declared.types.Ground.{Ground};
 ghost use Rattle.meaning.specs.declared.types.Trigger.{Trigger};
@@ -17,22 +18,20 @@ ghost use Rattle.meaning.specs.Values.{Value, Row};
 ghost use Rattle.meaning.specs.Integers.{IsInteger};
 ghost use Rattle.meaning.specs.Sorts.{HoldsIntegers, AtomsAreSorted, RuleIsSorted};
 ghost use Rattle.meaning.specs.Matching.{IsQueryAnswer, GroundsOf, AnswersQuery};
-ghost use Rattle.meaning.specs.Plans.{IsWellFormed, IsLawfulBranch};
+ghost use Rattle.meaning.specs.Plans.{IsWellFormed, IsLawful, IsLawfulBranch};
 ghost use Rattle.meaning.specs.Claims.{Refutes};
 ghost use Rattle.meaning.specs.Costs.{IsCost};
 ghost use Rattle.meaning.specs.Homomorphisms.{image, renamed};
 ghost use Rattle.meaning.specs.Triggers.{IsNumbered, AreNumbered, State, IsTrigger, IsQuiet, fired, IsFiringRun};
-ghost use Rattle.meaning.specs.RuleOrder.{IsFed};
 ghost use Rattle.meaning.specs.Runs.{Proof, IsRun, opening, opening_state, frozen_head, IsStuck};
 ghost use Rattle.meaning.specs.Naming.{IsNaming, IsNamed, AreNamed};
 ghost use Rattle.meaning.specs.Fitting.{QueryHasConstants, Fit, RulesFit, QueryFits, IsKept};
 ghost use Rattle.meaning.specs.Conjunctive.{SelectIsSorted, IsConjunctive, StandFor};
 ghost use Rattle.meaning.specs.Extract.{Exposure, exposed_facts, IsExposing, exposures_cost, IsBase};
 ghost use Rattle.meaning.specs.Judge.{IsBranchQuery};
-ghost use Rattle.meaning_laws.specs.Trims.{AreIn, IsNeeded, BodiesFollow};
-ghost use Rattle.meaning_laws.specs.Rests.{IsRest, new_labels, MakersAreMet};
+ghost use Rattle.meaning_laws.specs.Rests.{IsRest, HasGoalOver};
 ghost use Rattle.integer_laws.specs.Sorted.{AreSortedFacts, AreSortedGrounds, NamesIntegers, AreSortedRules, ProofIsSorted};
-ghost use Rattle.integer_laws.specs.Claimed.{IsSortedModel, IsSortedRival, IsSortedRest, HasSortedGoalOver};
+ghost use Rattle.integer_laws.specs.Claimed.{IsSortedModel, IsSortedEquivalent, RefutesSorted, IsSortedRival, IsSortedRest, HasSortedGoalOver};
 
 // What keeps integers at integer columns.
 
@@ -152,6 +151,15 @@ pub fn rest_is_model()
         (h : ℕ → Value) × IsNaming constants state.next h × IsSortedModel schema (renamed h state.facts) }
 {}
 
+// What two sorted instances refute.
+
+/// Where a pair of sorted instances refutes, no lawful plan is equivalent to the statement on sorted models.
+pub fn no_sorted_plan()
+    ensures { (schema : SchemaParts) (constants : List Value) (statement : Statement) (first second : List Fact) (row : Row) →
+        IsWellFormed schema → RefutesSorted schema constants statement first second row →
+        (plan : Plan) → IsLawful plan schema constants → IsSortedEquivalent plan statement schema → ⊥ }
+{}
+
 // Least cost among the rivals on sorted models.
 
 /// A lawful branch with an answer of its own query on a base gives exposures in order that cost no more, and over whose facts each state at
@@ -182,46 +190,12 @@ pub fn rival_exposes_sorted()
         HasSortedGoalOver schema constants queries head base.next most (exposed_facts exposures)) }
 {}
 
-/// Where no exposures with a goal on sorted states cost less, no rival on sorted models does.
-pub fn least_by_exposures_sorted()
-    ensures { (schema : SchemaParts) (constants : List Value) (queries : List Query) (query : Query) (base : State)
-        (head : List Val) (best most : ℕ) → IsWellFormed schema → RulesFit schema constants →
-        ((q : Query) → Contains queries q → QueryHasConstants constants q) →
-        IsBase schema constants query base head → AreSortedGrounds schema base.facts → most + length constants ≤ 2 ^ 63 →
-        ((exposures : List Exposure) → IsExposing schema constants base.facts [] exposures →
-        HasSortedGoalOver schema constants queries head base.next most (exposed_facts exposures) →
-        best ≤ exposures_cost exposures) →
-        (rival : Branch) (cost : ℕ) → IsSortedRival schema constants queries query rival → IsCost schema rival cost →
-        best ≤ cost }
-{}
-
-/// A goal on sorted states is one of all facts that have the facts, and with fewer labels.
-pub fn goal_stays_sorted()
-    ensures { (schema : SchemaParts) (constants : List Value) (queries : List Query) (head : List Val)
-        (next most less : ℕ) (facts larger : List Ground) → less ≤ most → AreIn facts larger →
-        HasSortedGoalOver schema constants queries head next most facts →
-        HasSortedGoalOver schema constants queries head next less larger }
-{}
-
-/// Over sorted facts where the makers of needed facts are met, a sorted state is at rest that has no needed fact more, and only as many
-/// labels more as one firing gives.
-pub fn rest_is_reached_sorted()
-    ensures { (schema : SchemaParts) (constants : List Value) (queries : List Query) (head : List Val) (wanted : List ℕ)
-        (first limit : ℕ) (start : State) → RulesFit schema constants → AreSortedRules schema →
-        BodiesFollow schema.rules first (IsNeeded queries head wanted) → first ≤ start.next →
-        MakersAreMet schema.rules first (IsNeeded queries head wanted) start.facts →
-        ((rel n : ℕ) → IsFed schema.rules rel n → n ≤ limit) →
-        AreNamed constants start.next start.facts → Fit schema start.facts → AreSortedGrounds schema start.facts →
-        (end : State) × IsSortedRest schema constants start.next (start.next + new_labels schema.rules) start.facts end
-        × ((fact : Ground) → IsNeeded queries head wanted fact → Contains end.facts fact → Contains start.facts fact) }
-{}
-
-/// Two sorted states at rest over facts have a product that is one too, in which a head answers a query only where it does in both. It has
-/// a label for each pair of their values, and no run is asked for.
+/// A state at rest over facts and a sorted one have a product that is one too, in which a head answers a query only where it does in both. It
+/// is sorted, since its constants are those of both, and it has a label for each pair of their values. No run is asked for.
 pub fn rests_meet()
     ensures { (schema : SchemaParts) (constants : List Value) (next most less : ℕ) (facts : List Ground) (one other : State) →
         RulesFit schema constants → AreNamed constants next facts →
-        IsSortedRest schema constants next most facts one → IsSortedRest schema constants next less facts other →
+        IsRest schema constants next most facts one → IsSortedRest schema constants next less facts other →
         (end : State)
         × IsSortedRest schema constants next (next + (most + length constants) * (less + length constants)) facts end
         × ((query : Query) (head : List Val) → ((v : Val) → Contains head v → IsNamed constants next v) →
@@ -229,8 +203,8 @@ pub fn rests_meet()
         IsQueryAnswer Const (GroundsOf one.facts) query head × IsQueryAnswer Const (GroundsOf other.facts) query head) }
 {}
 
-/// A goal of facts is one among the queries that have an answer on some sorted state at rest over them, with so many fewer labels. So only
-/// those are looked for that have one on the base.
+/// A goal of facts on sorted states is one on all states, with so many fewer labels, and among the queries that have an answer on some sorted
+/// state at rest over the facts. So only those are looked for that have one on the base.
 pub fn possible_goals()
     ensures { (schema : SchemaParts) (constants : List Value) (queries goals : List Query) (head : List Val)
         (next most less : ℕ) (facts : List Ground) (base : State) →
@@ -239,11 +213,11 @@ pub fn possible_goals()
         ((query : Query) → Contains queries query → IsQueryAnswer Const (GroundsOf base.facts) query head →
         Contains goals query) →
         HasSortedGoalOver schema constants queries head next (next + (most + length constants) * (less + length constants)) facts →
-        HasSortedGoalOver schema constants goals head next most facts }
+        HasGoalOver schema constants goals head next most facts }
 {}
 
 /// A rival on sorted models gives exposures in order that cost no more, and whose facts have a goal among the queries that have an answer
-/// on the base, where there are integers for a label of each pair of values. So a search looks for these queries alone.
+/// on the base, where there are integers for a label of each pair of values. So a search looks for these queries alone, and on all states.
 pub fn rival_exposes_possible()
     ensures { (schema : SchemaParts) (constants : List Value) (queries goals : List Query) (query : Query) (base : State)
         (head : List Val) (rival : Branch) (cost : ℕ) →
@@ -256,5 +230,5 @@ pub fn rival_exposes_possible()
         × (exposures_cost exposures ≤ cost)
         × ((most : ℕ) →
         base.next + (most + length constants) * (base.next + length constants) + length constants ≤ 2 ^ 63 →
-        HasSortedGoalOver schema constants goals head base.next most (exposed_facts exposures)) }
+        HasGoalOver schema constants goals head base.next most (exposed_facts exposures)) }
 {}

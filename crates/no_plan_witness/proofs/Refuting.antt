@@ -37,7 +37,7 @@ use Rattle.integer_laws.specs.Sorted.{AreSortedFacts, AreSortedGrounds, NamesInt
 use Rattle.integer_laws.proofs.Firings.{renamed_sorted, opening_sorted, proof_sorted}
 use Rattle.no_plan_witness.specs.Texts.{labels_in, numbered_text, Column, IsColumnOf, Names, text_in, text_under, AreNamesFor}
 use Rattle.no_plan_witness.specs.Witnesses.{IsWitnessOf}
-use Rattle.no_plan_witness.specs.Refuted.{RefutesSorted}
+use Rattle.integer_laws.specs.Claimed.{RefutesSorted}
 use Rattle.no_plan_witness.proofs.Apart.{has_label, label_there, label_not_there}
 use Rattle.no_plan_witness.proofs.Counting.{numbered_apart}
 use Rattle.no_plan_witness.proofs.Occurring.{label_occurs, more_labels}

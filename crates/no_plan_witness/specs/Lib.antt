@@ -4,4 +4,3 @@ pub mod Witnesses
 pub mod Passing
 pub mod Gathering
 pub mod Judging
-pub mod Refuted

@@ -8,7 +8,7 @@ ghost use Rattle.access_schema.specs.Meaning.{meaning_of};
 ghost use Rattle.integer_laws.specs.Sorted.{AreSortedFacts};
 ghost use Rattle.sql_conjunctive.specs.Rows.{FitsWithFew};
 ghost use Rattle.no_plan_witness.specs.Judging.{known_of, IsFirstUnmet, IsIncluded, IsFirstMissing, IsFault};
-ghost use Rattle.no_plan_witness.specs.Refuted.{RefutesSorted};
+ghost use Rattle.integer_laws.specs.Claimed.{RefutesSorted};
 
 use crate::accessible::{accessible_part, has};
 use crate::fault::{Which, WitnessFault};
