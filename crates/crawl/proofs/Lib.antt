@@ -6,6 +6,10 @@ pub mod Wanting
 pub mod Readying
 pub mod Rounding
 pub mod Bringing
+pub mod Cutting
+pub mod Beginning
+pub mod Piecing
+pub mod RoundPieces
 pub mod Reaching
 pub mod CrawledLanes
 pub mod Once

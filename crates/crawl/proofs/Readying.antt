@@ -49,7 +49,7 @@ module _ {S : Type 0} (seen : S → Seen) (schema : Schema) (classes : List Clas
       (subst (λ (k : Class). MayAsk seen lane (ask_to schema k row)) same
       (subst (λ kind. AtKind lane.kinds.items kind (λ s. CanAsk ((seen s).attached method.rel) method.inputs row)) (sym (ap kind_of askable.line_is)) ready))
 
-  pub ready_round : (first : Bool) (values : List Marked) (asks : List Ask) → asks ≡ round_asks schema first values classes → AllReady (MayAsk seen) asks lanes
-  ready_round first values asks is = λ k d less j e short.
+  pub ready_piece : (first : Bool) (values : List Marked) (asks : List Ask) → ((ask : Ask) → Contains asks ask → Contains (round_asks schema first values classes) ask) → AllReady (MayAsk seen) asks lanes
+  ready_piece first values asks within = λ k d less j e short.
       ready_ask first values (get_or lanes k d) (contains_got lanes k (get_or lanes k d) (slice_get-get_or lanes k d less)) (get_or asks j e)
-      (subst (λ l. Contains l (get_or asks j e)) is (contains_got asks j (get_or asks j e) (slice_get-get_or asks j e short)))
+      (within (get_or asks j e) (contains_got asks j (get_or asks j e) (slice_get-get_or asks j e short)))

@@ -3,6 +3,7 @@ pub mod Knowing
 pub mod Progress
 pub mod Numbers
 pub mod Asking
+pub mod Pieces
 pub mod Rounding
 pub mod Reaching
 pub mod Finding

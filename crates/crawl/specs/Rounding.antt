@@ -5,7 +5,6 @@ use Rattle.std.specs.List.Sorted.{IsStrictlySortedBy}
 use Rattle.std.specs.Ordering.{nat_cmp}
 use Rattle.std.specs.Cmp.Lexicographic.{slice_cmp}
 use Rattle.meaning.specs.declared.types.Request.{Request}
-use Rattle.meaning.specs.declared.types.SchemaParts.{SchemaParts}
 use Rattle.meaning.specs.Values.{Value}
 use Rattle.access_schema.specs.declared.schema.Schema.{Schema}
 use Rattle.access_schema.specs.Meaning.{meaning_of}
@@ -16,7 +15,6 @@ use Rattle.middleware.specs.LaneBranches.{FailsOnLane}
 use Rattle.middleware.specs.LaneRounds.{requests_in, HaveTheirKinds, AsksEach, AsksSome, AreAnswers, NoneStopped}
 use Rattle.middleware.specs.declared.fault.RunFault.{RunFault}
 use Rattle.middleware.specs.declared.fault.RunFault.TheVariants as fault
-use Rattle.crawl_rounds.specs.Log.{Answered}
 use Rattle.crawl_rounds.specs.Rounds.{Class, round_requests}
 use Rattle.crawl.specs.declared.known.KnownValues.{KnownValues}
 use Rattle.crawl.specs.declared.progress.Progress.{Progress}
@@ -36,12 +34,6 @@ AreOrdered known = IsOrdered (slice_cmp nat_cmp) known.all
 -- the requests of the next round
 abbrev pub next_requests : List Class → Progress → List Request
 next_requests classes progress = round_requests (nat_eq progress.rounds 0) (marked_of progress.known) classes
-
--- Why the answers of a round were not taken.
-abbrev pub TakeCause : SchemaParts → List Answered → RunFault → Type 0
-TakeCause schema answers fault.NoMemory = Unit {0}
-TakeCause schema answers (fault.BadNumber rel column) = BringFirstBad schema answers rel column
-TakeCause schema answers why = ⊥
 
 -- There is no further round.
 pub record IsLast (classes : List Class) (progress : Progress) : Type 0 where

@@ -4,13 +4,14 @@
 #![tactic(auto)]
 
 mod asks;
+mod beginnings;
+mod cursor;
 mod found;
 mod known;
 mod lanes;
 mod numbers;
 mod progress;
 mod round;
-mod rows;
 mod spare_asks;
 mod started;
 mod taking;

@@ -1,30 +1,33 @@
 // One round of a crawl.
-ghost use Rattle.std.specs.Prelude.{◌≡◌, ◌+◌, ◌-◌, ◌<◌, ◌≤◌, ◌^◌, ℕ, min, true, false, Contains, IfOk, IfErr, IsSome, length, map};
+ghost use Rattle.std.specs.Prelude.{◌≡◌, ◌+◌, ◌-◌, ◌<◌, ◌≤◌, ◌^◌, ℕ, min, true, false, Contains, IfOk, IfErr, IsSome, OnOk, length, map, nat_eq};
 ghost use Rattle.source_trait.specs.declared.lanes.Lane.{Lane};
 ghost use Rattle.source_trait.specs.Works.{MayAsk};
 ghost use Rattle.lane_pool.specs.Work.{AllReady};
-ghost use Rattle.middleware.specs.LaneRounds.{requests_in, HaveTheirKinds};
+ghost use Rattle.middleware.specs.LaneRounds.{requests_in, HaveTheirKinds, NoneStopped};
 ghost use Rattle.middleware.specs.LaneBranches.{OnEach};
 ghost use Rattle.middleware.specs.LaneRunning.{IsAttachedTo};
-ghost use Rattle.access_schema.specs.Meaning.{meaning_of};
 ghost use Rattle.crawl_rounds.specs.Lent.{lent_class};
 ghost use Rattle.crawl_rounds.specs.Rounds.{AreClasses};
 ghost use Rattle.crawl_rounds.specs.Rows.{fresh_of};
+ghost use Rattle.crawl.specs.Asking.{round_asks};
 ghost use Rattle.crawl.specs.Knowing.{marked_of};
 ghost use Rattle.crawl.specs.Crawling.{IsReachable};
-ghost use Rattle.crawl.specs.Numbers.{BringIntegers};
-ghost use Rattle.crawl.specs.Progress.{AreKnownTo, answered_by, TakesRound};
-ghost use Rattle.crawl.specs.Rounding.{FreshWithin, AreOrdered, next_requests, IsLast, RoundGoes, RoundStops, TakeCause};
+ghost use Rattle.crawl.specs.Pieces.{AreEnough, PiecesAsked, PiecesStop};
+ghost use Rattle.crawl.specs.Progress.{AreKnownTo};
+ghost use Rattle.crawl.specs.Rounding.{FreshWithin, AreOrdered, next_requests, IsLast, RoundGoes, RoundStops};
 
-use crate::asks::find_asks;
+use crate::asks::next_piece;
+use crate::beginnings::values_to_ask;
+use crate::cursor::Cursor;
 use crate::numbers::first_bad;
 use crate::progress::Progress;
 use crate::spare_asks::Asks;
-use crate::taking::take_round;
+use crate::taking::{end_round, take_answers};
 use access_schema::Schema;
+use bad_numbers::{BadNumber, earlier};
 use crawl_rounds::count_round;
-use lists::{NoMemory, Places};
-use middleware::{Answers, AskFault, RunFault, ask_round};
+use lists::{NoMemory, Places, Text};
+use middleware::{AskFault, RunFault, ask_round};
 use source_trait::{Ask, Lane, Source};
 use std::alloc::Global;
 use std::thread::Threads;
@@ -32,7 +35,8 @@ use std::thread::Threads;
 /// How many values are known at most.
 const MOST_VALUES: usize = 4_294_967_295;
 
-/// Asks the next round of the lanes and takes its answers. Says whether there was one. Its requests take the place of those of the last one.
+/// Asks the next round of the lanes and takes its answers. Says whether there was one. Its requests are made a piece at
+/// a time, each in the place of the last one.
 ///
 /// Refuses a round that would pass the cap, which asks nothing; a failed call; and a bad number in what the round received.
 pub fn next_round<R: Threads + Sync, S: Source + Send + Drop>(
@@ -68,10 +72,20 @@ pub fn next_round<R: Threads + Sync, S: Source + Send + Drop>(
             cap,
         });
     }
-    ask_next(rt, alloc, schema, classes, lanes, progress, asks, cap)
+    ask_next(
+        rt,
+        alloc,
+        schema,
+        classes,
+        lanes,
+        progress,
+        asks,
+        wanted as u32,
+        cap,
+    )
 }
 
-// Asks the requests of the next round, for which there is room, and takes their answers.
+// Asks the requests of the next round, for which there is room, and takes their answers. Says that there was one.
 fn ask_next<R: Threads + Sync, S: Source + Send + Drop>(
     rt: &R,
     alloc: Global,
@@ -80,91 +94,116 @@ fn ask_next<R: Threads + Sync, S: Source + Send + Drop>(
     lanes: &mut [Lane<S>],
     progress: &mut Progress,
     asks: &mut Asks,
+    wanted: u32,
     cap: u32,
 ) -> Result<bool, RunFault>
     requires lanes { (0 < length lanes.old) × (length lanes.old ≤ 8) }
     requires classes { AreClasses schema.now.methods (map lent_class classes.now) }
     requires attached { (rel : ℕ) → IsReachable schema.now rel → OnEach lanes.old (IsAttachedTo S.seen schema.now rel) }
-    requires some { 0 < length (next_requests (map lent_class classes.now) progress.old) }
-    requires fits { (progress.old.made + length (next_requests (map lent_class classes.now) progress.old) ≤ cap) × (cap ≤ 1_000_000) }
+    requires wanted { (0 < wanted) × (wanted ≡ length (next_requests (map lent_class classes.now) progress.old)) }
+    requires fits { (progress.old.made + wanted ≤ cap) × (cap ≤ 1_000_000) }
     requires rounds { progress.old.rounds ≤ progress.old.made }
     requires ordered { AreOrdered progress.old.known }
     requires fresh { fresh_of (marked_of progress.old.known) ≡ progress.old.known.fresh.items }
     ensures goes { IfOk result (λ more. (more ≡ true) × RoundGoes S.seen schema.now (map lent_class classes.now) cap progress.old progress.new lanes.old lanes.new) }
     ensures stops { IfErr result (λ fault. RoundStops S.seen schema.now (map lent_class classes.now) cap fault progress.old lanes.old lanes.new) }
 {
-    match find_asks(alloc, schema, classes, progress, asks) {
-        Ok(()) => ask_and_take(
-            rt,
-            alloc,
-            schema,
-            classes,
-            lanes,
-            progress,
-            asks.list.as_slice(),
-            cap,
-        ),
-        Err(_) => Err(RunFault::NoMemory),
+    let Ok(all) = values_to_ask(alloc, classes, progress) else {
+        return Err(RunFault::NoMemory);
+    };
+    progress.found.clear();
+    match ask_pieces(
+        rt,
+        alloc,
+        schema,
+        classes,
+        all.as_slice(),
+        lanes,
+        progress,
+        asks,
+    ) {
+        Ok(None) => match end_round(alloc, wanted, progress) {
+            Ok(()) => Ok(true),
+            Err(_) => Err(RunFault::NoMemory),
+        },
+        Ok(Some(bad)) => Err(RunFault::BadNumber {
+            rel: bad.rel,
+            column: bad.column,
+        }),
+        Err(fault) => Err(fault),
     }
 }
 
-// Asks the requests of the next round, and takes their answers where none has a bad number.
-fn ask_and_take<R: Threads + Sync, S: Source + Send + Drop>(
+// Asks the requests of the next round, a piece at a time, and takes the answers of each piece before the next one is
+// made. Gives the first bad number in all of them.
+fn ask_pieces<R: Threads + Sync, S: Source + Send + Drop>(
     rt: &R,
     alloc: Global,
     schema: &Schema,
     classes: &[(u32, &Places)],
+    all: &[(Text, bool)],
     lanes: &mut [Lane<S>],
     progress: &mut Progress,
-    asks: &[Ask],
-    cap: u32,
-) -> Result<bool, RunFault>
+    asks: &mut Asks,
+) -> Result<Option<BadNumber>, RunFault>
     requires lanes { (0 < length lanes.old) × (length lanes.old ≤ 8) }
+    requires classes { AreClasses schema.now.methods (map lent_class classes.now) }
+    requires attached { (rel : ℕ) → IsReachable schema.now rel → OnEach lanes.old (IsAttachedTo S.seen schema.now rel) }
+    requires few { length (next_requests (map lent_class classes.now) progress.old) ≤ 1_000_000 }
+    requires fresh { fresh_of (marked_of progress.old.known) ≡ progress.old.known.fresh.items }
+    requires all { AreEnough (nat_eq progress.old.rounds 0) progress.old.known (map lent_class classes.now) all.now }
+    ensures asked { IfOk result (λ bad. PiecesAsked S.seen schema.now
+        (round_asks schema.now (nat_eq progress.old.rounds 0) (marked_of progress.old.known) (map lent_class classes.now))
+        bad progress.old progress.new lanes.old lanes.new) }
+    ensures going { OnOk result (0 < length (next_requests (map lent_class classes.now) progress.old) → NoneStopped lanes.new) }
+    ensures stops { IfErr result (λ why. PiecesStop S.seen schema.now (next_requests (map lent_class classes.now) progress.old) why
+        progress.old.rounds lanes.old lanes.new) }
+{
+    let mut bad = None;
+    let mut cursor = Cursor::at_class(0);
+    while cursor.class < classes.len() {
+        match next_piece(alloc, schema, classes, all, progress, asks, &mut cursor) {
+            Ok(()) => {}
+            Err(_) => return Err(RunFault::NoMemory),
+        }
+        match ask_piece(rt, alloc, schema, asks.list.as_slice(), lanes, progress) {
+            Ok(found) => bad = earlier(bad, found),
+            Err(fault) => return Err(fault),
+        }
+    }
+    Ok(bad)
+}
+
+// Asks the requests of a piece, takes their answers, and gives the first bad number in them.
+fn ask_piece<R: Threads + Sync, S: Source + Send + Drop>(
+    rt: &R,
+    alloc: Global,
+    schema: &Schema,
+    asks: &[Ask],
+    lanes: &mut [Lane<S>],
+    progress: &mut Progress,
+) -> Result<Option<BadNumber>, RunFault>
+    requires sizes { (0 < length lanes.old) × (length lanes.old ≤ 8) × (length asks.now ≤ 1_000_000) }
     requires ready { AllReady (MayAsk S.seen) asks.now lanes.old }
     requires kinds { HaveTheirKinds schema.now asks.now }
-    requires are { requests_in asks.now ≡ next_requests (map lent_class classes.now) progress.old }
-    requires some { 0 < length asks.now }
-    requires fits { (progress.old.made + length asks.now ≤ cap) × (cap ≤ 1_000_000) }
-    requires rounds { progress.old.rounds ≤ progress.old.made }
-    requires ordered { AreOrdered progress.old.known }
-    ensures goes { IfOk result (λ more. (more ≡ true) × RoundGoes S.seen schema.now (map lent_class classes.now) cap progress.old progress.new lanes.old lanes.new) }
-    ensures stops { IfErr result (λ fault. RoundStops S.seen schema.now (map lent_class classes.now) cap fault progress.old lanes.old lanes.new) }
+    requires known { AreKnownTo asks.now progress.old.known }
+    ensures asked { IfOk result (λ bad. PiecesAsked S.seen schema.now asks.now bad progress.old progress.new lanes.old lanes.new) }
+    ensures going { OnOk result (NoneStopped lanes.new) }
+    ensures stops { IfErr result (λ why. PiecesStop S.seen schema.now (requests_in asks.now) why progress.old.rounds lanes.old lanes.new) }
 {
     match ask_round(rt, alloc, asks, lanes) {
-        Ok(answers) => take_all(alloc, schema, asks, &answers, progress),
+        Ok(answers) => {
+            let bad = first_bad(schema, asks, &answers);
+            match take_answers(alloc, asks, &answers, progress) {
+                Ok(()) => Ok(bad),
+                Err(_) => Err(RunFault::NoMemory),
+            }
+        }
         Err(AskFault::NoMemory) => Err(RunFault::NoMemory),
         Err(AskFault::CallFailed { .. }) => Err(RunFault::CallFailed {
             branch: 0,
             step: progress.rounds,
         }),
-    }
-}
-
-// Takes the answers of a round, and says that there was one. A bad number in them is told before one of them is taken.
-fn take_all(
-    alloc: Global,
-    schema: &Schema,
-    asks: &[Ask],
-    answers: &Answers,
-    progress: &mut Progress,
-) -> Result<bool, RunFault>
-    requires known { AreKnownTo asks.now progress.old.known }
-    requires answered { length answers.now ≡ length asks.now }
-    requires made { progress.old.made + length asks.now < 2 ^ 32 }
-    requires rounds { progress.old.rounds + 1 < 2 ^ 32 }
-    ensures goes { IfOk result (λ more. (more ≡ true) × BringIntegers (meaning_of schema.now) (answered_by asks.now answers.now)
-        × TakesRound (answered_by asks.now answers.now) progress.old progress.new) }
-    ensures stops { IfErr result (TakeCause (meaning_of schema.now) (answered_by asks.now answers.now)) }
-{
-    if let Some(bad) = first_bad(schema, asks, answers) {
-        return Err(RunFault::BadNumber {
-            rel: bad.rel,
-            column: bad.column,
-        });
-    }
-    match take_round(alloc, asks, answers, progress) {
-        Ok(()) => Ok(true),
-        Err(_) => Err(RunFault::NoMemory),
     }
 }
 

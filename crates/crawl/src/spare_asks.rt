@@ -1,4 +1,4 @@
-// Requests that take over the memory of those of the round before.
+// Requests that take over the memory of those that were asked before.
 ghost use Rattle.std.specs.Prelude.{◌≡◌, ◌++◌, ◌∷◌, [], IfOk, IsTrue, OnOk};
 
 use lists::{Copies, Exact, NoMemory, Places, Row, Text};
@@ -7,10 +7,10 @@ use source_trait::Ask;
 use std::alloc::Global;
 use std::mem::swap;
 
-/// The requests of a round, and those of the round before it whose memory is still free.
+/// The requests of a piece of a round, and those that were asked before it whose memory is still free.
 ///
-/// A long crawl has few requests a round, most often of the same classes. So one that is added takes over the memory of another where there
-/// is one.
+/// A long crawl has few requests a round, most often of the same classes, and a long round has many pieces. So a
+/// request that is added takes over the memory of another where there is one.
 #[derive(Drop)]
 pub struct Asks {
     pub list: Vec<Ask>,
@@ -28,7 +28,7 @@ impl Asks {
         }
     }
 
-    /// Begins a round without requests: those of the last one are spare.
+    /// Begins a piece without requests: those of the last one are spare.
     pub fn begin(&mut self)
         ensures { self.new.list.items ≡ [] }
     {
@@ -36,7 +36,7 @@ impl Asks {
         self.list.clear();
     }
 
-    /// Frees the memory that no request of the round took over.
+    /// Frees the memory that no request of the piece took over.
     pub fn end(&mut self)
         ensures { self.new.list.items ≡ self.old.list.items }
     {
@@ -62,25 +62,35 @@ impl Asks {
         Ok(())
     }
 
-    /// Adds the request of one value.
-    pub fn add_one(
+    /// Adds the request of these values and one behind them.
+    pub fn add_longer(
         &mut self,
         alloc: Global,
         kind: &Text,
         rel: u32,
         inputs: &Places,
+        front: &Row,
         value: &Text,
     ) -> Result<(), NoMemory>
-        ensures { OnOk result (self.new.list.items ≡ self.old.list.items ++ record { kind = kind.now; request = record { rel = rel; positions = inputs.now; values = value.now ∷ [] } } ∷ []) }
+        ensures { OnOk result (self.new.list.items ≡ self.old.list.items ++ record {
+          kind = kind.now;
+          request = record { rel = rel; positions = inputs.now; values = front.now ++ value.now ∷ [] };
+        } ∷ []) }
     {
         let ask = match self.spare.pop() {
-            Some(spare) => of_class(alloc, with_value(alloc, spare, value)?, kind, rel, inputs)?,
+            Some(spare) => of_class(
+                alloc,
+                with_longer(alloc, spare, front, value)?,
+                kind,
+                rel,
+                inputs,
+            )?,
             None => new_ask(
                 alloc,
                 kind,
                 rel,
                 inputs,
-                row_of(alloc, Vec::new(alloc), value)?,
+                longer_row(alloc, Vec::new(alloc), front, value)?,
             )?,
         };
         self.list.push(ask)?;
@@ -104,9 +114,12 @@ fn with_values(ask: Ask, values: Row) -> Ask
     }
 }
 
-// The request with one value in the place of its own, in their memory.
-fn with_value(alloc: Global, ask: Ask, value: &Text) -> Result<Ask, NoMemory>
-    ensures { IfOk result (λ with. with ≡ record { kind = ask.kind; request = record { rel = ask.request.rel; positions = ask.request.positions; values = value.now ∷ [] } }) }
+// The request with these values and one behind them in the place of its own, in their memory.
+fn with_longer(alloc: Global, ask: Ask, front: &Row, value: &Text) -> Result<Ask, NoMemory>
+    ensures { IfOk result (λ with. with ≡ record {
+      kind = ask.kind;
+      request = record { rel = ask.request.rel; positions = ask.request.positions; values = front.now ++ value.now ∷ [] };
+    }) }
 {
     let Ask { kind, request } = ask;
     let Request {
@@ -119,17 +132,20 @@ fn with_value(alloc: Global, ask: Ask, value: &Text) -> Result<Ask, NoMemory>
         request: Request {
             rel,
             positions,
-            values: row_of(alloc, values.into_vec(), value)?,
+            values: longer_row(alloc, values.into_vec(), front, value)?,
         },
     })
 }
 
-// The row of one value, in the memory of other values.
-fn row_of(alloc: Global, memory: Vec<Text>, value: &Text) -> Result<Row, NoMemory>
-    ensures { IfOk result (λ row. row ≡ value.now ∷ []) }
+// The row of these values and one behind them, in the memory of other values.
+fn longer_row(alloc: Global, memory: Vec<Text>, front: &Row, value: &Text) -> Result<Row, NoMemory>
+    ensures { IfOk result (λ row. row ≡ front.now ++ value.now ∷ []) }
 {
     let mut values = memory;
     values.clear();
+    for known in front.as_slice() {
+        values.push(known.copy(alloc)?)?;
+    }
     values.push(value.copy(alloc)?)?;
     Ok(Row::from_vec(values))
 }

@@ -1,7 +1,8 @@
 // The answers of a round, taken into what was received.
-ghost use Rattle.std.specs.Prelude.{◌≡◌, ◌+◌, ◌<◌, ◌^◌, OnOk, Some, length, slice_get};
-ghost use Rattle.crawl_rounds.specs.Log.{IsAmong};
+ghost use Rattle.std.specs.Prelude.{◌≡◌, ◌+◌, ◌<◌, ◌^◌, [], List, OnOk, Some, length, slice_get};
+ghost use Rattle.crawl_rounds.specs.Log.{Answered, IsAmong};
 ghost use Rattle.crawl.specs.Progress.{AreKnownTo, Gains, StandsInAnswers, answered_by, TakesRound};
+ghost use Rattle.crawl.specs.declared.progress.Progress.{Progress};
 
 use crate::progress::Progress;
 use lists::NoMemory;
@@ -10,32 +11,9 @@ use row_text::LentRows;
 use source_trait::Ask;
 use std::alloc::Global;
 
-/// Takes the answers of a round, to which all values so far are old. Where memory is refused, a part of them may have been taken.
-pub fn take_round(
-    alloc: Global,
-    asks: &[Ask],
-    answers: &Answers,
-    progress: &mut Progress,
-) -> Result<(), NoMemory>
-    requires known { AreKnownTo asks.now progress.old.known }
-    requires answered { length answers.now ≡ length asks.now }
-    requires made { progress.old.made + length asks.now < 2 ^ 32 }
-    requires rounds { progress.old.rounds + 1 < 2 ^ 32 }
-    ensures { OnOk result (TakesRound (answered_by asks.now answers.now) progress.old progress.new) }
-{
-    progress.found.clear();
-    take_answers(alloc, asks, answers, progress)?;
-    progress.found.arrange();
-    progress.known.settle();
-    progress.known.take_in(alloc, &mut progress.found.list)?;
-    progress.known.arrange();
-    progress.made += asks.len() as u32;
-    progress.rounds += 1;
-    Ok(())
-}
-
-// Takes the answers, each to the request at its place.
-fn take_answers(
+/// Takes the answers of a piece of a round, each to the request at its place. What is known stays. Where memory is
+/// refused, a part of them may have been taken.
+pub fn take_answers(
     alloc: Global,
     asks: &[Ask],
     answers: &Answers,
@@ -51,6 +29,23 @@ fn take_answers(
         progress.take_rows(alloc, &ask.request, &rows)?;
         number += 1;
     }
+    Ok(())
+}
+
+/// Ends a round of so many requests, whose answers were taken: what was found is known, and new where it was not known
+/// before. All values so far are old.
+pub fn end_round(alloc: Global, asked: u32, progress: &mut Progress) -> Result<(), NoMemory>
+    requires made { progress.old.made + asked < 2 ^ 32 }
+    requires rounds { progress.old.rounds + 1 < 2 ^ 32 }
+    ensures { OnOk result ((answers : List Answered) (start : Progress) → start.found.list.items ≡ [] → length answers ≡ asked
+        → Gains (StandsInAnswers answers) (IsAmong answers) start progress.old → TakesRound answers start progress.new) }
+{
+    progress.found.arrange();
+    progress.known.settle();
+    progress.known.take_in(alloc, &mut progress.found.list)?;
+    progress.known.arrange();
+    progress.made += asked;
+    progress.rounds += 1;
     Ok(())
 }
 

@@ -1,7 +1,6 @@
 pub mod Ascending
 pub mod RowCounts
 pub mod LastPlace
-pub mod Growing
 pub mod RowOrder
 pub mod RowMembers
 pub mod ClassOrder

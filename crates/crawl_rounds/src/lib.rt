@@ -8,8 +8,6 @@
 mod class_list;
 mod counting;
 pub mod laws;
-mod row_making;
 
 pub use class_list::classes;
 pub use counting::{count_round, count_rows};
-pub use row_making::{rows_of_class, rows_of_one};

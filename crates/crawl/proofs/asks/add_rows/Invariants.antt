@@ -1,12 +1,15 @@
-use Rattle.std.proofs.Common.{◌≡◌, ◌++◌}
-use Rattle.std.specs.Prelude.{map}
-use Rattle.std.specs.Vec.Iter.{into_iter_items}
-use Rattle.crawl.specs.Asking.{ask_to}
+use Rattle.std.proofs.Common.{◌≡◌, ◌-◌, ◌++◌, length, map}
+use Rattle.crawl_rounds.specs.Rows.{rows_of}
+use Rattle.crawl.specs.Pieces.{block_with, left_in}
 use Rattle.crawl.proofs.asks.add_rows.Given as goal
 
--- the rows so far, and those that are left
-abbrev pub invariant-loop-row : goal.invariant-loop-row
-invariant-loop-row l = record {
-  parts : l.yielded ++ into_iter_items l.row-iterator ≡ l.fn.rows.items;
-  asks : l.asks.list.items ≡ l.initial.asks.list.items ++ map (ask_to l.schema (l.rel, l.inputs)) l.yielded;
+-- the requests so far, and those that are left of the class
+abbrev pub invariant-loop-begin : goal.invariant-loop-begin
+invariant-loop-begin l = record {
+  class : l.cursor.class ≡ l.fn.cursor.class;
+  parts : l.asks.list.items ++ left_in (map (block_with l.kind (l.rel, l.inputs) l.all l.fresh) (rows_of l.first l.all l.count)) l.cursor.row l.cursor.value
+      ≡ l.fn.asks.list.items ++ left_in (map (block_with l.kind (l.rel, l.inputs) l.all l.fresh) (rows_of l.first l.all l.count)) l.fn.cursor.row l.fn.cursor.value;
 }
+
+abbrev pub decreases-loop-begin : goal.decreases-loop-begin
+decreases-loop-begin l = length (rows_of l.first l.all l.count) - l.cursor.row

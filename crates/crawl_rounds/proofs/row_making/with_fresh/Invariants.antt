@@ -1,6 +1,0 @@
-use Rattle.std.proofs.Common.{◌≡◌, ◌++◌, ◌∷◌, [], map, take}
-use Rattle.crawl_rounds.proofs.row_making.with_fresh.Given as goal
-
--- the row with each new value so far
-abbrev pub invariant-loop-value : goal.invariant-loop-value
-invariant-loop-value l = l.all.items ≡ l.fn.rows.items ++ map (λ v. l.row ++ v ∷ []) (take l.value-index l.fresh)
