@@ -6,6 +6,7 @@ use Rattle.lists.proofs.Members.{some_injective}
 use Rattle.meaning.specs.declared.types.Plan.{Plan}
 use Rattle.meaning.specs.declared.types.Statement.{Statement}
 use Rattle.access_schema.specs.declared.schema.Schema.{Schema}
+use Rattle.access_schema.specs.Meaning.{meaning_of}
 use Rattle.proof_search.specs.Plans.{HasNoPlan}
 use Rattle.source_trait.specs.Asking.{Seen}
 use Rattle.tgd_reader.proofs.Exactly.{read_only}
@@ -24,6 +25,7 @@ use Rattle.run_command.specs.Deciding.{IsPlanned}
 use Rattle.run_command.specs.Ends.{IsResult, StatementEnds}
 use Rattle.run_command.specs.Ends.StatementEnds.{refuted, done}
 use Rattle.run_command.specs.Ends.RunEnds.{read}
+use Rattle.run_command.proofs.Sorted.{sorted_equivalent}
 use Rattle.batch_command.specs.Deciding.{EndsAt, Told, plans_of}
 use Rattle.batch_command.specs.Deciding.EndsAt.{refuted as refuted_at}
 use Rattle.batch_command.specs.Ends.{AreParts, ExecutesOrStops, StatementsEnd}
@@ -86,7 +88,8 @@ module _ {S : Type 0} (seen : S → Seen) (schema_name query_name : List ℕ) (f
     gave : Ends Done → RunGave schema statement
     gave (done plan entries planned took (taken run text ran is all)) = record {
       plan = plan;
-      planned = λ none. none plan planned.is.lawful planned.is.equivalent;
+      planned = λ none. none plan planned.is.lawful
+          (sorted_equivalent (meaning_of schema) plan statement planned.is.equivalent);
       run = run;
       text = text;
       is = is;
@@ -159,7 +162,8 @@ module _ {S : Type 0} (seen : S → Seen) (schema_name query_name : List ℕ) (f
     have_plans [] (its ∷ told) all = all
     have_plans (s ∷ list) [] all = all
     have_plans (s ∷ list) (its ∷ told) all =
-        (λ none. none its.plan all.0.is.lawful all.0.is.equivalent, have_plans list told all.1)
+        let same = sorted_equivalent (meaning_of schema) its.plan s all.0.is.equivalent in
+        (λ none. none its.plan all.0.is.lawful same, have_plans list told all.1)
 
     gave_all : AllEnd Done → BatchGave schema statements
     gave_all (halted same_result halts quiet same) = go halts.at_it

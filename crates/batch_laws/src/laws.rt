@@ -41,8 +41,8 @@ pub fn one_query_has_one_answer<S: Source>()
         (text : List ℕ) × TookAll run.before.out run.after.out text × TookAll batch.before.out batch.after.out (answer_line 1 ++ text) }
 {}
 
-/// A batch of one query and a run of it do not decide it in two ways: where one of them is done, the other does not say that there is no
-/// plan.
+/// A batch of one query and a run of it do not decide it in two ways: where one of them is done, the other does not say
+/// that there is no plan for the instances of integers.
 pub fn one_query_has_one_decision<S: Source>()
     ensures run_done { (schema_name query_name : List ℕ) (files : Contents) (run batch : Went S) →
         IsRun S.seen schema_name query_name files run (Ok Done) → IsBatch S.seen schema_name query_name files batch (Ok No) → ⊥ }

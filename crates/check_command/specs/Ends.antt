@@ -18,7 +18,8 @@ use Rattle.command_io.specs.Writing.{TookAll, TookPart}
 use Rattle.command_io.specs.FaultLines.{Names}
 use Rattle.command_io.specs.Telling.{StopsFor}
 
--- The outcome of a verdict: done where the plan is equivalent, and no where it is illegal, loses a row or adds one.
+-- The outcome of a verdict: done where the plan is equivalent on instances of integers, and no where it is illegal, or
+-- loses a row or adds one on such an instance.
 abbrev pub outcome_of : Verdict → Outcome
 outcome_of verdict.Equivalent = outcome.Done
 outcome_of (verdict.Illegal fault) = outcome.No

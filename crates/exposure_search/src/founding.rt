@@ -1,5 +1,5 @@
 // The proof of the base firings of a query.
-ghost use Rattle.std.specs.Prelude.{◌≡◌, ◌≤◌, [], IfOk, OnOk, IfSome, IfNone, Ok, true, false};
+ghost use Rattle.std.specs.Prelude.{◌≡◌, ◌≤◌, [], IfOk, OnOk, IfSome, IfNone, Ok, true, false, length};
 ghost use Rattle.meaning.specs.Triggers.{bound};
 ghost use Rattle.meaning.specs.Runs.{opening};
 ghost use Rattle.access_schema.specs.Meaning.{meaning_of};
@@ -32,6 +32,7 @@ pub fn base_proof(
     ensures base { IfOk result (λ made. IfSome made (λ proof. IsBaseProof (meaning_of schema.now) proof)) }
     ensures start { IfOk result (λ made. IfSome made (λ proof. proof.start ≡ opening query.now)) }
     ensures constants { IfOk result (λ made. IfSome made (λ proof. proof.constants ≡ known.now)) }
+    ensures few { IfOk result (λ made. IfSome made (λ proof. length proof.entries ≤ budget)) }
     ensures none { IfOk result (λ made. IfNone made (IsRunBeyond (meaning_of schema.now) known.now (opening query.now) budget)) }
 {
     let mut proof = Proof::start(alloc, schema, query, goals, known)?;
@@ -57,6 +58,7 @@ fn fire_base(
     ensures start { OnOk result (proof.new.start ≡ proof.old.start) }
     ensures constants { OnOk result (proof.new.constants ≡ proof.old.constants) }
     ensures quiet { result ≡ Ok true → IsBaseProof (meaning_of schema.now) proof.new }
+    ensures few { OnOk result (length proof.new.entries ≤ budget) }
     ensures spent { result ≡ Ok false → IsRunBeyond (meaning_of schema.now) proof.old.constants proof.old.start budget }
 {
     match settle(alloc, proof, schema, false, budget)? {

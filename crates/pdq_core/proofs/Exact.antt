@@ -6,6 +6,7 @@ use Rattle.lists.proofs.Members.{contains_here}
 use Rattle.meaning.specs.declared.types.Plan.{Plan}
 use Rattle.meaning.specs.declared.types.Statement.{Statement}
 use Rattle.access_schema.specs.declared.schema.Schema.{Schema}
+use Rattle.access_schema.specs.Meaning.{meaning_of}
 use Rattle.proof_search.specs.Plans.{HasNoPlan}
 use Rattle.source_trait.specs.Asking.{Seen}
 use Rattle.source_trait.specs.declared.lanes.Lane.{Lane}
@@ -15,6 +16,7 @@ use Rattle.command_io.specs.Inputs.{Contents}
 use Rattle.command_io.specs.Moments.{Moment}
 use Rattle.command_words.specs.Words.{Command, IsCommand}
 use Rattle.command_words.specs.Words.Command.{Help, Schema as Print, Explain, Run, Batch, Exec, Check, Verify, Crawl, Reach, World}
+use Rattle.run_command.proofs.Sorted.{sorted_equivalent}
 use Rattle.pdq_core.specs.Runs.{Runs}
 use Rattle.pdq_core.specs.Complete.{IsAnswered, QueryIsGiven, BatchIsGiven, TextsAreGiven, BatchTextsAreGiven, CheckIsSupplied}
 use Rattle.pdq_core.specs.Complete.IsAnswered.{done, no, undecided, no_memory}
@@ -60,7 +62,10 @@ module _ (told : Option Contents) (name query : List ℕ) (firings : ℕ) where
   finds_none status says texts same = record { texts = texts; so = of_given told name query HasNoPlan texts (subst (λ (s : Status). Says s told name query firings) same says) }
 
   none_found : (status : Status) → Says status told name query firings → IsAnswered status → status ≢ ends_in.Memory → status ≢ ends_in.Undecided → GivenAs told name query HasNoPlan → status ≡ ends_in.No
-  none_found _ says done memory spent none = let (plan, lawful, equivalent) = of_given told name query _ none.texts says in absurd (none.so plan lawful equivalent)
+  none_found _ says done memory spent none =
+      let (plan, lawful, equivalent) = of_given told name query _ none.texts says in
+      let same = sorted_equivalent (meaning_of none.texts.schema) plan none.texts.statement equivalent in
+      absurd (none.so plan lawful same)
   none_found _ says no memory spent none = refl
   none_found _ says undecided memory spent none = absurd (spent refl)
   none_found _ says no_memory memory spent none = absurd (memory refl)
@@ -92,7 +97,7 @@ module _ (told : Option Contents) (name queries : List ℕ) (firings : ℕ) wher
   one_found _ says done memory spent none =
       let (statement, among, lacks) = none.so in
       let (plan, lawful, equivalent) = of_all told name queries _ none.texts says statement among in
-      absurd (lacks plan lawful equivalent)
+      absurd (lacks plan lawful (sorted_equivalent (meaning_of none.texts.schema) plan statement equivalent))
   one_found _ says no memory spent none = refl
   one_found _ says undecided memory spent none = absurd (spent refl)
   one_found _ says no_memory memory spent none = absurd (memory refl)

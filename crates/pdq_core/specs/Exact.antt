@@ -45,7 +45,8 @@ abbrev pub DecidesAlone : Command → Type 0
 DecidesAlone (Run name query firings search workers calls true) = ⊥
 DecidesAlone _ = Unit {0}
 
--- No lawful plan is equivalent to the statement that is given, or to one of those that are given; or the plan that is given is not lawful, or not equivalent to it.
+-- No lawful plan is equivalent to the statement that is given, or to one of those that are given, on every instance of
+-- integers that meets the rules; or the plan that is given is not lawful, or not equivalent to it on these.
 abbrev pub HasNone : Command → Option Contents → Type 0
 HasNone (Explain name query firings search) told = GivenAs told name query HasNoPlan
 HasNone (Run name query firings search workers calls verify) told = GivenAs told name query HasNoPlan

@@ -13,6 +13,7 @@ use Rattle.meaning.specs.Plans.{IsLawful}
 use Rattle.meaning.specs.Judge.{IsBranchQuery}
 use Rattle.meaning.specs.Triggers.{State}
 use Rattle.meaning.specs.Runs.{Proof, IsOrderedRun, opening, IsBaseRun, opening_state}
+use Rattle.integer_laws.specs.Claimed.{IsSortedEquivalent}
 use Rattle.access_schema.specs.declared.schema.Schema.{Schema}
 use Rattle.access_schema.specs.Meaning.{meaning_of}
 use Rattle.sql_conjunctive.specs.Form.{IsNumbered}
@@ -24,7 +25,7 @@ use Rattle.command_io.specs.Inputs.{Contents, SchemaIsRead, QueryIsRead, BatchIs
 use Rattle.command_words.specs.Words.{Command}
 use Rattle.command_words.specs.Words.Command.{Explain, Run, Batch, Check, Crawl, Reach}
 
--- Some lawful plan over the known constants is equivalent to the statement.
+-- Some lawful plan over the known constants is equivalent to the statement, on every instance that meets the rules.
 abbrev pub HasPlan : Schema → Statement → Type 0
 HasPlan schema statement = (plan : Plan) × IsLawful plan (meaning_of schema) (known_of schema statement) × IsEquivalent plan statement (meaning_of schema)
 
@@ -49,7 +50,8 @@ pub record ReadAs (told : Option Contents) (name query : List ℕ) (P : Schema �
   pub statement_is : QueryIsRead told query schema statement
   pub so : P schema statement
 
--- Done says that there is a plan, no that there is none, and undecided that there is a longer run than the firings given.
+-- Done says that there is a plan, no that there is none for the instances of integers, and undecided that there is a
+-- longer run than the firings given.
 abbrev pub Says : Status → Option Contents → List ℕ → List ℕ → ℕ → Type 0
 Says is.Done told name query firings = ReadAs told name query HasPlan
 Says is.No told name query firings = ReadAs told name query HasNoPlan
@@ -77,18 +79,19 @@ pub record ComesTo (P : Schema → Statement → Type 0) (schema : Schema) (stat
   pub before : HavePlans schema front
   pub so : P schema statement
 
--- Done says that each statement has a plan. No says that some statement has none, and undecided that for some statement there is a longer
--- run than the firings given; each before that one has a plan.
+-- Done says that each statement has a plan. No says that some statement has none for the instances of integers, and
+-- undecided that for some statement there is a longer run than the firings given; each before that one has a plan.
 abbrev pub SaysOfBatch : Status → Option Contents → List ℕ → List ℕ → ℕ → Type 0
 SaysOfBatch is.Done told name queries firings = ReadAll told name queries HavePlans
 SaysOfBatch is.No told name queries firings = ReadAll told name queries (ComesTo HasNoPlan)
 SaysOfBatch is.Undecided told name queries firings = ReadAll told name queries (ComesTo (RunsOn firings))
 SaysOfBatch _ told name queries firings = Unit {0}
 
--- The plan is lawful over the known constants and as wide as the statement, and equivalent to it.
+-- The plan is lawful over the known constants and as wide as the statement, and equivalent to it on every instance of
+-- integers that meets the rules.
 pub record IsRight (schema : Schema) (statement : Statement) (plan : Plan) : Type 0 where
   pub legal : IsLegalOver schema statement plan (known_of schema statement)
-  pub equivalent : IsEquivalent plan statement (meaning_of schema)
+  pub equivalent : IsSortedEquivalent plan statement (meaning_of schema)
 
 -- It is not.
 abbrev pub IsWrong : Schema → Statement → Plan → Type 0

@@ -25,8 +25,9 @@ AreMet seen lanes schema = (instance : List Fact) → HoldNeeded seen schema (Ru
 abbrev pub AreBroken : {S : Type 0} → (S → Seen) → List (Lane S) → Schema → Type 0
 AreBroken seen lanes schema = (instance : List Fact) → HoldNeeded seen schema (RulesName schema) (used lanes) instance → Meets instance (meaning_of schema) → ⊥
 
--- Done says that there is a plan and that the rows that the first lane holds meet the rules; no that there is no plan or that they break one;
--- and undecided that there is a longer run than the firings given.
+-- Done says that there is a plan and that the rows that the first lane holds meet the rules; no that there is no plan
+-- for the instances of integers, or that they break one; and undecided that there is a longer run than the firings
+-- given.
 abbrev pub SaysVerified : {S : Type 0} → (S → Seen) → List (Lane S) → Status → Option Contents → List ℕ → List ℕ → ℕ → Type 0
 SaysVerified seen lanes is.Done told name query firings = ReadAs told name query (λ schema statement. HasPlan schema statement × AreMet seen lanes schema)
 SaysVerified seen lanes is.No told name query firings = ReadAs told name query (λ schema statement. HasNoPlan schema statement ⊎ AreBroken seen lanes schema)

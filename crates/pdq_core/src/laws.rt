@@ -87,11 +87,13 @@ pub fn sources_that_do_not_tell_serve<S: Source>()
         OnLanes (Serve S.seen schema (IsReachable schema)) old new }
 {}
 
-/// The status of `explain` and of `run` with no rules tested first is right. `Done` says that some lawful plan is equivalent to the statement, `No` that
-/// none is, and `Undecided` that there is a longer ordered run than the firings given. So is that of `batch`: `Done` says it of each
-/// statement, and `No` and `Undecided` say it of one, and that each before it has a plan. That of `check` is right too: `Done` says that the
-/// plan is lawful and equivalent to the statement, `No` that it is not, and `Undecided` that a base run from a frozen select or branch is
-/// longer than the firings given. Of `crawl` and `reach` it is none but `Done` or that of a stop.
+/// The status of `explain` and of `run` with no rules tested first is right. `Done` says that some lawful plan is
+/// equivalent to the statement on every instance that meets the rules, `No` that none is equivalent to it on every
+/// instance of integers that meets them, and `Undecided` that there is a longer ordered run than the firings given. So
+/// is that of `batch`: `Done` says it of each statement, and `No` and `Undecided` say it of one, and that each before
+/// it has a plan. That of `check` is right too: `Done` says that the plan is lawful and equivalent to the statement on
+/// every instance of integers that meets the rules, `No` that it is not, and `Undecided` that a base run from a frozen
+/// select or branch is longer than the firings given. Of `crawl` and `reach` it is none but `Done` or that of a stop.
 pub fn statuses_are_right<S: Source>()
     ensures { (words : List (List ℕ)) (command : Command) (before after : Moment) (old new : List (Lane S)) (status : Status) →
         Runs S.seen words before after old new status → IsCommand words command → SaysOf command before.files status }
@@ -99,9 +101,10 @@ pub fn statuses_are_right<S: Source>()
     words_are_one_command();
 }
 
-/// The status of `run` with the rules tested first is right. `Done` says that some lawful plan is equivalent to the statement, and that
-/// whatever instance the first lane holds meets the rules; `No` that no plan is, or that no such instance meets them; and `Undecided` that
-/// there is a longer ordered run than the firings given.
+/// The status of `run` with the rules tested first is right. `Done` says that some lawful plan is equivalent to the
+/// statement, and that whatever instance the first lane holds meets the rules; `No` that no plan is equivalent on every
+/// instance of integers that meets the rules, or that no instance that the first lane holds meets them; and `Undecided`
+/// that there is a longer ordered run than the firings given.
 pub fn verified_statuses_are_right<S: Source>()
     ensures { (words : List (List ℕ)) (command : Command) (before after : Moment) (old new : List (Lane S)) (status : Status) →
         Runs S.seen words before after old new status → IsCommand words command → SaysOfVerified S.seen command before.files new status }
@@ -109,10 +112,12 @@ pub fn verified_statuses_are_right<S: Source>()
     words_are_one_command();
 }
 
-/// The status of `explain`, `run`, `batch` and `check` is exact where the texts of their files are given and no run is longer than the
-/// firings given: no ordered run from a select, and for `check` no base run from a frozen select or branch. Then it is never `Undecided`;
-/// and where the command is answered, memory was found and no rules are tested first, it is `No` exactly where no lawful plan is equivalent
-/// to the statement, for `batch` to one of the statements, and for `check` exactly where the plan is not lawful or not equivalent to it.
+/// The status of `explain`, `run`, `batch` and `check` is exact where the texts of their files are given and no run is
+/// longer than the firings given: no ordered run from a select, and for `check` no base run from a frozen select or
+/// branch. Then it is never `Undecided`; and where the command is answered, memory was found and no rules are tested
+/// first, it is `No` exactly where no lawful plan is equivalent to the statement on every instance of integers that
+/// meets the rules, for `batch` to one of the statements, and for `check` exactly where the plan is not lawful or not
+/// equivalent to it on these.
 pub fn statuses_are_exact<S: Source>()
     ensures undecided { (words : List (List ℕ)) (command : Command) (before after : Moment) (old new : List (Lane S)) (status : Status) →
         Runs S.seen words before after old new status → IsCommand words command → HasNoLongRun command before.files → status ≢ ends_in.Undecided }

@@ -16,6 +16,8 @@ use Rattle.meaning.specs.Answers.{Answers, AnswersSelect}
 use Rattle.meaning.specs.Plans.{IsLawful, IsLawfulBranch}
 use Rattle.meaning.specs.Rows.{IsRow, IsBranchRow}
 use Rattle.meaning_laws.proofs.Judging.{rows_are_answers}
+use Rattle.integer_laws.specs.Sorted.{AreSortedFacts}
+use Rattle.integer_laws.proofs.Firings.{answered_is_sorted}
 use Rattle.access_schema.specs.declared.schema.Schema.{Schema}
 use Rattle.access_schema.specs.Meaning.{meaning_of}
 use Rattle.access_schema.proofs.Keeping.{well_formed}
@@ -73,22 +75,28 @@ module _ (schema : Schema) (known : List Value) (plan : Plan) (lawful : IsLawful
   form_rows : (branch : Branch) (form : Option Query) → IsLawfulBranch (meaning_of schema) known branch → IsBranchForm (meaning_of schema) branch form → (facts : List Fact) (row : Row) →
       AnswersForm form facts row → IsBranchRow (meaning_of schema) branch facts row
   form_rows branch None its is facts row answer = absurd answer
-  form_rows branch (Some query) its is facts row answer = (rows_are_answers (meaning_of schema) known branch query facts row (well_formed schema) its is).1 answer
+  form_rows branch (Some query) its is facts row answer = (rows_are_answers (meaning_of schema) known branch query facts row (well_formed schema) its is.0).1 answer
 
+  -- on sorted facts a branch without a form has no row: it would be an answer of its query, whose atoms are not sorted
   rows_form : (branch : Branch) (form : Option Query) → IsLawfulBranch (meaning_of schema) known branch → IsBranchForm (meaning_of schema) branch form → (facts : List Fact) (row : Row) →
-      IsBranchRow (meaning_of schema) branch facts row → AnswersForm form facts row
-  rows_form branch None its is facts row answer = is
-  rows_form branch (Some query) its is facts row answer = (rows_are_answers (meaning_of schema) known branch query facts row (well_formed schema) its is).0 answer
+      AreSortedFacts (meaning_of schema) facts → IsBranchRow (meaning_of schema) branch facts row →
+      AnswersForm form facts row
+  rows_form branch None its (query, is, unsorted) facts row sorted answer =
+      unsorted (answered_is_sorted (meaning_of schema) query facts row sorted
+      ((rows_are_answers (meaning_of schema) known branch query facts row (well_formed schema) its is).0 answer))
+  rows_form branch (Some query) its is facts row sorted answer =
+      (rows_are_answers (meaning_of schema) known branch query facts row (well_formed schema) its is.0).0 answer
 
   pub some_rows : (facts : List Fact) (row : Row) → AnswersSome branches facts row → IsRow (meaning_of schema) plan facts row
   some_rows facts row (form, among, answer) =
       let (branch, there, is) = zip_right (IsBranchForm (meaning_of schema)) plan.branches branches form are among in
       (branch, there, form_rows branch form (lawful branch there).1 is facts row answer)
 
-  pub rows_some : (facts : List Fact) (row : Row) → IsRow (meaning_of schema) plan facts row → AnswersSome branches facts row
-  rows_some facts row (branch, among, answer) =
+  pub rows_some : (facts : List Fact) (row : Row) → AreSortedFacts (meaning_of schema) facts →
+      IsRow (meaning_of schema) plan facts row → AnswersSome branches facts row
+  rows_some facts row sorted (branch, among, answer) =
       let (form, there, is) = zip_left (IsBranchForm (meaning_of schema)) plan.branches branches branch are among in
-      (form, there, rows_form branch form (lawful branch among).1 is facts row answer)
+      (form, there, rows_form branch form (lawful branch among).1 is facts row sorted answer)
 
 -- ---- what the trials of both sides do not show
 
@@ -104,8 +112,10 @@ module _ (schema : Schema) (statement : Statement) (plan : Plan) (firings : ℕ)
   answers_alone : (branch : Branch) (form : Option Query) → Contains plan.branches branch → IsBranchForm (meaning_of schema) branch form → FormIsContained (meaning_of schema) selects form →
       AnswersAlone (meaning_of schema) statement branch
   answers_alone branch form among is contained facts row model rows =
-      some_answers schema statement selects forms facts model.fits row
-      (contained facts row model.meets (rows_form schema (known_of schema statement) plan legal.lawful branches queries branch form (legal.lawful branch among).1 is facts row rows))
+      some_answers schema statement selects forms facts model.model.fits row
+      (contained facts row model.model.meets
+      (rows_form schema (known_of schema statement) plan legal.lawful branches queries branch form
+      (legal.lawful branch among).1 is facts row model.sorted rows))
 
   -- a select whose query stays is kept
   is_kept : (number : ℕ) (select : Select) → slice_get statement.selects number ≡ Some select → (form : Option Query) → IsSelectForm schema select form → FormStays (meaning_of schema) branches firings form →
@@ -121,7 +131,7 @@ module _ (schema : Schema) (statement : Statement) (plan : Plan) (firings : ℕ)
   is_within number branch at form is (inl contained) = inl (answers_alone branch form (contains_got plan.branches number branch at) is contained)
   is_within number branch at None is (inr (log, spent)) = absurd spent
   is_within number branch at (Some query) is (inr (log, spent)) =
-      inr (log, record { branch = branch; query = query; queries = selects; at = at; form = is; are = forms; spent = spent })
+      inr (log, record { branch = branch; query = query; queries = selects; at = at; form = is.0; are = forms; spent = spent })
 
   none_lost : NoneSeparates (meaning_of schema) selects branches firings → NoneLost schema statement plan firings
   none_lost none number select at =
@@ -143,8 +153,10 @@ module _ (schema : Schema) (statement : Statement) (plan : Plan) (firings : ℕ)
         select = select;
         at = at;
         model = first.separated.model;
-        answered = form_answers schema statement selects forms select (Some first.query) is facts first.separated.model.fits row first.separated.answered;
-        no_row = λ rows. first.separated.not_others (rows_some schema (known_of schema statement) plan legal.lawful branches queries facts row rows);
+        answered = form_answers schema statement selects forms select (Some first.query) is facts first.separated.model.model.fits row first.separated.answered;
+        no_row = λ rows. first.separated.not_others
+            (rows_some schema (known_of schema statement) plan legal.lawful branches queries facts row
+            first.separated.model.sorted rows);
       })
 
   first_added : (facts : List Fact) (row : Row) → NoneSeparates (meaning_of schema) selects branches firings → IsFirstSeparated (meaning_of schema) branches selects firings facts row →
@@ -158,7 +170,7 @@ module _ (schema : Schema) (statement : Statement) (plan : Plan) (firings : ℕ)
         at = at;
         model = first.separated.model;
         a_row = form_rows schema (known_of schema statement) plan legal.lawful branches queries branch (Some first.query) (legal.lawful branch (contains_got plan.branches first.number branch at)).1 is facts row first.separated.answered;
-        not_answered = λ answers. first.separated.not_others (answers_some schema statement selects forms facts first.separated.model.fits row answers);
+        not_answered = λ answers. first.separated.not_others (answers_some schema statement selects forms facts first.separated.model.model.fits row answers);
       })
 
 -- ---- the verdict
@@ -168,10 +180,12 @@ pub verdict_is : (schema : Schema) (statement : Statement) (plan : Plan) (firing
     (verdict : Verdict) → IsConclusion (meaning_of schema) selects branches firings verdict → IsVerdict schema statement plan firings verdict
 verdict_is schema statement plan firings selects branches legal forms queries _ (same there back) =
     equivalent legal (record {
-      sound = λ facts row model rows. some_answers schema statement selects forms facts model.fits row
-          (back facts row model.meets (rows_some schema (known_of schema statement) plan legal.lawful branches queries facts row rows));
+      sound = λ facts row model rows. some_answers schema statement selects forms facts model.model.fits row
+          (back facts row model.model.meets
+          (rows_some schema (known_of schema statement) plan legal.lawful branches queries facts row model.sorted
+          rows));
       complete = λ facts row model answers. some_rows schema (known_of schema statement) plan legal.lawful branches queries facts row
-          (there facts row model.meets (answers_some schema statement selects forms facts model.fits row answers));
+          (there facts row model.model.meets (answers_some schema statement selects forms facts model.model.fits row answers));
     })
 verdict_is schema statement plan firings selects branches legal forms queries _ (lost facts row first) = first_lost schema statement plan firings selects branches legal forms queries facts row first
 verdict_is schema statement plan firings selects branches legal forms queries _ (added facts row none first) = first_added schema statement plan firings selects branches legal forms queries facts row none first
@@ -196,4 +210,4 @@ verdict_is schema statement plan firings selects branches legal forms queries _ 
           let (form, its, of) = zip_from (IsBranchForm (meaning_of schema)) plan.branches branches k earlier queries at in
           answers_alone schema statement plan firings selects branches legal forms queries earlier form (contains_got plan.branches k earlier at) of (first.before k form less its),
     )
-    (record { branch = branch; query = first.query; queries = selects; at = it; form = is; are = forms; spent = first.spent })
+    (record { branch = branch; query = first.query; queries = selects; at = it; form = is.0; are = forms; spent = first.spent })

@@ -16,7 +16,6 @@ use Rattle.meaning.specs.Values.{Value, Row}
 use Rattle.meaning.specs.Homomorphisms.{image, renamed}
 use Rattle.meaning.specs.Matching.{value_of, AreFacts, IsQueryAnswer, GroundsOf, AnswersQuery}
 use Rattle.meaning.specs.Fitting.{RulesFit, QueryHasConstants}
-use Rattle.meaning.specs.Claims.{IsModel}
 use Rattle.meaning.specs.Triggers.{State, ground, IsFiringRun, IsQuiet}
 use Rattle.meaning.specs.Runs.{opening_state, frozen_head}
 use Rattle.meaning.specs.Naming.{IsNaming}
@@ -24,9 +23,12 @@ use Rattle.meaning_laws.proofs.Carrying.{run_fires}
 use Rattle.meaning_laws.proofs.Keeping.{run_keeps}
 use Rattle.meaning_laws.proofs.Kept.{kept_opening}
 use Rattle.meaning_laws.proofs.Judging.{contained, separated}
+use Rattle.integer_laws.specs.Sorted.{NamesIntegers, AreSortedRules}
+use Rattle.integer_laws.specs.Claimed.{IsSortedModel}
+use Rattle.integer_laws.proofs.Instances.{separated_sorted}
 use Rattle.no_plan_witness.specs.Texts.{labels_in, Names, text_under, AreNamesFor}
 use Rattle.no_plan_witness.proofs.Occurring.{label_occurs, more_labels}
-use Rattle.no_plan_witness.proofs.Refuting.{named, is_naming, same_head, same_facts}
+use Rattle.no_plan_witness.proofs.Refuting.{named, is_naming, names_integers, same_head, same_facts}
 use Rattle.plan_check.specs.declared.chase.Chase.{Chase}
 use Rattle.plan_check.specs.Trials.{IsTriable, FormIsTriable, AreTriable, FormHas, SomeHas, AnswersForm, AnswersSome, IsChase, IsNamedEnd, IsContained, IsSeparated}
 
@@ -61,7 +63,8 @@ module _ (schema : SchemaParts) (known : List Value) (rules : RulesFit schema kn
           let (term, inside, is) = contains_mapped (value_of Const a) query.head (Label k) (subst (λ l. Contains l (Label k)) e among) in
           by a are term inside is
 
-  module _ (triables : AreTriable schema known others) (quiet : IsQuiet schema.rules end) (missing : SomeHas end.facts others (frozen_head query) → ⊥)
+  module _ (sorted : AreSortedRules schema) (triables : AreTriable schema known others)
+      (quiet : IsQuiet schema.rules end) (missing : SomeHas end.facts others (frozen_head query) → ⊥)
       (instance : List Fact) (row : Row) (is : IsNamedEnd schema known end.facts (frozen_head query) instance row) where
     h : ℕ → Value
     h = named schema known (end.facts ++ []) is.names is.named
@@ -78,9 +81,19 @@ module _ (schema : SchemaParts) (known : List Value) (rules : RulesFit schema kn
     unfolding h
     row_is = same_head schema known (end.facts ++ []) is.names is.named (frozen_head query) (λ k c. more_labels end.facts [] k (head_occurs k c)) ∙ sym is.row_is
 
-    both : IsModel schema (renamed h end.facts) × AnswersQuery query (renamed h end.facts) (map (image h) (frozen_head query))
+    integers : NamesIntegers schema end.facts h
+    unfolding h
+    integers =
+        names_integers schema known (end.facts ++ []) is.names is.named end.facts
+        (λ fact c. Contains-append_left end.facts [] fact c)
+
+    both : IsSortedModel schema (renamed h end.facts)
+        × AnswersQuery query (renamed h end.facts) (map (image h) (frozen_head query))
     both =
-        let (model, answer, none) = separated schema known query [] log end h rules triable.fits triable.constants (λ q c. absurd (omega (arith, c.1))) run quiet (λ q c has. omega (arith, c.1)) naming in
+        let (model, answer, none) =
+        separated_sorted schema known query [] log end h rules triable.fits triable.constants
+        (λ q c. absurd (omega (arith, c.1))) run quiet (λ q c has. omega (arith, c.1)) naming sorted triable.sorted
+        integers in
         (model, answer)
 
     not_form : (form : Option Query) → Contains others form → FormIsTriable schema known form → (FormHas end.facts (frozen_head query) form → ⊥) →
@@ -99,7 +112,7 @@ module _ (schema : SchemaParts) (known : List Value) (rules : RulesFit schema kn
     is_separated =
         let (model, answer) = both in
         record {
-          model = subst (λ facts. IsModel schema facts) facts_are model;
+          model = subst (λ facts. IsSortedModel schema facts) facts_are model;
           answered = subst (λ r. AnswersQuery query instance r) row_is (subst (λ facts. AnswersQuery query facts (map (image h) (frozen_head query))) facts_are answer);
           not_others = λ (form, among, answers).
               not_form form among (triables form among) (λ has. missing (form, among, has))

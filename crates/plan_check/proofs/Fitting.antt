@@ -12,13 +12,14 @@ use Rattle.meaning.specs.declared.types.Branch.{Branch}
 use Rattle.meaning.specs.declared.types.SchemaParts.{SchemaParts}
 use Rattle.meaning.specs.Values.{Value}
 use Rattle.meaning.specs.Triggers.{terms_bound, bound}
-use Rattle.meaning.specs.Conjunctive.{IsAtomFor}
+use Rattle.meaning.specs.Conjunctive.{IsAtomFor, SelectIsSorted}
 use Rattle.meaning.specs.Fitting.{QueryFits, QueryHasConstants}
 use Rattle.meaning.specs.Plans.{IsLawfulBranch, NamesMethods}
 use Rattle.meaning.specs.Judge.{columns_of, IsBranchQuery}
 use Rattle.meaning.proofs.Steps.{lawful_named}
 use Rattle.meaning_laws.proofs.Carrying.{occurs_below}
 use Rattle.meaning_laws.proofs.Frozen.{branch_query_fits}
+use Rattle.integer_laws.proofs.Forms.{forms_are_sorted}
 use Rattle.access_schema.specs.declared.schema.Schema.{Schema}
 use Rattle.access_schema.specs.Meaning.{meaning_of}
 use Rattle.access_schema.specs.Invariant.{terms_of}
@@ -27,6 +28,7 @@ use Rattle.access_schema.proofs.Keeping.{well_formed}
 use Rattle.sql_conjunctive.specs.Form.{HaveLiterals}
 use Rattle.sql_conjunctive.specs.Queries.{IsQueryOf, IsSelectForm}
 use Rattle.sql_select.specs.Known.{literal_in, literals_of_condition, literals_of, literals_in}
+use Rattle.sql_select.specs.Sorts.{SelectsAreSorted}
 use Rattle.accessible_copy.specs.Goals.{IsCounted}
 use Rattle.rule_pass.specs.declared.pass.TheConstants.{HIGHEST_FIRST_LABEL}
 use Rattle.plan_check.specs.Forms.{IsBranchForm}
@@ -74,29 +76,39 @@ have_literals selects select known among have = record {
 -- ---- queries
 
 select_triable : (schema : Schema) (known : List Value) (select : Select) (form : Option Query) → HaveLiterals known select → length select.froms ≤ 16 →
-    IsSelectForm schema select form → FormIsTriable (meaning_of schema) known form
-select_triable schema known select None literals froms is = tt
-select_triable schema known select (Some query) literals froms is = record {
+    SelectIsSorted (meaning_of schema) select → IsSelectForm schema select form →
+    FormIsTriable (meaning_of schema) known form
+select_triable schema known select None literals froms sorted is = tt
+select_triable schema known select (Some query) literals froms sorted is = record {
   fits = is.fits;
   constants = is.constants known literals;
   counted = counted schema query is.fits;
   few = few_variables schema select query is froms;
+  sorted = forms_are_sorted (meaning_of schema) select query sorted is.form;
 }
 
 pub selects_triable : (schema : Schema) (known : List Value) (selects : List Select) (forms : List (Option Query)) →
     ((text : Value) → Contains (literals_in selects) text → Contains known text) → ((select : Select) → Contains selects select → length select.froms ≤ 16) →
-    AllZip (IsSelectForm schema) selects forms → AreTriable (meaning_of schema) known forms
-selects_triable schema known selects forms have few all form among =
+    SelectsAreSorted (meaning_of schema) selects → AllZip (IsSelectForm schema) selects forms →
+    AreTriable (meaning_of schema) known forms
+selects_triable schema known selects forms have few sorted all form among =
     let (select, there, is) = zip_right (IsSelectForm schema) selects forms form all among in
-    select_triable schema known select form (have_literals selects select known there have) (few select there) is
+    select_triable schema known select form (have_literals selects select known there have) (few select there)
+    (sorted select there) is
 
 branch_triable : (schema : Schema) (known : List Value) (branch : Branch) (form : Option Query) → IsLawfulBranch (meaning_of schema) known branch →
     columns_of 0 branch.steps ≤ HIGHEST_FIRST_LABEL → IsBranchForm (meaning_of schema) branch form → FormIsTriable (meaning_of schema) known form
 branch_triable schema known branch None lawful few is = tt
-branch_triable schema known branch (Some query) lawful few is =
+branch_triable schema known branch (Some query) lawful few (is, sorted) =
     let (fits, constants) = branch_query_fits (meaning_of schema) (well_formed schema) known branch query lawful is in
     let count = is.variables in
-    record { fits = fits; constants = constants; counted = counted schema query fits; few = omega arith }
+    record {
+      fits = fits;
+      constants = constants;
+      counted = counted schema query fits;
+      few = omega arith;
+      sorted = sorted;
+    }
 
 pub branches_triable : (schema : Schema) (known : List Value) (branches : List Branch) (forms : List (Option Query)) →
     ((branch : Branch) → Contains branches branch → IsLawfulBranch (meaning_of schema) known branch) →

@@ -1,6 +1,7 @@
 pub mod Methods
 pub mod Branching
 pub mod Sizes
+pub mod Sorting
 pub mod Fitting
 pub mod Trying
 pub mod Ending

@@ -12,14 +12,17 @@ use Rattle.meaning.specs.declared.types.Step.{Step}
 use Rattle.meaning.specs.declared.types.Branch.{Branch}
 use Rattle.meaning.specs.declared.types.Plan.{Plan}
 use Rattle.meaning.specs.Values.{Value}
+use Rattle.meaning.specs.Sorts.{AtomsAreSorted}
 use Rattle.meaning.specs.Plans.{IsMethod, NamesMethods}
 use Rattle.meaning.specs.Judge.{terms_of, columns_of, IsBranchQuery}
 use Rattle.rule_pass.specs.declared.pass.TheConstants.{HIGHEST_FIRST_LABEL}
 
--- A branch has its query.
+-- A branch has its query, where the constants of that at integer columns are integers. Another branch has none: it has no row on an
+-- instance of integers.
 abbrev pub IsBranchForm : SchemaParts → Branch → Option Query → Type 0
-IsBranchForm schema branch (Some query) = IsBranchQuery schema branch query
-IsBranchForm schema branch None = ⊥
+IsBranchForm schema branch (Some query) = IsBranchQuery schema branch query × AtomsAreSorted schema query.atoms
+IsBranchForm schema branch None =
+    (query : Query) × IsBranchQuery schema branch query × (AtomsAreSorted schema query.atoms → ⊥)
 
 -- Some method has the name.
 abbrev pub NamesMethod : SchemaParts → Value → Type 0

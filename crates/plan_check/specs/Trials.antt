@@ -9,12 +9,13 @@ use Rattle.meaning.specs.declared.types.Ground.{Ground}
 use Rattle.meaning.specs.declared.types.Trigger.{Trigger}
 use Rattle.meaning.specs.Values.{Value, Row}
 use Rattle.meaning.specs.Homomorphisms.{image, renamed}
+use Rattle.meaning.specs.Sorts.{AtomsAreSorted}
 use Rattle.meaning.specs.Matching.{IsQueryAnswer, GroundsOf, Meets, AnswersQuery}
 use Rattle.meaning.specs.Fitting.{QueryFits, QueryHasConstants}
-use Rattle.meaning.specs.Claims.{IsModel}
 use Rattle.meaning.specs.Triggers.{State, IsQuiet}
 use Rattle.meaning.specs.Runs.{IsBaseRun, opening_state, frozen_head}
 use Rattle.access_schema.specs.Meaning.{meaning_of}
+use Rattle.integer_laws.specs.Claimed.{IsSortedModel}
 use Rattle.accessible_copy.specs.Goals.{IsCounted}
 use Rattle.no_plan_witness.specs.Texts.{Names, text_under, AreNamesFor}
 use Rattle.rule_pass.specs.declared.pass.TheConstants.{HIGHEST_FIRST_LABEL, MOST_FIRINGS}
@@ -30,12 +31,14 @@ use Rattle.plan_check.specs.declared.trial.Tried.TheVariants as all
 
 -- ---- queries
 
--- A query can be tried where it fits the schema, its variables are counted and few, and its constants are known.
+-- A query can be tried where it fits the schema, its variables are counted and few, its constants are known, and those at integer columns
+-- are integers.
 pub record IsTriable (schema : SchemaParts) (known : List Value) (query : Query) : Type 0 where
   pub fits : QueryFits schema query
   pub constants : QueryHasConstants known query
   pub counted : IsCounted query
   pub few : query.variables ≤ HIGHEST_FIRST_LABEL
+  pub sorted : AtomsAreSorted schema query.atoms
 
 -- The query, if there is one, can be tried.
 abbrev pub FormIsTriable : SchemaParts → List Value → Option Query → Type 0
@@ -108,9 +111,9 @@ abbrev pub IsContained : SchemaParts → Query → List (Option Query) → Type 
 IsContained schema query others =
     (facts : List Fact) (row : Row) → Meets facts schema → AnswersQuery query facts row → AnswersSome others facts row
 
--- The instance meets the rules, and the row is an answer of the query there and of none of the others.
+-- The instance is one of integers that meets the rules, and the row is an answer of the query there and of none of the others.
 pub record IsSeparated (schema : SchemaParts) (query : Query) (others : List (Option Query)) (facts : List Fact) (row : Row) : Type 0 where
-  pub model : IsModel schema facts
+  pub model : IsSortedModel schema facts
   pub answered : AnswersQuery query facts row
   pub not_others : AnswersSome others facts row → ⊥
 

@@ -13,9 +13,10 @@ use Rattle.meaning.specs.Values.{Value, Row}
 use Rattle.meaning.specs.Answers.{Answers, AnswersSelect}
 use Rattle.meaning.specs.Plans.{IsLawful}
 use Rattle.meaning.specs.Rows.{IsRow, IsBranchRow}
-use Rattle.meaning.specs.Claims.{IsModel, IsEquivalent}
+use Rattle.meaning.specs.Claims.{IsModel}
 use Rattle.meaning.specs.Conjunctive.{IsConjunctive}
 use Rattle.meaning.specs.Judge.{IsBranchQuery}
+use Rattle.integer_laws.specs.Claimed.{IsSortedModel, IsSortedEquivalent}
 use Rattle.access_schema.specs.declared.schema.Schema.{Schema}
 use Rattle.access_schema.specs.Meaning.{meaning_of}
 use Rattle.access_schema.specs.Lists.{once_after}
@@ -62,19 +63,19 @@ pub data IsIllegalOver (schema : Schema) (statement : Statement) (plan : Plan) (
 
 -- ---- verdicts
 
--- The instance meets the rules, and the row is an answer of the select of that number there and no row of the plan.
+-- The instance is one of integers that meets the rules, and the row is an answer of the select of that number there and no row of the plan.
 pub record IsLost (schema : SchemaParts) (statement : Statement) (plan : Plan) (number : ℕ) (facts : List Fact) (row : Row) : Type 0 where
   pub select : SelectOf
   pub at : slice_get statement.selects number ≡ Some select
-  pub model : IsModel schema facts
+  pub model : IsSortedModel schema facts
   pub answered : AnswersSelect select facts row
   pub no_row : IsRow schema plan facts row → ⊥
 
--- The instance meets the rules, and the row is a row of the branch of that number there and no answer of the statement.
+-- The instance is one of integers that meets the rules, and the row is a row of the branch of that number there and no answer of the statement.
 pub record IsAdded (schema : SchemaParts) (statement : Statement) (plan : Plan) (number : ℕ) (facts : List Fact) (row : Row) : Type 0 where
   pub branch : Branch
   pub at : slice_get plan.branches number ≡ Some branch
-  pub model : IsModel schema facts
+  pub model : IsSortedModel schema facts
   pub a_row : IsBranchRow schema branch facts row
   pub not_answered : Answers statement facts row → ⊥
 
@@ -110,9 +111,9 @@ IsUndecided schema statement plan firings (side.Branch number) log = IsBranchSpe
 abbrev pub GivesSelect : SchemaParts → Plan → SelectOf → Type 0
 GivesSelect schema plan select = (facts : List Fact) (row : Row) → IsModel schema facts → AnswersSelect select facts row → IsRow schema plan facts row
 
--- On every instance that meets the rules the rows of the branch are answers of the statement.
+-- On every instance of integers that meets the rules the rows of the branch are answers of the statement.
 abbrev pub AnswersAlone : SchemaParts → Statement → Branch → Type 0
-AnswersAlone schema statement branch = (facts : List Fact) (row : Row) → IsModel schema facts → IsBranchRow schema branch facts row → Answers statement facts row
+AnswersAlone schema statement branch = (facts : List Fact) (row : Row) → IsSortedModel schema facts → IsBranchRow schema branch facts row → Answers statement facts row
 
 -- The trial of the select of that number does not separate: the plan gives the select, or the firings for it are spent.
 abbrev pub IsKept : Schema → Statement → Plan → ℕ → ℕ → SelectOf → Type 0
@@ -154,8 +155,8 @@ IsShownBefore schema statement plan (side.Branch number) =
 
 -- The verdict is right.
 pub data IsVerdict (schema : Schema) (statement : Statement) (plan : Plan) (firings : ℕ) : Verdict → Type 0 where
-  -- the plan is lawful over the known constants, and its rows are the statement's answers on every instance that meets the rules
-  equivalent : IsLegalOver schema statement plan (known_of schema statement) → IsEquivalent plan statement (meaning_of schema) →
+  -- the plan is lawful over the known constants, and its rows are the statement's answers on every instance of integers that meets the rules
+  equivalent : IsLegalOver schema statement plan (known_of schema statement) → IsSortedEquivalent plan statement (meaning_of schema) →
       IsVerdict schema statement plan firings verdict.Equivalent
   -- the plan is not lawful, or not as wide as the statement
   illegal : (fault : PlanFault) → IsIllegalOver schema statement plan (known_of schema statement) fault →

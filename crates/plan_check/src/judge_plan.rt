@@ -20,12 +20,15 @@ use sql_conjunctive::select_forms;
 use sql_select::known;
 use std::alloc::Global;
 
-/// Whether the plan is lawful over the known constants and has, on every instance that meets the rules, exactly the statement's answers as
-/// its rows.
+/// Whether the plan is lawful over the known constants and has, on every instance of integers that meets the rules,
+/// exactly the statement's answers as its rows. An instance of integers is one whose values at integer columns are
+/// integers.
 ///
-/// A plan that is not lawful, or is not as wide as the statement, is illegal. Otherwise each select is tried against the plan, and then each
-/// branch against the statement, each with a budget of `firings`: the first trial that fails where no rule is active gives an instance
-/// and a row that separate. Where none fails so, the first whose firings were spent is told, with the log of these.
+/// A plan that is not lawful, or is not as wide as the statement, is illegal. Otherwise each select is tried against
+/// the plan, and then each branch against the statement, each with a budget of `firings`: the first trial that fails
+/// where no rule is active gives an instance of integers and a row that separate. Where none fails so, the first
+/// whose firings were spent is told, with the log of these. A branch with a constant that is no integer at an integer
+/// column adds no row.
 pub fn judge(
     alloc: Global,
     schema: &Schema,

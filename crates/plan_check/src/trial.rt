@@ -15,8 +15,9 @@ use plan_extract::frozen_values;
 use rule_pass::Stopped;
 use std::alloc::Global;
 
-/// What a trial of a query against others comes to: its answers are answers of the others; or there is an instance that meets the rules with
-/// a row that is one of the query's there, and none of the others'; or the firings are spent.
+/// What a trial of a query against others comes to: its answers are answers of the others; or there is an instance of
+/// integers that meets the rules with a row that is one of the query's there, and none of the others'; or the firings
+/// are spent.
 #[derive(Drop)]
 pub enum Outcome {
     Contained,

@@ -8,6 +8,7 @@ use Rattle.meaning.specs.declared.types.Branch.{Branch}
 use Rattle.meaning.specs.declared.types.Firing.{Firing}
 use Rattle.meaning.specs.declared.types.Val.{Val}
 use Rattle.meaning.specs.Values.{Value}
+use Rattle.meaning.specs.Sorts.{AtomsAreSorted}
 use Rattle.meaning.specs.Plans.{IsWellFormed}
 use Rattle.meaning.specs.Triggers.{IsFiringRun, IsQuiet}
 use Rattle.meaning.specs.Runs.{Proof, IsRun, IsBaseRun, base_state, opening, frozen_head}
@@ -17,10 +18,14 @@ use Rattle.meaning.specs.Extract.{IsBase, IsExposing, exposed_facts, exposures_c
 use Rattle.meaning_laws.specs.Rests.{HasGoalOver, new_labels}
 use Rattle.meaning.proofs.Steps.{cost_once}
 use Rattle.meaning_laws.proofs.Carrying.{run_fires}
-use Rattle.meaning_laws.proofs.Rivals.{rival_exposes}
+use Rattle.integer_laws.specs.Sorted.{AreSortedGrounds, AreSortedRules}
+use Rattle.integer_laws.proofs.Firings.{run_sorted, opening_sorted}
+use Rattle.integer_laws.proofs.Possible.{rival_exposes_possible}
 use Rattle.access_schema.specs.Meaning.{meaning_of}
-use Rattle.access_schema.proofs.Keeping.{well_formed, rules_fit}
+use Rattle.access_schema.proofs.Keeping.{well_formed, rules_fit, rules_sorted}
+use Rattle.rule_pass.specs.declared.pass.TheConstants.{MOST_FIRINGS}
 use Rattle.rule_pass.specs.Levels.{AreShort}
+use Rattle.rule_pass.specs.Orderly.{AreOrderly}
 use Rattle.rule_pass.proofs.Bounds.{orderly}
 use Rattle.rule_pass.proofs.Chains.{are_short}
 use Rattle.least_search.specs.declared.node.Node.{Node}
@@ -33,10 +38,10 @@ use Rattle.least_search.specs.Walks.{CanGain, IsNode, walk_cost}
 use Rattle.least_search.specs.Costs.{IsLeastCost, IsEnough as ServesRuns}
 use Rattle.exposure_search.specs.Trials.{HasMoreToDo}
 use Rattle.exposure_search.specs.Exploring.{Exploring, exploring_of, IsFounded, space_size, most_labels, CanExpose, GainsAt, HasGoalAt, HasMatchAt, HasTry, HasRunBeyond}
-use Rattle.exposure_search.proofs.Bridging.{exposed_base}
 use Rattle.exposure_search.proofs.Explored.{least_found, tries_within, match_goal}
 use Rattle.accessible_copy.specs.Proving.{Proving, IsProofOf}
 use Rattle.accessible_copy.specs.Goals.{IsGoal}
+use Rattle.exposure_search.specs.Making.{IsBaseProof}
 use Rattle.exposure_search.specs.Visiting.{IsReached}
 use Rattle.plan_extract.specs.Branches.{IsProofFor}
 use Rattle.plan_extract.specs.Trimmed.{IsShown}
@@ -45,10 +50,10 @@ use Rattle.plan_extract.proofs.Shown.{same_shown}
 use Rattle.proof_search.specs.Searches.{AreSearchable}
 use Rattle.proof_search.specs.Chosen.{IsRunOf, NoneIsEnough, HasMoreFor, HasLongRun}
 use Rattle.proof_search.proofs.Based.{base_from}
-use Rattle.proof_search.proofs.PossibleGoals.{possible_from}
+use Rattle.proof_search.proofs.FewLabels.{labels_in, few_labels}
 use Rattle.proof_search.specs.Choices.{ArePossibleGoals, IsLeastFor, CostsAtMost, IsSpaceOf, IsSaidFor}
 use Rattle.proof_search.specs.declared.question.Question.{Question}
-use Rattle.proof_search.specs.Questions.{IsQuestion, IsBranchOn, IsSpaceOn, IsChoiceOn}
+use Rattle.proof_search.specs.Questions.{MOST_KNOWN, IsQuestion, IsBranchOn, IsSpaceOn, IsChoiceOn}
 
 module _ (schema : SchemaParts) (queries : List Query) (query : Query) (firings : ℕ) (space : Exploring) (is : IsSpaceOf schema queries query firings space) where
   -- a run from the space's start is one of the query
@@ -94,21 +99,34 @@ module _ (schema : SchemaParts) (queries : List Query) (query : Query) (firings 
     base_is =
         base_from schema space.constants query rules fits its space.log space.base opened (subst (λ (s : SchemaParts). IsQuiet s.rules space.base) is.schema_is is.founded.quiet)
 
+    -- its facts keep to sorts
+    sorted_base : AreSortedRules schema → AtomsAreSorted schema query.atoms → AreSortedGrounds schema space.base.facts
+    sorted_base sorted atoms =
+        run_sorted schema space.log (base_state (opening query)) space.base rules.numbered sorted
+        (opening_sorted schema query atoms).base opened
+
     -- what the search has shown is the least cost of a rival
-    pub least_for : IsWellFormed schema → AreShort schema.rules → (best : ℕ) → IsLeastCost (space_size space) (CanGain (CanExpose space) (GainsAt space)) (HasGoalAt space) best → (branch : Branch) → CostsAtMost schema branch best →
-        IsLeastFor schema space.constants queries query branch
-    least_for well short best least branch (low, costs, cheap) rival cost other is_rival cost_is other_is =
-        let (exposures, exposing, few, goal) = rival_exposes schema space.constants queries query space.base (frozen_head query) rival other well rules have base_is is_rival other_is in
+    pub least_for : IsWellFormed schema → AreOrderly schema.rules → AreSortedRules schema →
+        AtomsAreSorted schema query.atoms → firings ≤ MOST_FIRINGS → length space.constants ≤ MOST_KNOWN → (best : ℕ) →
+        IsLeastCost (space_size space) (CanGain (CanExpose space) (GainsAt space)) (HasGoalAt space) best →
+        (branch : Branch) → CostsAtMost schema branch best → IsLeastFor schema space.constants queries query branch
+    least_for well are sorted atoms few_firings few_known best least branch (low, costs, cheap) rival cost other
+        is_rival cost_is other_is =
+        let goals : ArePossibleGoals queries (frozen_head query) space.base.facts space.queries =
+        subst (λ vals. ArePossibleGoals queries vals space.base.facts space.queries) is.head is.goals in
+        let (exposures, exposing, few, has) = rival_exposes_possible schema space.constants queries space.queries query
+        space.base (frozen_head query) rival other well rules have base_is (sorted_base sorted atoms) goals.answered
+        is_rival other_is in
         let same : cost ≡ low = cost_once schema well branch.steps cost low cost_is costs in
+        let short : AreShort schema.rules = are_short schema.rules are.non_recursive in
         let here : IsExposing space.schema space.constants space.base.facts [] exposures = subst (λ s. IsExposing s space.constants space.base.facts [] exposures) (sym is.schema_is) exposing in
         let Goal : SchemaParts → List Val → Type 0 =
         λ s vals. HasGoalOver s space.constants space.queries vals space.base.next (most_labels s.rules + new_labels s.rules)
         (exposed_facts exposures) in
         let possible : Goal schema (frozen_head query) =
-        possible_from schema space.constants space.base (frozen_head query) rules base_is.named base_is.fits base_is.head_named base_is.quiet
-        (exposed_facts exposures) (exposed_base schema space.constants space.base.facts exposures [] exposing) (length schema.rules) short
-        queries space.queries have (subst (λ vals. ArePossibleGoals queries vals space.base.facts space.queries) is.head is.goals) goal
-        (most_labels schema.rules + new_labels schema.rules) in
+        has (most_labels schema.rules + new_labels schema.rules)
+        (few_labels schema.rules space.base.next firings (length space.constants) are few_firings is.labels few_known)
+        in
         let there : Goal space.schema space.head =
         subst (λ s. Goal s space.head) (sym is.schema_is) (subst (λ vals. Goal schema vals) (sym is.head) possible) in
         let most : best ≤ exposures_cost exposures =
@@ -136,16 +154,19 @@ goals_in schema base queries goals head budget are space e =
     subst (λ (x : Exploring). ArePossibleGoals queries x.head x.base.facts x.queries) (sym e) are
 
 -- the space of a proof of base firings
-pub space_on : (question : Question) → IsQuestion question → (base : Proving) → base.start ≡ opening question.query.now → base.constants ≡ question.known.now →
+pub space_on : (question : Question) → IsQuestion question → (base : Proving) →
+    IsBaseProof (meaning_of question.schema.now) base → base.start ≡ opening question.query.now →
+    base.constants ≡ question.known.now → length base.entries ≤ question.firings →
     (goals : List Query) → ArePossibleGoals question.queries.now question.head.now base.end.base goals → (space : Exploring) →
     space ≡ exploring_of (meaning_of question.schema.now) base goals question.head.now question.firings space.marks → IsFounded space → IsSpaceOn question space
-space_on question is base start constants goals are space e founded = record {
+space_on question is base bases start constants few goals are space e founded = record {
   of_query = record {
     schema_is = ap (λ (x : Exploring). x.schema) e;
     start = ap (λ (x : Exploring). x.start) e ∙ start;
     goals = goals_in (meaning_of question.schema.now) base question.queries.now goals question.head.now question.firings are space e;
     head = ap (λ (x : Exploring). x.head) e ∙ is.head;
     budget = ap (λ (x : Exploring). x.budget) e;
+    labels = labels_in question.schema.now base goals question.head.now question.firings bases.run few space e;
     founded = founded;
   };
   constants = ap (λ (x : Exploring). x.constants) e ∙ constants;
@@ -171,7 +192,11 @@ module _ (question : Question) (is : IsQuestion question) (space : Exploring) (i
   said_here search branch best costs ended.Shown least shown spent long is_least none more beyond =
       let can = searchable question.query.now is.among in
       subst (IsSaidFor (meaning_of question.schema.now) space.constants question.queries.now question.firings search question.query.now branch) (sym (shown refl))
-      (least_for (meaning_of question.schema.now) question.queries.now question.query.now question.firings space its.of_query fits_rules (λ q there. (searchable q there).constants) can.fits can.constants (well_formed question.schema.now) (are_short question.schema.now.rules (orderly question.schema.now).non_recursive) best (is_least refl) branch costs)
+      (least_for (meaning_of question.schema.now) question.queries.now question.query.now question.firings space
+      its.of_query fits_rules (λ q there. (searchable q there).constants) can.fits can.constants
+      (well_formed question.schema.now) (orderly question.schema.now) (rules_sorted question.schema.now) can.sorted
+      is.firings (subst (λ (known : List Value). length known ≤ MOST_KNOWN) (sym its.constants) is.few_known) best
+      (is_least refl) branch costs)
   said_here search branch best costs (ended.SearchSpent units) least shown spent long is_least none more beyond =
       subst (IsSaidFor (meaning_of question.schema.now) space.constants question.queries.now question.firings search question.query.now branch) (sym (spent units refl)) (
         refl,

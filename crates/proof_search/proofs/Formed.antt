@@ -13,23 +13,22 @@ use Rattle.meaning.specs.declared.types.Select.{Select}
 use Rattle.meaning.specs.declared.types.Statement.{Statement}
 use Rattle.meaning.specs.Values.{Value, Row}
 use Rattle.meaning.specs.Instances.{IsInstance}
-use Rattle.meaning.specs.Claims.{Refutes}
 use Rattle.meaning.specs.Costs.{IsRival}
 use Rattle.meaning.specs.Matching.{AnswersQuery}
 use Rattle.meaning.specs.Answers.{AnswersSelect}
 use Rattle.meaning.specs.Triggers.{terms_bound}
-use Rattle.meaning.specs.Conjunctive.{term_of, IsAtomFor, StandFor}
+use Rattle.meaning.specs.Conjunctive.{SelectIsSorted, term_of, IsAtomFor, StandFor}
 use Rattle.meaning.specs.Extract.{IsQueryRival}
 use Rattle.meaning.specs.Plans.{NamesMethods}
 use Rattle.meaning.proofs.Steps.{lawful_named}
 use Rattle.meaning_laws.proofs.Carrying.{occurs_below}
 use Rattle.meaning_laws.proofs.Closing.{plan_from_branches}
-use Rattle.meaning_laws.proofs.Monotone.{no_plan_lem}
+use Rattle.integer_laws.specs.Claimed.{RefutesSorted, IsSortedSelectRival, IsSortedRival}
+use Rattle.integer_laws.proofs.Forms.{forms_are_sorted}
 use Rattle.access_schema.specs.declared.schema.Schema.{Schema}
 use Rattle.access_schema.specs.Meaning.{meaning_of}
 use Rattle.access_schema.specs.Invariant.{terms_of}
 use Rattle.access_schema.proofs.Ordered.{ordered_from, bound_is}
-use Rattle.access_schema.proofs.Keeping.{well_formed}
 use Rattle.access_schema.proofs.Texts.{once_known, once_taken}
 use Rattle.findings.specs.declared.least.Least.{Least}
 use Rattle.findings.specs.declared.least.Least.TheVariants.{Shown, SearchSpent, FiringsSpent}
@@ -51,14 +50,15 @@ use Rattle.proof_search.specs.declared.outcome.Choice.{Choice}
 use Rattle.proof_search.specs.declared.question.Questions.{Questions}
 use Rattle.proof_search.specs.Searches.{AreSearchable, IsSearchable}
 use Rattle.proof_search.specs.Branches.{IsQueryBranch, IsSpentLog, HasBranch, IsOpen}
-use Rattle.proof_search.specs.Plans.{known_of, IsPlanFor, HasFewSteps}
+use Rattle.proof_search.specs.Plans.{known_of, IsPlanFor, HasFewSteps, HasNoPlan}
 use Rattle.proof_search.specs.Chosen.{IsSaid, AreChosen}
 use Rattle.proof_search.specs.Choices.{IsSaidFor, IsChoice}
 use Rattle.proof_search.specs.Outcomes.{IsFirstStuck, IsFirstSpent}
-use Rattle.proof_search.specs.Questions.{AreQuestions}
+use Rattle.proof_search.specs.Questions.{MOST_KNOWN, AreQuestions}
 use Rattle.proof_search.specs.Forms.{queries_in, place_in, branches_in, AreAskedFor, AreEntriesOf, IsPlanOf}
 use Rattle.proof_search.specs.Decisions.{IsSpentSelect, IsAnswered, IsOpenSelect, IsRefutation, IsUndecided, IsDecision}
 use Rattle.proof_search.specs.Decisions.IsDecision.{plan as of_plan}
+use Rattle.proof_search.proofs.FewKnown.{known_few}
 
 -- ---- the queries of those selects that have one
 
@@ -147,8 +147,9 @@ module _ (schema : Schema) (statement : Statement) (forms : List (Option Query))
       omega (arith, queries_few forms, long, most)
 
   searchable_of : (known : List Value) (select : Select) (query : Query) → HaveLiterals known select → length select.froms ≤ 16 →
-      IsQueryOf schema select query → IsSearchable (meaning_of schema) known query
-  searchable_of known select query literals froms is =
+      SelectIsSorted (meaning_of schema) select → IsQueryOf schema select query →
+      IsSearchable (meaning_of schema) known query
+  searchable_of known select query literals froms sorted is =
       let fitting = is.fits in
       let variables = fitting.variables in
       let terms : length (terms_of query.atoms) ≤ 64 * length query.atoms = terms_few query.atoms (λ atom there.
@@ -165,13 +166,15 @@ module _ (schema : Schema) (statement : Statement) (forms : List (Option Query))
           head = bounded_terms query.variables query.head (λ x there. let below = occurs_below query.atoms x (fitting.head x there) in omega arith);
         };
         few = omega arith;
+        sorted = forms_are_sorted (meaning_of schema) select query sorted is.form;
       }
 
   searchable : (known : List Value) → ((text : Value) → Contains (literals_in statement.selects) text → Contains known text) →
       AreSearchable (meaning_of schema) known (queries_in forms)
   searchable known have query among =
       let (select, there, is) = select_of query among in
-      searchable_of known select query (have_literals statement.selects select there known have) (fits.bounded select there).froms is
+      searchable_of known select query (have_literals statement.selects select there known have)
+      (fits.bounded select there).froms (fits.sorted select there) is
 
   -- ---- what the proofs of the queries say of the selects
 
@@ -186,14 +189,15 @@ module _ (schema : Schema) (statement : Statement) (forms : List (Option Query))
     complete = λ facts row model answer. rival.complete facts row model ((is.answers facts model.fits row).1 answer);
   }
 
-  -- and the other way round
+  -- and a rival for a select on sorted models is one for its query
   rival_for : (select : Select) (query : Query) → IsQueryOf schema select query → (rival : Branch) →
-      IsRival (meaning_of schema) (known_of schema statement) statement select rival →
-      IsQueryRival (meaning_of schema) (known_of schema statement) (queries_in forms) query rival
+      IsSortedSelectRival (meaning_of schema) (known_of schema statement) statement select rival →
+      IsSortedRival (meaning_of schema) (known_of schema statement) (queries_in forms) query rival
   rival_for select query of rival is = record {
     lawful = is.lawful;
-    sound = λ facts row model rows. stand.complete facts row model.fits (is.sound facts row model rows);
-    complete = λ facts row model answer. is.complete facts row model ((of.answers facts model.fits row).0 answer);
+    sound = λ facts row sorted rows. stand.complete facts row sorted.model.fits (is.sound facts row sorted rows);
+    complete = λ facts row sorted answer.
+        is.complete facts row sorted ((of.answers facts sorted.model.fits row).0 answer);
   }
 
   spent_select : (firings : ℕ) (select : Select) (query : Query) → Contains (queries_in forms) query → IsQueryOf schema select query → (log : List Firing) →
@@ -245,24 +249,24 @@ module _ (schema : Schema) (statement : Statement) (forms : List (Option Query))
     open_select select query among is (inl branch) = inl (answered select query among is branch)
     open_select select query among is (inr (log, spent)) = inr (log, spent_select firings select query among is log spent)
 
-    -- the pair of the first query that is stuck
+    -- the pair of the first query that is stuck, where there is no plan if a pair refutes by sorted instances
     pub refuted : (pair : Witness) → IsFirstStuck (meaning_of schema) (known_of schema statement) (queries_in forms) firings pair →
-        IsRefutation schema statement firings pair
-    refuted pair first =
-        let refutes : Refutes (meaning_of schema) (known_of schema statement) statement pair.first pair.second pair.answer =
-        first.stuck.refutes statement stand in
+        (RefutesSorted (meaning_of schema) (known_of schema statement) statement pair.first pair.second pair.answer →
+        HasNoPlan schema statement) → IsRefutation schema statement firings pair
+    refuted pair first no_plan_if =
+        let sorted = first.stuck.refutes statement stand in
         let (select, at, is) = zip_at (IsSelectForm schema) statement.selects forms (place_in forms first.number) (Some first.query) are
         (at_place forms first.number first.query first.at) in
         record {
-          refutes = refutes;
-          none = no_plan_lem (meaning_of schema) (known_of schema statement) statement pair.first pair.second pair.answer (well_formed schema) refutes;
+          refutes = sorted;
+          none = no_plan_if sorted;
           wide = λ other there.
               first.stuck.wide ∙ ap length is.form.head ∙ length-map select.items (term_of first.query.atoms)
               ∙ fits.wide select other (contains_got statement.selects (place_in forms first.number) select at) there;
           number = place_in forms first.number;
           select = select;
           of_statement = at;
-          answered = (is.answers pair.first refutes.first_meets.fits pair.answer).0 first.stuck.answered;
+          answered = (is.answers pair.first sorted.refutes.first_meets.fits pair.answer).0 first.stuck.answered;
           before = of_earlier (IsOpen (meaning_of schema) (known_of schema statement) (queries_in forms) firings) (IsOpenSelect schema statement firings)
               (λ other clash. inl (inl clash)) open_select first.number first.before;
         }
@@ -400,6 +404,8 @@ asked statement forms questions is =
           (λ text there. subst (λ known. Contains known text) (sym is.known) (once_taken schema.constants literals text there)));
       few = let same = ap length is.queries in omega (arith, few, same);
       known = λ c among. subst (λ known. Contains known c) (sym is.known) (once_known schema.constants literals c among);
+      few_known = subst (λ (known : List Value). length known ≤ MOST_KNOWN) (sym is.known)
+          (known_few schema statement is.fits);
       firings = is.firings;
     }
 

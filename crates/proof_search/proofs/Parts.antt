@@ -6,6 +6,7 @@ use Rattle.meaning.specs.declared.types.SchemaParts.{SchemaParts}
 use Rattle.meaning.specs.declared.types.Query.{Query}
 use Rattle.meaning.specs.declared.types.Branch.{Branch}
 use Rattle.meaning.specs.Values.{Value}
+use Rattle.meaning.specs.Sorts.{AtomsAreSorted}
 use Rattle.meaning.specs.Extract.{IsQueryRival}
 use Rattle.meaning.specs.Fitting.{QueryFits}
 use Rattle.schema_parts.specs.Parts.{with_rules, marked}
@@ -24,7 +25,13 @@ module _ (whole part : SchemaParts) (marks : List Bool) (is : part ≡ with_rule
         constants = its.constants;
         counted = its.counted;
         few = its.few;
+        sorted = subst (λ schema. AtomsAreSorted schema query.atoms) (sym is) (atoms_sorted query its.sorted);
       }
+    where
+      -- sorts are those of the relations, whatever the rules
+      atoms_sorted : (query : Query) → AtomsAreSorted whole query.atoms →
+          AtomsAreSorted (with_rules whole (marked whole.rules marks)) query.atoms
+      atoms_sorted query are = are
 
   pub whole_branch : (query : Query) (branch : Branch) → IsQueryBranch part known queries query branch → IsQueryBranch whole known queries query branch
   whole_branch query branch over = record {

@@ -1,4 +1,4 @@
--- Pairs that refute: of a proof in which nothing is active, and over a small base.
+-- Pairs of instances of integers that refute: of a proof in which nothing is active, and over a small base.
 use Rattle.std.proofs.Common.{◌≡◌, ℕ, List, [], length, map, sym, ap, ◌∙◌, subst}
 use Rattle.std.specs.Prelude.{Contains}
 use Rattle.std.proofs.lemmas.List.{length-map}
@@ -11,14 +11,17 @@ use Rattle.meaning.specs.Values.{Value}
 use Rattle.meaning.specs.Homomorphisms.{image}
 use Rattle.meaning.specs.Matching.{value_of, MeetsAll, IsQueryAnswer, GroundsOf}
 use Rattle.meaning.specs.Naming.{IsNamed}
-use Rattle.meaning.specs.Triggers.{State}
-use Rattle.meaning.specs.Runs.{Proof, base_state, IsOrderedRun, NoExposure, HasGoal, IsStuck, opening, opening_state, frozen_head}
+use Rattle.meaning.specs.Sorts.{AtomsAreSorted}
+use Rattle.meaning.specs.Triggers.{State, AreNumbered}
+use Rattle.meaning.specs.Runs.{Proof, base_state, IsRun, IsOrderedRun, NoExposure, HasGoal, IsStuck, opening, opening_state, frozen_head}
 use Rattle.meaning.specs.Fitting.{RulesFit, QueryFits, QueryHasConstants, IsKept}
 use Rattle.meaning_laws.proofs.Deciding.{quiet_meets}
 use Rattle.meaning_laws.proofs.Keeping.{named_more}
 use Rattle.meaning_laws.proofs.Kept.{kept_opening, kept_run, ordered_is_run}
 use Rattle.access_schema.specs.Meaning.{meaning_of}
-use Rattle.access_schema.proofs.Keeping.{rules_fit}
+use Rattle.access_schema.proofs.Keeping.{rules_fit, rules_sorted}
+use Rattle.integer_laws.specs.Sorted.{AreSortedFacts, AreSortedRules, ProofIsSorted}
+use Rattle.integer_laws.proofs.Firings.{opening_sorted, proof_sorted}
 use Rattle.rule_pass.proofs.OnePass.{met_quiet}
 use Rattle.accessible_copy.specs.Proving.{Proving, IsOrdered, firings_of, log_of}
 use Rattle.accessible_copy.specs.Rounds.{IsAllQuiet}
@@ -27,7 +30,7 @@ use Rattle.small_base.specs.Closing.{IsClosing}
 use Rattle.findings.specs.declared.refutation.Witness.{Witness}
 use Rattle.no_plan_witness.specs.Texts.{text_under}
 use Rattle.no_plan_witness.specs.Witnesses.{IsWitnessOf}
-use Rattle.no_plan_witness.proofs.Refuting.{stuck_refutes, stuck_answer}
+use Rattle.no_plan_witness.proofs.Refuting.{stuck_refutes, stuck_answer, witness_sorted}
 use Rattle.proof_search.specs.Searches.{IsSearch}
 use Rattle.proof_search.specs.declared.question.Question.{Question}
 use Rattle.proof_search.specs.Questions.{IsQuestion, IsSearchFor, IsRefutedOn, IsExhausted}
@@ -40,14 +43,28 @@ run_moved schema firings start known proof search log end run =
     subst (λ from. IsOrderedRun schema known 0 from log end) search.begun
     (subst (λ constants. IsOrderedRun schema constants 0 proof.start log end) search.constants run)
 
+-- a search of a query is a run from its opening proof
+search_run : (schema : SchemaParts) (firings : ℕ) (query : Query) (known : List Value) (proof : Proving) →
+    IsSearch schema firings (opening query) known proof → IsRun schema known 0 (opening query) (log_of proof) proof.end
+search_run schema firings query known proof search =
+    ordered_is_run schema known 0 (opening query) (log_of proof) proof.end
+    (run_moved schema firings (opening query) known proof search (log_of proof) proof.end search.ordered)
+
 -- what a search of a query keeps
 search_keeps : (schema : SchemaParts) (firings : ℕ) (query : Query) (known : List Value) (proof : Proving) → RulesFit schema known →
     QueryFits schema query → QueryHasConstants known query → IsSearch schema firings (opening query) known proof →
     IsKept schema known query proof.end
 search_keeps schema firings query known proof rules fits have search =
     kept_run schema known query 0 (opening query) (log_of proof) proof.end rules (kept_opening schema known query fits have)
-    (ordered_is_run schema known 0 (opening query) (log_of proof) proof.end
-    (run_moved schema firings (opening query) known proof search (log_of proof) proof.end search.ordered))
+    (search_run schema firings query known proof search)
+
+-- that of a query with sorted atoms is sorted
+search_sorted : (schema : SchemaParts) (firings : ℕ) (query : Query) (known : List Value) (proof : Proving) →
+    AreNumbered schema.rules → AreSortedRules schema → AtomsAreSorted schema query.atoms →
+    IsSearch schema firings (opening query) known proof → ProofIsSorted schema proof.end
+search_sorted schema firings query known proof numbered rules atoms search =
+    proof_sorted schema known 0 (opening query) (log_of proof) proof.end numbered rules
+    (opening_sorted schema query atoms) (search_run schema firings query known proof search)
 
 -- what is kept of a query with more atoms is kept of the query
 kept_of_more : (schema : SchemaParts) (known : List Value) (query more : Query) (proof : Proof) → HasMore query more →
@@ -78,19 +95,31 @@ module _ (question : Question) (is : IsQuestion question) where
   rules : RulesFit (meaning_of question.schema.now) question.known.now
   rules = rules_fit question.schema.now question.known.now is.known
 
-  -- the pair of a proof in which nothing is active and that has no goal
+  sorted_rules : AreSortedRules (meaning_of question.schema.now)
+  sorted_rules = rules_sorted question.schema.now
+
+  -- the pair of a sorted proof in which nothing is active and that has no goal
   refuting : (end : Proof) (pair : Witness) → IsKept (meaning_of question.schema.now) question.known.now question.query.now end →
       IsStuck (meaning_of question.schema.now) question.known.now question.queries.now end (frozen_head question.query.now) →
+      ProofIsSorted (meaning_of question.schema.now) end →
       IsWitnessOf (meaning_of question.schema.now) question.known.now end.base end.copy question.head.now pair → IsRefutedOn question pair
-  refuting end pair kept stuck of_end =
+  refuting end pair kept stuck sorted of_end =
+      let schema = meaning_of question.schema.now in
+      let known = question.known.now in
       let query = question.query.now in
-      let its : IsWitnessOf (meaning_of question.schema.now) question.known.now end.base end.copy (frozen_head query) pair =
-      subst (λ vals. IsWitnessOf (meaning_of question.schema.now) question.known.now end.base end.copy vals pair) is.head of_end in
+      let fits : QueryFits schema query = (is.queries query is.among).fits in
+      let its : IsWitnessOf schema known end.base end.copy (frozen_head query) pair =
+      subst (λ vals. IsWitnessOf schema known end.base end.copy vals pair) is.head of_end in
+      let integers : AreSortedFacts schema pair.first × AreSortedFacts schema pair.second =
+      witness_sorted schema known end.base end.copy (frozen_head query) pair sorted.base sorted.copy its in
       record {
-        refutes = λ statement stand.
-            stuck_refutes (meaning_of question.schema.now) question.known.now statement question.queries.now query end pair rules stand is.among
-            (λ q among. (is.queries q among).constants) (is.queries query is.among).fits kept stuck its;
-        answered = stuck_answer (meaning_of question.schema.now) question.known.now query end pair (is.queries query is.among).fits kept its;
+        refutes = λ statement stand. record {
+          refutes = stuck_refutes schema known statement question.queries.now query end pair rules stand is.among
+              (λ q among. (is.queries q among).constants) fits kept stuck its;
+          first_sorted = integers.0;
+          second_sorted = integers.1;
+        };
+        answered = stuck_answer schema known query end pair fits kept its;
         wide = ap length its.answer ∙ length-map (frozen_head query) (image (text_under its.names))
             ∙ length-map query.head (value_of Const Label);
       }
@@ -109,7 +138,9 @@ module _ (question : Question) (is : IsQuestion question) where
         exposures = subst (λ constants. NoExposure schema constants proof.end) search.constants quiet.exposures;
         copy = quiet.copy;
         goal = λ has. none (subst (HasGoal question.queries.now proof.end) (sym is.head) has);
-      }) of_end
+      })
+      (search_sorted schema question.firings question.query.now question.known.now proof rules.numbered sorted_rules
+      its.sorted search) of_end
 
   -- the proof with a closing of its copy facts in their place
   kept_placed : (end : Proof) (state : State) → IsExhausted question end →
@@ -149,6 +180,16 @@ module _ (question : Question) (is : IsQuestion question) where
         none query among (subst (IsQueryAnswer Const (GroundsOf state.facts) query) (sym is.head) answer);
   }
 
+  -- integers stay where they are in the base facts, and come into the closing
+  sorted_placed : (end : Proof) (state : State) → IsExhausted question end →
+      IsClosing (meaning_of question.schema.now) end.copy end.next state →
+      ProofIsSorted (meaning_of question.schema.now) (placed end state)
+  sorted_placed end state exhausted closing = record {
+    base = exhausted.sorted.base;
+    exposed = exhausted.sorted.exposed;
+    copy = closing.grows.sorted sorted_rules exhausted.sorted.copy;
+  }
+
   -- base facts of which all that can be exposed are, beside a closing of these without the head
   pub closing_pair : (end : Proof) (state : State) (pair : Witness) → IsExhausted question end →
       IsClosing (meaning_of question.schema.now) end.copy end.next state →
@@ -156,7 +197,8 @@ module _ (question : Question) (is : IsQuestion question) where
       IsQueryAnswer Const (GroundsOf state.facts) query question.head.now → ⊥) →
       IsWitnessOf (meaning_of question.schema.now) question.known.now end.base state.facts question.head.now pair → IsRefutedOn question pair
   closing_pair end state pair exhausted closing none of_pair =
-      refuting (placed end state) pair (kept_placed end state exhausted closing) (stuck_placed end state exhausted closing none) of_pair
+      refuting (placed end state) pair (kept_placed end state exhausted closing)
+      (stuck_placed end state exhausted closing none) (sorted_placed end state exhausted closing) of_pair
 
   module _ (more : Query) (closed : IsClosed (meaning_of question.schema.now) question.query.now more) where
     pub fits_more : QueryFits (meaning_of question.schema.now) more
@@ -164,6 +206,9 @@ module _ (question : Question) (is : IsQuestion question) where
 
     known_more : QueryHasConstants question.known.now more
     known_more = closed.constants question.known.now rules.have (is.queries question.query.now is.among).constants
+
+    sorted_more : AtomsAreSorted (meaning_of question.schema.now) more.atoms
+    sorted_more = closed.sorted sorted_rules (is.queries question.query.now is.among).sorted
 
     -- no rule is active where a proof of the closed query begins
     pub met_first : (proof : Proving) → IsOrdered (meaning_of question.schema.now) proof → proof.start ≡ opening more → proof.entries ≡ [] →
@@ -190,5 +235,6 @@ module _ (question : Question) (is : IsQuestion question) where
           kept = kept_of_more schema question.known.now question.query.now more new.end closed.more_atoms
               (search_keeps schema firings more question.known.now new rules fits_more known_more its);
           met = met;
+          sorted = search_sorted schema firings more question.known.now new rules.numbered sorted_rules sorted_more its;
           exposures = subst (λ known. NoExposure schema known new.end) its.constants none;
         }

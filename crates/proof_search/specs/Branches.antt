@@ -8,9 +8,9 @@ use Rattle.meaning.specs.declared.types.Statement.{Statement}
 use Rattle.meaning.specs.Values.{Value}
 use Rattle.meaning.specs.Matching.{AnswersQuery}
 use Rattle.meaning.specs.Runs.{Proof, IsOrderedRun, HasGoal, opening, frozen_head}
-use Rattle.meaning.specs.Claims.{Refutes}
 use Rattle.meaning.specs.Conjunctive.{StandFor}
 use Rattle.meaning.specs.Extract.{IsQueryRival}
+use Rattle.integer_laws.specs.Claimed.{RefutesSorted}
 use Rattle.rule_pass.specs.declared.pass.TheConstants.{MOST_FIRINGS}
 use Rattle.findings.specs.declared.refutation.Witness.{Witness}
 
@@ -20,11 +20,11 @@ pub record IsQueryBranch (schema : SchemaParts) (known : List Value) (queries : 
   pub width : length branch.output ≡ length query.head
   pub few : length branch.steps ≤ MOST_FIRINGS
 
--- The pair refutes each statement for which the queries stand. Its answer is one of the query on the first instance, and as wide as the
+-- The pair refutes each statement for which the queries stand, by instances of integers. Its answer is one of the query on the first instance, and as wide as the
 -- query's head.
 pub record IsRefutingPair (schema : SchemaParts) (known : List Value) (queries : List Query) (query : Query) (pair : Witness) : Type 0 where
   pub refutes : (statement : Statement) → StandFor schema queries statement →
-      Refutes schema known statement pair.first pair.second pair.answer
+      RefutesSorted schema known statement pair.first pair.second pair.answer
   pub answered : AnswersQuery query pair.first pair.answer
   pub wide : length pair.answer ≡ length query.head
 

@@ -1,5 +1,5 @@
 -- The branch that is chosen for a query, and what is known of its cost.
-use Rattle.std.specs.Prelude.{◌≡◌, ℕ, ◌<◌, ◌≤◌, List, Contains, None, length}
+use Rattle.std.specs.Prelude.{◌≡◌, ℕ, ◌+◌, ◌*◌, ◌<◌, ◌≤◌, List, Contains, None, length}
 use Rattle.std.specs.Option.{IfSome}
 use Rattle.meaning.specs.declared.types.SchemaParts.{SchemaParts}
 use Rattle.meaning.specs.declared.types.Query.{Query}
@@ -10,8 +10,10 @@ use Rattle.meaning.specs.declared.types.Val.TheVariants.{Const}
 use Rattle.meaning.specs.Matching.{IsQueryAnswer, GroundsOf}
 use Rattle.meaning.specs.Values.{Value}
 use Rattle.meaning.specs.Costs.{IsCost}
-use Rattle.meaning.specs.Extract.{IsQueryRival}
 use Rattle.meaning.specs.Runs.{opening, frozen_head}
+use Rattle.access_schema.specs.declared.limits.TheConstants.{MOST_VARIABLES}
+use Rattle.rule_pass.specs.declared.pass.TheConstants.{HIGHEST_FIRST_LABEL}
+use Rattle.integer_laws.specs.Claimed.{IsSortedRival}
 use Rattle.least_search.specs.declared.search.Ended.TheVariants as ended
 use Rattle.least_search.specs.declared.search.Outcome.{Outcome}
 use Rattle.least_search.specs.Walks.{CanGain, IsNode}
@@ -24,10 +26,10 @@ use Rattle.proof_search.specs.declared.outcome.Choice.{Choice}
 use Rattle.proof_search.specs.Branches.{IsQueryBranch}
 use Rattle.proof_search.specs.Chosen.{AreSpent, HasLongRun}
 
--- No rival for the query, among all the queries, costs less than the branch.
+-- No rival for the query on instances of integers, among all the queries, costs less than the branch.
 abbrev pub IsLeastFor : SchemaParts → List Value → List Query → Query → Branch → Type 0
 IsLeastFor schema known queries query branch =
-    (rival : Branch) (cost other : ℕ) → IsQueryRival schema known queries query rival →
+    (rival : Branch) (cost other : ℕ) → IsSortedRival schema known queries query rival →
     IsCost schema branch cost → IsCost schema rival other → cost ≤ other
 
 -- The branch has a cost, which is at most so much.
@@ -41,13 +43,14 @@ pub record ArePossibleGoals (queries : List Query) (head : List Val) (facts : Li
   pub few : length goals ≤ length queries
 
 -- The space is that of the query's base firings, for the goals that are possible over its base facts among these queries, with the query's
--- frozen head, in runs of so many firings.
+-- frozen head, in runs of so many firings, each of which gives few labels.
 pub record IsSpaceOf (schema : SchemaParts) (queries : List Query) (query : Query) (firings : ℕ) (space : Exploring) : Type 0 where
   pub schema_is : space.schema ≡ schema
   pub start : space.start ≡ opening query
   pub goals : ArePossibleGoals queries space.head space.base.facts space.queries
   pub head : space.head ≡ frozen_head query
   pub budget : space.budget ≡ firings
+  pub labels : space.base.next ≤ HIGHEST_FIRST_LABEL + firings * MOST_VARIABLES
   pub founded : IsFounded space
 
 -- What a search of the space has found costs less than the bound, and what its end says is so: no walk to a goal costs less than what

@@ -10,9 +10,10 @@ use Rattle.meaning.specs.declared.types.Statement.{Statement}
 use Rattle.meaning.specs.declared.types.Trigger.{Trigger}
 use Rattle.meaning.specs.Values.{Value}
 use Rattle.meaning.specs.Conjunctive.{IsConjunctive}
-use Rattle.meaning.specs.Costs.{IsCost, IsLeast}
+use Rattle.meaning.specs.Costs.{IsCost}
 use Rattle.meaning.specs.Runs.{Proof, IsRun, IsBaseRun, opening, opening_state}
 use Rattle.meaning.specs.Triggers.{State, IsQuiet}
+use Rattle.integer_laws.specs.Claimed.{IsSortedLeast}
 use Rattle.exposure_search.specs.Tries.{exposures_in}
 use Rattle.exposure_search.specs.Trials.{HasMoreToDo}
 use Rattle.findings.specs.declared.least.Least.{Least}
@@ -67,10 +68,10 @@ pub record OfForm (schema : SchemaParts) (select : Select) (P : Query → Type 0
   pub numbered : IsNumbered query
   pub so : P query
 
--- What is said of the cost of a select's branch is so: no rival costs less; or all units of the search were spent, and there was more to
+-- What is said of the cost of a select's branch is so: no rival on instances of integers costs less; or all units of the search were spent, and there was more to
 -- do; or some run of the select is longer than the budget of firings.
 abbrev pub IsSaid : Schema → Statement → ℕ → ℕ → Select → Branch → Least → Type 0
-IsSaid schema statement firings search select branch Shown = IsLeast (meaning_of schema) (known_of schema statement) statement select branch
+IsSaid schema statement firings search select branch Shown = IsSortedLeast (meaning_of schema) (known_of schema statement) statement select branch
 IsSaid schema statement firings search select branch (SearchSpent units) =
     (units ≡ search) × OfForm (meaning_of schema) select (AreSpent (meaning_of schema) (known_of schema statement) firings search branch)
 IsSaid schema statement firings search select branch (FiringsSpent spent) =

@@ -7,10 +7,10 @@ use Rattle.meaning.specs.declared.types.Select.{Select}
 use Rattle.meaning.specs.declared.types.Statement.{Statement}
 use Rattle.meaning.specs.declared.types.Firing.{Firing}
 use Rattle.meaning.specs.Answers.{AnswersSelect}
-use Rattle.meaning.specs.Claims.{Refutes}
 use Rattle.meaning.specs.Costs.{IsRival}
 use Rattle.meaning.specs.Conjunctive.{IsConjunctive, StandFor}
 use Rattle.meaning.specs.Runs.{Proof, IsOrderedRun, HasGoal, opening, frozen_head}
+use Rattle.integer_laws.specs.Claimed.{RefutesSorted}
 use Rattle.access_schema.specs.declared.schema.Schema.{Schema}
 use Rattle.access_schema.specs.Meaning.{meaning_of}
 use Rattle.sql_conjunctive.specs.Form.{Clashes, IsNumbered}
@@ -51,10 +51,10 @@ abbrev pub IsOpenSelect : Schema → Statement → ℕ → Select → Type 0
 IsOpenSelect schema statement firings select =
     IsAnswered schema statement select ⊎ ((log : List Firing) × IsSpentSelect schema statement firings select log)
 
--- The pair refutes, so no lawful plan is equivalent to the statement; and the answer is as wide as each select. It is that of a select, whose
+-- The pair refutes by instances of integers, so no lawful plan is equivalent to the statement on these; and the answer is as wide as each select. It is that of a select, whose
 -- answer it is on the first instance, before which no select refutes.
 pub record IsRefutation (schema : Schema) (statement : Statement) (firings : ℕ) (pair : Witness) : Type 0 where
-  pub refutes : Refutes (meaning_of schema) (known_of schema statement) statement pair.first pair.second pair.answer
+  pub refutes : RefutesSorted (meaning_of schema) (known_of schema statement) statement pair.first pair.second pair.answer
   pub none : HasNoPlan schema statement
   pub wide : (select : Select) → Contains statement.selects select → length pair.answer ≡ length select.items
   pub number : ℕ

@@ -10,6 +10,7 @@ use Rattle.meaning.specs.Claims.{IsEquivalent}
 use Rattle.access_schema.specs.declared.schema.Schema.{Schema}
 use Rattle.access_schema.specs.Meaning.{meaning_of}
 use Rattle.access_schema.specs.Lists.{once_after}
+use Rattle.integer_laws.specs.Claimed.{IsSortedEquivalent}
 use Rattle.sql_select.specs.Known.{literals_in}
 use Rattle.rule_pass.specs.declared.pass.TheConstants.{MOST_FIRINGS}
 
@@ -29,7 +30,8 @@ pub record HasFewSteps (plan : Plan) : Type 0 where
   pub branches : length plan.branches ≤ 16
   pub steps : (branch : Branch) → Contains plan.branches branch → length branch.steps ≤ MOST_FIRINGS
 
--- No lawful plan over the known constants is equivalent to the statement.
+-- No lawful plan over the known constants is equivalent to the statement on the instances of integers that meet the rules.
 abbrev pub HasNoPlan : Schema → Statement → Type 0
 HasNoPlan schema statement =
-    (plan : Plan) → IsLawful plan (meaning_of schema) (known_of schema statement) → IsEquivalent plan statement (meaning_of schema) → ⊥
+    (plan : Plan) → IsLawful plan (meaning_of schema) (known_of schema statement) →
+    IsSortedEquivalent plan statement (meaning_of schema) → ⊥

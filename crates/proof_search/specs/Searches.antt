@@ -6,6 +6,7 @@ use Rattle.meaning.specs.declared.types.Ground.{Ground}
 use Rattle.meaning.specs.declared.types.Firing.{Firing}
 use Rattle.meaning.specs.declared.types.Firing.TheVariants.{Expose}
 use Rattle.meaning.specs.Values.{Value}
+use Rattle.meaning.specs.Sorts.{AtomsAreSorted}
 use Rattle.meaning.specs.Runs.{Proof, last_part}
 use Rattle.meaning.specs.Fitting.{QueryFits, QueryHasConstants}
 use Rattle.rule_pass.specs.declared.pass.TheConstants.{HIGHEST_FIRST_LABEL}
@@ -13,12 +14,14 @@ use Rattle.accessible_copy.specs.Proving.{Proving, IsProofOf, IsOrdered, log_of}
 use Rattle.accessible_copy.specs.Listing.{CanFire}
 use Rattle.accessible_copy.specs.Goals.{IsCounted}
 
--- A query can be searched where it fits the schema, its variables are counted and few, and its constants are known.
+-- A query can be searched where it fits the schema, its variables are counted and few, its constants are known, and those at integer
+-- columns are integers.
 pub record IsSearchable (schema : SchemaParts) (known : List Value) (query : Query) : Type 0 where
   pub fits : QueryFits schema query
   pub constants : QueryHasConstants known query
   pub counted : IsCounted query
   pub few : query.variables ≤ HIGHEST_FIRST_LABEL
+  pub sorted : AtomsAreSorted schema query.atoms
 
 -- Queries can be searched where each can.
 abbrev pub AreSearchable : SchemaParts → List Value → List Query → Type 0

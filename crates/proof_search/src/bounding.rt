@@ -1,5 +1,5 @@
 // A lower bound for the cost of a query's branches, over a small base.
-ghost use Rattle.std.specs.Prelude.{◌≡◌, ◌≤◌, IfOk, Ok, None, true};
+ghost use Rattle.std.specs.Prelude.{◌≡◌, ◌≤◌, IfOk, Ok, None, true, length};
 ghost use Rattle.access_schema.specs.Meaning.{meaning_of};
 ghost use Rattle.meaning.specs.Runs.{opening};
 ghost use Rattle.rule_pass.specs.declared.pass.TheConstants.{HIGHEST_FIRST_LABEL};
@@ -150,6 +150,7 @@ fn is_least_among(
     requires base { IsBaseProof (meaning_of question.now.schema.now) base }
     requires start { base.start ≡ opening more.now }
     requires constants { base.constants ≡ question.now.known.now }
+    requires base_few { length base.entries ≤ question.now.firings }
     requires branch { IsBranchOn question.now branch.now }
     ensures { result ≡ Ok true →
         IsLeastFor (meaning_of question.now.schema.now) question.now.known.now question.now.queries.now question.now.query.now branch.now }

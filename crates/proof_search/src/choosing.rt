@@ -1,5 +1,5 @@
 // The branch of a query that costs the least.
-ghost use Rattle.std.specs.Prelude.{◌≡◌, ℕ, IfOk, OnOk};
+ghost use Rattle.std.specs.Prelude.{◌≡◌, ◌≤◌, ℕ, IfOk, OnOk, length};
 ghost use Rattle.std.specs.Option.{IfSome, IfNone};
 ghost use Rattle.meaning.specs.Runs.{opening};
 ghost use Rattle.access_schema.specs.Meaning.{meaning_of};
@@ -68,6 +68,7 @@ fn choose_over(
     requires base { IsBaseProof (meaning_of question.now.schema.now) base }
     requires start { base.start ≡ opening question.now.query.now }
     requires constants { base.constants ≡ question.now.known.now }
+    requires few { length base.entries ≤ question.now.firings }
     ensures { IfOk result (IsChoiceOn question.now search) }
 {
     // a drop that is written out is proved as one call, and one at the end of a scope as a call for each list in the value
@@ -95,6 +96,7 @@ fn choose_among(
     requires base { IsBaseProof (meaning_of question.now.schema.now) base }
     requires start { base.start ≡ opening question.now.query.now }
     requires constants { base.constants ≡ question.now.known.now }
+    requires few { length base.entries ≤ question.now.firings }
     ensures { IfOk result (IsChoiceOn question.now search) }
 {
     let firings = question.firings;

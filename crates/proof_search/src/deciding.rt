@@ -100,7 +100,10 @@ fn decide_on(
                 choices,
             )
         }
-        Outcome::Stuck(pair) => Ok(Decision::NoPlan(pair)),
+        Outcome::Stuck(pair) => {
+            integer_laws::laws::no_sorted_plan();
+            Ok(Decision::NoPlan(pair))
+        }
         Outcome::Spent(number, log) => Ok(Decision::Undecided {
             select: place_of(forms, number),
             log,

@@ -1,4 +1,5 @@
 pub mod Fits
+pub mod Sorted
 pub mod RightDecisions
 pub mod Writing
 pub mod Results

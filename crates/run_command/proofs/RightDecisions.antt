@@ -9,9 +9,9 @@ use Rattle.meaning.specs.declared.types.Select.{Select}
 use Rattle.meaning.specs.declared.types.Statement.{Statement}
 use Rattle.meaning.specs.Values.{Value}
 use Rattle.meaning.specs.Instances.{IsWithin}
-use Rattle.meaning.specs.Claims.{Refutes}
 use Rattle.meaning.specs.Answers.{AnswersSelect}
-use Rattle.meaning_laws.proofs.Members.{answers_within, refutes_alike}
+use Rattle.meaning_laws.proofs.Members.{answers_within}
+use Rattle.integer_laws.specs.Claimed.{RefutesSorted}
 use Rattle.access_schema.specs.declared.schema.Schema.{Schema}
 use Rattle.access_schema.specs.Meaning.{meaning_of}
 use Rattle.sql_select.specs.Statements.{StatementFits}
@@ -33,6 +33,7 @@ use Rattle.run_command.specs.Deciding.{IsPlanned, IsDecided, IsRefuted, Shows, o
 use Rattle.run_command.specs.Deciding.IsDecided.{plan, no_plan, undecided}
 use Rattle.run_command.specs.Deciding.Shows.{plan as shows_plan, no_plan as shows_none, undecided as shows_log}
 use Rattle.run_command.proofs.Fits.{plan_fits}
+use Rattle.run_command.proofs.Sorted.{refutes_sorted_alike}
 
 -- what the search decides is right, and a plan can be written
 pub decided_right : (schema : Schema) (statement : Statement) (firings search : ℕ) (decision : Decision) → StatementFits schema statement →
@@ -90,8 +91,8 @@ pub refuted : (schema : Schema) (statement : Statement) (firings : ℕ) (pair : 
     IsRefutation schema statement firings pair → IsDecisionText schema (NoPlan pair) text → IsUtf8 text → IsRefuted schema statement firings text
 refuted schema statement firings pair text fits is of utf8 =
     let fitting : FitsSchema schema pair = record {
-      first = is.refutes.first_meets.fits;
-      second = is.refutes.second_meets.fits;
+      first = is.refutes.refutes.first_meets.fits;
+      second = is.refutes.refutes.second_meets.fits;
       some = some_answer schema statement pair.answer fits is.wide;
     } in
     let again : IsReadAs schema text pair = printed_again schema pair text fitting of in
@@ -100,8 +101,10 @@ refuted schema statement firings pair text fits is of utf8 =
       printed = printed_alike schema pair again.read text again.same of;
       reads = (utf8, again.says);
       refutes = record {
-        refutes = subst (λ row. Refutes (meaning_of schema) (known_of schema statement) statement again.read.first again.read.second row) (sym again.same.answer)
-            (refutes_alike (meaning_of schema) (known_of schema statement) statement pair.first pair.second again.read.first again.read.second pair.answer
+        refutes = subst
+            (RefutesSorted (meaning_of schema) (known_of schema statement) statement again.read.first again.read.second)
+            (sym again.same.answer) (refutes_sorted_alike (meaning_of schema) (known_of schema statement) statement
+            pair.first pair.second again.read.first again.read.second pair.answer
             again.same.first_there again.same.first_only again.same.second_there again.same.second_only is.refutes);
         none = is.none;
         wide = λ select among. ap length again.same.answer ∙ is.wide select among;

@@ -20,8 +20,8 @@ use Rattle.command_io.specs.declared.outcome.Outcome.{Outcome}
 use Rattle.command_io.specs.declared.outcome.Outcome.TheVariants as outcome
 use Rattle.command_io.specs.Writing.{TookAll, TookPart}
 
--- The plan is one for the statement and within the limits of plan texts; what is said of each select is so, of the cost of its branch
--- and of its rivals; and the text of both reads as the plan.
+-- The plan is one for the statement and within the limits of plan texts; what is said of each select is so, of the cost
+-- of its branch and of its rivals on instances of integers; and the text of both reads as the plan.
 pub record IsPlanned (schema : Schema) (statement : Statement) (firings search : ℕ) (plan : PlanOf) (entries : List Chosen) : Type 0 where
   pub is : IsPlanFor schema statement plan
   pub fits : PlanFits plan
@@ -37,8 +37,9 @@ pub data IsDecided (schema : Schema) (statement : Statement) (firings search : �
   undecided : (select : ℕ) (log : List Firing) → IsUndecided schema statement firings select log →
       IsDecided schema statement firings search (Undecided select log)
 
--- The text is that of two instances and a row, with the facts of each instance once and in ascending order, and reads as them. They
--- refute by the first select that does, so that no lawful plan is equivalent to the statement.
+-- The text is that of two instances of integers and a row, with the facts of each instance once and in ascending order,
+-- and reads as them. They refute by the first select that does, so that no lawful plan is equivalent to the statement
+-- on every instance of integers that meets the rules.
 pub record IsRefuted (schema : Schema) (statement : Statement) (firings : ℕ) (text : List ℕ) : Type 0 where
   pub pair : Witness
   pub printed : IsPrintedWitness schema pair text

@@ -18,10 +18,11 @@ use Rattle.meaning.specs.Values.{Value}
 use Rattle.meaning.specs.Rows.{IsBranchRow}
 use Rattle.meaning.specs.Plans.{IsLawful}
 use Rattle.meaning.specs.Claims.{IsEquivalent}
-use Rattle.meaning.specs.Costs.{IsCost, IsRival, IsLeast}
+use Rattle.meaning.specs.Costs.{IsCost, IsRival}
 use Rattle.meaning.specs.Conjunctive.{AreJoined, given, alike, turned, chained, IsConjunctive}
 use Rattle.meaning.specs.Runs.{IsRun, opening}
 use Rattle.meaning_laws.proofs.Kept.{ordered_is_run}
+use Rattle.integer_laws.specs.Claimed.{IsSortedSelectRival, IsSortedLeast}
 use Rattle.access_schema.specs.declared.schema.Schema.{Schema}
 use Rattle.access_schema.specs.Meaning.{meaning_of}
 use Rattle.access_schema.specs.Lists.{once_after}
@@ -39,6 +40,7 @@ use Rattle.proof_search.specs.Chosen.{IsEnough, NoneIsEnough, HasLongRun, IsSaid
 use Rattle.proof_search.specs.Decisions.{IsRefutation, IsUndecided}
 use Rattle.run_command.specs.Deciding.{IsDecided, plan, no_plan, undecided}
 use Rattle.run_command.specs.declared.world.TheConstants.{FIRINGS, UNITS}
+use Rattle.run_command.proofs.Sorted.{sorted_equivalent}
 use Rattle.world_laws.specs.World.{IsWorldSchema, joined, world_select, world_statement}
 use Rattle.world_laws.specs.Plan.{world, world_branch, world_plan}
 use Rattle.world_laws.proofs.Read.{world_meaning}
@@ -108,6 +110,14 @@ no_long_run query form (log, (end, run), long) = let short = (runs_short query f
 
 -- ---- the decision
 
+-- the branch of the world's plan is a rival on instances of integers, as it is one on all
+sorted_rival : IsSortedSelectRival world [] world_statement world_select world_branch
+sorted_rival = record {
+  lawful = branch_rival.lawful;
+  sound = λ facts row model. branch_rival.sound facts row model.model;
+  complete = λ facts row model. branch_rival.complete facts row model.model;
+}
+
 known_none : (n : ℕ) (schema : Schema) → IsWorldSchema n schema → known_of schema world_statement ≡ []
 known_none n schema is = ap (λ (known : List Value). once_after known (literals_in world_statement.selects)) is.constants
 
@@ -120,8 +130,12 @@ module _ (n : ℕ) (schema : Schema) (is : IsWorldSchema n schema) where
 
   said_least : (branch : Branch) (least : Least) (cost : ℕ) → IsRival world [] world_statement world_select branch → IsCost world branch cost → IsSaid schema world_statement FIRINGS UNITS world_select branch least → (cost ≡ 8) × (least ≡ Shown)
   said_least branch Shown cost rival costs said =
-      let said_here : IsLeast world [] world_statement world_select branch = subst (λ (cs : List Value). IsLeast world cs world_statement world_select branch) known (subst (λ (s : SchemaParts). IsLeast s (known_of schema world_statement) world_statement world_select branch) meant said) in
-      let most = said_here world_branch cost 8 branch_rival costs branch_cost in
+      let said_of : IsSortedLeast world (known_of schema world_statement) world_statement world_select branch =
+      subst (λ (s : SchemaParts). IsSortedLeast s (known_of schema world_statement) world_statement world_select branch)
+      meant said in
+      let said_here : IsSortedLeast world [] world_statement world_select branch =
+      subst (λ (cs : List Value). IsSortedLeast world cs world_statement world_select branch) known said_of in
+      let most = said_here world_branch cost 8 sorted_rival costs branch_cost in
       let least = least_cost branch cost rival costs in
       (omega (arith, most, least), refl)
   said_least branch (SearchSpent units) cost rival costs (spent, of_form) =
@@ -172,7 +186,8 @@ module _ (n : ℕ) (schema : Schema) (is : IsWorldSchema n schema) where
   pub never_refuted : (pair : Witness) → IsRefutation schema world_statement FIRINGS pair → ⊥
   never_refuted pair refutation = refutation.none world_plan
       (subst (λ (s : SchemaParts). IsLawful world_plan s (known_of schema world_statement)) (sym meant) (subst (λ (cs : List Value). IsLawful world_plan world cs) (sym known) plan_lawful))
-      (subst (λ (s : SchemaParts). IsEquivalent world_plan world_statement s) (sym meant) plan_equivalent)
+      (sorted_equivalent (meaning_of schema) world_plan world_statement
+      (subst (λ (s : SchemaParts). IsEquivalent world_plan world_statement s) (sym meant) plan_equivalent))
 
   pub never_undecided : (select : ℕ) (log : List Firing) → IsUndecided schema world_statement FIRINGS select log → ⊥
   never_undecided select log is =

@@ -12,6 +12,7 @@ use Rattle.meaning.specs.declared.types.Ground.{Ground}
 use Rattle.meaning.specs.declared.types.SchemaParts.{SchemaParts}
 use Rattle.meaning.specs.declared.types.Trigger.{Trigger}
 use Rattle.meaning.specs.Added.{with_facts}
+use Rattle.meaning.specs.Sorts.{RuleIsSorted}
 use Rattle.meaning.specs.Triggers.{bound, IsNumbered, State, LabelsBelow, assigned, ground, IsTrigger}
 use Rattle.meaning.specs.Naming.{IsNamed, AreNamed}
 use Rattle.meaning.specs.Fitting.{RulesFit, Fit}
@@ -21,6 +22,8 @@ use Rattle.meaning_laws.proofs.Carrying.{occurs_below}
 use Rattle.meaning_laws.proofs.Deciding.{same_facts}
 use Rattle.meaning_laws.proofs.Joined.{joined_below}
 use Rattle.meaning_laws.proofs.Keeping.{named_more, head_values, head_fits}
+use Rattle.integer_laws.specs.Sorted.{AreSortedGrounds}
+use Rattle.integer_laws.proofs.Firings.{firing_sorted}
 use Rattle.homomorphism.specs.declared.assignment.Assignment.{Assignment}
 use Rattle.homomorphism.specs.Bindings.{at}
 use Rattle.homomorphism.specs.Frontier.{StandForAll}
@@ -37,6 +40,7 @@ grows_itself schema state = record {
   later = omega arith;
   named = λ constants have named. named;
   fits = λ fit. fit;
+  sorted = λ rules are. are;
 }
 
 pub grows_on : (schema : SchemaParts) (facts : List Ground) (next : ℕ) (middle end : State) → GrowsFrom schema facts next middle → GrowsFrom schema middle.facts middle.next end → GrowsFrom schema facts next end
@@ -45,6 +49,7 @@ grows_on schema facts next middle end first second = record {
   later = let l = first.later in let m = second.later in omega arith;
   named = λ constants have named. second.named constants have (first.named constants have named);
   fits = λ fit. second.fits (first.fits fit);
+  sorted = λ rules are. second.sorted rules (first.sorted rules are);
 }
 
 -- facts that are put into a store, each once
@@ -54,6 +59,7 @@ grows_start schema facts next = record {
   later = omega arith;
   named = λ constants have named fact v c i. named fact v (from fact c) i;
   fits = λ fit fact c. fit fact (from fact c);
+  sorted = λ rules are fact c. are fact (from fact c);
 }
   where
     from : (fact : Ground) → Contains (with_facts [] facts) fact → Contains facts fact
@@ -85,6 +91,13 @@ module _ (rules : List Rule) (facts : List Ground) (trigger : Trigger) (rule : R
         (λ new. head_fits schema trigger rule (λ atom among. fits.heads rule atom of_rules among) fact new)
         (added_cases facts (map (ground (assigned trigger)) rule.head) fact (subst (λ fs. Contains fs fact) news c))
 
+    -- sorts are those of the relations, whatever the rules
+    shared_sorted : RuleIsSorted schema rule → AreSortedGrounds schema state.facts → AreSortedGrounds schema now.facts
+    shared_sorted sorted are =
+        subst (λ fs. AreSortedGrounds schema fs) (sym news)
+        (firing_sorted (record schema { rules = rules }) (record { facts = facts; next = trigger.fresh }) trigger rule is numbered
+        (record { constants = sorted.constants; variables = sorted.variables }) (subst (λ fs. AreSortedGrounds schema fs) from are))
+
     -- a firing with shared labels
     pub shared_grows : RulesFit schema schema.constants → Contains schema.rules rule → state.next ≤ now.next → trigger.fresh + (bound rule.head - bound rule.body) ≤ now.next → GrowsFrom schema state.facts state.next now
     shared_grows fits of_rules later enough = record {
@@ -92,6 +105,7 @@ module _ (rules : List Rule) (facts : List Ground) (trigger : Trigger) (rule : R
       later = later;
       named = λ constants have named. shared_named constants (λ atom t among has. (have rule of_rules).1 atom t among has) later enough named;
       fits = shared_fits fits of_rules;
+      sorted = λ rules_are. shared_sorted (rules_are rule of_rules);
     }
 
 -- matches that are left of those that were found in earlier facts

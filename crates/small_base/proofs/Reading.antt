@@ -1,8 +1,8 @@
 -- Facts as the atoms of a query, and what the query keeps of the state that has them.
-use Rattle.std.proofs.Common.{◌≡◌, ℕ, ◌<◌, ◌≤◌, List, [], ◌∷◌, length, refl, sym, ap, ◌∙◌, subst, ⊎_elim, arith}
+use Rattle.std.proofs.Common.{◌≡◌, ℕ, ◌<◌, ◌≤◌, List, [], ◌∷◌, length, slice_get, Some, refl, sym, ap, ◌∙◌, subst, ⊎_elim, arith}
 use Rattle.std.specs.Prelude.{Contains, map}
 use Rattle.std.proofs.lemmas.List.{length-map}
-use Rattle.lists.proofs.Members.{contains_here, contains_there, contains_map, contains_mapped}
+use Rattle.lists.proofs.Members.{contains_here, contains_there, contains_map, contains_mapped, got_mapped}
 use Rattle.meaning.specs.declared.types.Term.{Term}
 use Rattle.meaning.specs.declared.types.Term.TheVariants.{Var, Const as Said}
 use Rattle.meaning.specs.declared.types.Val.{Val}
@@ -12,6 +12,8 @@ use Rattle.meaning.specs.declared.types.Ground.{Ground}
 use Rattle.meaning.specs.declared.types.Query.{Query}
 use Rattle.meaning.specs.declared.types.Rule.{Rule}
 use Rattle.meaning.specs.declared.types.SchemaParts.{SchemaParts}
+use Rattle.meaning.specs.Integers.{IsInteger}
+use Rattle.meaning.specs.Sorts.{HoldsIntegers, AtomsAreSorted}
 use Rattle.meaning.specs.Matching.{value_of}
 use Rattle.meaning.specs.Triggers.{terms_bound, bound, State, LabelsBelow, ground, IsQuiet}
 use Rattle.meaning.specs.Runs.{opening_state}
@@ -21,6 +23,8 @@ use Rattle.meaning_laws.specs.Trims.{AreIn}
 use Rattle.meaning_laws.proofs.Added.{added_right, added_cases}
 use Rattle.meaning_laws.proofs.Carrying.{occurs_below}
 use Rattle.meaning_laws.proofs.Fits.{fits_alike}
+use Rattle.integer_laws.specs.Sorted.{AreSortedGrounds, AreSortedRules}
+use Rattle.integer_laws.proofs.Firings.{opening_sorted}
 use Rattle.small_base.specs.Closing.{IsClosing}
 use Rattle.small_base.specs.Closed.{term_of, atom_of, query_of, HasMore, IsClosed}
 
@@ -116,6 +120,11 @@ module _ (query : Query) (counted : bound query.atoms ≤ query.variables) where
       let (atom, among, e) = contains_mapped (ground Label) query.atoms fact c in
       fits_alike schema atom.rel fact.rel atom.terms fact.vals (ap (λ (f : Ground). f.rel) e) (ap (λ (f : Ground). length f.vals) (sym e) ∙ length-map atom.terms (value_of Const Label)) (fits.arity atom among)
 
+  frozen_sorted : (schema : SchemaParts) → AtomsAreSorted schema query.atoms → AreSortedGrounds schema (map (ground Label) query.atoms)
+  frozen_sorted schema are fact c =
+      let opened = opening_sorted schema query are in
+      opened.base fact (added_right [] (map (ground Label) query.atoms) fact c)
+
   module _ (schema : SchemaParts) (state : State) (closing : IsClosing schema (map (ground Label) query.atoms) query.variables state) where
     closed_more : HasMore query (query_of query state)
     closed_more = record {
@@ -147,11 +156,28 @@ module _ (query : Query) (counted : bound query.atoms ≤ query.variables) where
             said_is e = cc
         named_constant (Label k) t e is = absurd (cc)
 
+    closed_sorted : AreSortedRules schema → AtomsAreSorted schema query.atoms → AtomsAreSorted schema (query_of query state).atoms
+    closed_sorted rules are atom c place t holds at =
+        let (fact, among, e) = contains_mapped atom_of state.facts atom c in
+        let (v, got, same) = got_mapped term_of fact.vals place (Said t) (subst (λ (a : Atom). slice_get a.terms place ≡ Some (Said t)) (sym e) at) in
+        let here : HoldsIntegers schema fact.rel place = subst (λ r. HoldsIntegers schema r place) (sym (ap (λ (a : Atom). a.rel) e)) holds in
+        sorted_constant fact v t same (closing.grows.sorted rules (frozen_sorted schema are) fact among place) here got
+      where
+        sorted_constant : (fact : Ground) (v : Val) (t : List ℕ) → term_of v ≡ Said t →
+            ((c : List ℕ) → HoldsIntegers schema fact.rel place → slice_get fact.vals place ≡ Some (Const c) → IsInteger c) →
+            HoldsIntegers schema fact.rel place → slice_get fact.vals place ≡ Some v → IsInteger t
+        sorted_constant fact (Const s) t e is here got = let same : s ≡ t = said_is e in subst IsInteger same (is s here got)
+          where
+            said_is : {s t : List ℕ} → Said s ≡ Said t → s ≡ t
+            said_is e = cc
+        sorted_constant fact (Label k) t e is here got = absurd (cc)
+
     -- the query over a closing of its frozen atoms
     pub closed_is : LabelsBelow state.facts state.next → IsClosed schema query (query_of query state)
     closed_is below = record {
       more_atoms = closed_more;
       fits = closed_fits below;
       constants = closed_have;
+      sorted = closed_sorted;
       quiet = quiet_same schema.rules state (opening_state (query_of query state)) (opened_to query state) (opened_from query state) refl closing.quiet;
     }

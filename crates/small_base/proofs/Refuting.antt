@@ -12,8 +12,8 @@ use Rattle.meaning.specs.Matching.{value_of, itself, IsQueryAnswer, GroundsOf, A
 use Rattle.meaning.specs.Triggers.{State}
 use Rattle.meaning.specs.Naming.{AreNamed}
 use Rattle.meaning.specs.Fitting.{RulesHaveConstants, Fit}
-use Rattle.meaning.specs.Extract.{IsQueryRival}
 use Rattle.meaning_laws.specs.Rests.{HasGoalOver}
+use Rattle.integer_laws.specs.Claimed.{IsSortedRival}
 use Rattle.small_base.specs.Closing.{IsClosing}
 use Rattle.small_base.specs.Closed.{HasMore}
 
@@ -21,7 +21,8 @@ use Rattle.small_base.specs.Closed.{HasMore}
 fewer_atoms : (query more : Query) (facts : List Fact) (row : List (List ℕ)) → HasMore query more → AnswersQuery more facts row → AnswersQuery query facts row
 fewer_atoms query more facts row has (a, are, e) = (a, (λ atom c. are atom (has.atoms atom c)), e ∙ ap (map (value_of itself a)) has.head)
 
-pub rivals_of_more : (schema : SchemaParts) (constants : List (List ℕ)) (queries : List Query) (query more : Query) (branch : Branch) → HasMore query more → IsQueryRival schema constants queries query branch → IsQueryRival schema constants queries more branch
+pub rivals_of_more : (schema : SchemaParts) (constants : List (List ℕ)) (queries : List Query) (query more : Query) (branch : Branch) → HasMore query more →
+    IsSortedRival schema constants queries query branch → IsSortedRival schema constants queries more branch
 rivals_of_more schema constants queries query more branch has rival = record {
   lawful = rival.lawful;
   sound = rival.sound;

@@ -11,16 +11,16 @@ ghost use Rattle.meaning.specs.Matching.{IsQueryAnswer, GroundsOf};
 ghost use Rattle.meaning.specs.Triggers.{State};
 ghost use Rattle.meaning.specs.Naming.{AreNamed};
 ghost use Rattle.meaning.specs.Fitting.{RulesHaveConstants, Fit};
-ghost use Rattle.meaning.specs.Extract.{IsQueryRival};
 ghost use Rattle.meaning_laws.specs.Rests.{HasGoalOver};
+ghost use Rattle.integer_laws.specs.Claimed.{IsSortedRival};
 ghost use Rattle.small_base.specs.Closing.{IsClosing};
 ghost use Rattle.small_base.specs.Closed.{HasMore};
 
-/// A rival for a query is one for each query with its head and more atoms.
+/// A rival for a query on sorted models is one for each query with its head and more atoms.
 pub fn rivals_of_more()
     ensures { (schema : SchemaParts) (constants : List Value) (queries : List Query) (query more : Query) (branch : Branch) →
-        HasMore query more → IsQueryRival schema constants queries query branch →
-        IsQueryRival schema constants queries more branch }
+        HasMore query more → IsSortedRival schema constants queries query branch →
+        IsSortedRival schema constants queries more branch }
 {}
 
 /// Facts with a closing in which no query has the head have no goal, where states may have as many labels as it has: rules have known

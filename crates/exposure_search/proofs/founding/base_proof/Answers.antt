@@ -1,4 +1,4 @@
-use Rattle.std.proofs.Common.{◌≡◌, Ok, ap, ◌∙◌, subst}
+use Rattle.std.proofs.Common.{◌≡◌, ◌≤◌, Ok, length, ap, ◌∙◌, subst}
 use Rattle.meaning.specs.Runs.{opening}
 use Rattle.access_schema.specs.Meaning.{meaning_of}
 use Rattle.accessible_copy.specs.Proving.{Proving}
@@ -18,6 +18,10 @@ returns-clause-start c =
 pub returns-clause-constants : goal.returns-clause-constants
 returns-clause-constants c =
     rw c.then_some.ensures (kept_some c.in-Ok.quiet c.fire_base.new.proof (λ (proof : Proving). proof.constants ≡ c.args.known.now) (λ on. c.in-Ok.ensures.constants ∙ c.in_ok-proof.ensures.constants))
+
+pub returns-clause-few : goal.returns-clause-few
+returns-clause-few c =
+    rw c.then_some.ensures (kept_some c.in-Ok.quiet c.fire_base.new.proof (λ (proof : Proving). length proof.entries ≤ c.args.budget) (λ on. c.in-Ok.ensures.few))
 
 pub returns-clause-none : goal.returns-clause-none
 returns-clause-none c =

@@ -25,7 +25,7 @@ try_both-requires-clause-selects c =
     subst (AreTriable (meaning_of c.args.schema.now) c.args.known.now) (sym c.as_slice.ensures.value)
     (selects_triable c.args.schema.now c.args.known.now c.args.statement.now.selects c.in_ok-selects.selects.items
     (λ text there. subst (λ known. Contains known text) (sym c.requires.known) (once_taken c.args.schema.now.constants (literals_in c.args.statement.now.selects) text there))
-    (λ select among. (c.requires.fits.bounded select among).froms) c.in_ok-selects.ensures)
+    (λ select among. (c.requires.fits.bounded select among).froms) c.requires.fits.sorted c.in_ok-selects.ensures)
 
 pub try_both-requires-clause-branches : goal.try_both-requires-clause-branches
 try_both-requires-clause-branches c =

@@ -3,7 +3,7 @@ use Rattle.meaning.specs.Triggers.{State, IsQuiet}
 use Rattle.meaning.specs.Runs.{opening_state, frozen_head}
 use Rattle.meaning_laws.proofs.Carrying.{run_fires}
 use Rattle.access_schema.specs.Meaning.{meaning_of}
-use Rattle.access_schema.proofs.Keeping.{rules_fit}
+use Rattle.access_schema.proofs.Keeping.{rules_fit, rules_sorted}
 use Rattle.plan_check.specs.Trials.{SomeHas, IsNamedEnd}
 use Rattle.plan_check.proofs.Trying.{triable_counted}
 use Rattle.plan_check.proofs.Ending.{all_contained, is_separated}
@@ -32,7 +32,8 @@ returns-in-Ended c =
     rw (c.store-in-Ended.ensures, c.as_slice-in-Ended.ensures.value, c.in_ok-head-in-Ended.ensures, c.as_slice.ensures) at c.in_ok-instance-in-Ended.ensures in
     is_separated schema c.args.trial.now.known.now (rules_fit c.args.trial.now.schema.now c.args.trial.now.known.now c.requires.trial.known) c.args.query.now c.requires.query c.args.trial.now.others.now c.args.chased.log end
     (run_fires c.args.trial.now.schema.now.rules c.args.chased.log (opening_state c.args.query.now) end c.requires.chase.run)
-    c.requires.trial.others quiet missing c.in_ok-instance-in-Ended.instance c.in_ok-instance-in-Ended.row named
+    (rules_sorted c.args.trial.now.schema.now) c.requires.trial.others quiet missing
+    c.in_ok-instance-in-Ended.instance c.in_ok-instance-in-Ended.row named
 
 pub returns : goal.returns
 returns c =

@@ -16,6 +16,7 @@ attempt_on-requires c =
       few = its.few;
       among = its.among;
       known = λ constant among. its.known constant (subst (λ (s : SchemaParts). Contains s.constants constant) c.requires.part among);
+      few_known = its.few_known;
       head = its.head;
       firings = omega (arith, its.firings, c.min-firings.ensures);
     }

@@ -36,5 +36,7 @@ returns c e =
     let costs : CostsAtMost (meaning_of question.schema.now) c.args.branch.now c.cost-bound.result = (c.cost-bound.result, c.cost-bound.ensures, omega arith) in
     let least : IsLeastCost (space_size space) (CanGain (CanExpose space) (GainsAt space)) (HasGoalAt space) c.cost-bound.result =
     subst (λ (better : Option Node). IsLeastCost (space_size space) (CanGain (CanExpose space) (GainsAt space)) (HasGoalAt space) (best_cost c.cost-bound.result better)) said.1 (c.in_ok-outcome.ensures.found.shown said.0) in
-    least_over question c.requires.question c.args.more.now c.requires.closed c.args.base c.requires.start c.requires.constants c.args.goals.now c.requires.goals space c.in_ok-space.ensures.space c.in_ok-space.ensures.founded
+    least_over question c.requires.question c.args.more.now c.requires.closed c.args.base c.requires.base
+    c.requires.start c.requires.constants c.requires.base_few c.args.goals.now c.requires.goals space
+    c.in_ok-space.ensures.space c.in_ok-space.ensures.founded
     c.cost-bound.result least c.args.branch.now costs

@@ -9,6 +9,7 @@ chosen-requires-clause-question c = record {
   few = c.requires.questions.few;
   among = c.requires.among;
   known = c.requires.questions.known;
+  few_known = c.requires.questions.few_known;
   head = c.from_vec-head.ensures ∙ c.in_ok-frozen_values.ensures ∙ ap (map (value_of Const Label)) c.as_slice.ensures;
   firings = c.requires.questions.firings;
 }

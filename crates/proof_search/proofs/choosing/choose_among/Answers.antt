@@ -38,7 +38,9 @@ pub returns-in_default-better : goal.returns-in_default-better
 returns-in_default-better c =
     let question = c.args.question.now in
     let space = c.in_ok-space.space in
-    let its : IsSpaceOn question space = space_on question c.requires.question c.args.base c.requires.start c.requires.constants c.args.goals.now c.requires.goals space c.in_ok-space.ensures.space c.in_ok-space.ensures.founded in
+    let its : IsSpaceOn question space = space_on question c.requires.question c.args.base c.requires.base
+    c.requires.start c.requires.constants c.requires.few c.args.goals.now c.requires.goals space
+    c.in_ok-space.ensures.space c.in_ok-space.ensures.founded in
     let found : c.in-Ok.field-0.better ≡ None = search (c.in_default-better.is, rules) in
     let costs : CostsAtMost (meaning_of question.schema.now) c.args.first c.cost-bound.result = (c.cost-bound.result, c.cost-bound.ensures, omega arith) in
     chosen_on question c.requires.question space its c.args.search c.args.first c.least_of-least.result c.requires.first c.cost-bound.result costs c.in-Ok.field-0.ended
@@ -49,13 +51,18 @@ returns-in_default-better c =
 pub cheaper-requires-clause-space : goal.cheaper-requires-clause-space
 cheaper-requires-clause-space c =
     let question = c.args.question.now in
-    subst (IsSpaceOn question) (sym c.in-Ok.ensures.back) (space_on question c.requires.question c.args.base c.requires.start c.requires.constants c.args.goals.now c.requires.goals c.in_ok-space.space c.in_ok-space.ensures.space c.in_ok-space.ensures.founded)
+    subst (IsSpaceOn question) (sym c.in-Ok.ensures.back)
+    (space_on question c.requires.question c.args.base c.requires.base c.requires.start c.requires.constants
+    c.requires.few c.args.goals.now c.requires.goals c.in_ok-space.space c.in_ok-space.ensures.space
+    c.in_ok-space.ensures.founded)
 
 pub returns-in-Some-2 : goal.returns-in-Some-2
 returns-in-Some-2 c =
     let question = c.args.question.now in
     let space = c.in_ok-space.space in
-    let its : IsSpaceOn question space = space_on question c.requires.question c.args.base c.requires.start c.requires.constants c.args.goals.now c.requires.goals space c.in_ok-space.ensures.space c.in_ok-space.ensures.founded in
+    let its : IsSpaceOn question space = space_on question c.requires.question c.args.base c.requires.base
+    c.requires.start c.requires.constants c.requires.few c.args.goals.now c.requires.goals space
+    c.in_ok-space.ensures.space c.in_ok-space.ensures.founded in
     let one : IsBranchOn question c.in-Some-2.branch = rw c.in-Some-2.is at c.in_ok-branch.ensures.branch in
     let found : c.in-Ok.field-0.better ≡ Some c.in-Some.node = search (c.in-Some.is, rules) in
     let costs : CostsAtMost (meaning_of question.schema.now) c.in-Some-2.branch c.in-Some.node.cost = rw c.in-Some-2.is at c.in_ok-branch.ensures.cost in

@@ -1,9 +1,11 @@
 use Rattle.std.proofs.Common.{◌≤◌, ◌∙◌, length, sym, ap, subst, arith}
 use Rattle.std.specs.List.{AllZip}
 use Rattle.access_schema.specs.Meaning.{meaning_of}
+use Rattle.access_schema.proofs.Keeping.{well_formed}
 use Rattle.sql_conjunctive.specs.Queries.{IsSelectForm}
 use Rattle.plan_extract.proofs.Zips.{zip_length}
 use Rattle.findings.specs.declared.decision.Decision.TheVariants as decision
+use Rattle.proof_search.specs.Plans.{known_of}
 use Rattle.proof_search.specs.Choices.{IsChoice}
 use Rattle.proof_search.specs.Outcomes.{IsFirstStuck, IsFirstSpent}
 use Rattle.proof_search.specs.Questions.{IsChoiceFor}
@@ -70,7 +72,9 @@ returns-in-Stuck c =
     no_plan pair
     (refuted schema c.args.statement.now c.args.forms.now c.requires.fits c.requires.formed questions.firings pair
     (found_of c.args.statement.now c.args.forms.now questions c.requires
-    (λ known queries. IsFirstStuck (meaning_of schema) known queries questions.firings pair) first))
+    (λ known queries. IsFirstStuck (meaning_of schema) known queries questions.firings pair) first)
+    (c.no_sorted_plan.ensures (meaning_of schema) (known_of schema c.args.statement.now) c.args.statement.now
+    pair.first pair.second pair.answer (well_formed schema)))
 
 pub returns-in-Spent : goal.returns-in-Spent
 returns-in-Spent c =
