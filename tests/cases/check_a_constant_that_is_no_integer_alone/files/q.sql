@@ -1,0 +1,1 @@
+SELECT DISTINCT custkey FROM orders WHERE ordkey = 7
