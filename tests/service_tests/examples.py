@@ -24,7 +24,9 @@ def content(path):
 
 
 def blocks(path):
-    return re.findall(r"^```[a-z]*\n(.*?)^```", content(path), re.MULTILINE | re.DOTALL)
+    """The blocks of a document, with commands that go on in a further line as one line."""
+    text = re.sub(r" \\\n *", " ", content(path))
+    return re.findall(r"^```[a-z]*\n(.*?)^```", text, re.MULTILINE | re.DOTALL)
 
 
 def block_of(path, begin):

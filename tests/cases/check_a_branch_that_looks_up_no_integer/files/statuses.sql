@@ -1,0 +1,1 @@
+SELECT DISTINCT orderkey, status FROM orders
