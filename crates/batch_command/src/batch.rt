@@ -76,14 +76,9 @@ fn read_batch_texts<F: Files>(
     ensures later { F.faults files.old ≤ F.faults files.new }
     ensures same { F.contents files.new ≡ F.contents files.old }
 {
-    let schema = match schema_of(alloc, files, schema_name) {
-        Ok(schema) => schema,
-        Err(stop) => return Err(stop),
-    };
-    match statements_of(alloc, files, queries_name, &schema) {
-        Ok(statements) => Ok((schema, statements)),
-        Err(stop) => Err(stop),
-    }
+    let schema = schema_of(alloc, files, schema_name)?;
+    let statements = statements_of(alloc, files, queries_name, &schema)?;
+    Ok((schema, statements))
 }
 
 // Decides the statements in turn, and where all of them have plans, executes these together and writes the answers.

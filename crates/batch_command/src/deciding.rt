@@ -42,10 +42,7 @@ pub fn decide_all<E: Sink>(
 {
     let mut plans = Vec::new(alloc);
     for statement in statements {
-        match decide_next(alloc, names, schema, statement, limits, &mut plans, err) {
-            Ok(()) => {}
-            Err(end) => return Err(end),
-        }
+        decide_next(alloc, names, schema, statement, limits, &mut plans, err)?;
     }
     Ok(plans)
 }

@@ -32,6 +32,7 @@ pub enum Report<'a> {
 }
 
 /// Executes a lawful plan on all of the lanes, of which there are at most 8, with at most `cap` requests, and writes the report of that.
+/// Stops where the execution fails, as `stop_of_run` says, and where the report cannot be written.
 pub fn deliver<R: Threads + Sync, S: Source + Send + Drop, O: Sink>(
     rt: &R,
     alloc: Global,
@@ -57,7 +58,7 @@ pub fn deliver<R: Threads + Sync, S: Source + Send + Drop, O: Sink>(
     }
 }
 
-/// Writes the report of an execution that gave these rows.
+/// Writes the report of an execution that gave these rows. Stops where it cannot be written whole, or memory runs out.
 pub fn write_report<O: Sink>(
     alloc: Global,
     report: Report<'_>,

@@ -44,7 +44,7 @@ fn without_mark(bytes: &[u8]) -> &[u8]
     if has_mark(bytes) { &bytes[3..] } else { bytes }
 }
 
-/// The schema that the file's text is.
+/// The schema that the file's text is. Stops where the file cannot be read or is too long, and where its text is none, with its fault.
 pub fn schema_of<F: Files>(alloc: Global, files: &mut F, name: &Text) -> Result<Schema, Stop>
     ensures read { IfOk result (SchemaIsRead (F.contents files.old) name.now) }
     ensures cause { IfErr result (SchemaStop (F.contents files.old) name.now (Rose (F.faults files.old) (F.faults files.new))) }
@@ -61,7 +61,7 @@ pub fn schema_of<F: Files>(alloc: Global, files: &mut F, name: &Text) -> Result<
     }
 }
 
-/// The statement that the file's text is over the schema.
+/// The statement that the file's text is over the schema. Stops as `schema_of` does.
 pub fn statement_of<F: Files>(
     alloc: Global,
     files: &mut F,
@@ -84,7 +84,7 @@ pub fn statement_of<F: Files>(
     }
 }
 
-/// The statements that the file's text is over the schema, one to 64 of them.
+/// The statements that the file's text is over the schema, one to 64 of them. Stops as `schema_of` does.
 pub fn statements_of<F: Files>(
     alloc: Global,
     files: &mut F,
@@ -108,7 +108,7 @@ pub fn statements_of<F: Files>(
     }
 }
 
-/// The schema, and the statement over it, that the texts of the two files are.
+/// The schema, and the statement over it, that the texts of the two files are. Stops as `schema_of` does, first for the schema.
 pub fn read_texts<F: Files>(
     alloc: Global,
     files: &mut F,
@@ -127,7 +127,7 @@ pub fn read_texts<F: Files>(
     Ok((schema, statement))
 }
 
-/// The plan that the file's text is.
+/// The plan that the file's text is. Stops as `schema_of` does.
 pub fn plan_of_file<F: Files>(alloc: Global, files: &mut F, name: &Text) -> Result<Plan, Stop>
     ensures read { IfOk result (PlanIsRead (F.contents files.old) name.now) }
     ensures fits { IfOk result PlanFits }

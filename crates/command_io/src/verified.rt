@@ -21,7 +21,8 @@ use source_trait::{Lane, Sink, Source};
 use std::alloc::Global;
 use std::thread::Threads;
 
-/// Tests the rules, executes a lawful plan where they are met, as `deliver` does, and writes the report of that.
+/// Tests the rules, executes a lawful plan where they are met, as `deliver` does, and writes the report of that. Stops as `deliver` does, and
+/// where the rules cannot be tested or one is not met.
 pub fn deliver_verified<R: Threads + Sync, S: Source + Send + Drop, O: Sink>(
     rt: &R,
     alloc: Global,

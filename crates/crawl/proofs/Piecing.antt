@@ -1,13 +1,12 @@
 -- Requests that lanes were asked one piece after another.
-use Rattle.std.proofs.Common.{◌≡◌, ◌≢◌, ◌∙◌, ◌+◌, ◌-◌, ◌<◌, ◌≤◌, ◌⊎◌, inl, inr, ⊎_elim, ℕ, zero, suc, Bool, true, false, cond, List, [], ◌∷◌, ◌++◌, length, length-append, map, Option, None, Some, refl, sym, ap, subst, arith}
+use Rattle.std.proofs.Common.{◌≡◌, ◌∙◌, ◌+◌, ◌-◌, ◌<◌, ◌≤◌, ◌⊎◌, inl, inr, ⊎_elim, ℕ, zero, suc, Bool, true, false, cond, List, [], ◌∷◌, ◌++◌, length, length-append, map, Option, None, Some, refl, sym, ap, subst, arith}
 use Rattle.std.specs.Prelude.{Contains, slice_get, nat_lt, IfSome, IsSomeAnd}
 use Rattle.std.specs.List.{AllByRecursion, filter}
 use Rattle.std.proofs.lemmas.Bool.{ltb-true}
 use Rattle.std.proofs.lemmas.Bool.Decides.{nat_tests}
 use Rattle.std.proofs.lemmas.List.{map-append}
 use Rattle.std.proofs.lemmas.List.Elements.{Contains-append_cases, Contains-append_left, Contains-append_right}
-use native.Mathlib.Decide.{dec_le, ℕ_discrete}
-use mathlib.Core.Logic.{dite}
+use native.Mathlib.Decide.{dec_le}
 use Rattle.lists.proofs.Members.{contains_here, contains_there, contains_cases, contains_none, contains_one, contains_got, contains_map, got_before, some_injective}
 use Rattle.lists.proofs.Places.{got_after}
 use Rattle.meaning.specs.declared.types.Fact.{Fact}
@@ -19,7 +18,7 @@ use Rattle.bad_numbers.specs.declared.found.BadNumber.{BadNumber}
 use Rattle.bad_numbers.specs.Found.{earlier_of, FindsAmong}
 use Rattle.bad_numbers.proofs.Among.{earlier_found, same_found}
 use Rattle.lane_pool.specs.Numbers.{total, times, hit}
-use Rattle.lane_pool.proofs.Totals.{total-append, hit-same, hit-other}
+use Rattle.lane_pool.proofs.Totals.{total-append}
 use Rattle.source_trait.specs.Asking.{RowList, Seen, Attached, agrees, pick}
 use Rattle.source_trait.specs.Lanes.{source_of}
 use Rattle.source_trait.specs.declared.lanes.Lane.{Lane}
@@ -32,8 +31,8 @@ use Rattle.middleware.specs.LaneRounds.{requests_in, with_request, at_numbers, L
 use Rattle.middleware.specs.declared.fault.RunFault.{RunFault}
 use Rattle.middleware.specs.declared.fault.RunFault.TheVariants as fault
 use Rattle.middleware.proofs.Laning.{AsksLane-trans}
-use Rattle.middleware.proofs.LaneNumbers.{moved, behind, AllBelow, all_below}
-use Rattle.middleware.proofs.LaneShares.{OnlyAsked, AsksEach-refl, AsksEach-trans, AsksSome-none}
+use Rattle.middleware.proofs.LaneNumbers.{moved, behind, hit_moved, times_before, AllBelow, all_below}
+use Rattle.middleware.proofs.LaneShares.{at_behind, OnlyAsked, AsksEach-refl, AsksEach-trans, AsksSome-none}
 use Rattle.middleware.proofs.LaneBranching.{each_asked}
 use Rattle.middleware.proofs.LaneWorks.{last_rose}
 use Rattle.crawl_rounds.specs.Log.{Answered, IsAmong}
@@ -99,42 +98,12 @@ at_cut ys zs (k ∷ ks) = go (nat_lt k (length ys)) refl (at_cut ys zs ks)
         ∙ ap (with_request (slice_get ys k)) rest
     go false is rest = rest ∙ ap (λ (found : Option Request). with_request found (at_numbers ys ks)) (sym (got_far ys k (grind (arith, nat_tests, is))))
 
-at_moved : (xs ys : List Request) (ks : List ℕ) → at_numbers (xs ++ ys) (moved (length xs) ks) ≡ at_numbers ys ks
-at_moved xs ys [] = refl
-at_moved xs ys (k ∷ ks) =
-    ap (λ (found : Option Request). with_request found (at_numbers (xs ++ ys) (moved (length xs) ks))) (got_after xs ys k)
-    ∙ ap (with_request (slice_get ys k)) (at_moved xs ys ks)
-
-at_first : (xs ys : List Request) (ks : List ℕ) → AllByRecursion (λ k. k < length xs) ks
-    → at_numbers (xs ++ ys) ks ≡ at_numbers xs ks
-at_first xs ys [] low = refl
-at_first xs ys (k ∷ ks) low =
-    ap (λ (found : Option Request). with_request found (at_numbers (xs ++ ys) ks)) (got_before xs ys k low.0)
-    ∙ ap (with_request (slice_get xs k)) (at_first xs ys ks low.1)
-
-at_both : (requests : List Request) (ks js : List ℕ)
-    → at_numbers requests (ks ++ js) ≡ at_numbers requests ks ++ at_numbers requests js
-at_both requests [] js = refl
-at_both requests (k ∷ ks) js = go (slice_get requests k) (at_both requests ks js)
-  where
-    go : (found : Option Request) → at_numbers requests (ks ++ js) ≡ at_numbers requests ks ++ at_numbers requests js
-        → with_request found (at_numbers requests (ks ++ js)) ≡ with_request found (at_numbers requests ks) ++ at_numbers requests js
-    go None e = e
-    go (Some request) e = ap (λ (l : List Request). request ∷ l) e
-
 at_pieces : (xs ys zs : List Request) (ks js : List ℕ) → AllByRecursion (λ k. k < length xs) ks
     → at_numbers (xs ++ (ys ++ zs)) (ks ++ moved (length xs) (cut (length ys) js)) ≡ at_numbers xs ks ++ at_numbers ys js
 at_pieces xs ys zs ks js low =
-    let first : at_numbers (xs ++ (ys ++ zs)) ks ≡ at_numbers xs ks = at_first xs (ys ++ zs) ks low in
-    let second : at_numbers (xs ++ (ys ++ zs)) (moved (length xs) (cut (length ys) js)) ≡ at_numbers ys js = at_moved xs (ys ++ zs) (cut (length ys) js) ∙ at_cut ys zs js in
-    at_both (xs ++ (ys ++ zs)) ks (moved (length xs) (cut (length ys) js)) ∙ (λ i. first i ++ second i)
+    at_behind xs (ys ++ zs) ks (cut (length ys) js) low ∙ ap (λ (l : List Request). at_numbers xs ks ++ l) (at_cut ys zs js)
 
 -- ---- how often a number stands in them
-
-hit_moved : (n k j : ℕ) → hit (n + k) (n + j) ≡ hit k j
-hit_moved n k j = dite (ℕ_discrete j k)
-    (λ (same : j ≡ k). ap (λ m. hit (n + k) (n + m)) same ∙ hit-same (n + k) ∙ sym (hit-same k) ∙ ap (hit k) (sym same))
-    (λ (apart : j ≢ k). hit-other (n + k) (n + j) (λ e. apart (omega (arith, e))) ∙ sym (hit-other k j apart))
 
 times_cut : (a b k : ℕ) (ks : List ℕ) → times (a + k) (moved a (cut b ks)) ≤ times k ks
 times_cut a b k [] = omega arith
@@ -144,12 +113,6 @@ times_cut a b k (j ∷ ks) = go (nat_lt j b) (times_cut a b k ks)
         → times (a + k) (moved a (cond t (j ∷ cut b ks) (cut b ks))) ≤ hit k j + times k ks
     go true rest = let same = hit_moved a k j in omega (arith, same, rest)
     go false rest = omega (arith, rest)
-
-times_before : (n k : ℕ) → k < n → (ks : List ℕ) → times k (moved n ks) ≡ 0
-times_before n k less [] = refl
-times_before n k less (j ∷ ks) =
-    let a = hit-other k (n + j) (λ e. absurd (omega (arith, e, less))) in
-    let b = times_before n k less ks in omega (arith, a, b)
 
 total_low : (a k : ℕ) → k < a → (ls ms : List (List ℕ)) → total (times k) (behind a ls ms) ≤ total (times k) ls
 total_low a k less [] ms = omega arith

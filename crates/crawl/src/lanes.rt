@@ -58,10 +58,8 @@ pub fn crawl<R: Threads + Sync, S: Source + Send + Drop>(
         Err(_) => return Err(RunFault::NoMemory),
     };
     let needed = rels.as_slice();
-    match attach_needed(alloc, schema, lanes, needed, needed) {
-        Ok(()) => crawl_attached(rt, alloc, schema, lanes, cap),
-        Err(fault) => Err(fault),
-    }
+    attach_needed(alloc, schema, lanes, needed, needed)?;
+    crawl_attached(rt, alloc, schema, lanes, cap)
 }
 
 // The relations of the methods, ascending, each once.
@@ -144,7 +142,7 @@ fn all_rounds<R: Threads + Sync, S: Source + Send + Drop>(
     };
     let mut asks = Asks::new(alloc);
     for _ in 0..cap + 1 {
-        let more = match next_round(
+        let more = next_round(
             rt,
             alloc,
             schema,
@@ -153,10 +151,7 @@ fn all_rounds<R: Threads + Sync, S: Source + Send + Drop>(
             &mut progress,
             &mut asks,
             cap,
-        ) {
-            Ok(more) => more,
-            Err(fault) => return Err(fault),
-        };
+        )?;
         if !more {
             return Ok(progress);
         }

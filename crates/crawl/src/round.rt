@@ -166,10 +166,8 @@ fn ask_pieces<R: Threads + Sync, S: Source + Send + Drop>(
             Ok(()) => {}
             Err(_) => return Err(RunFault::NoMemory),
         }
-        match ask_piece(rt, alloc, schema, asks.list.as_slice(), lanes, progress) {
-            Ok(found) => bad = earlier(bad, found),
-            Err(fault) => return Err(fault),
-        }
+        let found = ask_piece(rt, alloc, schema, asks.list.as_slice(), lanes, progress)?;
+        bad = earlier(bad, found);
     }
     Ok(bad)
 }

@@ -38,7 +38,8 @@ impl Asks {
 
     /// Frees the memory that no request of the piece took over.
     pub fn end(&mut self)
-        ensures { self.new.list.items ≡ self.old.list.items }
+        ensures stays { self.new.list.items ≡ self.old.list.items }
+        ensures freed { self.new.spare.items ≡ [] }
     {
         self.spare.clear();
     }

@@ -24,7 +24,7 @@ behind n [] ms = []
 behind n (l ∷ ls) [] = []
 behind n (l ∷ ls) (m ∷ ms) = (l ++ moved n m) ∷ behind n ls ms
 
-hit_moved : (n k j : ℕ) → hit (n + k) (n + j) ≡ hit k j
+pub hit_moved : (n k j : ℕ) → hit (n + k) (n + j) ≡ hit k j
 hit_moved n k j = dite (ℕ_discrete j k)
     (λ (same : j ≡ k). ap (λ m. hit (n + k) (n + m)) same ∙ hit-same (n + k) ∙ sym (hit-same k) ∙ ap (hit k) (sym same))
     (λ (apart : j ≢ k). hit-other (n + k) (n + j) (λ e. apart (omega (arith, e))) ∙ sym (hit-other k j apart))
@@ -33,7 +33,7 @@ times_moved : (n k : ℕ) (ks : List ℕ) → times (n + k) (moved n ks) ≡ tim
 times_moved n k [] = refl
 times_moved n k (j ∷ ks) = let a = hit_moved n k j in let b = times_moved n k ks in omega (arith, a, b)
 
-times_before : (n k : ℕ) → k < n → (ks : List ℕ) → times k (moved n ks) ≡ 0
+pub times_before : (n k : ℕ) → k < n → (ks : List ℕ) → times k (moved n ks) ≡ 0
 times_before n k less [] = refl
 times_before n k less (j ∷ ks) =
     let a = hit-other k (n + j) (λ e. absurd (omega (arith, e, less))) in

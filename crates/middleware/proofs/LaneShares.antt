@@ -4,6 +4,7 @@ use Rattle.std.specs.Prelude.{slice_get}
 use Rattle.std.specs.List.{AllByRecursion, AllZip}
 use native.Mathlib.Decide.{dec_le}
 use Rattle.lists.proofs.Members.{got_before, contains_here, contains_there, contains_cases}
+use Rattle.lists.proofs.Places.{got_after}
 use Rattle.meaning.specs.declared.types.Request.{Request}
 use Rattle.access_schema.specs.declared.schema.Schema.{Schema}
 use Rattle.lane_pool.specs.Numbers.{total, times, EachOnce, AllAscend}
@@ -18,10 +19,6 @@ use Rattle.middleware.proofs.LaneNumbers.{moved, behind, AllBelow, all_below, be
 
 -- ---- requests at numbers
 
-pub got_behind : (xs ys : List Request) (k : ℕ) → slice_get (xs ++ ys) (length xs + k) ≡ slice_get ys k
-got_behind [] ys k = ap (slice_get ys) (omega arith)
-got_behind (x ∷ xs) ys k = let e : length (x ∷ xs) + k ≡ suc (length xs + k) = omega arith in ap (slice_get (x ∷ (xs ++ ys))) e ∙ got_behind xs ys k
-
 at_first : (xs ys : List Request) (ks : List ℕ) → AllByRecursion (λ k. k < length xs) ks → at_numbers (xs ++ ys) ks ≡ at_numbers xs ks
 at_first xs ys [] low = refl
 at_first xs ys (k ∷ ks) low =
@@ -31,7 +28,7 @@ at_first xs ys (k ∷ ks) low =
 at_second : (xs ys : List Request) (ks : List ℕ) → at_numbers (xs ++ ys) (moved (length xs) ks) ≡ at_numbers ys ks
 at_second xs ys [] = refl
 at_second xs ys (k ∷ ks) =
-    ap (λ (found : Option Request). with_request found (at_numbers (xs ++ ys) (moved (length xs) ks))) (got_behind xs ys k)
+    ap (λ (found : Option Request). with_request found (at_numbers (xs ++ ys) (moved (length xs) ks))) (got_after xs ys k)
     ∙ ap (with_request (slice_get ys k)) (at_second xs ys ks)
 
 at_both : (requests : List Request) (ks js : List ℕ) → at_numbers requests (ks ++ js) ≡ at_numbers requests ks ++ at_numbers requests js
@@ -43,7 +40,7 @@ at_both requests (k ∷ ks) js = go (slice_get requests k) (at_both requests ks 
     go None e = e
     go (Some request) e = ap (λ (l : List Request). request ∷ l) e
 
-at_behind : (xs ys : List Request) (ks js : List ℕ) → AllByRecursion (λ k. k < length xs) ks
+pub at_behind : (xs ys : List Request) (ks js : List ℕ) → AllByRecursion (λ k. k < length xs) ks
     → at_numbers (xs ++ ys) (ks ++ moved (length xs) js) ≡ at_numbers xs ks ++ at_numbers ys js
 at_behind xs ys ks js low =
     let first : at_numbers (xs ++ ys) ks ≡ at_numbers xs ks = at_first xs ys ks low in

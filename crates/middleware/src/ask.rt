@@ -29,10 +29,7 @@ pub fn ask_all<S: Source + Send + Drop>(
 {
     let mut answers = Answers::new(alloc);
     for number in 0..requests.len() {
-        let answer = match ask_row(alloc, lane, kind, rel, positions, &requests.at(number)) {
-            Ok(answer) => answer,
-            Err(fault) => return Err(fault),
-        };
+        let answer = ask_row(alloc, lane, kind, rel, positions, &requests.at(number))?;
         answers = match answers.with(answer) {
             Ok(more) => more,
             Err(_) => return Err(CallFault::NoMemory),

@@ -18,7 +18,7 @@ use std::alloc::Global;
 use std::thread::Threads;
 
 /// Asks the requests of a method, each once by one of the lanes. For one lane, and for one request, each is copied as it is
-/// asked, and no thread is made.
+/// asked, and no thread is made. Fails with the fault of the first failed call of the list, or where memory runs out.
 pub fn ask_wanted<R: Threads + Sync, S: Source + Send + Drop>(
     rt: &R,
     alloc: Global,

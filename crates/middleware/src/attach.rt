@@ -34,10 +34,7 @@ pub fn attach_lanes<S: Source + Send + Drop>(
 {
     let mut rels = first;
     for lane in lanes.iter_mut() {
-        match attach_all(alloc, schema, lane, rels) {
-            Ok(()) => {}
-            Err(refused) => return Err(refused),
-        }
+        attach_all(alloc, schema, lane, rels)?;
         rels = others;
     }
     Ok(())

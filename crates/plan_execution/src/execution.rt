@@ -45,10 +45,8 @@ pub fn execute<R: Threads + Sync, S: Source + Send + Drop>(
         Err(_) => return Err(RunFault::NoMemory),
     };
     let needed = rels.as_slice();
-    match attach_needed(alloc, schema, lanes, needed, needed) {
-        Ok(()) => execute_attached(rt, alloc, plan, schema, lanes, cap),
-        Err(fault) => Err(fault),
-    }
+    attach_needed(alloc, schema, lanes, needed, needed)?;
+    execute_attached(rt, alloc, plan, schema, lanes, cap)
 }
 
 /// Executes a lawful plan whose relations are attached on each of the lanes, with at most `cap` requests: `execute`

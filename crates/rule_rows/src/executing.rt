@@ -23,7 +23,8 @@ use std::thread::Threads;
 /// Tests the rules of the schema, and executes a lawful plan on all of the lanes where they are met, with at most `cap` requests.
 ///
 /// The relations of the rules and of the plan are attached on the first lane, and those of the plan on each further one. Each of the first
-/// lane's is then asked whole, which does not count. Where a rule is not met no request of the plan is made.
+/// lane's is then asked whole, which does not count. Where a rule is not met no request of the plan is made. Fails where the rules cannot
+/// be tested, where one is not met, and where the execution fails.
 pub fn execute_verified<R: Threads + Sync, S: Source + Send + Drop>(
     rt: &R,
     alloc: Global,

@@ -14,7 +14,7 @@ use source_trait::{Lane, Source};
 use std::alloc::Global;
 
 /// Asks the lane for all rows of these relations, one after another, and gives the first rule of the schema that their facts do not meet.
-/// The relations are attached, and among them is each that some rule names.
+/// The relations are attached, and among them is each that some rule names. Fails at the first whose call fails or which has a bad number.
 pub fn test_rules<S: Source + Send + Drop>(
     alloc: Global,
     schema: &Schema,
@@ -27,10 +27,7 @@ pub fn test_rules<S: Source + Send + Drop>(
     ensures tests { Tests S.seen schema.now rels.now lane.old.kinds.items lane.new.kinds.items result }
     ensures stays { KindsStay S.seen lane.old.kinds.items lane.new.kinds.items }
 {
-    let facts = match ask_all(alloc, schema, lane, rels) {
-        Ok(facts) => facts,
-        Err(fault) => return Err(fault),
-    };
+    let facts = ask_all(alloc, schema, lane, rels)?;
     match verify_taken(alloc, schema, facts) {
         Ok(found) => Ok(found),
         Err(_) => Err(WholeFault::NoMemory),

@@ -17,7 +17,8 @@ use source_trait::{Lane, Source};
 use std::alloc::Global;
 
 /// Attaches the relations that some rule names on the first lane, asks for each of them whole, in ascending order, and gives the first rule
-/// that the rows do not meet. The lanes behind the first stay.
+/// that the rows do not meet. The lanes behind the first stay. Fails where a relation cannot be attached, or where asking for it fails or
+/// gives a bad number.
 pub fn verify_rows<S: Source + Send + Drop>(
     alloc: Global,
     schema: &Schema,

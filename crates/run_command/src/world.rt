@@ -86,14 +86,9 @@ fn read_world(alloc: Global, size: u32) -> Result<(Schema, Statement), Stop>
         Ok(texts) => texts,
         Err(_) => return Err(Stop::Memory),
     };
-    let schema = match world_schema(alloc, size, &texts) {
-        Ok(schema) => schema,
-        Err(stop) => return Err(stop),
-    };
-    match world_statement(alloc, size, &texts, &schema) {
-        Ok(statement) => Ok((schema, statement)),
-        Err(stop) => Err(stop),
-    }
+    let schema = world_schema(alloc, size, &texts)?;
+    let statement = world_statement(alloc, size, &texts, &schema)?;
+    Ok((schema, statement))
 }
 
 fn world_schema(alloc: Global, size: u32, texts: &WorldTexts) -> Result<Schema, Stop>

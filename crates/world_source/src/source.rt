@@ -52,10 +52,7 @@ impl Source for WorldSource {
         locator: &Text,
     ) -> Result<(), AttachFault> {
         self.relations.detach(rel);
-        let formula = match offered_formula(alloc, columns.len(), locator) {
-            Ok(formula) => formula,
-            Err(fault) => return Err(fault),
-        };
+        let formula = offered_formula(alloc, columns.len(), locator)?;
         match self.relations.take(alloc, rel, columns, locator, formula) {
             Ok(()) => Ok(()),
             Err(_) => Err(AttachFault::NoMemory),

@@ -1,6 +1,7 @@
 -- The statements in front of the loop's place have plans, and one that has none ends the batch.
 use Rattle.std.proofs.Common.{sym, subst, ap, ◌∙◌, ◌≡◌, ◌+◌, List, [], ◌∷◌, ◌++◌, length, take, min, arith}
 use Rattle.std.proofs.lemmas.List.{length-take, take_all}
+use Rattle.std.proofs.lemmas.Result.{err_from_is_err_and}
 use Rattle.lists.proofs.Places.{take_indexed}
 use Rattle.meaning.specs.declared.types.Statement.{Statement}
 use Rattle.meaning.specs.declared.types.Plan.{Plan}
@@ -31,22 +32,23 @@ decide_next-requires-clause-few g c =
     let few = c.requires.few in
     omega (arith, count, taken, below, few)
 
-pub returns-in-Err-clause-ended : goal.returns-in-Err-clause-ended
-returns-in-Err-clause-ended g c =
+pub returns-in_err-decide_next-clause-ended : goal.returns-in_err-decide_next-clause-ended
+returns-in_err-decide_next-clause-ended g c =
     let (told, are, same) = c.loop-statement.invariant.told in
-    halts_at _ _ _ _ _ _ (g.E.Sink.taken c.loop-statement.err) _ _
+    let ended = err_from_is_err_and c.from_residual.result c.from_residual.ensures.1 in
+    rw (ended.1, ended.2) (halts_at _ _ _ _ _ _ (g.E.Sink.taken c.loop-statement.err) _ _
     (g.E.Sink.faults c.loop-statement.err) _ c.loop-statement.statement-index c.statement-item.result told c.loop-statement.plans.items
-    c.in-Err.end c.loop-statement-test.true c.statement-item.is are same c.loop-statement.invariant.later c.decide_next.ensures.later
-    c.in-Err.ensures.ended
+    c.in_err-decide_next.field-0.0 c.loop-statement-test.true c.statement-item.is are same c.loop-statement.invariant.later c.decide_next.ensures.later
+    c.in_err-decide_next.ensures.ended)
 
-pub returns-in-Err-clause-later : goal.returns-in-Err-clause-later
-returns-in-Err-clause-later g c = let before = c.loop-statement.invariant.later in let after = c.decide_next.ensures.later in
+pub returns-in_err-decide_next-clause-later : goal.returns-in_err-decide_next-clause-later
+returns-in_err-decide_next-clause-later g c = let before = c.loop-statement.invariant.later in let after = c.decide_next.ensures.later in
     omega (arith, before, after)
 
 pub loop-statement-preserved : goal.loop-statement-preserved
 loop-statement-preserved g c =
     let (told, are, same) = c.loop-statement.invariant.told in
-    let (its, planned, took, plans) = c.in-Ok.ensures.planned in
+    let (its, planned, took, plans) = c.in_ok-decide_next.ensures.planned in
     let i = c.loop-statement.statement-index in
     let took_it : TookAll (g.E.Sink.taken c.loop-statement.err) (g.E.Sink.taken c.decide_next.new.err)
     (line_and_text (length (plans_of told) + 1) its) =

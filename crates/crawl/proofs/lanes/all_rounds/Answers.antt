@@ -1,4 +1,5 @@
 use Rattle.std.proofs.Common.{List, map, subst, arith}
+use Rattle.std.proofs.lemmas.Result.{err_from_is_err_and}
 use Rattle.meaning.specs.Values.{Value}
 use Rattle.crawl_rounds.specs.Lent.{lent_class}
 use Rattle.crawl_rounds.specs.Log.{requests_of, answers_of}
@@ -20,15 +21,16 @@ next_round-requires-clause-attached g c κs within =
     let h = c.loop.invariant.reached in
     attached_later c.args.schema.now g.S.Source.seen (requests_of (answers_of h.log)) c.args.lanes.now c.loop.lanes h.asks c.requires.attached
 
-pub returns-in-Err-next_round-clause-stops : goal.returns-in-Err-next_round-clause-stops
-returns-in-Err-next_round-clause-stops g c =
-    reached_stop g.S.Source.seen c.args.schema.now (map lent_class c.args.classes.now) c.requires.classes c.args.cap c.loop.progress c.args.lanes.now c.loop.lanes c.loop.invariant.reached
-    c.in-Err-next_round.fault c.next_round.new.lanes c.in-Err-next_round.ensures.stops
+pub returns-in_err-more-clause-stops : goal.returns-in_err-more-clause-stops
+returns-in_err-more-clause-stops g c =
+    let told = err_from_is_err_and c.from_residual.result c.from_residual.ensures.1 in
+    rw (told.1, told.2) (reached_stop g.S.Source.seen c.args.schema.now (map lent_class c.args.classes.now) c.requires.classes c.args.cap c.loop.progress c.args.lanes.now c.loop.lanes c.loop.invariant.reached
+    c.in_err-more.field-0.0 c.next_round.new.lanes c.in_err-more.ensures.stops)
 
 pub loop-preserved : goal.loop-preserved
 loop-preserved g c =
     let h = c.loop.invariant.reached in
-    let goes = c.in-Ok-next_round.ensures.goes c.if-not-more.false in
+    let goes = c.in_ok-more.ensures.goes c.if-not-more.false in
     let rounds = goes.takes.rounds in
     let so_far = c.loop.invariant.round in
     record {

@@ -2,6 +2,7 @@ use Rattle.std.proofs.Common.{◌≡◌, ◌∙◌, ◌++◌, [], List, length, 
 use Rattle.bad_numbers.specs.declared.found.BadNumber.{BadNumber}
 use Rattle.std.specs.Prelude.{Option}
 use Rattle.std.proofs.lemmas.List.{length-map}
+use Rattle.std.proofs.lemmas.Result.{err_from_is_err_and}
 use Rattle.meaning.specs.declared.types.Request.{Request}
 use Rattle.source_trait.specs.declared.work.Ask.{Ask}
 use Rattle.middleware.specs.LaneRounds.{requests_in}
@@ -78,23 +79,24 @@ loop-cursor-preserved g c =
       parts_more c.args.schema.now (map lent_class c.args.classes.now) c.args.all.now c.args.progress.now done c.loop-cursor.progress pieces.gains.known pieces.gains.rounds c.loop-cursor.cursor parts
           c.as_slice.result.now c.next_piece.new.asks.list.items c.as_slice.ensures.value c.next_piece.new.cursor c.in-Ok.ensures.parts,
       subst (λ (b : Option BadNumber). PiecesAsked g.S.Source.seen c.args.schema.now (done ++ piece) b c.args.progress.now c.ask_piece.new.progress c.args.lanes.now c.ask_piece.new.lanes) (sym c.earlier-bad.ensures)
-          (pieces_more g.S.Source.seen c.args.schema.now done piece c.loop-cursor.bad c.in-Ok-ask_piece.found c.args.progress.now c.loop-cursor.progress c.ask_piece.new.progress
-          c.args.lanes.now c.loop-cursor.lanes c.ask_piece.new.lanes pieces c.in-Ok-ask_piece.ensures.asked),
-      (λ some. c.in-Ok-ask_piece.ensures.going),
+          (pieces_more g.S.Source.seen c.args.schema.now done piece c.loop-cursor.bad c.in_ok-found.found c.args.progress.now c.loop-cursor.progress c.ask_piece.new.progress
+          c.args.lanes.now c.loop-cursor.lanes c.ask_piece.new.lanes pieces c.in_ok-found.ensures.asked),
+      (λ some. c.in_ok-found.ensures.going),
     )
 
-pub returns-in-Err-ask_piece-clause-stops : goal.returns-in-Err-ask_piece-clause-stops
-returns-in-Err-ask_piece-clause-stops g c =
+pub returns-in_err-found-clause-stops : goal.returns-in_err-found-clause-stops
+returns-in_err-found-clause-stops g c =
     let (done, parts, pieces, going) = c.loop-cursor.invariant in
     let start = c.args.progress.now in
     let classes = map lent_class c.args.classes.now in
     let left = left_of c.args.schema.now (nat_eq start.rounds 0) c.args.all.now start.known.fresh.items classes c.next_piece.new.cursor in
-    let why = c.in-Err-ask_piece.fault in
-    subst (λ (r : List Request). PiecesStop g.S.Source.seen c.args.schema.now r why start.rounds c.args.lanes.now c.ask_piece.new.lanes)
+    let why = c.in_err-found.field-0.0 in
+    let told = err_from_is_err_and c.from_residual.result c.from_residual.ensures.1 in
+    rw (told.1, told.2) (subst (λ (r : List Request). PiecesStop g.S.Source.seen c.args.schema.now r why start.rounds c.args.lanes.now c.ask_piece.new.lanes)
     (requests_more c.args.schema.now (map lent_class c.args.classes.now) c.args.all.now c.args.progress.now done c.loop-cursor.progress pieces.gains.known pieces.gains.rounds c.loop-cursor.cursor parts
     c.as_slice.result.now c.next_piece.new.asks.list.items c.as_slice.ensures.value c.next_piece.new.cursor c.in-Ok.ensures.parts)
     (stops_behind g.S.Source.seen c.args.schema.now (requests_in done) (requests_in c.as_slice.result.now) (requests_in left) start.rounds c.args.lanes.now c.loop-cursor.lanes c.ask_piece.new.lanes pieces.asked why
-    (subst (λ n. PiecesStop g.S.Source.seen c.args.schema.now (requests_in c.as_slice.result.now) why n c.loop-cursor.lanes c.ask_piece.new.lanes) pieces.gains.rounds c.in-Err-ask_piece.ensures.stops))
+    (subst (λ n. PiecesStop g.S.Source.seen c.args.schema.now (requests_in c.as_slice.result.now) why n c.loop-cursor.lanes c.ask_piece.new.lanes) pieces.gains.rounds c.in_err-found.ensures.stops)))
 
 pub returns-clause-asked : goal.returns-clause-asked
 returns-clause-asked g c =
